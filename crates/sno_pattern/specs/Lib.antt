@@ -1,0 +1,11 @@
+pub mod Padded
+pub mod Identifiers
+pub mod TextNames
+pub mod Texts
+pub mod Classes
+pub mod Tree
+pub mod Events
+pub mod Ends
+pub mod Results
+pub mod Outcome
+pub mod Rows

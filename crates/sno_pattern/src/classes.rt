@@ -1,0 +1,85 @@
+//! Sets of characters.
+ghost use Rattle.std.specs.Prelude.{◌≡◌, nat_eq};
+ghost use Rattle.std.specs.Cmp.{partial_equiv_from_equiv};
+ghost use Rattle.std.specs.Cmp.Lexicographic.{pointwise, nat_list_eq_equiv};
+ghost use Rattle.std.specs.List.{list_all};
+ghost use Rattle.std.specs.Char.{is_ascii};
+ghost use Rattle.sno_pattern.specs.Classes.{class_of, has, is_class};
+
+use std::fmt;
+use std::marker::Model;
+
+/// A set of ASCII characters with at least one member, as `SPAN` and its kin take it.
+#[derive(Drop)]
+pub struct Class {
+    members: Vec<u8>,
+}
+
+impl Model for Class {
+    ghost use Rattle.std.specs.Prelude.{ℕ, List, IsTrue};
+    ghost use Rattle.sno_pattern.specs.Classes.{is_class};
+
+    ghost Value = { List ℕ };
+
+    ghost view = { λ s. s.members.items };
+
+    ghost invariant = { λ s. IsTrue (is_class s.members.items) };
+}
+
+impl Class {
+    /// The set of these characters, in any order and as often as they stand there; none where the list is empty
+    /// or has a byte above 127. It takes no memory.
+    pub fn new(members: Vec<u8>) -> Option<Class>
+        ensures { result ≡ class_of members.items }
+    {
+        if !is_class(&members) {
+            return None;
+        }
+        Some(Class { members })
+    }
+
+    /// Whether the character is a member.
+    pub fn has(&self, character: u8) -> bool
+        ensures { result ≡ has self.now character }
+    {
+        has(&self.members, character)
+    }
+}
+
+fn has(members: &[u8], character: u8) -> bool
+    ensures { result ≡ has members.now character }
+{
+    members.iter().any(|member| *member == character)
+}
+
+fn is_class(members: &[u8]) -> bool
+    ensures { result ≡ is_class members.now }
+{
+    !members.is_empty() && are_ascii(members)
+}
+
+fn are_ascii(members: &[u8]) -> bool
+    ensures { result ≡ list_all is_ascii members.now }
+{
+    members.iter().all(|member| member.is_ascii())
+}
+
+impl PartialEq for Class {
+    ghost eq = { λ s t. pointwise nat_eq s t };
+
+    ghost laws = { partial_equiv_from_equiv nat_list_eq_equiv };
+
+    fn eq(&self, other: &Class) -> bool {
+        self.members.as_slice() == other.members.as_slice()
+    }
+}
+
+impl Eq for Class {
+    ghost laws = { nat_list_eq_equiv };
+}
+
+impl fmt::Debug for Class {
+    fn fmt<W: fmt::Write>(&self, f: &mut fmt::Formatter<W>) -> fmt::Result {
+        fmt::Debug::fmt(&self.members, f)
+    }
+}

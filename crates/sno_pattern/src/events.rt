@@ -1,0 +1,102 @@
+//! What happens while a pattern is matched.
+ghost use Rattle.std.specs.Prelude.{◌≡◌};
+
+use crate::Name;
+use std::marker::Model;
+
+/// What a variable is assigned while a match goes on.
+#[derive(Clone, Copy, Debug, PartialEq, Eq)]
+pub enum What {
+    /// The characters between two cursors.
+    Part(usize, usize),
+    /// A cursor, as a number.
+    Cursor(usize),
+}
+
+/// An assignment that is done at once.
+#[derive(Clone, Copy, Debug, PartialEq, Eq)]
+pub struct Assign {
+    /// The variable.
+    pub name: Name,
+    /// What it is assigned.
+    pub what: What,
+}
+
+/// Assignments that were done at once, in their order.
+#[derive(Debug, Drop)]
+pub struct Assigns {
+    list: Vec<Assign>,
+}
+
+impl Model for Assigns {
+    ghost use Rattle.std.specs.Prelude.{List};
+    ghost use Rattle.sno_pattern.specs.declared.events.Assign.{Assign};
+
+    ghost Value = { List Assign };
+
+    ghost view = { λ s. s.list.items };
+}
+
+impl Assigns {
+    /// The list. It takes no memory.
+    pub fn of(list: Vec<Assign>) -> Assigns
+        ensures { result ≡ list.items }
+    {
+        Assigns { list }
+    }
+
+    /// The assignments, in their order.
+    pub fn as_slice(&self) -> &[Assign]
+        ensures { result.now ≡ self.now }
+    {
+        self.list.as_slice()
+    }
+}
+
+/// Conditional assignments: of each a variable and the two cursors of its part, in the order in which the parts ended.
+#[derive(Debug, Drop)]
+pub struct Conds {
+    list: Vec<(Name, usize, usize)>,
+}
+
+impl Model for Conds {
+    ghost use Rattle.std.specs.Prelude.{List, ℕ};
+
+    ghost Value = { List (List ℕ × ℕ × ℕ) };
+
+    ghost view = { λ s. s.list.items };
+}
+
+impl Conds {
+    /// The list. It takes no memory.
+    pub fn of(list: Vec<(Name, usize, usize)>) -> Conds
+        ensures { result ≡ list.items }
+    {
+        Conds { list }
+    }
+
+    /// The assignments, in their order.
+    pub fn as_slice(&self) -> &[(Name, usize, usize)]
+        ensures { result.now ≡ self.now }
+    {
+        self.list.as_slice()
+    }
+
+    /// The list given back. It takes no memory.
+    pub fn into_vec(self) -> Vec<(Name, usize, usize)>
+        ensures { result.items ≡ self }
+    {
+        self.list
+    }
+}
+
+/// One event of a match.
+#[derive(Debug, Drop)]
+pub enum Event {
+    /// A variable is assigned at once.
+    Told(Assign),
+    /// A match ends at this cursor, with these conditional assignments.
+    End(usize, Conds),
+    /// The whole match fails.
+    Halt,
+}

@@ -1,0 +1,22 @@
+//! What came of a match.
+use crate::{Assigns, Conds};
+
+/// A success.
+#[derive(Debug, Drop)]
+pub struct Hit {
+    /// The cursor from which the match began.
+    pub start: usize,
+    /// The cursor at which it ended.
+    pub end: usize,
+    /// Its conditional assignments, in the order in which their parts ended.
+    pub conds: Conds,
+}
+
+/// What came of a match: the immediate and cursor assignments that were done, in order, and the success, if it was one.
+#[derive(Debug, Drop)]
+pub struct Found {
+    /// The assignments that were done at once, also where they were backed over.
+    pub sets: Assigns,
+    /// The success; none where the match failed.
+    pub end: Option<Hit>,
+}

@@ -1,0 +1,18 @@
+//! Patterns, names, texts and definitions, and what it means to match.
+#![tactic(auto)]
+
+mod classes;
+mod events;
+mod found;
+mod identifiers;
+mod text_names;
+mod texts;
+mod tree;
+
+pub use classes::Class;
+pub use events::{Assign, Assigns, Conds, Event, What};
+pub use found::{Found, Hit};
+pub use identifiers::Name;
+pub use text_names::{NameFault, TextName};
+pub use texts::{Text, TextFault};
+pub use tree::Pattern;
