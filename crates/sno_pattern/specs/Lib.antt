@@ -9,3 +9,5 @@ pub mod Ends
 pub mod Results
 pub mod Outcome
 pub mod Rows
+pub mod NameList
+pub mod Definitions

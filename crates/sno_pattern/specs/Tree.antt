@@ -1,6 +1,7 @@
 -- Patterns by value: the trees of `Pattern` without where their parts lie in memory.
 use Rattle.std.specs.Prelude.{◌≡◌, ℕ, Bool, true, ◌&&◌, List, [], ◌∷◌, map, nat_lt, refl}
-use Rattle.std.specs.Coded.{Coded, code_by}
+use Rattle.std.proofs.Common.{Box, Global}
+use denote.RawPtr.{null_ptr}
 use Rattle.sno_pattern.specs.declared.tree.Pattern.{Pattern}
 use Rattle.sno_pattern.specs.declared.tree.Pattern.TheVariants as pattern
 
@@ -69,3 +70,58 @@ refs_below n (Alt p q) = refs_below n p && refs_below n q
 refs_below n (Cond p v) = refs_below n p
 refs_below n (Imm p v) = refs_below n p
 refs_below n _ = true
+
+-- a box at no place in memory
+abbrev nowhere : Box (Unit {0}) Global
+nowhere = record { ptr = null_ptr; alloc = record { memory = record { seal = tt } }; value = tt }
+
+-- A pattern with this tree, at no place in memory: by it a proof tells trees apart.
+abbrev pub pattern_of : Tree → Pattern
+pattern_of (Lit s) = pattern.Lit s
+pattern_of (Len n) = pattern.Len n
+pattern_of (Pos n) = pattern.Pos n
+pattern_of (Rpos n) = pattern.Rpos n
+pattern_of (Tab n) = pattern.Tab n
+pattern_of (Rtab n) = pattern.Rtab n
+pattern_of (AnyOf s) = pattern.AnyOf s
+pattern_of (NoneOf s) = pattern.NoneOf s
+pattern_of (Span s) = pattern.Span s
+pattern_of (Break s) = pattern.Break s
+pattern_of Arb = pattern.Arb
+pattern_of (Arbno p) = pattern.Arbno' nowhere (pattern_of p)
+pattern_of Bal = pattern.Bal
+pattern_of Rem = pattern.Rem
+pattern_of Fence = pattern.Fence
+pattern_of Abort = pattern.Abort
+pattern_of Fail = pattern.Fail
+pattern_of (At v) = pattern.At v
+pattern_of (Ref i) = pattern.Ref i
+pattern_of (Seq p q) = pattern.Seq' nowhere (pattern_of p) nowhere (pattern_of q)
+pattern_of (Alt p q) = pattern.Alt' nowhere (pattern_of p) nowhere (pattern_of q)
+pattern_of (Cond p v) = pattern.Cond' nowhere (pattern_of p) v
+pattern_of (Imm p v) = pattern.Imm' nowhere (pattern_of p) v
+
+pub tree_of-pattern_of : (p : Tree) → tree_of (pattern_of p) ≡ p
+tree_of-pattern_of (Lit s) = refl
+tree_of-pattern_of (Len n) = refl
+tree_of-pattern_of (Pos n) = refl
+tree_of-pattern_of (Rpos n) = refl
+tree_of-pattern_of (Tab n) = refl
+tree_of-pattern_of (Rtab n) = refl
+tree_of-pattern_of (AnyOf s) = refl
+tree_of-pattern_of (NoneOf s) = refl
+tree_of-pattern_of (Span s) = refl
+tree_of-pattern_of (Break s) = refl
+tree_of-pattern_of Arb = refl
+tree_of-pattern_of (Arbno p) = λ i. Arbno (tree_of-pattern_of p i)
+tree_of-pattern_of Bal = refl
+tree_of-pattern_of Rem = refl
+tree_of-pattern_of Fence = refl
+tree_of-pattern_of Abort = refl
+tree_of-pattern_of Fail = refl
+tree_of-pattern_of (At v) = refl
+tree_of-pattern_of (Ref i) = refl
+tree_of-pattern_of (Seq p q) = λ i. Seq (tree_of-pattern_of p i) (tree_of-pattern_of q i)
+tree_of-pattern_of (Alt p q) = λ i. Alt (tree_of-pattern_of p i) (tree_of-pattern_of q i)
+tree_of-pattern_of (Cond p v) = λ i. Cond (tree_of-pattern_of p i) v
+tree_of-pattern_of (Imm p v) = λ i. Imm (tree_of-pattern_of p i) v

@@ -2,17 +2,21 @@
 #![tactic(auto)]
 
 mod classes;
+mod definitions;
 mod events;
 mod found;
 mod identifiers;
+mod name_list;
 mod text_names;
 mod texts;
 mod tree;
 
 pub use classes::Class;
+pub use definitions::{Rules, RulesFault};
 pub use events::{Assign, Assigns, Conds, Event, What};
 pub use found::{Found, Hit};
 pub use identifiers::Name;
+pub use name_list::{Names, NamesFault};
 pub use text_names::{NameFault, TextName};
 pub use texts::{Text, TextFault};
 pub use tree::Pattern;

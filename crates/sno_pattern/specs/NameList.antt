@@ -1,0 +1,43 @@
+-- The names of definitions, in order.
+use Rattle.std.specs.Prelude.{◌≡◌, ℕ, ◌+◌, Bool, List, [], ◌∷◌, ◌++◌, length, nat_lt, Option, Some, None, Result, Ok, Err, if◌then◌else◌}
+use Rattle.std.specs.List.{list_any, position_from}
+use Rattle.sno_pattern.specs.Identifiers.{same, is_reserved}
+use Rattle.sno_pattern.specs.declared.name_list.NamesFault.{NamesFault}
+use Rattle.sno_pattern.specs.declared.name_list.NamesFault.TheVariants as fault
+
+-- the place of the first in the list that stands already among those seen, or earlier in the list
+abbrev pub repeat_from : List (List ℕ) → ℕ → List (List ℕ) → Option ℕ
+repeat_from seen place [] = None
+repeat_from seen place (name ∷ names) = if list_any (same name) seen then Some place else repeat_from (seen ++ name ∷ []) (place + 1) names
+
+-- the first place that repeats an earlier one
+abbrev pub first_repeat : List (List ℕ) → Option ℕ
+first_repeat names = repeat_from [] 0 names
+
+-- the place of the first reserved word
+abbrev pub first_reserved : List (List ℕ) → Option ℕ
+first_reserved names = position_from is_reserved 0 names
+
+-- the number of the definition with this name
+abbrev pub place_of : List (List ℕ) → List ℕ → Option ℕ
+place_of names name = position_from (same name) 0 names
+
+abbrev pub unless_repeated : Option ℕ → List (List ℕ) → Result (List (List ℕ)) NamesFault
+unless_repeated None names = Ok names
+unless_repeated (Some place) names = Err (fault.Duplicate place)
+
+abbrev pub unless_reserved : Option ℕ → List (List ℕ) → Result (List (List ℕ)) NamesFault
+unless_reserved None names = unless_repeated (first_repeat names) names
+unless_reserved (Some place) names = Err (fault.Reserved place)
+
+-- what `Names::new` makes of a list, want of memory aside: at most 64 names, then no reserved word, then no name twice
+abbrev pub names_of : List (List ℕ) → Result (List (List ℕ)) NamesFault
+names_of names = if nat_lt 64 (length names) then Err fault.TooMany else unless_reserved (first_reserved names) names
+
+-- the answer is that of `names_of`, or want of memory
+abbrev pub GivesNames : Result (List (List ℕ)) NamesFault → Result (List (List ℕ)) NamesFault → Type 0
+GivesNames (Ok names) wanted = wanted ≡ Ok names
+GivesNames (Err fault.Memory) wanted = Unit {0}
+GivesNames (Err fault.TooMany) wanted = wanted ≡ Err fault.TooMany
+GivesNames (Err (fault.Reserved place)) wanted = wanted ≡ Err (fault.Reserved place)
+GivesNames (Err (fault.Duplicate place)) wanted = wanted ≡ Err (fault.Duplicate place)

@@ -1,0 +1,117 @@
+//! Admitted definitions.
+ghost use Rattle.std.specs.Prelude.{◌≡◌, ◌↔◌, [], length, slice_get, IsTrue, Ok};
+ghost use Rattle.std.specs.Option.{option_copied, option_map};
+ghost use Rattle.std.specs.List.{list_all};
+ghost use Rattle.sno_pattern.specs.Tree.{tree_of, trees, refs_below};
+
+use crate::{Name, Names, Pattern};
+use std::alloc::Global;
+use std::marker::Model;
+use thiserror::Error;
+
+/// Admitted definitions: names, and a pattern for each, which may refer to one another.
+#[derive(Drop)]
+pub struct Rules {
+    names: Names,
+    bodies: Vec<Pattern>,
+}
+
+impl Model for Rules {
+    ghost use Rattle.sno_pattern.specs.Tree.{trees};
+    ghost use Rattle.sno_pattern.specs.Definitions.{Definitions, definitions_code, AreClosed};
+
+    ghost Value = { Definitions };
+
+    ghost coded = { definitions_code };
+
+    ghost view = { λ s. record { names = s.names; bodies = trees s.bodies.items } };
+
+    ghost invariant = { λ s. AreClosed s.names (trees s.bodies.items) };
+}
+
+/// Why definitions are not admitted.
+#[derive(Debug, PartialEq, Eq, Drop, Error)]
+pub enum RulesFault {
+    /// The definition with this number, the first of such, refers past the last.
+    #[error("bad reference in definition {0}")]
+    BadRef(usize),
+    /// Definitions that refer to one another in a circle without taking a character.
+    #[error("unguarded")]
+    Unguarded(Vec<usize>),
+    /// Memory was refused.
+    #[error("out of memory")]
+    Memory,
+}
+
+impl Rules {
+    /// No definitions; with some the call is not to be had yet.
+    pub fn admit(_alloc: Global, names: Names, bodies: Vec<Pattern>) -> Result<Rules, RulesFault>
+        requires nameless { names ≡ [] }
+        requires bodiless { bodies.items ≡ [] }
+        ensures { result ≡ Ok (record { names = []; bodies = [] }) }
+    {
+        Ok(Rules { names, bodies })
+    }
+
+    /// Whether each reference of the pattern is to one of these definitions.
+    pub fn covers(&self, pattern: &Pattern) -> bool
+        ensures { result ≡ refs_below (length self.now.bodies) (tree_of pattern.now) }
+    {
+        refs_below(self.bodies.len(), pattern)
+    }
+
+    /// The pattern of the definition with this number.
+    pub fn body(&self, number: usize) -> Option<&Pattern>
+        ensures { option_map (λ p. tree_of p.now) result ≡ slice_get self.now.bodies number }
+    {
+        self.bodies.get(number)
+    }
+
+    /// The patterns of all definitions, in order. Each reference in them is to one of them.
+    pub fn bodies(&self) -> &[Pattern]
+        ensures value { trees result.now ≡ self.now.bodies }
+        ensures closed { IsTrue (list_all (refs_below (length self.now.bodies)) self.now.bodies) }
+    {
+        self.bodies.as_slice()
+    }
+
+    /// The name of the definition with this number.
+    pub fn name(&self, number: usize) -> Option<&Name>
+        ensures { option_copied result ≡ slice_get self.now.names number }
+    {
+        self.names.get(number)
+    }
+
+    /// The names, as they were handed in.
+    pub fn names(&self) -> &Names
+        ensures value { result.now ≡ self.now.names }
+        ensures as_many { length self.now.names ≡ length self.now.bodies }
+    {
+        &self.names
+    }
+
+    /// How many definitions there are.
+    pub fn len(&self) -> usize
+        ensures { result ≡ length self.now.bodies }
+    {
+        self.bodies.len()
+    }
+
+    /// Whether there is none.
+    pub fn is_empty(&self) -> bool
+        ensures { IsTrue result ↔ (self.now.bodies ≡ []) }
+    {
+        self.bodies.is_empty()
+    }
+}
+
+fn refs_below(count: usize, pattern: &Pattern) -> bool
+    ensures { result ≡ refs_below count (tree_of pattern.now) }
+{
+    match pattern {
+        Pattern::Ref(number) => *number < count,
+        Pattern::Arbno(child) | Pattern::Cond(child, _) | Pattern::Imm(child, _) => refs_below(count, child),
+        Pattern::Seq(left, right) | Pattern::Alt(left, right) => refs_below(count, left) && refs_below(count, right),
+        _ => true,
+    }
+}
