@@ -1,0 +1,7 @@
+-- The front, the value of the parts so far, and that of the parts that are left.
+use Rattle.std.proofs.Common.{◌≡◌, ◌++◌, drop, take}
+use Rattle.sno_statement.specs.Value.{value_of}
+use Rattle.sno_statement.proofs.values.replaced.Given as goal
+
+abbrev pub invariant-loop-part : goal.invariant-loop-part
+invariant-loop-part l = l.out.items ++ value_of l.bindings (drop l.part-index l.parts) ≡ take l.fn.start l.subject ++ value_of l.bindings l.parts

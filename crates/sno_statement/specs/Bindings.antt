@@ -1,0 +1,50 @@
+-- What the variables are bound to.
+use Rattle.std.specs.Prelude.{ℕ, List, [], ◌∷◌, Option, Some, None}
+use Rattle.std.specs.Map.{lookup as find_value}
+use Rattle.indexmap.specs.IndexMap.{insert_entry}
+use Rattle.sno_pattern.specs.Identifiers.{same}
+use Rattle.sno_pattern.specs.Ends.{part}
+use Rattle.sno_pattern.specs.Events.{CondList}
+use Rattle.sno_pattern.specs.declared.events.What.{What}
+use Rattle.sno_pattern.specs.declared.events.What.TheVariants as what
+use Rattle.sno_pattern.specs.declared.events.Assign.{Assign}
+use Rattle.sno_pattern.specs.declared.found.Found.{Found}
+use Rattle.sno_pattern.specs.declared.found.Hit.{Hit}
+use Rattle.sno_statement.specs.declared.binding.Datum.{Datum}
+use Rattle.sno_statement.specs.declared.binding.Datum.TheVariants.{Str, Int}
+
+-- variables with their values, in the order of their first assignment
+abbrev pub Bound : Type 0
+Bound = List (List ℕ × Datum)
+
+-- one more assignment: a variable keeps its first place and has its last value
+abbrev pub bind : Bound → List ℕ → Datum → Bound
+bind bound name value = insert_entry same bound name value
+
+-- the value of a variable
+abbrev pub lookup : List ℕ → Bound → Option Datum
+lookup name bound = find_value (same name) bound
+
+-- a part of the text t gives a string, a cursor a number
+abbrev pub datum_of : List ℕ → What → Datum
+datum_of t (what.Part from to) = Str (part t from to)
+datum_of t (what.Cursor c) = Int c
+
+-- the assignments that were done at once, in order
+abbrev pub bind_sets : List ℕ → Bound → List Assign → Bound
+bind_sets t bound [] = bound
+bind_sets t bound (a ∷ sets) = bind_sets t (bind bound a.name (datum_of t a.what)) sets
+
+-- the conditional assignments, in order
+abbrev pub bind_conds : List ℕ → Bound → CondList → Bound
+bind_conds t bound [] = bound
+bind_conds t bound (a ∷ conds) = bind_conds t (bind bound a.0 (Str (part t a.1 a.2))) conds
+
+-- the conditional assignments of a success; a failure has none
+abbrev pub conds_of : Option Hit → CondList
+conds_of None = []
+conds_of (Some hit) = hit.conds
+
+-- what the variables are bound to after a match: first what was assigned at once, then, on success, the conditional assignments
+abbrev pub bindings_of : List ℕ → Found → Bound
+bindings_of t found = bind_conds t (bind_sets t [] found.sets) (conds_of found.end)

@@ -1,0 +1,4 @@
+pub mod Task
+pub mod Bindings
+pub mod Value
+pub mod Perform

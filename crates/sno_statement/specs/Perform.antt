@@ -1,0 +1,50 @@
+-- What a statement does to a text.
+use Rattle.std.specs.Prelude.{◌≡◌, ℕ, List, length, nat_lt, Option, Some, None, Result, Ok, Err, if◌then◌else◌}
+use Rattle.std.specs.Option.{option_map}
+use Rattle.std.specs.Arc.{arc_value}
+use Rattle.sno_pattern.specs.Outcome.{outcome}
+use Rattle.sno_pattern.specs.declared.found.Found.{Found}
+use Rattle.sno_pattern.specs.declared.found.Hit.{Hit}
+use Rattle.sno_statement.specs.Task.{Task}
+use Rattle.sno_statement.specs.Bindings.{Bound, bindings_of}
+use Rattle.sno_statement.specs.Value.{value_of, replaced}
+use Rattle.sno_statement.specs.declared.objects.Part.{Part}
+use Rattle.sno_statement.specs.declared.outcomes.Outcome.{Outcome}
+use Rattle.sno_statement.specs.declared.outcomes.Outcome.TheVariants as outcomes
+use Rattle.sno_statement.specs.declared.outcomes.StatementFault.{StatementFault}
+use Rattle.sno_statement.specs.declared.outcomes.StatementFault.TheVariants as fault
+
+-- an outcome by value: the cursors of the match, the bindings, and the new text exactly where there is an object; or the failure
+-- with the bindings that stay
+pub data Done : Type 0 where
+  Matched : ℕ → ℕ → Bound → Option (List ℕ) → Done
+  Failed : Bound → Done
+
+-- a new text is refused past 65,536 characters
+abbrev pub with_text : ℕ → ℕ → Bound → List ℕ → Result Done StatementFault
+with_text s e bound after = if nat_lt 65536 (length after) then Err fault.TextTooLong else Ok (Matched s e bound (Some after))
+
+-- after a failed match nothing is replaced and the object isn't evaluated; without an object nothing is replaced
+abbrev pub finish : Option (List Part) → List ℕ → Bound → Option Hit → Result Done StatementFault
+finish object t bound None = Ok (Failed bound)
+finish None t bound (Some hit) = Ok (Matched hit.start hit.end bound None)
+finish (Some parts) t bound (Some hit) = with_text hit.start hit.end bound (replaced t hit.start hit.end (value_of bound parts))
+
+-- what a match that came out so does
+abbrev pub finish_found : Option (List Part) → List ℕ → Found → Result Done StatementFault
+finish_found object t found = finish object t (bindings_of t found) found.end
+
+-- what the statement does to the text t
+abbrev pub perform : Task → List ℕ → Result Done StatementFault
+perform s t = finish_found s.object t (outcome t s.rules.bodies s.pattern s.anchored)
+
+-- an outcome of the program, by value
+abbrev pub done_of : Outcome → Done
+done_of (outcomes.Matched s e bound after) = Matched s e bound (option_map arc_value after)
+done_of (outcomes.Failed bound) = Failed bound
+
+-- the answer is the one wanted, by value, or want of memory
+abbrev pub Gives : Result Outcome StatementFault → Result Done StatementFault → Type 0
+Gives (Ok outcome) wanted = wanted ≡ Ok (done_of outcome)
+Gives (Err fault.TextTooLong) wanted = wanted ≡ Err fault.TextTooLong
+Gives (Err fault.Memory) wanted = Unit {0}

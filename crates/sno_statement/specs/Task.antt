@@ -1,0 +1,29 @@
+-- Statements by value.
+use Rattle.std.specs.Prelude.{ℕ, Bool, List, Option, refl}
+use Rattle.std.specs.Coded.{Coded, code_by, coded×, coded_list, coded_ℕ, coded_bool, coded_option}
+use Rattle.sno_pattern.specs.Tree.{Tree}
+use Rattle.sno_pattern.specs.Definitions.{Definitions, definitions_code, tree_code}
+use Rattle.sno_statement.specs.declared.objects.Part.{Part}
+use Rattle.sno_statement.specs.contracts.objects.Part as stored
+
+-- a statement: the caller's number, the definitions, the pattern, the object's parts where it replaces, the text's name, and
+-- whether a match begins at cursor 0 alone
+pub record Task : Type 0 where
+  pub number : ℕ
+  pub rules : Definitions
+  pub pattern : Tree
+  pub object : Option (List Part)
+  pub text : List ℕ
+  pub anchored : Bool
+
+-- the code of an object's part
+abbrev pub part_code : Coded Part
+part_code = stored.the_row.coded
+
+-- a statement is stored as the tuple of its fields
+abbrev pub task_code : Coded Task
+task_code =
+    code_by (ℕ × (Definitions × (Tree × (Option (List Part) × (List ℕ × Bool)))))
+    (coded× coded_ℕ (coded× definitions_code (coded× tree_code (coded× (coded_option (coded_list part_code)) (coded× (coded_list coded_ℕ) coded_bool)))))
+    (λ s. (s.number, (s.rules, (s.pattern, (s.object, (s.text, s.anchored))))))
+    (λ p. record { number = p.0; rules = p.1.0; pattern = p.1.1.0; object = p.1.1.1.0; text = p.1.1.1.1.0; anchored = p.1.1.1.1.1 }) (λ _. refl)

@@ -1,0 +1,80 @@
+//! Variables and their values.
+ghost use Rattle.std.specs.Prelude.{◌≡◌, ◌↔◌, [], length, slice_get, IsTrue, OnOk, OnErr, Some};
+ghost use Rattle.std.specs.Option.{option_map};
+ghost use Rattle.sno_statement.specs.Bindings.{bind, lookup};
+
+use indexmap::IndexMap;
+use sno_pattern::{Name, Text};
+use std::alloc::{AllocError, Global};
+use std::marker::Model;
+
+/// The value of a variable.
+#[derive(Debug, PartialEq, Eq, Drop)]
+pub enum Datum {
+    /// A string.
+    Str(Text),
+    /// A number: a cursor.
+    Int(u32),
+}
+
+/// The variables that a statement assigned, in the order of their first assignment, each with its last value.
+#[derive(Drop)]
+pub struct Bindings {
+    map: IndexMap<Name, Datum>,
+}
+
+impl Model for Bindings {
+    ghost use Rattle.std.specs.Prelude.{List, ℕ};
+    ghost use Rattle.sno_statement.specs.declared.binding.Datum.{Datum};
+
+    ghost Value = { List (List ℕ × Datum) };
+
+    ghost view = { λ s. s.map.entries };
+}
+
+impl Bindings {
+    /// No variable yet.
+    pub(crate) fn new(alloc: Global) -> Bindings
+        ensures { result ≡ [] }
+    {
+        Bindings {
+            map: IndexMap::new(alloc),
+        }
+    }
+
+    /// Assigns a value. A variable keeps its first place. Where memory is refused nothing changes.
+    pub(crate) fn set(&mut self, name: Name, value: Datum) -> Result<(), AllocError>
+        ensures { OnOk result (self.new ≡ bind self.old name value) }
+    {
+        self.map.insert(name, value)?;
+        Ok(())
+    }
+
+    /// How many variables there are.
+    pub fn len(&self) -> usize
+        ensures { result ≡ length self.now }
+    {
+        self.map.len()
+    }
+
+    /// Whether there is none.
+    pub fn is_empty(&self) -> bool
+        ensures { IsTrue result ↔ (self.now ≡ []) }
+    {
+        self.map.is_empty()
+    }
+
+    /// The variable at a place in the order of first assignments, with its value.
+    pub fn get(&self, place: usize) -> Option<(&Name, &Datum)>
+        ensures { option_map (λ b. (b.0.now, b.1.now)) result ≡ slice_get self.now place }
+    {
+        self.map.get_index(place)
+    }
+
+    /// The value of a variable; none where it was never assigned.
+    pub fn value(&self, name: &Name) -> Option<&Datum>
+        ensures { option_map (λ d. d.now) result ≡ lookup name.now self.now }
+    {
+        self.map.get(name)
+    }
+}

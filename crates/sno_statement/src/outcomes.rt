@@ -1,0 +1,60 @@
+//! What comes of a statement.
+use crate::Bindings;
+use sno_pattern::Text;
+use std::alloc::{AllocError, AllocFailed};
+use std::sync::Arc;
+use thiserror::Error;
+
+/// What came of a statement on a text.
+#[derive(Drop)]
+pub enum Outcome {
+    /// The pattern matched between two cursors.
+    Matched {
+        /// The cursor from which the match began.
+        start: usize,
+        /// The cursor at which it ended.
+        end: usize,
+        /// The variables that were assigned.
+        bindings: Bindings,
+        /// The new text, exactly where the statement has an object.
+        after: Option<Arc<Text>>,
+    },
+    /// The pattern did not match. Nothing is replaced.
+    Failed {
+        /// The variables that were assigned at once on the way.
+        bindings: Bindings,
+    },
+}
+
+/// Why a statement is refused.
+#[derive(Clone, Copy, Debug, PartialEq, Eq, Error)]
+pub enum StatementFault {
+    /// The new text would have more than 65,536 characters.
+    #[error("text too long")]
+    TextTooLong,
+    /// Memory was refused.
+    #[error("out of memory")]
+    Memory,
+}
+
+impl From<AllocError> for StatementFault {
+    ghost use Rattle.std.specs.Prelude.{◌≡◌};
+    ghost use Rattle.sno_statement.specs.declared.outcomes.StatementFault.TheVariants.{Memory};
+
+    ghost from_gives = { λ _ e. e ≡ Memory };
+
+    fn from(_refused: AllocError) -> StatementFault {
+        StatementFault::Memory
+    }
+}
+
+impl<T: Drop> From<AllocFailed<T>> for StatementFault {
+    ghost use Rattle.std.specs.Prelude.{◌≡◌};
+    ghost use Rattle.sno_statement.specs.declared.outcomes.StatementFault.TheVariants.{Memory};
+
+    ghost from_gives = { λ _ e. e ≡ Memory };
+
+    fn from(_refused: AllocFailed<T>) -> StatementFault {
+        StatementFault::Memory
+    }
+}
