@@ -9,3 +9,4 @@ pub mod Ends
 pub mod Results
 pub mod Outcome
 pub mod Rows
+pub mod Laws
