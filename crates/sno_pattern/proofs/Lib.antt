@@ -2,3 +2,4 @@ pub mod TextLemmas
 pub mod NameLemmas
 pub mod EachEnd
 pub mod Within
+pub mod Repetition
