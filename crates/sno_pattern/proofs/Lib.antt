@@ -1,3 +1,7 @@
 pub mod TextLemmas
 pub mod NameLemmas
 pub mod NameListLemmas
+pub mod EachEnd
+pub mod Within
+pub mod Repetition
+pub mod ToldLies
