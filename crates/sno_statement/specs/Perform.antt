@@ -1,7 +1,9 @@
 -- What a statement does to a text.
-use Rattle.std.specs.Prelude.{◌≡◌, ℕ, List, length, nat_lt, Option, Some, None, Result, Ok, Err, if◌then◌else◌}
+use Rattle.std.specs.Prelude.{◌≡◌, ◌<◌, ◌≤◌, ℕ, List, length, nat_lt, Option, Some, None, Result, Ok, Err, if◌then◌else◌}
 use Rattle.std.specs.Option.{option_map}
 use Rattle.std.specs.Arc.{arc_value}
+use Rattle.std.specs.declared.sync.Arc.{Arc}
+use Rattle.std.proofs.Common.{Global}
 use Rattle.sno_pattern.specs.Outcome.{outcome}
 use Rattle.sno_pattern.specs.declared.found.Found.{Found}
 use Rattle.sno_pattern.specs.declared.found.Hit.{Hit}
@@ -48,3 +50,9 @@ abbrev pub Gives : Result Outcome StatementFault → Result Done StatementFault 
 Gives (Ok outcome) wanted = wanted ≡ Ok (done_of outcome)
 Gives (Err fault.TextTooLong) wanted = wanted ≡ Err fault.TextTooLong
 Gives (Err fault.Memory) wanted = Unit {0}
+
+-- the text answered is the one wanted; it is refused where that is too long; or want of memory
+abbrev pub GivesText : Result (Arc (List ℕ) Global) StatementFault → List ℕ → Type 0
+GivesText (Ok text) wanted = (arc_value text ≡ wanted) × (length wanted ≤ 65536)
+GivesText (Err fault.TextTooLong) wanted = 65536 < length wanted
+GivesText (Err fault.Memory) wanted = Unit {0}

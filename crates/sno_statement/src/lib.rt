@@ -4,6 +4,7 @@
 mod binding;
 mod objects;
 mod outcomes;
+mod performing;
 mod statements;
 mod values;
 

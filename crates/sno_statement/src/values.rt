@@ -1,36 +1,84 @@
-//! The value of an object.
-ghost use Rattle.std.specs.Prelude.{◌≡◌, ◌++◌, ◌≤◌, IfOk, OnOk, length};
-ghost use Rattle.sno_statement.specs.Value.{string_of, part_value, value_of, replaced};
+//! The value of an object, and the texts that are cut and put together.
+ghost use Rattle.std.specs.Prelude.{◌≡◌, ◌++◌, ◌≤◌, IfOk, OnOk, length, take, drop, IsTrue};
+ghost use Rattle.std.specs.List.{list_all};
+ghost use Rattle.std.specs.Char.{is_ascii};
+ghost use Rattle.std.specs.Fmt.{decimal};
+ghost use Rattle.sno_pattern.specs.Ends.{part};
+ghost use Rattle.sno_statement.specs.Value.{part_value, value_of, replaced};
 
 use crate::{Bindings, Datum, Part};
+use sno_pattern::Text;
 use std::alloc::{AllocError, Global};
+
+/// The first characters, as many as there are up to a number.
+fn front(characters: &[u8], count: usize) -> &[u8]
+    ensures { result.now ≡ take count characters.now }
+{
+    if count < characters.len() {
+        characters.split_at(count).0
+    } else {
+        characters
+    }
+}
+
+/// The characters behind the first ones.
+fn back(characters: &[u8], count: usize) -> &[u8]
+    ensures { result.now ≡ drop count characters.now }
+{
+    if count < characters.len() {
+        characters.split_at(count).1
+    } else {
+        &[]
+    }
+}
+
+#[tactic(auto, using(crate::proofs::Ascii::part_is_text))]
+/// A text of the characters between two cursors.
+pub(crate) fn part(alloc: Global, subject: &Text, from: usize, to: usize) -> Result<Text, AllocError>
+    ensures { IfOk result (λ s. s ≡ part subject.now from to) }
+{
+    let characters = front(back(subject.bytes(), from), to.saturating_sub(from));
+    match Text::new(Vec::from_slice(alloc, characters)?) {
+        Ok(text) => Ok(text),
+        Err(_) => unreachable!(),
+    }
+}
+
+/// Puts a number in decimal digits behind what is there.
+#[tactic(auto, using(crate::proofs::Ascii::ascii_decimal))]
+fn put_number(alloc: Global, number: u32, out: &mut Vec<u8>) -> Result<(), AllocError>
+    ensures value { OnOk result (out.new.items ≡ out.old.items ++ decimal number) }
+    ensures ascii { IsTrue (list_all is_ascii (decimal number)) }
+{
+    let digits = number.to_string(alloc)?;
+    out.extend_from_slice(digits.as_bytes())
+}
 
 /// Puts a part's value behind what is there.
 fn put_part(alloc: Global, part: &Part, bindings: &Bindings, out: &mut Vec<u8>) -> Result<(), AllocError>
-    ensures { OnOk result (out.new.items ≡ out.old.items ++ part_value bindings.now part.now) }
+    ensures value { OnOk result (out.new.items ≡ out.old.items ++ part_value bindings.now part.now) }
+    ensures ascii { IsTrue (list_all is_ascii (part_value bindings.now part.now)) }
 {
     match part {
         Part::Quoted(text) => out.extend_from_slice(text.bytes()),
         Part::Var(name) => match bindings.value(name) {
             None => Ok(()),
             Some(Datum::Str(text)) => out.extend_from_slice(text.bytes()),
-            Some(Datum::Int(number)) => out.extend_from_slice(number.to_string(alloc)?.as_bytes()),
+            Some(Datum::Int(number)) => put_number(alloc, *number, out),
         },
     }
 }
 
-/// The text in which the part between two cursors is replaced by the object's value.
-pub(crate) fn replaced(alloc: Global, subject: &[u8], start: usize, end: usize, parts: &[Part], bindings: &Bindings) -> Result<Vec<u8>, AllocError>
-    requires in_order { start ≤ end }
-    requires within { end ≤ length subject.now }
-    ensures { IfOk result (λ v. v.items ≡ replaced subject.now start end (value_of bindings.now parts.now)) }
+/// The characters in which the part between two cursors is replaced by the object's value.
+#[tactic(auto, using(crate::proofs::Ascii::ascii_append, crate::proofs::Ascii::ascii_take, crate::proofs::Ascii::ascii_drop))]
+pub(crate) fn replaced(alloc: Global, subject: &Text, start: usize, end: usize, parts: &[Part], bindings: &Bindings) -> Result<Vec<u8>, AllocError>
+    ensures value { IfOk result (λ v. v.items ≡ replaced subject.now start end (value_of bindings.now parts.now)) }
+    ensures ascii { IfOk result (λ v. IsTrue (list_all is_ascii v.items)) }
 {
-    let (front, _) = subject.split_at(start);
-    let (_, back) = subject.split_at(end);
-    let mut out = Vec::from_slice(alloc, front)?;
+    let mut out = Vec::from_slice(alloc, front(subject.bytes(), start))?;
     for part in parts {
         put_part(alloc, part, bindings, &mut out)?;
     }
-    out.extend_from_slice(back)?;
+    out.extend_from_slice(back(subject.bytes(), end))?;
     Ok(out)
 }

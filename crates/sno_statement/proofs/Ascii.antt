@@ -1,0 +1,76 @@
+-- What texts are put together from is ASCII.
+use Rattle.std.proofs.Common.{◌≡◌, ℕ, zero, suc, ◌+◌, ◌-◌, ◌≤◌, ◌<◌, ◌^◌, Bool, true, false, not, ◌&&◌, cond, List, [], ◌∷◌, ◌++◌, length, take, drop, Option, Some, None, Result, Ok, Err, IsTrue, refl, sym, ◌∙◌, ap, subst, arith, nat_lt, ◌⊎◌, inl, inr}
+use Rattle.std.specs.List.{list_all, position_from}
+use Rattle.std.specs.Char.{is_ascii}
+use Rattle.std.specs.Str.{IsAscii}
+use Rattle.std.specs.Fmt.{decimal}
+use Rattle.std.proofs.lemmas.Fmt.{IsAscii-decimal}
+use Rattle.std.proofs.lemmas.Bool.{and_parts, le-ltb, lt-ltb, cases_lt}
+use Rattle.std.proofs.lemmas.List.{take-append-drop, length-take, length-drop}
+use Rattle.std.proofs.lemmas.List.Folds.{list_all-append}
+use Rattle.sno_pattern.specs.Texts.{text_of, first_non_ascii, ascii_or}
+use Rattle.sno_pattern.specs.declared.texts.TextFault.{TextFault}
+use Rattle.sno_pattern.specs.declared.texts.TextFault.TheVariants.{TooLong}
+use Rattle.sno_pattern.specs.Ends.{part}
+
+abbrev pub AreAscii : List ℕ → Type 0
+AreAscii bytes = IsTrue (list_all is_ascii bytes)
+
+both : (a b : Bool) → a ≡ true → b ≡ true → (a && b) ≡ true
+both a b h g = (λ i. h i && g i)
+
+pub ascii_append : (xs ys : List ℕ) → AreAscii xs → AreAscii ys → AreAscii (xs ++ ys)
+ascii_append xs ys h g = list_all-append is_ascii xs ys ∙ both (list_all is_ascii xs) (list_all is_ascii ys) h g
+
+parts : (n : ℕ) (xs : List ℕ) → AreAscii xs → (list_all is_ascii (take n xs) && list_all is_ascii (drop n xs)) ≡ true
+parts n xs h = sym (list_all-append is_ascii (take n xs) (drop n xs)) ∙ ap (list_all is_ascii) (take-append-drop n xs) ∙ h
+
+pub ascii_take : (n : ℕ) (xs : List ℕ) → AreAscii xs → AreAscii (take n xs)
+ascii_take n xs h = (and_parts _ _ (parts n xs h)).0
+
+pub ascii_drop : (n : ℕ) (xs : List ℕ) → AreAscii xs → AreAscii (drop n xs)
+ascii_drop n xs h = (and_parts _ _ (parts n xs h)).1
+
+pub ascii_part : (t : List ℕ) (from to : ℕ) → AreAscii t → AreAscii (part t from to)
+ascii_part t from to h = ascii_take (to - from) (drop from t) (ascii_drop from t h)
+
+ascii_code : (b : ℕ) → b < 128 → is_ascii b ≡ true
+ascii_code b h = lt-ltb b 128 h
+
+pub ascii_from_index : (bytes : List ℕ) → IsAscii bytes → AreAscii bytes
+ascii_from_index [] h = refl
+ascii_from_index (b ∷ bs) h = both (is_ascii b) (list_all is_ascii bs) (ascii_code b (h 0)) (ascii_from_index bs (λ i. h (suc i)))
+
+pub ascii_decimal : (n : ℕ) → n < 2 ^ 32 → AreAscii (decimal n)
+ascii_decimal n h = ascii_from_index (decimal n) (IsAscii-decimal n (omega arith))
+
+no_more : (v : Bool) (i : ℕ) (found : Option ℕ) (rest : Bool) → (rest ≡ true → found ≡ None) → (v && rest) ≡ true → cond (not v) (Some i) found ≡ None
+no_more true i found rest more h = more h
+no_more false i found rest more h = cc
+
+none_past : (i : ℕ) (bytes : List ℕ) → AreAscii bytes → position_from (λ b. not (is_ascii b)) i bytes ≡ None
+none_past i [] h = refl
+none_past i (b ∷ bs) h = no_more (is_ascii b) i _ _ (none_past (i + 1) bs) h
+
+short_text : (long : Bool) (place : Option ℕ) (bytes : List ℕ) → long ≡ false → place ≡ None → cond long (Err TooLong) (ascii_or place bytes) ≡ Ok bytes
+short_text true place bytes h g = cc
+short_text false place bytes h g = ap (λ (o : Option ℕ). ascii_or o bytes) g
+
+-- characters that are few and ASCII are a text
+pub text_of_ascii : (bytes : List ℕ) → length bytes ≤ 65536 → AreAscii bytes → text_of bytes ≡ Ok bytes
+text_of_ascii bytes short h = short_text (nat_lt 65536 (length bytes)) (first_non_ascii bytes) bytes (le-ltb 65536 (length bytes) short) (none_past 0 bytes h)
+
+-- a part of a text is never refused as a text
+pub part_is_text : (t v : List ℕ) (from to : ℕ) (e : TextFault) → Err e ≡ text_of v → v ≡ part t from to → length t ≤ 65536 → AreAscii t → ⊥
+part_is_text t v from to e refused is short ascii =
+    let few : length (part t from to) ≤ 65536 = omega (arith, length-take (to - from) (drop from t), length-drop from t) in
+    let fine : text_of v ≡ Ok v = ap text_of is ∙ text_of_ascii (part t from to) few (ascii_part t from to ascii) ∙ ap (λ (x : List ℕ). Ok x) (sym is) in
+    cc
+
+-- ASCII characters are refused as a text only where they are too many
+pub refused_is_long : (v : List ℕ) (e : TextFault) → Err e ≡ text_of v → AreAscii v → 65536 < length v
+refused_is_long v e refused ascii = by_length v e refused ascii (cases_lt 65536 (length v))
+  where
+    by_length : (v : List ℕ) (e : TextFault) → Err e ≡ text_of v → AreAscii v → (65536 < length v) ⊎ (length v ≤ 65536) → 65536 < length v
+    by_length v e refused ascii (inl many) = many
+    by_length v e refused ascii (inr few) = let fine : text_of v ≡ Ok v = text_of_ascii v few ascii in cc

@@ -1,0 +1,98 @@
+//! What a statement does to a text.
+ghost use Rattle.std.specs.Prelude.{◌≡◌, IfOk, OnOk, [], Some};
+ghost use Rattle.std.specs.Option.{option_copied};
+ghost use Rattle.sno_pattern.specs.Laws.{CursorLies, SetsLie};
+ghost use Rattle.sno_statement.specs.Bindings.{datum_of, bind_sets, bind_conds};
+ghost use Rattle.sno_statement.specs.Value.{value_of, replaced};
+ghost use Rattle.sno_statement.specs.Perform.{Gives, GivesText, finish, finish_found};
+
+use crate::values::{part, replaced};
+use crate::{Bindings, Datum, Object, Outcome, Part, StatementFault};
+use sno_pattern::{Assign, Found, Hit, Name, Text, What};
+use std::alloc::{AllocError, Global};
+use std::sync::Arc;
+
+/// The value that is assigned at once.
+fn datum(alloc: Global, subject: &Text, what: What) -> Result<Datum, AllocError>
+    requires { CursorLies subject.now what }
+    ensures { IfOk result (λ d. d ≡ datum_of subject.now what) }
+{
+    match what {
+        What::Part(from, to) => {
+            let text = part(alloc, subject, from, to)?;
+            Ok(Datum::Str(text))
+        }
+        What::Cursor(cursor) => {
+            let _short = subject.bytes();
+            Ok(Datum::Int(cursor as u32))
+        }
+    }
+}
+
+/// The assignments that were done at once, bound.
+fn bound_at_once(alloc: Global, subject: &Text, sets: &[Assign]) -> Result<Bindings, AllocError>
+    requires { SetsLie subject.now sets.now }
+    ensures { IfOk result (λ b. b ≡ bind_sets subject.now [] sets.now) }
+{
+    let mut bindings = Bindings::new(alloc);
+    for set in sets {
+        let value = datum(alloc, subject, set.what)?;
+        bindings.set(set.name, value)?;
+    }
+    Ok(bindings)
+}
+
+/// The conditional assignments bound behind what is bound.
+fn bind_later(alloc: Global, subject: &Text, bindings: &mut Bindings, conds: &[(Name, usize, usize)]) -> Result<(), AllocError>
+    ensures { OnOk result (bindings.new ≡ bind_conds subject.now bindings.old conds.now) }
+{
+    for (name, from, to) in conds {
+        let text = part(alloc, subject, *from, *to)?;
+        bindings.set(*name, Datum::Str(text))?;
+    }
+    Ok(())
+}
+
+/// What a success does: its bindings, and the new text where there is an object.
+fn succeed(alloc: Global, object: Option<&Object>, subject: &Text, hit: &Hit, bindings: Bindings) -> Result<Outcome, StatementFault>
+    ensures { Gives result (finish (option_copied object.entry) subject.now bindings (Some hit.now)) }
+{
+    let after = match object {
+        None => None,
+        Some(object) => Some(new_text(alloc, object.parts(), subject, hit, &bindings)?),
+    };
+    Ok(Outcome::Matched {
+        start: hit.start,
+        end: hit.end,
+        bindings,
+        after,
+    })
+}
+
+/// The text that the replacement leaves.
+#[tactic(auto, using(crate::proofs::Ascii::refused_is_long))]
+fn new_text(alloc: Global, parts: &[Part], subject: &Text, hit: &Hit, bindings: &Bindings) -> Result<Arc<Text>, StatementFault>
+    ensures { GivesText result (replaced subject.now hit.now.start hit.now.end (value_of bindings.now parts.now)) }
+{
+    let characters = replaced(alloc, subject, hit.start, hit.end, parts, bindings)?;
+    match Text::new(characters) {
+        Ok(text) => Ok(Arc::new(alloc, text)?),
+        Err(_) => Err(StatementFault::TextTooLong),
+    }
+}
+
+/// What a match that came out so does to the text.
+pub(crate) fn finished(alloc: Global, object: Option<&Object>, subject: &Text, found: &Found) -> Result<Outcome, StatementFault>
+    requires { SetsLie subject.now found.now.sets }
+    ensures { Gives result (finish_found (option_copied object.entry) subject.now found.now) }
+{
+    let mut bindings = bound_at_once(alloc, subject, found.sets.as_slice())?;
+    match &found.end {
+        None => Ok(Outcome::Failed { bindings }),
+        Some(hit) => {
+            bind_later(alloc, subject, &mut bindings, hit.conds.as_slice())?;
+            let outcome = succeed(alloc, object, subject, hit, bindings)?;
+            Ok(outcome)
+        }
+    }
+}
