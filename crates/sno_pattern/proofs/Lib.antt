@@ -1,3 +1,5 @@
 pub mod TextLemmas
 pub mod NameLemmas
 pub mod NameListLemmas
+pub mod EachEnd
+pub mod Within

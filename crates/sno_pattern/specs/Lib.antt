@@ -11,3 +11,4 @@ pub mod Outcome
 pub mod Rows
 pub mod NameList
 pub mod Definitions
+pub mod Laws

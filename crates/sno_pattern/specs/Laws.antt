@@ -1,0 +1,21 @@
+-- Laws of matching, each of them proved by a function of `laws` that has it as its contract.
+use Rattle.std.specs.Prelude.{ℕ, ◌≤◌, List, [], ◌∷◌, length}
+use Rattle.sno_pattern.specs.Tree.{Tree}
+use Rattle.sno_pattern.specs.Results.{results}
+use Rattle.sno_pattern.specs.declared.events.Event.{Event}
+use Rattle.sno_pattern.specs.declared.events.Event.TheVariants.{Told, End, Halt}
+
+-- what holds of the cursor of each End
+abbrev pub AllEnds : (ℕ → Type 0) → List Event → Type 0
+AllEnds P [] = Unit {0}
+AllEnds P (Told t ∷ l) = AllEnds P l
+AllEnds P (End e a ∷ l) = P e × AllEnds P l
+AllEnds P (Halt ∷ l) = AllEnds P l
+
+-- not before the cursor c, and within the text
+abbrev pub Within : List ℕ → ℕ → ℕ → Type 0
+Within t c e = (c ≤ e) × (e ≤ length t)
+
+-- A match ends nowhere before the cursor at which it begins, and nowhere past the end of the text.
+abbrev pub EndsLieBehind : Type 0
+EndsLieBehind = (t : List ℕ) (bodies : List Tree) (k : ℕ) (p : Tree) (c : ℕ) → c ≤ length t → AllEnds (Within t c) (results t bodies k p c)
