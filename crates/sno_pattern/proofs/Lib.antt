@@ -3,3 +3,4 @@ pub mod NameLemmas
 pub mod NameListLemmas
 pub mod EachEnd
 pub mod Within
+pub mod Repetition

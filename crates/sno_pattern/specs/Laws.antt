@@ -1,6 +1,7 @@
 -- Laws of matching, each of them proved by a function of `laws` that has it as its contract.
-use Rattle.std.specs.Prelude.{ℕ, ◌≤◌, List, [], ◌∷◌, length}
-use Rattle.sno_pattern.specs.Tree.{Tree}
+use Rattle.std.specs.Prelude.{◌≡◌, ℕ, ◌≤◌, List, [], ◌∷◌, length, nat_lt, if◌then◌else◌}
+use Rattle.sno_pattern.specs.Tree.{Tree, Arbno}
+use Rattle.sno_pattern.specs.Events.{go_on}
 use Rattle.sno_pattern.specs.Results.{results}
 use Rattle.sno_pattern.specs.declared.events.Event.{Event}
 use Rattle.sno_pattern.specs.declared.events.Event.TheVariants.{Told, End, Halt}
@@ -19,3 +20,8 @@ Within t c e = (c ≤ e) × (e ≤ length t)
 -- A match ends nowhere before the cursor at which it begins, and nowhere past the end of the text.
 abbrev pub EndsLieBehind : Type 0
 EndsLieBehind = (t : List ℕ) (bodies : List Tree) (k : ℕ) (p : Tree) (c : ℕ) → c ≤ length t → AllEnds (Within t c) (results t bodies k p c)
+
+-- ARBNO(P) is '' | P ARBNO(P), where a round that takes no character is dropped.
+abbrev pub Repetition : Type 0
+Repetition = (t : List ℕ) (bodies : List Tree) (k : ℕ) (p : Tree) (c : ℕ) → c ≤ length t
+    → results t bodies k (Arbno p) c ≡ End c [] ∷ go_on (results t bodies k p c) (λ e. if nat_lt c e then results t bodies k (Arbno p) e else [])

@@ -19,6 +19,7 @@ pub use found::{Found, Hit};
 pub use identifiers::Name;
 pub use name_list::{Names, NamesFault};
 pub use laws::ends_lie_behind_the_cursor;
+pub use laws::{a_repetition_is_null_or_goes_on, ends_lie_behind_the_cursor};
 pub use text_names::{NameFault, TextName};
 pub use texts::{Text, TextFault};
 pub use tree::Pattern;
