@@ -4,3 +4,7 @@ pub mod NameListLemmas
 pub mod EachEnd
 pub mod Within
 pub mod Repetition
+pub mod Taking
+pub mod Congruence
+pub mod Depth
+pub mod Settled

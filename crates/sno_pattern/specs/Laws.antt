@@ -1,8 +1,10 @@
 -- Laws of matching, each of them proved by a function of `laws` that has it as its contract.
-use Rattle.std.specs.Prelude.{◌≡◌, ℕ, ◌≤◌, List, [], ◌∷◌, length, nat_lt, if◌then◌else◌}
+use Rattle.std.specs.Prelude.{◌≡◌, ℕ, ◌≤◌, Bool, List, [], ◌∷◌, length, nat_lt, if◌then◌else◌}
 use Rattle.sno_pattern.specs.Tree.{Tree, Arbno}
 use Rattle.sno_pattern.specs.Events.{go_on}
-use Rattle.sno_pattern.specs.Results.{results}
+use Rattle.sno_pattern.specs.Results.{results, depth}
+use Rattle.sno_pattern.specs.Outcome.{outcome, outcome_at}
+use Rattle.sno_pattern.specs.Guard.{Guarded}
 use Rattle.sno_pattern.specs.declared.events.Event.{Event}
 use Rattle.sno_pattern.specs.declared.events.Event.TheVariants.{Told, End, Halt}
 
@@ -25,3 +27,13 @@ EndsLieBehind = (t : List ℕ) (bodies : List Tree) (k : ℕ) (p : Tree) (c : �
 abbrev pub Repetition : Type 0
 Repetition = (t : List ℕ) (bodies : List Tree) (k : ℕ) (p : Tree) (c : ℕ) → c ≤ length t
     → results t bodies k (Arbno p) c ≡ End c [] ∷ go_on (results t bodies k p c) (λ e. if nat_lt c e then results t bodies k (Arbno p) e else [])
+
+-- Where the definitions are guarded, a depth greater than `depth` gives nothing more, from any cursor of the text ..
+abbrev pub DepthIsEnough : Type 0
+DepthIsEnough = (t : List ℕ) (bodies : List Tree) → Guarded bodies → (k : ℕ) (p : Tree) (c : ℕ) → depth t bodies ≤ k → c ≤ length t
+    → results t bodies k p c ≡ results t bodies (depth t bodies) p c
+
+-- .. and so it makes no difference to what comes of a match.
+abbrev pub OutcomeIsSettled : Type 0
+OutcomeIsSettled = (t : List ℕ) (bodies : List Tree) → Guarded bodies → (k : ℕ) (p : Tree) (anchored : Bool) → depth t bodies ≤ k
+    → outcome_at k t bodies p anchored ≡ outcome t bodies p anchored

@@ -20,6 +20,7 @@ pub use identifiers::Name;
 pub use name_list::{Names, NamesFault};
 pub use laws::ends_lie_behind_the_cursor;
 pub use laws::{a_repetition_is_null_or_goes_on, ends_lie_behind_the_cursor};
+pub use laws::{a_greater_depth_changes_no_outcome, a_greater_depth_gives_nothing_more, a_repetition_is_null_or_goes_on, ends_lie_behind_the_cursor};
 pub use text_names::{NameFault, TextName};
 pub use texts::{Text, TextFault};
 pub use tree::Pattern;
