@@ -1,5 +1,5 @@
 -- Two depths give the same from a cursor where they agree on the unguarded references there and on all of them further on.
-use Rattle.std.proofs.Common.{◌≡◌, ℕ, zero, suc, ◌+◌, ◌-◌, ◌<◌, ◌≤◌, Bool, true, false, cond, List, [], ◌∷◌, ◌++◌, length, nat_lt, inl, inr, ⊎_elim, refl, arith, ap, sym, subst, ◌∙◌}
+use Rattle.std.proofs.Common.{◌≡◌, ℕ, zero, suc, ◌+◌, ◌-◌, ◌<◌, ◌≤◌, cond, List, [], ◌∷◌, ◌++◌, length, nat_lt, inl, inr, ⊎_elim, refl, arith, ap, subst, ◌∙◌}
 use Rattle.std.proofs.lemmas.Bool.{cases_lt}
 use Rattle.sno_pattern.specs.Tree as tree
 use Rattle.sno_pattern.specs.Tree.{Tree}
@@ -24,7 +24,7 @@ same_rounds t once again h zero c i here past = refl
 same_rounds t once again h (suc n) c i here past =
     ap (λ l. End c [] ∷ go_on l (λ e. cond (nat_lt c e) (rounds once n e) [])) here
     ∙ same_round t again h (rounds once n) (rounds again n) c i
-      (λ e far inside. same_rounds t once again h n e inside (past e far inside) (λ x further. past x (omega arith)))
+    (λ e far inside. same_rounds t once again h n e inside (past e far inside) (λ x further. past x (omega arith)))
 
 module _ (t : List ℕ) (bodies : List Tree) (k₁ k₂ : ℕ) where
   -- what the second depth gives for p, with what is known of each End
@@ -40,11 +40,10 @@ module _ (t : List ℕ) (bodies : List Tree) (k₁ k₂ : ℕ) where
   same_go_on p q c i first here past =
       ap (λ l. go_on l (results t bodies k₁ q)) first
       ∙ go_on-cong (results t bodies k₁ q) (results t bodies k₂ q) (results t bodies k₂ p c)
-        (AllEnds-map (λ e. Within t c e × (Takes bodies p → c < e)) (λ e. results t bodies k₁ q e ≡ results t bodies k₂ q e)
-          (λ e w. at_or_past (λ x. results t bodies k₁ q x ≡ results t bodies k₂ q x) c e w.0.0 (λ far. past e far w.0.1)
-            (λ back. here (λ takes. let far : c < e = w.1 takes in absurd (omega arith))))
-          (results t bodies k₂ p c) (each_end p c i))
-
+      (AllEnds-map (λ e. Within t c e × (Takes bodies p → c < e)) (λ e. results t bodies k₁ q e ≡ results t bodies k₂ q e)
+      (λ e w. at_or_past (λ x. results t bodies k₁ q x ≡ results t bodies k₂ q x) c e w.0.0 (λ far. past e far w.0.1)
+      (λ back. here (λ takes. let far : c < e = w.1 takes in absurd (omega arith))))
+      (results t bodies k₂ p c) (each_end p c i))
 
   pub same_results : (p : Tree) (c : ℕ) → c ≤ length t
       → ((i : ℕ) → Unguarded bodies p i → named_at t bodies k₁ i c ≡ named_at t bodies k₂ i c)

@@ -1,7 +1,7 @@
 -- Where the definitions are guarded, a greater depth gives nothing more. At one cursor no definition is met twice on the way down,
 -- since each that was met has a chain to each that is met after it; so at most as many references nest there as there are
 -- definitions, and a part that takes moves the cursor on.
-use Rattle.std.proofs.Common.{◌≡◌, ℕ, zero, suc, ◌+◌, ◌-◌, ◌*◌, ◌<◌, ◌≤◌, Bool, true, false, List, [], ◌∷◌, length, Option, Some, None, slice_get, eqb, inl, inr, ⊎_elim, refl, arith, ap, sym, subst, ◌∙◌}
+use Rattle.std.proofs.Common.{◌≡◌, ℕ, zero, suc, ◌+◌, ◌-◌, ◌*◌, ◌<◌, ◌≤◌, true, false, List, [], ◌∷◌, length, Option, Some, None, slice_get, eqb, ⊎_elim, refl, arith, sym, subst, ◌∙◌}
 use Rattle.std.specs.List.{list_any, IsDistinct, AllByRecursion}
 use Rattle.std.proofs.Math.Nat.{mul-le-mul_right}
 use Rattle.std.proofs.lemmas.Bool.{eqb-true, ne_eqb, or_cases}
@@ -80,9 +80,9 @@ module _ (t : List ℕ) (bodies : List Tree) (g : Guarded bodies) where
       let inside : i < length bodies = slice_get_within bodies i body is in
       let few : length visited < length bodies = met_few bodies g visited i met inside in
       let here : (j : ℕ) → Unguarded bodies body j → named_at t bodies k₁ j c ≡ named_at t bodies k₂ j c =
-          λ j u. less (i ∷ visited) j c in_text (met_more bodies g visited i met inside j (body, is, u)) (omega arith) k₁ k₂ h₁ h₂ in
+      λ j u. less (i ∷ visited) j c in_text (met_more bodies g visited i met inside j (body, is, u)) (omega arith) k₁ k₂ h₁ h₂ in
       let past : (j e : ℕ) → c < e → e ≤ length t → named_at t bodies k₁ j e ≡ named_at t bodies k₂ j e =
-          λ j e far end. less [] j e end (none_met bodies j) (omega (arith, one_row (length t - e) (length t - c) (length bodies) (omega arith))) k₁ k₂ h₁ h₂ in
+      λ j e far end. less [] j e end (none_met bodies j) (omega (arith, one_row (length t - e) (length t - c) (length bodies) (omega arith))) k₁ k₂ h₁ h₂ in
       named_body t bodies k₁ i c body is ∙ same_results t bodies k₁ k₂ body c in_text here past ∙ sym (named_body t bodies k₂ i c body is)
 
   -- no reference can nest where i has a body

@@ -1,8 +1,8 @@
 -- A greater depth makes no difference to what comes of a match.
-use Rattle.std.proofs.Common.{◌≡◌, ℕ, ◌+◌, ◌<◌, ◌≤◌, Bool, true, false, List, [], ◌∷◌, ◌++◌, length, map, refl, arith, ap, ◌∙◌}
-use Rattle.std.specs.List.{flat_map, range_with_len}
+use Rattle.std.proofs.Common.{◌≡◌, ℕ, ◌+◌, ◌≤◌, Bool, true, false, List, [], ◌∷◌, ◌++◌, length, map, refl, arith, ap, ◌∙◌}
+use Rattle.std.specs.List.{flat_map}
 use Rattle.sno_pattern.specs.Tree.{Tree}
-use Rattle.sno_pattern.specs.Results.{results, depth}
+use Rattle.sno_pattern.specs.Results.{depth}
 use Rattle.sno_pattern.specs.Outcome.{Tried, starts, tried_from, cut_scan, found_in, outcome_at, outcome}
 use Rattle.sno_pattern.specs.Guard.{Guarded}
 use Rattle.sno_pattern.proofs.EachEnd.{AllOf, AllOf-map}
@@ -24,5 +24,5 @@ unfolding outcome_at
 outcome_settled t bodies g k p anchored enough =
     ap (λ l. found_in [] (cut_scan l))
     (same_flat_map (tried_from t bodies k p) (tried_from t bodies (depth t bodies) p) (starts t anchored)
-      (AllOf-map (λ s. s ≤ length t) (λ s. tried_from t bodies k p s ≡ tried_from t bodies (depth t bodies) p s)
-        (λ s inside. ap (map (λ e. (s, e))) (settled t bodies g k p s enough inside)) (starts t anchored) (starts_in_text t anchored)))
+    (AllOf-map (λ s. s ≤ length t) (λ s. tried_from t bodies k p s ≡ tried_from t bodies (depth t bodies) p s)
+    (λ s inside. ap (map (λ e. (s, e))) (settled t bodies g k p s enough inside)) (starts t anchored) (starts_in_text t anchored)))

@@ -1,8 +1,7 @@
 -- A part that takes ends past the cursor at which it begins.
-use Rattle.std.proofs.Common.{◌≡◌, ℕ, zero, suc, ◌+◌, ◌-◌, ◌<◌, ◌≤◌, Bool, true, false, not, ◌&&◌, List, [], ◌∷◌, ◌++◌, length, drop, Option, Some, None, slice_get, nat_eq, nat_le, refl, ap, arith}
+use Rattle.std.proofs.Common.{◌≡◌, ℕ, zero, suc, ◌+◌, ◌-◌, ◌<◌, ◌≤◌, true, not, List, [], ◌∷◌, ◌++◌, length, drop, Some, None, slice_get, nat_eq, nat_le, refl, ap, arith}
 use Rattle.std.specs.List.{starts_with, take_while, range_with_len}
 use Rattle.std.proofs.lemmas.Bool.{not-true, eqb-false}
-use Rattle.sno_pattern.specs.Tree as tree
 use Rattle.sno_pattern.specs.Tree.{Tree}
 use Rattle.sno_pattern.specs.Classes.{has}
 use Rattle.sno_pattern.specs.Ends.{part, balanced, literal_ends, len_ends, any_ends, notany_ends, span_ends, bal_ends}
