@@ -5,3 +5,7 @@ pub mod EachEnd
 pub mod Within
 pub mod Repetition
 pub mod ToldLies
+pub mod Taking
+pub mod Congruence
+pub mod Depth
+pub mod Settled

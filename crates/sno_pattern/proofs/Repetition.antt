@@ -3,7 +3,7 @@ use Rattle.std.proofs.Common.{◌≡◌, ℕ, zero, suc, ◌+◌, ◌-◌, ◌<�
 use Rattle.std.proofs.lemmas.Bool.{ltb-true}
 use Rattle.sno_pattern.specs.Tree.{Tree, Arbno}
 use Rattle.sno_pattern.specs.Events.{go_on}
-use Rattle.sno_pattern.specs.Results.{rounds, results_of, named_at, results}
+use Rattle.sno_pattern.specs.Results.{rounds, results_of, results}
 use Rattle.sno_pattern.specs.Laws.{AllEnds, Within}
 use Rattle.sno_pattern.specs.declared.events.Event.{Event}
 use Rattle.sno_pattern.specs.declared.events.Event.TheVariants.{End}
@@ -20,8 +20,8 @@ pub same_round : (t : List ℕ) (once : ℕ → List Event) → IsWithin t once 
     → End c [] ∷ go_on (once c) (λ e. cond (nat_lt c e) (f e) []) ≡ End c [] ∷ go_on (once c) (λ e. cond (nat_lt c e) (g e) [])
 same_round t once h f g c i agree =
     let each : AllEnds (λ e. cond (nat_lt c e) (f e) [] ≡ cond (nat_lt c e) (g e) []) (once c) =
-        AllEnds-map (Within t c) (λ e. cond (nat_lt c e) (f e) [] ≡ cond (nat_lt c e) (g e) [])
-        (λ e w. same_if (nat_lt c e) (f e) (g e) (λ past. agree e (ltb-true c e past) w.1)) (once c) (h c i) in
+    AllEnds-map (Within t c) (λ e. cond (nat_lt c e) (f e) [] ≡ cond (nat_lt c e) (g e) [])
+    (λ e w. same_if (nat_lt c e) (f e) (g e) (λ past. agree e (ltb-true c e past) w.1)) (once c) (h c i) in
     ap (λ l. End c [] ∷ l) (go_on-cong (λ e. cond (nat_lt c e) (f e) []) (λ e. cond (nat_lt c e) (g e) []) (once c) each)
 
 pub rounds_enough : (t : List ℕ) (once : ℕ → List Event) → IsWithin t once → (n m c : ℕ) → c ≤ length t → length t - c < n → length t - c < m → rounds once n c ≡ rounds once m c
@@ -38,7 +38,7 @@ rounds_unrolled : (t : List ℕ) (once : ℕ → List Event) → IsWithin t once
 rounds_unrolled t once h c i =
     more_rounds once (length t - c) c
     ∙ same_round t once h (rounds once (length t - c)) (λ e. rounds once (length t - e + 1) e) c i
-      (λ e past inside. rounds_enough t once h (length t - c) (length t - e + 1) e inside (omega arith) (omega arith))
+    (λ e past inside. rounds_enough t once h (length t - c) (length t - e + 1) e inside (omega arith) (omega arith))
 
 -- ARBNO(P) by itself
 pub unrolled : (t : List ℕ) (bodies : List Tree) (k : ℕ) (p : Tree) (c : ℕ) → c ≤ length t

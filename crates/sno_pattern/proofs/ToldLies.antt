@@ -6,7 +6,8 @@ use Rattle.sno_pattern.specs.Tree.{Tree}
 use Rattle.sno_pattern.specs.Ends.{literal_ends, len_ends, pos_ends, rpos_ends, tab_ends, rtab_ends, any_ends, notany_ends, span_ends, break_ends, arb_ends, bal_ends, rem_ends}
 use Rattle.sno_pattern.specs.Events.{CondList, cut, put_before, spread, go_on, assign_later, assign_now}
 use Rattle.sno_pattern.specs.Results.{ends, rounds, results_of, of_body, named_at, results}
-use Rattle.sno_pattern.specs.Laws.{AllEnds, Within, CursorLies, ToldLies, SetsLie}
+use Rattle.sno_pattern.specs.Laws.{AllEnds, Within}
+use Rattle.sno_pattern.specs.CursorLaws.{CursorLies, ToldLies, SetsLie}
 use Rattle.sno_pattern.specs.Outcome.{Tried, starts, tried_from, cut_scan, scan, found_in, outcome_at}
 use Rattle.sno_pattern.specs.declared.events.Assign.{Assign}
 use Rattle.sno_pattern.specs.declared.events.What.TheVariants.{Part, Cursor}

@@ -20,11 +20,11 @@ front_fits [] (y ∷ s) h = cc
 front_fits (x ∷ xs) (y ∷ s) h = let rest : length s ≤ length xs = front_fits xs s (and_parts (nat_eq y x) _ h).1 in omega arith
 
 -- numbers from a on
-range_all : (P : ℕ → Type 0) (n a : ℕ) → ((e : ℕ) → a ≤ e → e < a + n → P e) → AllOf P (range_with_len a n)
+pub range_all : (P : ℕ → Type 0) (n a : ℕ) → ((e : ℕ) → a ≤ e → e < a + n → P e) → AllOf P (range_with_len a n)
 range_all P zero a h = tt
 range_all P (suc n) a h = (h a (omega arith) (omega arith), range_all P n (a + 1) (λ e low high. h e (omega arith) (omega arith)))
 
-one_all : (P : ℕ → Type 0) (test : ℕ → Bool) (l : List ℕ) (c : ℕ) → (0 < length l → P (c + 1)) → AllOf P (one_ends test l c)
+pub one_all : (P : ℕ → Type 0) (test : ℕ → Bool) (l : List ℕ) (c : ℕ) → (0 < length l → P (c + 1)) → AllOf P (one_ends test l c)
 one_all P test [] c h = tt
 one_all P test (x ∷ rest) c h = AllOf-only P (test x) (c + 1) (λ _. h (omega arith))
 
@@ -73,7 +73,7 @@ abbrev pub IsWithin : List ℕ → (ℕ → List Event) → Type 0
 IsWithin t does = (c : ℕ) → c ≤ length t → AllEnds (Within t c) (does c)
 
 -- going on behind a cursor
-further : (t : List ℕ) (does : ℕ → List Event) → IsWithin t does → (c e : ℕ) → Within t c e → AllEnds (Within t c) (does e)
+pub further : (t : List ℕ) (does : ℕ → List Event) → IsWithin t does → (c e : ℕ) → Within t c e → AllEnds (Within t c) (does e)
 further t does h c e w = AllEnds-map (Within t e) (Within t c) (λ x v. (omega arith, v.1)) (does e) (h e w.1)
 
 within_go_on : (t : List ℕ) (first second : ℕ → List Event) → IsWithin t first → IsWithin t second → IsWithin t (λ c. go_on (first c) second)

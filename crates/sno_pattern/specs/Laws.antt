@@ -1,12 +1,10 @@
 -- Laws of matching, each of them proved by a function of `laws` that has it as its contract.
-use Rattle.std.specs.Prelude.{◌≡◌, ℕ, Bool, ◌≤◌, List, [], ◌∷◌, length, nat_lt, if◌then◌else◌}
+use Rattle.std.specs.Prelude.{◌≡◌, ℕ, ◌≤◌, Bool, List, [], ◌∷◌, length, nat_lt, if◌then◌else◌}
 use Rattle.sno_pattern.specs.Tree.{Tree, Arbno}
 use Rattle.sno_pattern.specs.Events.{go_on}
-use Rattle.sno_pattern.specs.Results.{results}
-use Rattle.sno_pattern.specs.Outcome.{outcome_at}
-use Rattle.sno_pattern.specs.declared.events.Assign.{Assign}
-use Rattle.sno_pattern.specs.declared.events.What.{What}
-use Rattle.sno_pattern.specs.declared.events.What.TheVariants.{Part, Cursor}
+use Rattle.sno_pattern.specs.Results.{results, depth}
+use Rattle.sno_pattern.specs.Outcome.{outcome, outcome_at}
+use Rattle.sno_pattern.specs.Guard.{Guarded}
 use Rattle.sno_pattern.specs.declared.events.Event.{Event}
 use Rattle.sno_pattern.specs.declared.events.Event.TheVariants.{Told, End, Halt}
 
@@ -21,26 +19,6 @@ AllEnds P (Halt ∷ l) = AllEnds P l
 abbrev pub Within : List ℕ → ℕ → ℕ → Type 0
 Within t c e = (c ≤ e) × (e ≤ length t)
 
--- a cursor that is assigned lies within the text; of a part nothing is said
-abbrev pub CursorLies : List ℕ → What → Type 0
-CursorLies t (Part from to) = Unit {0}
-CursorLies t (Cursor c) = c ≤ length t
-
--- of each assignment done at once
-abbrev pub ToldLies : List ℕ → List Event → Type 0
-ToldLies t [] = Unit {0}
-ToldLies t (Told a ∷ l) = CursorLies t a.what × ToldLies t l
-ToldLies t (End e a ∷ l) = ToldLies t l
-ToldLies t (Halt ∷ l) = ToldLies t l
-
-abbrev pub SetsLie : List ℕ → List Assign → Type 0
-SetsLie t [] = Unit {0}
-SetsLie t (a ∷ sets) = CursorLies t a.what × SetsLie t sets
-
--- A cursor that a match assigns is a cursor of the text.
-abbrev pub CursorsLieWithin : Type 0
-CursorsLieWithin = (k : ℕ) (t : List ℕ) (bodies : List Tree) (p : Tree) (anchored : Bool) → SetsLie t (outcome_at k t bodies p anchored).sets
-
 -- A match ends nowhere before the cursor at which it begins, and nowhere past the end of the text.
 abbrev pub EndsLieBehind : Type 0
 EndsLieBehind = (t : List ℕ) (bodies : List Tree) (k : ℕ) (p : Tree) (c : ℕ) → c ≤ length t → AllEnds (Within t c) (results t bodies k p c)
@@ -49,3 +27,13 @@ EndsLieBehind = (t : List ℕ) (bodies : List Tree) (k : ℕ) (p : Tree) (c : �
 abbrev pub Repetition : Type 0
 Repetition = (t : List ℕ) (bodies : List Tree) (k : ℕ) (p : Tree) (c : ℕ) → c ≤ length t
     → results t bodies k (Arbno p) c ≡ End c [] ∷ go_on (results t bodies k p c) (λ e. if nat_lt c e then results t bodies k (Arbno p) e else [])
+
+-- Where the definitions are guarded, a depth greater than `depth` gives nothing more, from any cursor of the text ..
+abbrev pub DepthIsEnough : Type 0
+DepthIsEnough = (t : List ℕ) (bodies : List Tree) → Guarded bodies → (k : ℕ) (p : Tree) (c : ℕ) → depth t bodies ≤ k → c ≤ length t
+    → results t bodies k p c ≡ results t bodies (depth t bodies) p c
+
+-- .. and so it makes no difference to what comes of a match.
+abbrev pub OutcomeIsSettled : Type 0
+OutcomeIsSettled = (t : List ℕ) (bodies : List Tree) → Guarded bodies → (k : ℕ) (p : Tree) (anchored : Bool) → depth t bodies ≤ k
+    → outcome_at k t bodies p anchored ≡ outcome t bodies p anchored

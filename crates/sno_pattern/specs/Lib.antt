@@ -11,4 +11,6 @@ pub mod Outcome
 pub mod Rows
 pub mod NameList
 pub mod Definitions
+pub mod Guard
 pub mod Laws
+pub mod CursorLaws

@@ -1,5 +1,5 @@
 //! Laws of matching. Each function does nothing: its contract is the law.
-ghost use Rattle.sno_pattern.specs.Laws.{EndsLieBehind, Repetition, CursorsLieWithin};
+ghost use Rattle.sno_pattern.specs.Laws.{DepthIsEnough, EndsLieBehind, OutcomeIsSettled, Repetition};
 
 /// Every end of a match lies at the cursor where it begins or behind it, and within the text.
 pub fn ends_lie_behind_the_cursor()
@@ -11,7 +11,12 @@ pub fn a_repetition_is_null_or_goes_on()
     ensures { Repetition }
 {}
 
-/// A cursor that a match assigns, by `@V`, is a cursor of the text.
-pub fn cursors_lie_within_the_text()
-    ensures { CursorsLieWithin }
+/// Where the definitions are guarded, a pattern does the same from a cursor at every depth that is at least `depth`.
+pub fn a_greater_depth_gives_nothing_more()
+    ensures { DepthIsEnough }
+{}
+
+/// Where the definitions are guarded, what comes of a match is the same at every depth that is at least `depth`.
+pub fn a_greater_depth_changes_no_outcome()
+    ensures { OutcomeIsSettled }
 {}

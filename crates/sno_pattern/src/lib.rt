@@ -2,23 +2,28 @@
 #![tactic(auto)]
 
 mod classes;
+mod cursor_laws;
 mod definitions;
 mod events;
 mod found;
 mod identifiers;
-mod name_list;
 mod laws;
+mod name_list;
 mod text_names;
 mod texts;
 mod tree;
 
 pub use classes::Class;
+pub use cursor_laws::cursors_lie_within_the_text;
 pub use definitions::{Rules, RulesFault};
 pub use events::{Assign, Assigns, Conds, Event, What};
 pub use found::{Found, Hit};
 pub use identifiers::Name;
+pub use laws::{
+    a_greater_depth_changes_no_outcome, a_greater_depth_gives_nothing_more,
+    a_repetition_is_null_or_goes_on, ends_lie_behind_the_cursor,
+};
 pub use name_list::{Names, NamesFault};
-pub use laws::{a_repetition_is_null_or_goes_on, cursors_lie_within_the_text, ends_lie_behind_the_cursor};
 pub use text_names::{NameFault, TextName};
 pub use texts::{Text, TextFault};
 pub use tree::Pattern;

@@ -1,7 +1,7 @@
 //! What a statement does to a text.
 ghost use Rattle.std.specs.Prelude.{◌≡◌, IfOk, OnOk, [], Some};
 ghost use Rattle.std.specs.Option.{option_copied};
-ghost use Rattle.sno_pattern.specs.Laws.{CursorLies, SetsLie};
+ghost use Rattle.sno_pattern.specs.CursorLaws.{CursorLies, SetsLie};
 ghost use Rattle.sno_statement.specs.Bindings.{datum_of, bind_sets, bind_conds};
 ghost use Rattle.sno_statement.specs.Value.{value_of, replaced};
 ghost use Rattle.sno_statement.specs.Perform.{Gives, GivesText, finish, finish_found};

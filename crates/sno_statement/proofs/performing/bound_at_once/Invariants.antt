@@ -1,6 +1,6 @@
 -- What is bound so far, with the assignments that are left, comes to the same.
 use Rattle.std.proofs.Common.{◌≡◌, [], drop}
-use Rattle.sno_pattern.specs.Laws.{SetsLie}
+use Rattle.sno_pattern.specs.CursorLaws.{SetsLie}
 use Rattle.sno_statement.specs.Bindings.{bind_sets}
 use Rattle.sno_statement.proofs.performing.bound_at_once.Given as goal
 

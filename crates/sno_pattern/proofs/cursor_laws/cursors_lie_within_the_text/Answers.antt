@@ -1,6 +1,6 @@
 -- The law stands in a file of its own.
 use Rattle.sno_pattern.proofs.ToldLies.{outcome_lies}
-use Rattle.sno_pattern.proofs.laws.cursors_lie_within_the_text.Goals as goal
+use Rattle.sno_pattern.proofs.cursor_laws.cursors_lie_within_the_text.Goals as goal
 
 pub returns : goal.returns
 returns c = outcome_lies
