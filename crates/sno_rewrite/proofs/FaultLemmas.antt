@@ -1,0 +1,14 @@
+-- A fault passes on through the steps that follow.
+use Rattle.std.proofs.Common.{◌≡◌, ◌≢◌, Result, Ok, Err, IsErrAnd, sym, ◌∙◌, ap, subst}
+use Rattle.sno_rewrite.specs.Faults.{Fails, Gives, ◌>>=◌}
+use Rattle.sno_rewrite.specs.declared.faults.RunFault.{RunFault}
+use Rattle.sno_rewrite.specs.declared.faults.RunFault.TheVariants.{Memory}
+
+pub fails_on : {A B : Type 0} (e : RunFault) (r : Result A RunFault) (f : A → Result B RunFault) → Fails e r → Fails e (r >>= f)
+fails_on e r f h memory = ap (λ x. x >>= f) (h memory)
+
+-- the exit of a `?`
+pub gives_err : {X Y A : Type 0} (view : X → Y) (result : Result X RunFault) (e : RunFault) (r : Result A RunFault) (f : A → Result Y RunFault)
+    → IsErrAnd result (λ d. d ≡ e) → Fails e r → Gives view result (r >>= f)
+gives_err view (Err d) e r f is h = λ memory. ap (λ x. x >>= f) (h (λ m. memory (is ∙ m))) ∙ ap (λ x. Err x) (sym is)
+gives_err view (Ok x) e r f is h = absurd is

@@ -1,0 +1,4 @@
+pub mod Faults
+pub mod Json
+pub mod Shape
+pub mod Rows

@@ -1,0 +1,8 @@
+//! Documents, their listings, and the run of a program over them.
+#![tactic(auto)]
+
+mod faults;
+mod json;
+mod rows;
+
+pub use faults::{RunFault, status_of};
