@@ -16,18 +16,22 @@ up_to_more i n h =
     ap (range_with_len i) e
 
 -- one End more
-pub ends_more : (done : List Event) (i n : ℕ) (all : List Event) → i ≤ n → done ++ ends (up_to i n) ≡ all → (done ++ End i [] ∷ []) ++ ends (up_to (i + 1) n) ≡ all
-ends_more done i n all h e = append_assoc done (End i [] ∷ []) (ends (up_to (i + 1) n)) ∙ sym (ap (λ s. done ++ ends s) (up_to_more i n h)) ∙ e
+pub ends_more : (done new : List Event) (i n : ℕ) (all : List Event) → i ≤ n → new ≡ done ++ End i [] ∷ [] → done ++ ends (up_to i n) ≡ all → new ++ ends (up_to (i + 1) n) ≡ all
+ends_more done new i n all h is e =
+    ap (λ l. l ++ ends (up_to (i + 1) n)) is
+    ∙ append_assoc done (End i [] ∷ []) (ends (up_to (i + 1) n)) ∙ sym (ap (λ s. done ++ ends s) (up_to_more i n h)) ∙ e
 
 -- one End more, where the cursor passes the test
-pub tested_more : (test : ℕ → Bool) (done : List Event) (i n : ℕ) (all : List Event) → i ≤ n → done ++ ends (filter test (up_to i n)) ≡ all → test i ≡ true → (done ++ End i [] ∷ []) ++ ends (filter test (up_to (i + 1) n)) ≡ all
-tested_more test done i n all h e passes =
-    append_assoc done (End i [] ∷ []) (ends (filter test (up_to (i + 1) n)))
+pub tested_more : (test : ℕ → Bool) (done new : List Event) (i n : ℕ) (all : List Event) → i ≤ n → new ≡ done ++ End i [] ∷ [] → test i ≡ true → done ++ ends (filter test (up_to i n)) ≡ all → new ++ ends (filter test (up_to (i + 1) n)) ≡ all
+tested_more test done new i n all h is passes e =
+    ap (λ l. l ++ ends (filter test (up_to (i + 1) n))) is
+    ∙ append_assoc done (End i [] ∷ []) (ends (filter test (up_to (i + 1) n)))
     ∙ sym (ap (λ b. done ++ ends (cond b (i ∷ filter test (up_to (i + 1) n)) (filter test (up_to (i + 1) n)))) passes)
     ∙ sym (ap (λ s. done ++ ends (filter test s)) (up_to_more i n h)) ∙ e
 
 -- none more, where it doesn't
-pub tested_none : (test : ℕ → Bool) (done : List Event) (i n : ℕ) (all : List Event) → i ≤ n → done ++ ends (filter test (up_to i n)) ≡ all → test i ≡ false → done ++ ends (filter test (up_to (i + 1) n)) ≡ all
-tested_none test done i n all h e fails =
-    sym (ap (λ b. done ++ ends (cond b (i ∷ filter test (up_to (i + 1) n)) (filter test (up_to (i + 1) n)))) fails)
+pub tested_none : (test : ℕ → Bool) (done new : List Event) (i n : ℕ) (all : List Event) → i ≤ n → new ≡ done → test i ≡ false → done ++ ends (filter test (up_to i n)) ≡ all → new ++ ends (filter test (up_to (i + 1) n)) ≡ all
+tested_none test done new i n all h is fails e =
+    ap (λ l. l ++ ends (filter test (up_to (i + 1) n))) is
+    ∙ sym (ap (λ b. done ++ ends (cond b (i ∷ filter test (up_to (i + 1) n)) (filter test (up_to (i + 1) n)))) fails)
     ∙ sym (ap (λ s. done ++ ends (filter test s)) (up_to_more i n h)) ∙ e

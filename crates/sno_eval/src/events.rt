@@ -15,13 +15,21 @@ pub fn end_at(alloc: Global, end: usize) -> Event
     Event::End(end, Conds::of(Vec::new(alloc)))
 }
 
+// Adds such an End.
+pub fn push_end(alloc: Global, events: &mut Vec<Event>, end: usize) -> Result<(), AllocError>
+    ensures { OnOk result (events.new.items ≡ events.old.items ++ Event.End end [] ∷ []) }
+{
+    events.push(end_at(alloc, end))?;
+    Ok(())
+}
+
 // The End of a primitive that has at most one.
 pub fn at_most_one(alloc: Global, end: Option<usize>) -> Result<Vec<Event>, AllocError>
     ensures { IfOk result (λ v. v.items ≡ ends (option_to_list end)) }
 {
     let mut events = Vec::new(alloc);
     if let Some(end) = end {
-        events.push(end_at(alloc, end))?;
+        push_end(alloc, &mut events, end)?;
     }
     Ok(events)
 }

@@ -3,7 +3,7 @@ ghost use Rattle.std.specs.Prelude.{◌≡◌, ◌≤◌, length, IfOk};
 ghost use Rattle.sno_pattern.specs.Ends.{arb_ends, bal_ends};
 ghost use Rattle.sno_pattern.specs.Results.{ends};
 
-use crate::events::end_at;
+use crate::events::push_end;
 use crate::primitives::is_balanced_part;
 use sno_pattern::Event;
 use std::alloc::{AllocError, Global};
@@ -14,7 +14,7 @@ fn arb(alloc: Global, text: &[u8], c: usize) -> Result<Vec<Event>, AllocError>
 {
     let mut events = Vec::new(alloc);
     for end in c..text.len() + 1 {
-        events.push(end_at(alloc, end))?;
+        push_end(alloc, &mut events, end)?;
     }
     Ok(events)
 }
@@ -26,7 +26,7 @@ fn bal(alloc: Global, text: &[u8], c: usize) -> Result<Vec<Event>, AllocError>
     let mut events = Vec::new(alloc);
     for end in c + 1..text.len() + 1 {
         if is_balanced_part(text, c, end) {
-            events.push(end_at(alloc, end))?;
+            push_end(alloc, &mut events, end)?;
         }
     }
     Ok(events)

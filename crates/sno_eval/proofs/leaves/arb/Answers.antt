@@ -1,8 +1,7 @@
-use Rattle.std.proofs.Common.{rules, ◌≡◌, ◌≤◌, length, IfOk, ℕ, ◌+◌, ◌-◌, ◌*◌, ◌<◌, ◌/◌, ◌%◌, Bool, true, false, nat_eq, nat_lt, List, [], ◌∷◌, ◌++◌, slice_index_or, slice_set, bit_and, bit_or, Fits, w8, w32, w64, Bor, MutBor}
-use Rattle.sno_pattern.specs.Ends.{arb_ends, bal_ends}
-use Rattle.sno_pattern.specs.Results.{ends}
+-- One End more.
+use Rattle.std.proofs.Common.{arith, length, ◌≤◌}
+use Rattle.sno_eval.proofs.Ranges.{ends_more}
 use Rattle.sno_eval.proofs.leaves.arb.Goals as goal
 
--- src/leaves.rt:16:5
 pub loop-end-preserved : goal.loop-end-preserved
-loop-end-preserved c = ?
+loop-end-preserved c = ends_more _ _ c.loop-end.end (length c.args.text.now) _ (omega arith) c.in_ok-push_end.ensures c.loop-end.invariant
