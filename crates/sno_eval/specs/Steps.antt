@@ -1,5 +1,6 @@
 -- Words for the steps in which lists of events are made.
-use Rattle.std.specs.Prelude.{ℕ, Bool, true, false, ◌≤◌, List, [], ◌∷◌}
+use Rattle.std.specs.Prelude.{ℕ, Bool, true, false}
+use Rattle.sno_pattern.specs.Tree.{Tree, Arbno, Ref, Seq, Alt, Cond, Imm}
 use Rattle.sno_pattern.specs.declared.events.Event.{Event}
 use Rattle.sno_pattern.specs.declared.events.Event.TheVariants.{Told, End, Halt}
 
@@ -9,9 +10,12 @@ is_halt Halt = true
 is_halt (Told a) = false
 is_halt (End e a) = false
 
--- no match ends past cursor n
-abbrev pub EndsUpTo : ℕ → List Event → Type 0
-EndsUpTo n [] = Unit {0}
-EndsUpTo n (Told a ∷ l) = EndsUpTo n l
-EndsUpTo n (End e a ∷ l) = (e ≤ n) × EndsUpTo n l
-EndsUpTo n (Halt ∷ l) = EndsUpTo n l
+-- a pattern that has no part and refers to none
+abbrev pub is_leaf : Tree → Bool
+is_leaf (Arbno p) = false
+is_leaf (Ref i) = false
+is_leaf (Seq p q) = false
+is_leaf (Alt p q) = false
+is_leaf (Cond p v) = false
+is_leaf (Imm p v) = false
+is_leaf _ = true
