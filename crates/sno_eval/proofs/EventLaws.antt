@@ -2,13 +2,13 @@
 use Rattle.std.proofs.Common.{◌≡◌, ℕ, suc, ◌+◌, ◌-◌, ◌≤◌, Bool, true, false, ◌||◌, List, [], ◌∷◌, ◌++◌, cond, ap, sym, ◌∙◌, arith, append_assoc, refl, take, add-one, Option, Some, None}
 use Rattle.std.specs.List.{list_any, position, position_from}
 use Rattle.std.proofs.lemmas.Iterator.Adapters.{position_from-zero}
-use Rattle.sno_pattern.specs.Events.{cut, put_before, CondList}
+use Rattle.sno_pattern.specs.Events.{cut, put_before, spread, go_on, CondList}
 use Rattle.sno_pattern.specs.declared.events.Event.{Event}
 use Rattle.sno_pattern.specs.declared.events.Event.TheVariants.{Told, End, Halt}
 use Rattle.sno_eval.specs.Steps.{is_halt}
 
--- where nothing fails the whole match, nothing is cut off
-pub cut_unhalted : (l m : List Event) → list_any is_halt l ≡ false → cut (l ++ m) ≡ l ++ cut m
+-- where nothing fails the whole match, both lists are cut alone
+pub cut_unhalted : (l m : List Event) → list_any is_halt l ≡ false → cut (l ++ m) ≡ cut l ++ cut m
 cut_unhalted [] m h = refl
 cut_unhalted (Told t ∷ l) m h = ap (λ r. Told t ∷ r) (cut_unhalted l m h)
 cut_unhalted (End e a ∷ l) m h = ap (λ r. End e a ∷ r) (cut_unhalted l m h)
@@ -56,3 +56,11 @@ none_from i (Halt ∷ l) h = cc
 
 pub cut_none : (l : List Event) → position is_halt l ≡ None → l ≡ cut l
 cut_none l h = none_from 0 l (sym (position_from-zero is_halt l) ∙ h)
+
+-- going on from an End after which the whole match fails
+pub go_on_halted : (e : ℕ) (a : CondList) (rest : List Event) (f : ℕ → List Event) → list_any is_halt (f e) ≡ true → go_on (End e a ∷ rest) f ≡ cut (put_before a (f e))
+go_on_halted e a rest f h = cut_halted (put_before a (f e)) (spread rest f) (halts_before a (f e) ∙ h)
+
+-- going on from an End after which more may be tried
+pub go_on_unhalted : (e : ℕ) (a : CondList) (rest : List Event) (f : ℕ → List Event) → list_any is_halt (f e) ≡ false → go_on (End e a ∷ rest) f ≡ cut (put_before a (f e)) ++ go_on rest f
+go_on_unhalted e a rest f h = cut_unhalted (put_before a (f e)) (spread rest f) (halts_before a (f e) ∙ h)

@@ -1,2 +1,5 @@
 mod Ranges
 mod EventLaws
+mod Work
+mod Going
+mod Parts

@@ -4,3 +4,4 @@
 mod events;
 mod leaves;
 mod primitives;
+mod results;
