@@ -81,7 +81,7 @@ fn with_part(alloc: Global, conds: &Conds, name: Name, start: usize, end: usize)
     Ok(Conds::of(list))
 }
 
-fn copied(alloc: Global, conds: &Conds) -> Result<Conds, AllocError>
+pub fn copied(alloc: Global, conds: &Conds) -> Result<Conds, AllocError>
     ensures { IfOk result (λ v. v ≡ conds.now) }
 {
     let list = Vec::from_slice(alloc, conds.as_slice())?;
