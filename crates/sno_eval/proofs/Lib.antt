@@ -3,3 +3,4 @@ mod EventLaws
 mod Work
 mod Going
 mod Parts
+mod StartLaws
