@@ -1,0 +1,6 @@
+mod Ranges
+mod EventLaws
+mod Work
+mod Going
+mod Parts
+mod StartLaws

@@ -1,0 +1,7 @@
+-- The events so far and what comes of those that are left are all.
+use Rattle.std.proofs.Common.{◌≡◌, ◌++◌, drop}
+use Rattle.sno_pattern.specs.Events.{assign_later}
+use Rattle.sno_eval.proofs.events.assign_later.Given as goal
+
+abbrev pub invariant-loop-event : goal.invariant-loop-event
+invariant-loop-event l = l.all.items ++ assign_later l.name l.start (drop l.event-index l.events) ≡ assign_later l.name l.start l.events

@@ -1,0 +1,21 @@
+-- Words for the steps in which lists of events are made.
+use Rattle.std.specs.Prelude.{ℕ, Bool, true, false}
+use Rattle.sno_pattern.specs.Tree.{Tree, Arbno, Ref, Seq, Alt, Cond, Imm}
+use Rattle.sno_pattern.specs.declared.events.Event.{Event}
+use Rattle.sno_pattern.specs.declared.events.Event.TheVariants.{Told, End, Halt}
+
+-- the whole match fails
+abbrev pub is_halt : Event → Bool
+is_halt Halt = true
+is_halt (Told a) = false
+is_halt (End e a) = false
+
+-- a pattern that has no part and refers to none
+abbrev pub is_leaf : Tree → Bool
+is_leaf (Arbno p) = false
+is_leaf (Ref i) = false
+is_leaf (Seq p q) = false
+is_leaf (Alt p q) = false
+is_leaf (Cond p v) = false
+is_leaf (Imm p v) = false
+is_leaf _ = true

@@ -1,0 +1,133 @@
+//! What a pattern does from a cursor, as a whole list of events.
+ghost use Rattle.std.specs.Prelude.{◌≡◌, ◌≤◌, length, IfOk};
+ghost use Rattle.sno_pattern.specs.Tree.{tree_of};
+ghost use Rattle.sno_pattern.specs.Events.{go_on};
+ghost use Rattle.sno_pattern.specs.Results.{results, rounds, named_at};
+ghost use Rattle.sno_pattern.specs.Laws.{AllEnds, Within};
+
+use crate::events::{add_after, assign_later, assign_now, cut, has_halt, push_end};
+use crate::leaves::leaf;
+use sno_pattern::{Event, Pattern, Rules, Text};
+use std::alloc::{AllocError, Global};
+
+// What the pattern does from a cursor, at most `depth` references deep.
+#[cycle(results)]
+#[tactic(auto, unfolding(sno_pattern::specs::Results::results_of))]
+pub fn results(alloc: Global, text: &Text, rules: &Rules, depth: u128, pattern: &Pattern, c: usize) -> Result<Vec<Event>, AllocError>
+    requires { c ≤ length text.now }
+    ensures { IfOk result (λ v. v.items ≡ results text.now rules.now.bodies depth (tree_of pattern.now) c) }
+{
+    match pattern {
+        Pattern::Seq(left, right) => {
+            let first = results(alloc, text, rules, depth, left, c)?;
+            let events = follow(alloc, text, rules, depth, &first, right)?;
+            Ok(events)
+        }
+        Pattern::Alt(left, right) => {
+            let mut events = results(alloc, text, rules, depth, left, c)?;
+            if !has_halt(&events) {
+                let mut others = results(alloc, text, rules, depth, right, c)?;
+                events.append(&mut others)?;
+            }
+            Ok(cut(events))
+        }
+        Pattern::Arbno(part) => {
+            let left = text.bytes().len() - c;
+            let events = repeat(alloc, text, rules, depth, part, left + 1, c)?;
+            Ok(events)
+        }
+        Pattern::Cond(part, name) => {
+            let events = results(alloc, text, rules, depth, part, c)?;
+            let assigned = assign_later(alloc, *name, c, &events)?;
+            Ok(assigned)
+        }
+        Pattern::Imm(part, name) => {
+            let events = results(alloc, text, rules, depth, part, c)?;
+            let assigned = assign_now(alloc, *name, c, &events)?;
+            Ok(assigned)
+        }
+        Pattern::Ref(number) => {
+            let events = named(alloc, text, rules, depth, *number, c)?;
+            Ok(events)
+        }
+        _ => {
+            let events = leaf(alloc, text.bytes(), pattern, c)?;
+            Ok(events)
+        }
+    }
+}
+
+// What the definition with this number does from a cursor; nothing where no reference may be gone through any more.
+#[cycle(results)]
+fn named(alloc: Global, text: &Text, rules: &Rules, depth: u128, number: usize, c: usize) -> Result<Vec<Event>, AllocError>
+    requires { c ≤ length text.now }
+    ensures { IfOk result (λ v. v.items ≡ named_at text.now rules.now.bodies depth number c) }
+{
+    if depth == 0 {
+        return Ok(Vec::new(alloc));
+    }
+    match rules.body(number) {
+        None => Ok(Vec::new(alloc)),
+        Some(body) => {
+            let events = results(alloc, text, rules, depth - 1, body, c)?;
+            Ok(events)
+        }
+    }
+}
+
+// What the pattern does behind each End of `first`, up to the first Halt.
+#[cycle(results)]
+fn follow(alloc: Global, text: &Text, rules: &Rules, depth: u128, first: &[Event], pattern: &Pattern) -> Result<Vec<Event>, AllocError>
+    requires { AllEnds (Within text.now 0) first.now }
+    ensures { IfOk result (λ v. v.items ≡ go_on first.now (results text.now rules.now.bodies depth (tree_of pattern.now))) }
+{
+    let mut all = Vec::new(alloc);
+    for event in first {
+        match event {
+            Event::Told(assign) => all.push(Event::Told(*assign))?,
+            Event::End(end, conds) => {
+                let later = results(alloc, text, rules, depth, pattern, *end)?;
+                if add_after(alloc, conds, &later, &mut all)? {
+                    return Ok(all);
+                }
+            }
+            Event::Halt => {
+                all.push(Event::Halt)?;
+                return Ok(all);
+            }
+        }
+    }
+    Ok(all)
+}
+
+// What at most so many rounds of the pattern do: the fewest first, each round going on from where the one before ended.
+#[cycle(results)]
+fn repeat(alloc: Global, text: &Text, rules: &Rules, depth: u128, part: &Pattern, count: usize, c: usize) -> Result<Vec<Event>, AllocError>
+    requires { c ≤ length text.now }
+    ensures { IfOk result (λ v. v.items ≡ rounds (results text.now rules.now.bodies depth (tree_of part.now)) count c) }
+{
+    let mut all = Vec::new(alloc);
+    if count == 0 {
+        return Ok(all);
+    }
+    push_end(alloc, &mut all, c)?;
+    let once = results(alloc, text, rules, depth, part, c)?;
+    for event in once.as_slice() {
+        match event {
+            Event::Told(assign) => all.push(Event::Told(*assign))?,
+            Event::End(end, conds) => {
+                if c < *end {
+                    let later = repeat(alloc, text, rules, depth, part, count - 1, *end)?;
+                    if add_after(alloc, conds, &later, &mut all)? {
+                        return Ok(all);
+                    }
+                }
+            }
+            Event::Halt => {
+                all.push(Event::Halt)?;
+                return Ok(all);
+            }
+        }
+    }
+    Ok(all)
+}

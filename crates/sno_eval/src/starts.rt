@@ -1,0 +1,53 @@
+//! A match: the starts in turn, the events of each up to the first End or Halt.
+ghost use Rattle.std.specs.Prelude.{◌≡◌, ◌+◌, ◌++◌, ◌≤◌, length, map, IfOk, IsTrue};
+ghost use Rattle.std.specs.List.{range_with_len};
+ghost use Rattle.sno_pattern.specs.Tree.{tree_of, refs_below};
+ghost use Rattle.sno_pattern.specs.Results.{depth};
+ghost use Rattle.sno_pattern.specs.Outcome.{outcome, starts};
+
+use crate::endings::{Ending, first_ending};
+use crate::results::results;
+use sno_pattern::{Assigns, Found, Pattern, Rules, Text};
+use std::alloc::{AllocError, Global};
+
+/// What comes of matching the pattern with the text: anchored at cursor 0 alone, floating at each cursor in turn until one
+/// succeeds. Each reference of the pattern has to be to one of the definitions (`Rules::covers`).
+///
+/// The assignments that were done at once come back in their order, also where they were backed over, and the first success
+/// with its conditional assignments; none where the match failed. All events of a start are listed before the first of them is
+/// looked at, so time and memory may grow as fast as the number of ways in which the pattern matches; and the depth of the
+/// calls grows with the text. It is the plain reference, for small texts.
+///
+/// Refused only where memory is.
+pub fn first(alloc: Global, rules: &Rules, pattern: &Pattern, text: &Text, anchored: bool) -> Result<Found, AllocError>
+    requires { IsTrue (refs_below (length rules.now.bodies) (tree_of pattern.now)) }
+    ensures { IfOk result (λ found. found ≡ outcome text.now rules.now.bodies (tree_of pattern.now) anchored) }
+{
+    let most = depth(text, rules);
+    let last = last_start(text, anchored);
+    let mut sets = Vec::new(alloc);
+    for start in 0..last + 1 {
+        let events = results(alloc, text, rules, most, pattern, start)?;
+        match first_ending(alloc, start, &events, &mut sets)? {
+            Ending::Success(hit) => return Ok(Found { sets: Assigns::of(sets), end: Some(hit) }),
+            Ending::Failure => return Ok(Found { sets: Assigns::of(sets), end: None }),
+            Ending::Open => {}
+        }
+    }
+    Ok(Found { sets: Assigns::of(sets), end: None })
+}
+
+// A depth that is always enough. It has more bits than a cursor, since nothing here says how few definitions there are.
+fn depth(text: &Text, rules: &Rules) -> u128
+    ensures { result ≡ depth text.now rules.now.bodies }
+{
+    (text.bytes().len() as u128 + 1) * rules.len() as u128
+}
+
+fn last_start(text: &Text, anchored: bool) -> usize
+    ensures starts { range_with_len 0 (result + 1) ≡ starts text.now anchored }
+    ensures within { result ≤ length text.now }
+    ensures short { result ≤ 65536 }
+{
+    if anchored { 0 } else { text.bytes().len() }
+}
