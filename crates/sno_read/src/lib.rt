@@ -1,0 +1,9 @@
+//! The reader of patterns and of objects.
+#![tactic(auto)]
+
+mod characters;
+mod faults;
+mod keywords;
+mod piece;
+
+pub use faults::ReadFault;
