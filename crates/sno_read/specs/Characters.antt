@@ -1,5 +1,5 @@
 -- Characters, runs of them, and what a text goes on with.
-use Rattle.std.specs.Prelude.{ℕ, Bool, true, false, not, ◌||◌, ◌+◌, ◌-◌, ◌*◌, List, [], ◌∷◌, take, drop, nat_eq, nat_lt, Option, Some, None, if◌then◌else◌}
+use Rattle.std.specs.Prelude.{ℕ, Bool, true, false, not, ◌||◌, ◌+◌, ◌-◌, ◌*◌, List, [], ◌∷◌, length, take, drop, nat_eq, nat_lt, Option, Some, None, if◌then◌else◌}
 use Rattle.std.specs.List.{prefix_len}
 use Rattle.std.specs.Char.{is_ascii_digit}
 use Rattle.sno_pattern.specs.Identifiers.{is_letter}
@@ -15,6 +15,11 @@ is_blank c = nat_eq c 32 || nat_eq c 9
 -- a single or a double quote
 abbrev pub is_quote : ℕ → Bool
 is_quote c = nat_eq c 39 || nat_eq c 34
+
+-- the quote that the text begins with
+abbrev pub quote_of : List ℕ → Option ℕ
+quote_of [] = None
+quote_of (c ∷ cs) = if is_quote c then Some c else None
 
 -- any character but this one
 abbrev pub is_other : ℕ → ℕ → Bool
@@ -40,6 +45,10 @@ begins p (c ∷ cs) = p c
 unfoldable pub number_from : ℕ → List ℕ → Option ℕ
 number_from n [] = Some n
 number_from n (d ∷ ds) = if nat_lt 65536 (n * 10 + (d - 48)) then None else number_from (n * 10 + (d - 48)) ds
+
+-- the value of digits, if there is one and it is at most 65,536
+abbrev pub value_of : List ℕ → Option ℕ
+value_of ds = if nat_eq (length ds) 0 then None else number_from 0 ds
 
 -- what kind of element begins here
 unfoldable pub start_of : List ℕ → Start

@@ -1,2 +1,7 @@
 pub mod Keywords
 pub mod Characters
+pub mod Depth
+pub mod Gives
+pub mod Reading
+pub mod ReadingRows
+pub mod Views

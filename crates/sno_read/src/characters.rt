@@ -1,9 +1,9 @@
 //! Characters, runs of them, and what a text goes on with.
-ghost use Rattle.std.specs.Prelude.{◌≡◌, ◌≤◌};
+ghost use Rattle.std.specs.Prelude.{◌≡◌, ◌≤◌, ◌<◌, true, length, nat_eq, OnSome};
 ghost use Rattle.std.specs.List.{prefix_len};
 ghost use Rattle.std.specs.Char.{is_ascii_digit};
 ghost use Rattle.sno_pattern.specs.Identifiers.{is_letter, is_name_char};
-ghost use Rattle.sno_read.specs.Characters.{is_blank, is_quote, is_other, begins, number_from, start_of, sign_of, what_follows};
+ghost use Rattle.sno_read.specs.Characters.{value_of, is_blank, is_quote, is_other, quote_of, begins, number_from, start_of, sign_of, what_follows};
 
 /// The largest number that a pattern may have.
 pub const MAX_NUMBER: u32 = 65_536;
@@ -84,6 +84,44 @@ pub fn count_quoted(text: &[u8], quote: u8) -> usize
     text.iter().take_while(|c| **c != quote).count()
 }
 
+/// Whether the text begins with this character.
+pub fn begins_with(text: &[u8], character: u8) -> bool
+    ensures value { result ≡ begins (λ c. nat_eq c character) text.now }
+    ensures some { result ≡ true → 0 < length text.now }
+{
+    match text.first() {
+        None => false,
+        Some(c) => *c == character,
+    }
+}
+
+/// The quote that the text begins with.
+pub fn quote_of(text: &[u8]) -> Option<u8>
+    ensures value { result ≡ quote_of text.now }
+    ensures some { OnSome result (0 < length text.now) }
+{
+    match text.first() {
+        None => None,
+        Some(c) => {
+            if is_quote(*c) {
+                Some(*c)
+            } else {
+                None
+            }
+        }
+    }
+}
+
+/// Whether the text begins with a letter.
+pub fn begins_letter(text: &[u8]) -> bool
+    ensures { result ≡ begins is_letter text.now }
+{
+    match text.first() {
+        None => false,
+        Some(c) => is_letter(*c),
+    }
+}
+
 /// Whether the text begins with a blank.
 pub fn begins_blank(text: &[u8]) -> bool
     ensures { result ≡ begins is_blank text.now }
@@ -94,8 +132,18 @@ pub fn begins_blank(text: &[u8]) -> bool
     }
 }
 
-/// The value of the digits, if it is at most 65,536.
-pub fn number_of(digits: &[u8]) -> Option<u32>
+/// The value of the digits, if there is one and it is at most 65,536.
+pub fn value_of(digits: &[u8]) -> Option<u32>
+    ensures { result ≡ value_of digits.now }
+{
+    if digits.is_empty() {
+        return None;
+    }
+    number_of(digits)
+}
+
+// The value of the digits, if it is at most 65,536.
+fn number_of(digits: &[u8]) -> Option<u32>
     ensures { result ≡ number_from 0 digits.now }
 {
     let mut value = 0;
@@ -148,7 +196,7 @@ fn sign_of(text: &[u8]) -> Following
 }
 
 /// What follows an item: whatever it is, it needs blanks before it.
-#[tactic(auto, unfolding(crate::specs::Characters::what_follows))]
+#[tactic(auto, using(crate::proofs::Runs::runs), unfolding(crate::specs::Characters::what_follows))]
 pub fn what_follows(text: &[u8]) -> Following
     ensures { result ≡ what_follows text.now }
 {

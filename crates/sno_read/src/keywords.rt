@@ -1,6 +1,9 @@
 //! The words that stand for primitives.
 ghost use Rattle.std.specs.Prelude.{◌≡◌};
-ghost use Rattle.sno_read.specs.Keywords.{keyword_of, call_of};
+ghost use Rattle.sno_pattern.specs.Tree.{tree_of};
+ghost use Rattle.sno_read.specs.Keywords.{keyword_of, call_of, word_tree, number_tree, set_tree};
+
+use sno_pattern::{Class, Pattern};
 
 /// A word that is a pattern by itself.
 #[derive(Clone, Copy, Debug, PartialEq, Eq)]
@@ -41,7 +44,53 @@ pub enum Keyword {
     Repeated,
 }
 
+impl Word {
+    /// The pattern that the word is.
+    pub fn pattern(self) -> Pattern
+        ensures { tree_of result ≡ word_tree self }
+    {
+        match self {
+            Word::Arb => Pattern::Arb,
+            Word::Bal => Pattern::Bal,
+            Word::Rem => Pattern::Rem,
+            Word::Fence => Pattern::Fence,
+            Word::Abort => Pattern::Abort,
+            Word::Fail => Pattern::Fail,
+        }
+    }
+}
+
+impl NumberCall {
+    /// The call with this number.
+    pub fn pattern(self, number: u32) -> Pattern
+        ensures { tree_of result ≡ number_tree self number }
+    {
+        match self {
+            NumberCall::Len => Pattern::Len(number),
+            NumberCall::Pos => Pattern::Pos(number),
+            NumberCall::Rpos => Pattern::Rpos(number),
+            NumberCall::Tab => Pattern::Tab(number),
+            NumberCall::Rtab => Pattern::Rtab(number),
+        }
+    }
+}
+
+impl SetCall {
+    /// The call with this set.
+    pub fn pattern(self, members: Class) -> Pattern
+        ensures { tree_of result ≡ set_tree self members }
+    {
+        match self {
+            SetCall::AnyOf => Pattern::AnyOf(members),
+            SetCall::NoneOf => Pattern::NoneOf(members),
+            SetCall::Span => Pattern::Span(members),
+            SetCall::Break => Pattern::Break(members),
+        }
+    }
+}
+
 /// What the word is, if it is reserved.
+#[tactic(auto, unfolding(crate::specs::Keywords::keyword_of))]
 pub fn keyword_of(word: &[u8]) -> Option<Keyword>
     ensures { result ≡ keyword_of word.now }
 {
@@ -63,6 +112,7 @@ pub fn keyword_of(word: &[u8]) -> Option<Keyword>
 }
 
 // What the word is, if it is a call.
+#[tactic(auto, unfolding(crate::specs::Keywords::call_of))]
 fn call_of(word: &[u8]) -> Option<Keyword>
     ensures { result ≡ call_of word.now }
 {

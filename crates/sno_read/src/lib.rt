@@ -5,5 +5,6 @@ mod characters;
 mod faults;
 mod keywords;
 mod piece;
+mod reader;
 
 pub use faults::ReadFault;
