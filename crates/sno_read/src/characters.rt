@@ -1,9 +1,10 @@
 //! Characters, runs of them, and what a text goes on with.
-ghost use Rattle.std.specs.Prelude.{◌≡◌, ◌≤◌, ◌<◌, true, length, nat_eq, OnSome};
+ghost use Rattle.std.specs.Prelude.{◌≡◌, ◌≢◌, ◌≤◌, ◌<◌, true, length, nat_eq, OnSome};
 ghost use Rattle.std.specs.List.{prefix_len};
 ghost use Rattle.std.specs.Char.{is_ascii_digit};
 ghost use Rattle.sno_pattern.specs.Identifiers.{is_letter, is_name_char};
-ghost use Rattle.sno_read.specs.Characters.{value_of, is_blank, is_quote, is_other, quote_of, begins, number_from, start_of, sign_of, what_follows};
+ghost use Rattle.sno_read.specs.declared.characters.Following.TheVariants.{Nothing};
+ghost use Rattle.sno_read.specs.Characters.{value_of, is_blank, is_quote, is_other, quote_of, skip, begins, number_from, start_of, sign_of, what_follows};
 
 /// The largest number that a pattern may have.
 pub const MAX_NUMBER: u32 = 65_536;
@@ -184,7 +185,8 @@ pub fn start_of(text: &[u8]) -> Start
 // What the first character behind blanks says of what follows.
 #[tactic(auto, unfolding(crate::specs::Characters::sign_of))]
 fn sign_of(text: &[u8]) -> Following
-    ensures { result ≡ sign_of text.now }
+    ensures value { result ≡ sign_of text.now }
+    ensures some { result ≢ Nothing → 0 < length text.now }
 {
     match text.first() {
         None | Some(b')') => Following::Nothing,
@@ -198,7 +200,8 @@ fn sign_of(text: &[u8]) -> Following
 /// What follows an item: whatever it is, it needs blanks before it.
 #[tactic(auto, using(crate::proofs::Runs::runs), unfolding(crate::specs::Characters::what_follows))]
 pub fn what_follows(text: &[u8]) -> Following
-    ensures { result ≡ what_follows text.now }
+    ensures value { result ≡ what_follows text.now }
+    ensures some { result ≢ Nothing → 0 < length (skip text.now) }
 {
     if begins_blank(text) {
         let (_blanks, rest) = text.split_at(count_blanks(text));

@@ -40,7 +40,8 @@ impl<'a> Piece<'a> {
     /// What stands behind the characters of names.
     #[tactic(auto, using(crate::proofs::Runs::runs))]
     pub fn after_name(self) -> Piece<'a>
-        ensures { result.characters.now ≡ behind is_name_char self.entry.characters.now }
+        ensures value { result.characters.now ≡ behind is_name_char self.entry.characters.now }
+        ensures size { length result.characters.now ≤ length self.entry.characters.now }
     {
         let (_name, rest) = self.split(characters::count_name_chars(self.characters));
         rest
