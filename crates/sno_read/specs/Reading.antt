@@ -107,11 +107,9 @@ abbrev pub below : ℕ → Option ℕ → Option ℕ
 below n None = None
 below n (Some i) = if nat_lt i n then Some i else None
 
--- a plain name: it names an earlier definition
-unfoldable pub plain_at : Env → ReadFault → List ℕ × List ℕ → Read Tree
-plain_at env unknown name = do
-  i ← found_or unknown (below env.earlier (place_of env.names name.0))
-  Ok (tree.Ref i, name.1)
+-- the number of the earlier definition that a plain name names
+unfoldable pub plain_of : Env → ReadFault → List ℕ → Result ℕ ReadFault
+plain_of env unknown name = found_or unknown (below env.earlier (place_of env.names name))
 
 -- a number in parentheses, behind the name of its call
 unfoldable pub counted_at : Env → ℕ → NumberCall → List ℕ → Read Tree
@@ -144,7 +142,7 @@ repeated_at env room inside text = do
 
 -- what a name that was read begins
 abbrev pub named_by : Env → ℕ → (List ℕ → Read Tree) → ReadFault → List ℕ × List ℕ → Option Keyword → Read Tree
-named_by env room inside unknown name None = plain_at env unknown name
+named_by env room inside unknown name None = plain_of env unknown name.0 >>= λ i. Ok (tree.Ref i, name.1)
 named_by env room inside unknown name (Some (Primitive w)) = Ok (word_tree w, name.1)
 named_by env room inside unknown name (Some (Counted call)) = counted_at env room call name.1
 named_by env room inside unknown name (Some (Chosen call)) = chosen_at env room call name.1

@@ -3,6 +3,7 @@ ghost use Rattle.std.specs.Prelude.{◌≡◌, ◌≢◌, ◌≤◌, ◌<◌, tr
 ghost use Rattle.std.specs.List.{prefix_len};
 ghost use Rattle.std.specs.Char.{is_ascii_digit};
 ghost use Rattle.sno_pattern.specs.Identifiers.{is_letter, is_name_char};
+ghost use Rattle.sno_read.specs.declared.characters.Start.TheVariants.{Other};
 ghost use Rattle.sno_read.specs.declared.characters.Following.TheVariants.{Nothing};
 ghost use Rattle.sno_read.specs.Characters.{value_of, is_blank, is_quote, is_other, quote_of, skip, begins, number_from, start_of, sign_of, what_follows};
 
@@ -160,7 +161,8 @@ fn number_of(digits: &[u8]) -> Option<u32>
 /// What kind of element begins here.
 #[tactic(auto, unfolding(crate::specs::Characters::start_of))]
 pub fn start_of(text: &[u8]) -> Start
-    ensures { result ≡ start_of text.now }
+    ensures value { result ≡ start_of text.now }
+    ensures some { result ≢ Other → 0 < length text.now }
 {
     match text.first() {
         None => Start::Other,

@@ -1,5 +1,5 @@
 //! The reader of patterns: a method for each rule of the grammar.
-ghost use Rattle.std.specs.Prelude.{◌≡◌, ◌||◌, ℕ, suc, ◌-◌, ◌<◌, ◌≤◌, length, drop, IfOk, IfSome, OnOk};
+ghost use Rattle.std.specs.Prelude.{◌≡◌, ◌||◌, ℕ, suc, ◌-◌, ◌<◌, ◌≤◌, length, drop, IfOk, IfSome, OnOk, Ok};
 ghost use Rattle.std.specs.List.{prefix_len};
 ghost use Rattle.std.specs.Char.{is_ascii_digit};
 ghost use Rattle.std.specs.Option.{is_some};
@@ -9,9 +9,9 @@ ghost use Rattle.sno_pattern.specs.Tree.{tree_of, Seq, Alt, Cond, Imm, Arbno};
 ghost use Rattle.sno_read.specs.Gives.{Gives};
 ghost use Rattle.sno_read.specs.Characters.{behind, skip, begins, what_follows, start_of};
 ghost use Rattle.sno_read.specs.Keywords.{word_tree, number_tree, set_tree};
-ghost use Rattle.sno_read.specs.Reading.{Env, place, literal_at, set_at, number_at, name_at, variable_at, opened, closed, parted, cursor_at, starred_at, plain_at, counted_at, chosen_at, group_at, repeated_at, named_at, quoted_at, element_at, signed, targets_at, item_at, items_at, parts_at, concatenation_at, alternation_at, inside};
+ghost use Rattle.sno_read.specs.Reading.{Env, place, literal_at, set_at, number_at, name_at, variable_at, opened, closed, parted, cursor_at, starred_at, plain_of, counted_at, chosen_at, group_at, repeated_at, named_at, quoted_at, element_at, signed, targets_at, item_at, items_at, parts_at, concatenation_at, alternation_at, inside};
 ghost use Rattle.sno_read.specs.Views.{env_of};
-ghost use Rattle.sno_read.specs.declared.faults.ReadFault.TheVariants.{Unexpected};
+ghost use Rattle.sno_read.specs.declared.faults.ReadFault.TheVariants.{Unexpected, UnknownName};
 ghost use Rattle.sno_read.specs.declared.faults.Stop.TheVariants.{Fault};
 
 use crate::characters::{self, Following, Start};
@@ -230,6 +230,185 @@ impl<'a> Reader<'a> {
                 Ok(read)
             }
             Following::Nothing | Following::Bar | Following::Item => Ok((pattern, rest)),
+        }
+    }
+
+    // A text of these characters.
+    #[tactic(auto, using(crate::proofs::Ascii::text_ok))]
+    fn text(&self, content: Piece<'a>) -> Result<Text, Stop>
+        ensures { Gives (λ text. text) result (Ok content.entry.characters.now) }
+    {
+        let characters = Vec::from_slice(self.alloc, content.characters)?;
+        match Text::new(characters) {
+            Ok(text) => Ok(text),
+            Err(_) => unreachable!(),
+        }
+    }
+
+    // A literal.
+    #[tactic(auto, unfolding(crate::specs::Reading::quoted_at))]
+    fn quoted(&self, rest: Piece<'a>) -> Result<(Pattern, Piece<'a>), Stop>
+        ensures read { Gives (λ p. (tree_of p.0, p.1.characters.now)) result (quoted_at (env_of self.now) rest.entry.characters.now) }
+        ensures shorter { IfOk result (λ p. length p.1.characters.now < length rest.entry.characters.now) }
+    {
+        let (content, rest) = self.literal(rest)?;
+        let text = self.text(content)?;
+        Ok((Pattern::Lit(text), rest))
+    }
+
+    // `@` and a variable.
+    #[tactic(auto, unfolding(crate::specs::Reading::cursor_at))]
+    fn cursor(&self, rest: Piece<'a>) -> Result<(Pattern, Piece<'a>), Stop>
+        requires { 0 < length rest.characters.now }
+        ensures read { Gives (λ p. (tree_of p.0, p.1.characters.now)) result (cursor_at (env_of self.now) rest.entry.characters.now) }
+        ensures shorter { IfOk result (λ p. length p.1.characters.now < length rest.entry.characters.now) }
+    {
+        let (_sign, rest) = rest.split(1);
+        let name = self.variable(rest)?;
+        Ok((Pattern::At(name), rest.after_name()))
+    }
+
+    // `*` and the name of a definition.
+    #[tactic(auto, unfolding(crate::specs::Reading::starred_at))]
+    fn starred(&self, rest: Piece<'a>) -> Result<(Pattern, Piece<'a>), Stop>
+        requires { 0 < length rest.characters.now }
+        ensures read { Gives (λ p. (tree_of p.0, p.1.characters.now)) result (starred_at (env_of self.now) rest.entry.characters.now) }
+        ensures shorter { IfOk result (λ p. length p.1.characters.now < length rest.entry.characters.now) }
+    {
+        let (_sign, rest) = rest.split(1);
+        let name = self.name(rest)?;
+        match self.names.place(&name) {
+            Some(number) => Ok((Pattern::Ref(number), rest.after_name())),
+            None => Err(Stop::Fault(ReadFault::UnknownName(self.place(rest)))),
+        }
+    }
+
+    // The number of the earlier definition that a plain name, which begins this rest, names.
+    #[tactic(auto, unfolding(crate::specs::Reading::plain_of))]
+    fn plain(&self, name: &Name, rest: Piece<'a>) -> Result<usize, Stop>
+        ensures { Gives (λ number. number) result (plain_of (env_of self.now) (UnknownName (place (env_of self.now) rest.entry.characters.now)) name.now) }
+    {
+        match self.names.place(name) {
+            Some(number) => {
+                if number < self.earlier {
+                    Ok(number)
+                } else {
+                    Err(Stop::Fault(ReadFault::UnknownName(self.place(rest))))
+                }
+            }
+            None => Err(Stop::Fault(ReadFault::UnknownName(self.place(rest)))),
+        }
+    }
+
+    // An alternation in parentheses.
+    #[cycle(grammar)]
+    #[tactic(auto, unfolding(crate::specs::Reading::group_at), using(crate::proofs::Steps::inside_step))]
+    fn group(&self, room: usize, rest: Piece<'a>) -> Result<(Pattern, Piece<'a>), Stop>
+        ensures read { Gives (λ p. (tree_of p.0, p.1.characters.now)) result (group_at (env_of self.now) room (inside (env_of self.now) room) rest.entry.characters.now) }
+        ensures shorter { IfOk result (λ p. length p.1.characters.now < length rest.entry.characters.now) }
+    {
+        let rest = self.opened(room, rest)?;
+        let (pattern, rest) = self.alternation(room - 1, rest)?;
+        let rest = self.closed(rest)?;
+        Ok((pattern, rest))
+    }
+
+    // What `ARBNO` repeats, behind its name.
+    #[cycle(grammar)]
+    #[tactic(auto, unfolding(crate::specs::Reading::repeated_at))]
+    fn repeated(&self, room: usize, rest: Piece<'a>) -> Result<(Pattern, Piece<'a>), Stop>
+        ensures read { Gives (λ p. (tree_of p.0, p.1.characters.now)) result (repeated_at (env_of self.now) room (inside (env_of self.now) room) rest.entry.characters.now) }
+        ensures shorter { IfOk result (λ p. length p.1.characters.now < length rest.entry.characters.now) }
+    {
+        let (pattern, rest) = self.group(room, rest)?;
+        let part = Box::new(self.alloc, pattern)?;
+        Ok((Pattern::Arbno(part), rest))
+    }
+
+    // What begins with a name: a word, a call or a definition.
+    #[cycle(grammar)]
+    #[tactic(auto, unfolding(crate::specs::Reading::named_at))]
+    fn named(&self, room: usize, rest: Piece<'a>) -> Result<(Pattern, Piece<'a>), Stop>
+        ensures read { Gives (λ p. (tree_of p.0, p.1.characters.now)) result (named_at (env_of self.now) room (inside (env_of self.now) room) rest.entry.characters.now) }
+        ensures shorter { IfOk result (λ p. length p.1.characters.now < length rest.entry.characters.now) }
+    {
+        let name = self.name(rest)?;
+        let behind = rest.after_name();
+        match keywords::keyword_of(name.bytes()) {
+            None => {
+                let number = self.plain(&name, rest)?;
+                Ok((Pattern::Ref(number), behind))
+            }
+            Some(Keyword::Primitive(word)) => Ok((word.pattern(), behind)),
+            Some(Keyword::Counted(call)) => self.counted(room, call, behind),
+            Some(Keyword::Chosen(call)) => self.chosen(room, call, behind),
+            Some(Keyword::Repeated) => self.repeated(room, behind),
+        }
+    }
+
+    // An element.
+    #[cycle(grammar)]
+    #[tactic(auto, unfolding(crate::specs::Reading::element_at))]
+    fn element(&self, room: usize, rest: Piece<'a>) -> Result<(Pattern, Piece<'a>), Stop>
+        ensures read { Gives (λ p. (tree_of p.0, p.1.characters.now)) result (element_at (env_of self.now) room (inside (env_of self.now) room) rest.entry.characters.now) }
+        ensures shorter { IfOk result (λ p. length p.1.characters.now < length rest.entry.characters.now) }
+    {
+        match characters::start_of(rest.characters) {
+            Start::Quote => self.quoted(rest),
+            Start::At => self.cursor(rest),
+            Start::Star => self.starred(rest),
+            Start::Open => self.group(room, rest),
+            Start::Letter => self.named(room, rest),
+            Start::Other => Err(self.unexpected(rest)),
+        }
+    }
+
+    // An element with its targets.
+    #[cycle(grammar)]
+    #[tactic(auto, unfolding(crate::specs::Reading::item_at))]
+    fn item(&self, room: usize, rest: Piece<'a>) -> Result<(Pattern, Piece<'a>), Stop>
+        ensures read { Gives (λ p. (tree_of p.0, p.1.characters.now)) result (item_at (env_of self.now) room (inside (env_of self.now) room) rest.entry.characters.now) }
+        ensures shorter { IfOk result (λ p. length p.1.characters.now < length rest.entry.characters.now) }
+    {
+        let (pattern, rest) = self.element(room, rest)?;
+        let read = self.targets(pattern, rest)?;
+        Ok(read)
+    }
+
+    // Items, joined from the right.
+    #[cycle(grammar)]
+    fn concatenation(&self, room: usize, rest: Piece<'a>) -> Result<(Pattern, Piece<'a>), Stop>
+        ensures read { (n : ℕ) → length rest.entry.characters.now < n → Gives (λ p. (tree_of p.0, p.1.characters.now)) result (items_at (env_of self.now) (item_at (env_of self.now) room (inside (env_of self.now) room)) n rest.entry.characters.now) }
+        ensures shorter { IfOk result (λ p. length p.1.characters.now < length rest.entry.characters.now) }
+    {
+        let (pattern, rest) = self.item(room, rest)?;
+        match characters::what_follows(rest.characters) {
+            Following::Item => {
+                let (others, rest) = self.concatenation(room, rest.after_blanks())?;
+                let first = Box::new(self.alloc, pattern)?;
+                let second = Box::new(self.alloc, others)?;
+                Ok((Pattern::Seq(first, second), rest))
+            }
+            Following::Nothing | Following::Dot | Following::Dollar | Following::Bar => Ok((pattern, rest)),
+        }
+    }
+
+    // Concatenations, joined from the right.
+    #[cycle(grammar)]
+    fn alternation(&self, room: usize, rest: Piece<'a>) -> Result<(Pattern, Piece<'a>), Stop>
+        ensures read { (n : ℕ) → length rest.entry.characters.now < n → Gives (λ p. (tree_of p.0, p.1.characters.now)) result (parts_at (env_of self.now) (concatenation_at (env_of self.now) room (inside (env_of self.now) room)) n rest.entry.characters.now) }
+        ensures shorter { IfOk result (λ p. length p.1.characters.now < length rest.entry.characters.now) }
+    {
+        let (pattern, rest) = self.concatenation(room, rest)?;
+        match characters::what_follows(rest.characters) {
+            Following::Bar => {
+                let rest = self.signed(rest)?;
+                let (others, rest) = self.alternation(room, rest)?;
+                let first = Box::new(self.alloc, pattern)?;
+                let second = Box::new(self.alloc, others)?;
+                Ok((Pattern::Alt(first, second), rest))
+            }
+            Following::Nothing | Following::Dot | Following::Dollar | Following::Item => Ok((pattern, rest)),
         }
     }
 }
