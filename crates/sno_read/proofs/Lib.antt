@@ -2,3 +2,4 @@ pub mod Runs
 pub mod Numbers
 pub mod Steps
 pub mod Ascii
+pub mod Depths

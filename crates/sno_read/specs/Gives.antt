@@ -25,3 +25,9 @@ Stops (stop.Fault e) reading = reading ≡ Err e
 abbrev pub Gives : {X Y : Type 0} → (X → Y) → Result X Stop → Result Y ReadFault → Type 0
 Gives view (Ok x) reading = reading ≡ Ok (view x)
 Gives view (Err s) reading = Stops s reading
+
+-- the same of a public function: what it answered is what the reading answers, unless memory was refused
+abbrev pub Answers : {X Y : Type 0} → (X → Y) → Result X ReadFault → Result Y ReadFault → Type 0
+Answers view (Ok x) reading = reading ≡ Ok (view x)
+Answers view (Err fault.Memory) reading = Unit {0}
+Answers view (Err e) reading = reading ≡ Err e

@@ -41,8 +41,8 @@ impl<'a> Reader<'a> {
         self.total.saturating_sub(rest.characters.len())
     }
 
-    // What begins this rest can't stand there.
-    fn unexpected(&self, rest: Piece) -> Stop
+    /// What begins this rest can't stand there.
+    pub fn unexpected(&self, rest: Piece) -> Stop
         ensures { result ≡ Fault (Unexpected (place (env_of self.now) rest.entry.characters.now)) }
     {
         Stop::Fault(ReadFault::Unexpected(self.place(rest)))
@@ -233,9 +233,9 @@ impl<'a> Reader<'a> {
         }
     }
 
-    // A text of these characters.
+    /// A text of these characters.
     #[tactic(auto, using(crate::proofs::Ascii::text_ok))]
-    fn text(&self, content: Piece<'a>) -> Result<Text, Stop>
+    pub fn text(&self, content: Piece<'a>) -> Result<Text, Stop>
         ensures { Gives (λ text. text) result (Ok content.entry.characters.now) }
     {
         let characters = Vec::from_slice(self.alloc, content.characters)?;
@@ -393,9 +393,9 @@ impl<'a> Reader<'a> {
         }
     }
 
-    // Concatenations, joined from the right.
+    /// Concatenations, joined from the right.
     #[cycle(grammar)]
-    fn alternation(&self, room: usize, rest: Piece<'a>) -> Result<(Pattern, Piece<'a>), Stop>
+    pub fn alternation(&self, room: usize, rest: Piece<'a>) -> Result<(Pattern, Piece<'a>), Stop>
         ensures read { (n : ℕ) → length rest.entry.characters.now < n → Gives (λ p. (tree_of p.0, p.1.characters.now)) result (parts_at (env_of self.now) (concatenation_at (env_of self.now) room (inside (env_of self.now) room)) n rest.entry.characters.now) }
         ensures shorter { IfOk result (λ p. length p.1.characters.now < length rest.entry.characters.now) }
     {
