@@ -1,0 +1,5 @@
+pub mod Runs
+pub mod Numbers
+pub mod Steps
+pub mod Ascii
+pub mod Depths

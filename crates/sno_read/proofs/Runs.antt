@@ -1,0 +1,5 @@
+-- Runs of characters.
+use Rattle.std.proofs.lemmas.List.Sums.{prefix_len-le-length}
+
+-- a run is no longer than the text
+pub ruleset runs = (prefix_len-le-length)

@@ -1,0 +1,76 @@
+-- Characters, runs of them, and what a text goes on with.
+use Rattle.std.specs.Prelude.{ℕ, Bool, true, false, not, ◌||◌, ◌+◌, ◌-◌, ◌*◌, List, [], ◌∷◌, length, take, drop, nat_eq, nat_lt, Option, Some, None, if◌then◌else◌}
+use Rattle.std.specs.List.{prefix_len}
+use Rattle.std.specs.Char.{is_ascii_digit}
+use Rattle.sno_pattern.specs.Identifiers.{is_letter}
+use Rattle.sno_read.specs.declared.characters.Start.{Start}
+use Rattle.sno_read.specs.declared.characters.Start.TheVariants as start
+use Rattle.sno_read.specs.declared.characters.Following.{Following}
+use Rattle.sno_read.specs.declared.characters.Following.TheVariants as follows
+
+-- a space or a tab
+abbrev pub is_blank : ℕ → Bool
+is_blank c = nat_eq c 32 || nat_eq c 9
+
+-- a single or a double quote
+abbrev pub is_quote : ℕ → Bool
+is_quote c = nat_eq c 39 || nat_eq c 34
+
+-- the quote that the text begins with
+abbrev pub quote_of : List ℕ → Option ℕ
+quote_of [] = None
+quote_of (c ∷ cs) = if is_quote c then Some c else None
+
+-- any character but this one
+abbrev pub is_other : ℕ → ℕ → Bool
+is_other q c = not (nat_eq c q)
+
+-- the longest front of characters that pass, and what stands behind it
+abbrev pub front : (ℕ → Bool) → List ℕ → List ℕ
+front p text = take (prefix_len p text) text
+
+abbrev pub behind : (ℕ → Bool) → List ℕ → List ℕ
+behind p text = drop (prefix_len p text) text
+
+-- what stands behind the blanks
+abbrev pub skip : List ℕ → List ℕ
+skip text = behind is_blank text
+
+-- whether the text begins with a character that passes
+abbrev pub begins : (ℕ → Bool) → List ℕ → Bool
+begins p [] = false
+begins p (c ∷ cs) = p c
+
+-- the value of digits behind digits of value n, if it is at most 65,536
+unfoldable pub number_from : ℕ → List ℕ → Option ℕ
+number_from n [] = Some n
+number_from n (d ∷ ds) = if nat_lt 65536 (n * 10 + (d - 48)) then None else number_from (n * 10 + (d - 48)) ds
+
+-- the value of digits, if there is one and it is at most 65,536
+abbrev pub value_of : List ℕ → Option ℕ
+value_of ds = if nat_eq (length ds) 0 then None else number_from 0 ds
+
+-- what kind of element begins here
+unfoldable pub start_of : List ℕ → Start
+start_of [] = start.Other
+start_of (c ∷ cs) =
+    if is_quote c then start.Quote
+    else (if nat_eq c 64 then start.At
+    else (if nat_eq c 42 then start.Star
+    else (if nat_eq c 40 then start.Open
+    else (if is_letter c then start.Letter
+    else start.Other))))
+
+-- what the first character behind blanks says of what follows
+unfoldable pub sign_of : List ℕ → Following
+sign_of [] = follows.Nothing
+sign_of (c ∷ cs) =
+    if nat_eq c 41 then follows.Nothing
+    else (if nat_eq c 46 then follows.Dot
+    else (if nat_eq c 36 then follows.Dollar
+    else (if nat_eq c 124 then follows.Bar
+    else follows.Item)))
+
+-- what follows an item: it needs blanks before it
+unfoldable pub what_follows : List ℕ → Following
+what_follows text = if begins is_blank text then sign_of (skip text) else follows.Nothing

@@ -1,0 +1,33 @@
+-- What a reading answers, and that a function answers it unless memory is refused.
+use Rattle.std.specs.Prelude.{◌≡◌, Option, Some, None, Result, Ok, Err}
+use Rattle.sno_read.specs.declared.faults.ReadFault.{ReadFault}
+use Rattle.sno_read.specs.declared.faults.ReadFault.TheVariants as fault
+use Rattle.sno_read.specs.declared.faults.Stop.{Stop}
+use Rattle.sno_read.specs.declared.faults.Stop.TheVariants as stop
+
+-- going on with what was read, or the fault
+infixl 10 ◌>>=◌
+abbrev pub ◌>>=◌ : {A B : Type 0} → Result A ReadFault → (A → Result B ReadFault) → Result B ReadFault
+(Ok x) >>= f = f x
+(Err e) >>= f = Err e
+
+-- what is there, or the fault where there is nothing
+abbrev pub found_or : {A : Type 0} → ReadFault → Option A → Result A ReadFault
+found_or e None = Err e
+found_or e (Some x) = Ok x
+
+-- that a function stopped says what the reading answers, unless memory was refused
+abbrev pub Stops : {Y : Type 0} → Stop → Result Y ReadFault → Type 0
+Stops stop.Memory reading = Unit {0}
+Stops (stop.Fault e) reading = reading ≡ Err e
+
+-- what a function returned, seen by view, is what the reading answers, unless memory was refused
+abbrev pub Gives : {X Y : Type 0} → (X → Y) → Result X Stop → Result Y ReadFault → Type 0
+Gives view (Ok x) reading = reading ≡ Ok (view x)
+Gives view (Err s) reading = Stops s reading
+
+-- the same of a public function: what it answered is what the reading answers, unless memory was refused
+abbrev pub Answers : {X Y : Type 0} → (X → Y) → Result X ReadFault → Result Y ReadFault → Type 0
+Answers view (Ok x) reading = reading ≡ Ok (view x)
+Answers view (Err fault.Memory) reading = Unit {0}
+Answers view (Err e) reading = reading ≡ Err e

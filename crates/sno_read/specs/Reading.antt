@@ -1,0 +1,255 @@
+-- Reading a pattern from left to right, with the first fault that is met.
+use Rattle.std.specs.Prelude.{◌≡◌, ℕ, zero, suc, ◌+◌, ◌-◌, Bool, true, false, ◌&&◌, ◌||◌, List, [], ◌∷◌, length, drop, take, nat_eq, nat_lt, Option, Some, None, Result, Ok, Err, if◌then◌else◌}
+use Rattle.std.specs.Option.{is_some}
+use Rattle.std.specs.List.{prefix_len}
+use Rattle.std.specs.Char.{is_ascii_digit}
+use Rattle.sno_pattern.specs.Identifiers.{is_letter, is_name_char, is_reserved, name_of}
+use Rattle.sno_pattern.specs.NameList.{place_of}
+use Rattle.sno_pattern.specs.Tree as tree
+use Rattle.sno_pattern.specs.Tree.{Tree}
+use Rattle.sno_read.specs.declared.faults.ReadFault.{ReadFault}
+use Rattle.sno_read.specs.declared.faults.ReadFault.TheVariants as fault
+use Rattle.sno_read.specs.declared.characters.Start.{Start}
+use Rattle.sno_read.specs.declared.characters.Start.TheVariants as start
+use Rattle.sno_read.specs.declared.characters.Following.{Following}
+use Rattle.sno_read.specs.declared.characters.Following.TheVariants as follows
+use Rattle.sno_read.specs.declared.keywords.Keyword.{Keyword}
+use Rattle.sno_read.specs.declared.keywords.Keyword.TheVariants.{Primitive, Counted, Chosen, Repeated}
+use Rattle.sno_read.specs.declared.keywords.NumberCall.{NumberCall}
+use Rattle.sno_read.specs.declared.keywords.SetCall.{SetCall}
+use Rattle.sno_pattern.specs.Texts.{first_non_ascii}
+use Rattle.sno_read.specs.Depth.{depth}
+use Rattle.sno_read.specs.Gives.{◌>>=◌, found_or}
+use Rattle.sno_read.specs.Keywords.{keyword_of, word_tree, number_tree, set_tree}
+use Rattle.sno_read.specs.Characters.{is_blank, is_quote, is_other, quote_of, front, behind, skip, begins, value_of, start_of, what_follows}
+
+-- what a text is read with: the names of the definitions, how many of them a plain name may name, and the text's length
+pub record Env : Type 0 where
+  pub names : List (List ℕ)
+  pub earlier : ℕ
+  pub total : ℕ
+
+-- what was read, and the text behind it; or the first fault
+abbrev pub Read : Type 0 → Type 0
+Read A = Result (A × List ℕ) ReadFault
+
+-- the place where this rest of the text begins
+abbrev pub place : Env → List ℕ → ℕ
+place env text = env.total - length text
+
+-- what stands up to the closing quote, and behind it
+abbrev pub closed_by : ReadFault → ℕ → List ℕ → Read (List ℕ)
+closed_by unclosed q text = if nat_lt (prefix_len (is_other q) text) (length text) then Ok (front (is_other q) text, drop 1 (behind (is_other q) text)) else Err unclosed
+
+-- the characters of a literal, from its opening quote
+unfoldable pub literal_at : Env → List ℕ → Read (List ℕ)
+literal_at env text = do
+  q ← found_or (fault.Unexpected (place env text)) (quote_of text)
+  closed_by (fault.OpenQuote (place env text)) q (drop 1 text)
+
+-- the members of a set: a literal that isn't empty
+unfoldable pub set_at : Env → List ℕ → Read (List ℕ)
+set_at env text = do
+  s ← literal_at env text
+  if nat_eq (length s.0) 0 then Err (fault.EmptySet (place env text)) else Ok s
+
+-- the number whose digits stand here, all of them
+unfoldable pub number_at : Env → List ℕ → Read ℕ
+number_at env text = do
+  n ← found_or (fault.BadNumber (place env text)) (value_of (front is_ascii_digit text))
+  Ok (n, behind is_ascii_digit text)
+
+-- a name, as long as it can be
+unfoldable pub name_at : Env → List ℕ → Read (List ℕ)
+name_at env text =
+    if begins is_letter text
+    then (do
+      name ← found_or (fault.TooLong (place env text)) (name_of (front is_name_char text))
+      Ok (name, behind is_name_char text))
+    else Err (fault.Unexpected (place env text))
+
+-- the name of a variable
+unfoldable pub variable_at : Env → List ℕ → Read (List ℕ)
+variable_at env text = do
+  name ← name_at env text
+  if is_reserved name.0 || is_some (place_of env.names name.0) then Err (fault.ReservedTarget (place env text)) else Ok name
+
+-- an opening parenthesis and blanks, where so many more may be opened
+unfoldable pub opened : Env → ℕ → List ℕ → Result (List ℕ) ReadFault
+opened env room text =
+    if begins (λ c. nat_eq c 40) text
+    then (if nat_eq room 0 then Err (fault.TooDeep (place env text)) else Ok (skip (drop 1 text)))
+    else Err (fault.Unexpected (place env text))
+
+-- blanks and a closing parenthesis
+unfoldable pub closed : Env → List ℕ → Result (List ℕ) ReadFault
+closed env text = if begins (λ c. nat_eq c 41) (skip text) then Ok (drop 1 (skip text)) else Err (fault.Unexpected (place env (skip text)))
+
+-- blanks, at least one
+unfoldable pub parted : Env → List ℕ → Result (List ℕ) ReadFault
+parted env text = if begins is_blank text then Ok (skip text) else Err (fault.Unexpected (place env text))
+
+-- `@` and a variable
+unfoldable pub cursor_at : Env → List ℕ → Read Tree
+cursor_at env text = do
+  name ← variable_at env (drop 1 text)
+  Ok (tree.At name.0, name.1)
+
+-- `*` and the name of a definition
+unfoldable pub starred_at : Env → List ℕ → Read Tree
+starred_at env text = do
+  name ← name_at env (drop 1 text)
+  i ← found_or (fault.UnknownName (place env (drop 1 text))) (place_of env.names name.0)
+  Ok (tree.Ref i, name.1)
+
+-- the number, if it is below n
+abbrev pub below : ℕ → Option ℕ → Option ℕ
+below n None = None
+below n (Some i) = if nat_lt i n then Some i else None
+
+-- the number of the earlier definition that a plain name names
+unfoldable pub plain_of : Env → ReadFault → List ℕ → Result ℕ ReadFault
+plain_of env unknown name = found_or unknown (below env.earlier (place_of env.names name))
+
+-- a number in parentheses, behind the name of its call
+unfoldable pub counted_at : Env → ℕ → NumberCall → List ℕ → Read Tree
+counted_at env room call text = do
+  a ← opened env room text
+  n ← number_at env a
+  b ← closed env n.1
+  Ok (number_tree call n.0, b)
+
+-- a set in parentheses, behind the name of its call
+unfoldable pub chosen_at : Env → ℕ → SetCall → List ℕ → Read Tree
+chosen_at env room call text = do
+  a ← opened env room text
+  s ← set_at env a
+  b ← closed env s.1
+  Ok (set_tree call s.0, b)
+
+-- an alternation in parentheses, which `inside` reads
+unfoldable pub group_at : Env → ℕ → (List ℕ → Read Tree) → List ℕ → Read Tree
+group_at env room inside text = do
+  a ← opened env room text
+  x ← inside a
+  b ← closed env x.1
+  Ok (x.0, b)
+
+unfoldable pub repeated_at : Env → ℕ → (List ℕ → Read Tree) → List ℕ → Read Tree
+repeated_at env room inside text = do
+  x ← group_at env room inside text
+  Ok (tree.Arbno x.0, x.1)
+
+-- what a name that was read begins
+abbrev pub named_by : Env → ℕ → (List ℕ → Read Tree) → ReadFault → List ℕ × List ℕ → Option Keyword → Read Tree
+named_by env room inside unknown name None = plain_of env unknown name.0 >>= λ i. Ok (tree.Ref i, name.1)
+named_by env room inside unknown name (Some (Primitive w)) = Ok (word_tree w, name.1)
+named_by env room inside unknown name (Some (Counted call)) = counted_at env room call name.1
+named_by env room inside unknown name (Some (Chosen call)) = chosen_at env room call name.1
+named_by env room inside unknown name (Some Repeated) = repeated_at env room inside name.1
+
+unfoldable pub named_at : Env → ℕ → (List ℕ → Read Tree) → List ℕ → Read Tree
+named_at env room inside text = do
+  name ← name_at env text
+  named_by env room inside (fault.UnknownName (place env text)) name (keyword_of name.0)
+
+unfoldable pub quoted_at : Env → List ℕ → Read Tree
+quoted_at env text = do
+  s ← literal_at env text
+  Ok (tree.Lit s.0, s.1)
+
+-- an element, by how it begins
+abbrev pub element_by : Env → ℕ → (List ℕ → Read Tree) → List ℕ → Start → Read Tree
+element_by env room inside text start.Quote = quoted_at env text
+element_by env room inside text start.At = cursor_at env text
+element_by env room inside text start.Star = starred_at env text
+element_by env room inside text start.Open = group_at env room inside text
+element_by env room inside text start.Letter = named_at env room inside text
+element_by env room inside text start.Other = Err (fault.Unexpected (place env text))
+
+unfoldable pub element_at : Env → ℕ → (List ℕ → Read Tree) → List ℕ → Read Tree
+element_at env room inside text = element_by env room inside text (start_of text)
+
+-- what stands behind blanks, a sign and blanks again
+unfoldable pub signed : Env → List ℕ → Result (List ℕ) ReadFault
+signed env text = parted env (drop 1 (skip text))
+
+-- one target, if there is one, and then more
+abbrev pub target_by : Env → (Tree → List ℕ → Read Tree) → Tree → List ℕ → Following → Read Tree
+target_by env more t text follows.Dot = signed env text >>= λ a. variable_at env a >>= λ v. more (tree.Cond t v.0) v.1
+target_by env more t text follows.Dollar = signed env text >>= λ a. variable_at env a >>= λ v. more (tree.Imm t v.0) v.1
+target_by env more t text _ = Ok (t, text)
+
+-- the targets of a tree; the number bounds how many there are
+unfoldable pub targets_at : Env → ℕ → Tree → List ℕ → Read Tree
+targets_at env zero t text = Err (fault.Unexpected (place env text))
+targets_at env (suc n) t text = target_by env (targets_at env n) t text (what_follows text)
+
+unfoldable pub item_at : Env → ℕ → (List ℕ → Read Tree) → List ℕ → Read Tree
+item_at env room inside text = do
+  x ← element_at env room inside text
+  targets_at env (suc (length x.1)) x.0 x.1
+
+-- one item, and the items behind it if there are more
+abbrev pub item_by : (List ℕ → Read Tree) → Tree × List ℕ → Following → Read Tree
+item_by more x follows.Item = more (skip x.1) >>= λ y. Ok (tree.Seq x.0 y.0, y.1)
+item_by more x _ = Ok x
+
+-- the items of a concatenation; the number bounds how many there are
+unfoldable pub items_at : Env → (List ℕ → Read Tree) → ℕ → List ℕ → Read Tree
+items_at env item zero text = Err (fault.Unexpected (place env text))
+items_at env item (suc n) text = item text >>= λ x. item_by (items_at env item n) x (what_follows x.1)
+
+-- one part, and the parts behind it if there are more
+abbrev pub part_by : Env → (List ℕ → Read Tree) → Tree × List ℕ → Following → Read Tree
+part_by env more x follows.Bar = signed env x.1 >>= λ a. more a >>= λ y. Ok (tree.Alt x.0 y.0, y.1)
+part_by env more x _ = Ok x
+
+-- the parts of an alternation; the number bounds how many there are
+unfoldable pub parts_at : Env → (List ℕ → Read Tree) → ℕ → List ℕ → Read Tree
+parts_at env part zero text = Err (fault.Unexpected (place env text))
+parts_at env part (suc n) text = part text >>= λ x. part_by env (parts_at env part n) x (what_follows x.1)
+
+-- the functions below are those above, where so many more parentheses may be opened
+unfoldable pub concatenation_at : Env → ℕ → (List ℕ → Read Tree) → List ℕ → Read Tree
+concatenation_at env room inside text = items_at env (item_at env room inside) (suc (length text)) text
+
+unfoldable pub alternation_at : Env → ℕ → (List ℕ → Read Tree) → List ℕ → Read Tree
+alternation_at env room inside text = parts_at env (concatenation_at env room inside) (suc (length text)) text
+
+-- what stands in parentheses, once they are open
+unfoldable pub inside : Env → ℕ → List ℕ → Read Tree
+inside env zero text = Err (fault.TooDeep (place env text))
+inside env (suc k) text = alternation_at env k (inside env k) text
+
+-- the end of the text
+unfoldable pub ended : Env → List ℕ → Result ℕ ReadFault
+ended env text = if nat_eq (length text) 0 then Ok 0 else Err (fault.Unexpected (place env text))
+
+-- a tree that isn't too deep
+unfoldable pub shallow : Env → Tree → Result Tree ReadFault
+shallow env t = if nat_lt 1000 (depth t) then Err (fault.TooDeep env.total) else Ok t
+
+-- a whole text that is short and ASCII
+unfoldable pub whole_of : Env → List ℕ → Result Tree ReadFault
+whole_of env text =
+    if nat_eq (length (skip text)) 0 then Err (fault.Empty env.total)
+    else (do
+      x ← alternation_at env 100 (inside env 100) (skip text)
+      end ← ended env (skip x.1)
+      shallow env x.0)
+
+abbrev pub ascii_only : Option ℕ → List ℕ → Result (List ℕ) ReadFault
+ascii_only None text = Ok text
+ascii_only (Some i) text = Err (fault.NonAscii i)
+
+-- a text that is short and ASCII
+abbrev pub checked : List ℕ → Result (List ℕ) ReadFault
+checked text = if nat_lt 4096 (length text) then Err (fault.TooLong 4096) else ascii_only (first_non_ascii text) text
+
+-- The tree that a text spells, or the first fault of the text: `names` are those of the definitions, and a plain name
+-- may name the first `earlier` of them.
+unfoldable pub pattern_of : (names : List (List ℕ)) (earlier : ℕ) → List ℕ → Result Tree ReadFault
+pattern_of names earlier text = do
+  t ← checked text
+  whole_of (record { names = names; earlier = earlier; total = length text }) t

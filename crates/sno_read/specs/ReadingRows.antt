@@ -1,0 +1,95 @@
+-- Worked examples of reading: each holds by computation alone.
+use Rattle.std.specs.Prelude.{◌≡◌, ℕ, List, [], ◌∷◌, Option, Some, None, Result, Ok, Err, codes, refl}
+use Rattle.sno_pattern.specs.Identifiers.{is_letter, is_name_char, is_reserved}
+use Rattle.sno_pattern.specs.Tree.{Tree, Lit, Len, Ref, Seq, Alt, Cond, Imm}
+use Rattle.sno_read.specs.declared.faults.ReadFault.{ReadFault}
+use Rattle.sno_read.specs.declared.faults.ReadFault.TheVariants as fault
+use Rattle.sno_read.specs.Depth.{depth}
+use Rattle.sno_read.specs.Keywords.{keyword_of, call_of}
+use Rattle.sno_read.specs.Characters.{number_from, start_of, sign_of, what_follows}
+use Rattle.sno_read.specs.Reading.{pattern_of, whole_of, shallow, ended, inside, alternation_at, concatenation_at, parts_at, items_at, item_at, targets_at, signed, element_at, quoted_at, named_at, repeated_at, group_at, chosen_at, counted_at, plain_of, starred_at, cursor_at, parted, closed, opened, variable_at, name_at, number_at, set_at, literal_at}
+
+-- the empty text
+null_text : pattern_of [] 0 [] ≡ Err (fault.Empty 0)
+unfolding pattern_of whole_of shallow ended inside alternation_at concatenation_at parts_at items_at item_at targets_at signed element_at quoted_at named_at repeated_at group_at chosen_at counted_at plain_of starred_at cursor_at parted closed opened variable_at name_at number_at set_at literal_at depth keyword_of call_of number_from start_of sign_of what_follows is_letter is_name_char is_reserved
+null_text = refl
+
+-- 'a''b'
+two_literals : pattern_of [] 0 (codes "'a''b'") ≡ Err (fault.Unexpected 3)
+unfolding pattern_of whole_of shallow ended inside alternation_at concatenation_at parts_at items_at item_at targets_at signed element_at quoted_at named_at repeated_at group_at chosen_at counted_at plain_of starred_at cursor_at parted closed opened variable_at name_at number_at set_at literal_at depth keyword_of call_of number_from start_of sign_of what_follows is_letter is_name_char is_reserved
+two_literals = refl
+
+-- 'abc
+open_quote : pattern_of [] 0 (codes "'abc") ≡ Err (fault.OpenQuote 0)
+unfolding pattern_of whole_of shallow ended inside alternation_at concatenation_at parts_at items_at item_at targets_at signed element_at quoted_at named_at repeated_at group_at chosen_at counted_at plain_of starred_at cursor_at parted closed opened variable_at name_at number_at set_at literal_at depth keyword_of call_of number_from start_of sign_of what_follows is_letter is_name_char is_reserved
+open_quote = refl
+
+-- ANY('')
+null_set : pattern_of [] 0 (codes "ANY('')") ≡ Err (fault.EmptySet 4)
+unfolding pattern_of whole_of shallow ended inside alternation_at concatenation_at parts_at items_at item_at targets_at signed element_at quoted_at named_at repeated_at group_at chosen_at counted_at plain_of starred_at cursor_at parted closed opened variable_at name_at number_at set_at literal_at depth keyword_of call_of number_from start_of sign_of what_follows is_letter is_name_char is_reserved
+null_set = refl
+
+-- 'a' . ARB
+reserved_target : pattern_of [] 0 (codes "'a' . ARB") ≡ Err (fault.ReservedTarget 6)
+unfolding pattern_of whole_of shallow ended inside alternation_at concatenation_at parts_at items_at item_at targets_at signed element_at quoted_at named_at repeated_at group_at chosen_at counted_at plain_of starred_at cursor_at parted closed opened variable_at name_at number_at set_at literal_at depth keyword_of call_of number_from start_of sign_of what_follows is_letter is_name_char is_reserved
+reserved_target = refl
+
+-- X
+no_name : pattern_of [] 0 (codes "X") ≡ Err (fault.UnknownName 0)
+unfolding pattern_of whole_of shallow ended inside alternation_at concatenation_at parts_at items_at item_at targets_at signed element_at quoted_at named_at repeated_at group_at chosen_at counted_at plain_of starred_at cursor_at parted closed opened variable_at name_at number_at set_at literal_at depth keyword_of call_of number_from start_of sign_of what_follows is_letter is_name_char is_reserved
+no_name = refl
+
+-- 'a' |'b'
+bar_without_blank : pattern_of [] 0 (codes "'a' |'b'") ≡ Err (fault.Unexpected 5)
+unfolding pattern_of whole_of shallow ended inside alternation_at concatenation_at parts_at items_at item_at targets_at signed element_at quoted_at named_at repeated_at group_at chosen_at counted_at plain_of starred_at cursor_at parted closed opened variable_at name_at number_at set_at literal_at depth keyword_of call_of number_from start_of sign_of what_follows is_letter is_name_char is_reserved
+bar_without_blank = refl
+
+-- 'a' | 'b' 'c'
+bar_binds_least : pattern_of [] 0 (codes "'a' | 'b' 'c'") ≡ Ok (Alt (Lit (codes "a")) (Seq (Lit (codes "b")) (Lit (codes "c"))))
+unfolding pattern_of whole_of shallow ended inside alternation_at concatenation_at parts_at items_at item_at targets_at signed element_at quoted_at named_at repeated_at group_at chosen_at counted_at plain_of starred_at cursor_at parted closed opened variable_at name_at number_at set_at literal_at depth keyword_of call_of number_from start_of sign_of what_follows is_letter is_name_char is_reserved
+bar_binds_least = refl
+
+-- LEN( 007 ) . A $ B
+leftmost_innermost : pattern_of [] 0 (codes "LEN( 007 ) . A $ B") ≡ Ok (Imm (Cond (Len 7) (codes "A")) (codes "B"))
+unfolding pattern_of whole_of shallow ended inside alternation_at concatenation_at parts_at items_at item_at targets_at signed element_at quoted_at named_at repeated_at group_at chosen_at counted_at plain_of starred_at cursor_at parted closed opened variable_at name_at number_at set_at literal_at depth keyword_of call_of number_from start_of sign_of what_follows is_letter is_name_char is_reserved
+leftmost_innermost = refl
+
+-- 'a' ( 'b' 'c' ) 'd'
+group_stays : pattern_of [] 0 (codes "'a' ( 'b' 'c' ) 'd'") ≡ Ok (Seq (Lit (codes "a")) (Seq (Seq (Lit (codes "b")) (Lit (codes "c"))) (Lit (codes "d"))))
+unfolding pattern_of whole_of shallow ended inside alternation_at concatenation_at parts_at items_at item_at targets_at signed element_at quoted_at named_at repeated_at group_at chosen_at counted_at plain_of starred_at cursor_at parted closed opened variable_at name_at number_at set_at literal_at depth keyword_of call_of number_from start_of sign_of what_follows is_letter is_name_char is_reserved
+group_stays = refl
+
+-- names P, Q, of which a plain name may name the first: P
+earlier_name : pattern_of (codes "P" ∷ codes "Q" ∷ []) 1 (codes "P") ≡ Ok (Ref 0)
+unfolding pattern_of whole_of shallow ended inside alternation_at concatenation_at parts_at items_at item_at targets_at signed element_at quoted_at named_at repeated_at group_at chosen_at counted_at plain_of starred_at cursor_at parted closed opened variable_at name_at number_at set_at literal_at depth keyword_of call_of number_from start_of sign_of what_follows is_letter is_name_char is_reserved
+earlier_name = refl
+
+-- *Q
+starred_name : pattern_of (codes "P" ∷ codes "Q" ∷ []) 1 (codes "*Q") ≡ Ok (Ref 1)
+unfolding pattern_of whole_of shallow ended inside alternation_at concatenation_at parts_at items_at item_at targets_at signed element_at quoted_at named_at repeated_at group_at chosen_at counted_at plain_of starred_at cursor_at parted closed opened variable_at name_at number_at set_at literal_at depth keyword_of call_of number_from start_of sign_of what_follows is_letter is_name_char is_reserved
+starred_name = refl
+
+-- Q
+later_name : pattern_of (codes "P" ∷ codes "Q" ∷ []) 1 (codes "Q") ≡ Err (fault.UnknownName 0)
+unfolding pattern_of whole_of shallow ended inside alternation_at concatenation_at parts_at items_at item_at targets_at signed element_at quoted_at named_at repeated_at group_at chosen_at counted_at plain_of starred_at cursor_at parted closed opened variable_at name_at number_at set_at literal_at depth keyword_of call_of number_from start_of sign_of what_follows is_letter is_name_char is_reserved
+later_name = refl
+
+-- 'a' . P
+definition_as_target : pattern_of (codes "P" ∷ []) 1 (codes "'a' . P") ≡ Err (fault.ReservedTarget 6)
+unfolding pattern_of whole_of shallow ended inside alternation_at concatenation_at parts_at items_at item_at targets_at signed element_at quoted_at named_at repeated_at group_at chosen_at counted_at plain_of starred_at cursor_at parted closed opened variable_at name_at number_at set_at literal_at depth keyword_of call_of number_from start_of sign_of what_follows is_letter is_name_char is_reserved
+definition_as_target = refl
+
+-- LEN
+call_without_argument : pattern_of [] 0 (codes "LEN") ≡ Err (fault.Unexpected 3)
+unfolding pattern_of whole_of shallow ended inside alternation_at concatenation_at parts_at items_at item_at targets_at signed element_at quoted_at named_at repeated_at group_at chosen_at counted_at plain_of starred_at cursor_at parted closed opened variable_at name_at number_at set_at literal_at depth keyword_of call_of number_from start_of sign_of what_follows is_letter is_name_char is_reserved
+call_without_argument = refl
+
+-- ARB(1)
+word_with_argument : pattern_of [] 0 (codes "ARB(1)") ≡ Err (fault.Unexpected 3)
+unfolding pattern_of whole_of shallow ended inside alternation_at concatenation_at parts_at items_at item_at targets_at signed element_at quoted_at named_at repeated_at group_at chosen_at counted_at plain_of starred_at cursor_at parted closed opened variable_at name_at number_at set_at literal_at depth keyword_of call_of number_from start_of sign_of what_follows is_letter is_name_char is_reserved
+word_with_argument = refl
+
+-- LEN(65537)
+number_too_large : pattern_of [] 0 (codes "LEN(65537)") ≡ Err (fault.BadNumber 4)
+unfolding pattern_of whole_of shallow ended inside alternation_at concatenation_at parts_at items_at item_at targets_at signed element_at quoted_at named_at repeated_at group_at chosen_at counted_at plain_of starred_at cursor_at parted closed opened variable_at name_at number_at set_at literal_at depth keyword_of call_of number_from start_of sign_of what_follows is_letter is_name_char is_reserved
+number_too_large = refl

@@ -1,0 +1,6 @@
+-- A reader, seen as what a text is read with.
+use Rattle.sno_read.specs.declared.reader.Reader.{Reader}
+use Rattle.sno_read.specs.Reading.{Env}
+
+abbrev pub env_of : Reader → Env
+env_of r = record { names = r.names.now; earlier = r.earlier; total = r.total }

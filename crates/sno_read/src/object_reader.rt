@@ -1,0 +1,64 @@
+//! The reader of objects.
+ghost use Rattle.std.specs.Prelude.{◌≡◌, ◌<◌, ◌≤◌, length, suc, IfOk};
+ghost use Rattle.sno_read.specs.Gives.{Gives};
+ghost use Rattle.sno_read.specs.Objects.{part_at, gap_at, parts_of};
+ghost use Rattle.sno_read.specs.Views.{env_of};
+
+use crate::characters::{self, Start};
+use crate::faults::Stop;
+use crate::objects::Part;
+use crate::piece::Piece;
+use crate::reader::Reader;
+
+impl<'a> Reader<'a> {
+    // One part.
+    #[tactic(auto, unfolding(crate::specs::Objects::part_at))]
+    fn part(&self, rest: Piece<'a>) -> Result<(Part, Piece<'a>), Stop>
+        ensures read { Gives (λ p. (p.0, p.1.characters.now)) result (part_at (env_of self.now) rest.entry.characters.now) }
+        ensures shorter { IfOk result (λ p. length p.1.characters.now < length rest.entry.characters.now) }
+    {
+        match characters::start_of(rest.characters) {
+            Start::Quote => {
+                let (content, behind) = self.literal(rest)?;
+                let text = self.text(content)?;
+                Ok((Part::Quoted(text), behind))
+            }
+            Start::Letter => {
+                let name = self.variable(rest)?;
+                Ok((Part::Var(name), rest.after_name()))
+            }
+            Start::At | Start::Star | Start::Open | Start::Other => Err(self.unexpected(rest)),
+        }
+    }
+
+    // What stands behind a part: nothing, or blanks and more.
+    #[tactic(auto, unfolding(crate::specs::Objects::gap_at))]
+    fn gap(&self, rest: Piece<'a>) -> Result<Piece<'a>, Stop>
+        ensures read { Gives (λ p. p.characters.now) result (gap_at (env_of self.now) rest.entry.characters.now) }
+        ensures shorter { IfOk result (λ p. length p.characters.now ≤ length rest.entry.characters.now) }
+    {
+        if rest.characters.is_empty() {
+            return Ok(rest);
+        }
+        let rest = self.parted(rest)?;
+        Ok(rest)
+    }
+
+    /// The parts of an object, whose text begins with no blank.
+    pub fn parts(&self, start: Piece<'a>) -> Result<Vec<Part>, Stop>
+        ensures { Gives (λ parts. parts.items) result (parts_of (env_of self.now) (suc (length start.entry.characters.now)) start.entry.characters.now) }
+    {
+        let mut parts = Vec::new(self.alloc);
+        let mut rest = start;
+        while !rest.characters.is_empty() {
+            match self.part(rest) {
+                Ok((part, behind)) => {
+                    parts.push(part)?;
+                    rest = self.gap(behind)?;
+                }
+                Err(stop) => return Err(stop),
+            }
+        }
+        Ok(parts)
+    }
+}

@@ -1,0 +1,49 @@
+//! Pieces of the text that is read.
+ghost use Rattle.std.specs.Prelude.{◌≡◌, ◌≤◌, ◌+◌, length, take, drop, IsTrue};
+ghost use Rattle.std.specs.List.{list_all};
+ghost use Rattle.std.specs.Char.{is_ascii};
+ghost use Rattle.sno_pattern.specs.Identifiers.{is_name_char};
+ghost use Rattle.sno_read.specs.Characters.{behind, skip};
+
+use crate::characters;
+
+/// A piece of the text that is read: at most 4,096 characters, all ASCII.
+#[derive(Clone, Copy)]
+pub struct Piece<'a> {
+    pub characters: &'a [u8],
+    ghost short: { length characters.now ≤ 4096 },
+    ghost ascii: { IsTrue (list_all is_ascii characters.now) },
+}
+
+impl<'a> Piece<'a> {
+    /// The first characters and the rest.
+    pub fn split(self, count: usize) -> (Piece<'a>, Piece<'a>)
+        requires { count ≤ length self.characters.now }
+        ensures front { result.0.characters.now ≡ take count self.entry.characters.now }
+        ensures back { result.1.characters.now ≡ drop count self.entry.characters.now }
+        ensures size { length result.1.characters.now + count ≡ length self.entry.characters.now }
+    {
+        let (front, back) = self.characters.split_at(count);
+        (Piece { characters: front }, Piece { characters: back })
+    }
+
+    /// What stands behind the blanks.
+    #[tactic(auto, using(crate::proofs::Runs::runs))]
+    pub fn after_blanks(self) -> Piece<'a>
+        ensures value { result.characters.now ≡ skip self.entry.characters.now }
+        ensures size { length result.characters.now ≤ length self.entry.characters.now }
+    {
+        let (_blanks, rest) = self.split(characters::count_blanks(self.characters));
+        rest
+    }
+
+    /// What stands behind the characters of names.
+    #[tactic(auto, using(crate::proofs::Runs::runs))]
+    pub fn after_name(self) -> Piece<'a>
+        ensures value { result.characters.now ≡ behind is_name_char self.entry.characters.now }
+        ensures size { length result.characters.now ≤ length self.entry.characters.now }
+    {
+        let (_name, rest) = self.split(characters::count_name_chars(self.characters));
+        rest
+    }
+}

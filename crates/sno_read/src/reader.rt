@@ -1,0 +1,414 @@
+//! The reader of patterns: a method for each rule of the grammar.
+ghost use Rattle.std.specs.Prelude.{◌≡◌, ◌||◌, ℕ, suc, ◌-◌, ◌<◌, ◌≤◌, length, drop, IfOk, IfSome, OnOk, Ok};
+ghost use Rattle.std.specs.List.{prefix_len};
+ghost use Rattle.std.specs.Char.{is_ascii_digit};
+ghost use Rattle.std.specs.Option.{is_some};
+ghost use Rattle.sno_pattern.specs.Identifiers.{is_letter, is_name_char, is_reserved};
+ghost use Rattle.sno_pattern.specs.NameList.{place_of};
+ghost use Rattle.sno_pattern.specs.Tree.{tree_of, Seq, Alt, Cond, Imm, Arbno};
+ghost use Rattle.sno_read.specs.Gives.{Gives};
+ghost use Rattle.sno_read.specs.Characters.{behind, skip, begins, what_follows, start_of};
+ghost use Rattle.sno_read.specs.Keywords.{word_tree, number_tree, set_tree};
+ghost use Rattle.sno_read.specs.Reading.{Env, place, literal_at, set_at, number_at, name_at, variable_at, opened, closed, parted, cursor_at, starred_at, plain_of, counted_at, chosen_at, group_at, repeated_at, named_at, quoted_at, element_at, signed, targets_at, item_at, items_at, parts_at, concatenation_at, alternation_at, inside};
+ghost use Rattle.sno_read.specs.Views.{env_of};
+ghost use Rattle.sno_read.specs.declared.faults.ReadFault.TheVariants.{Unexpected, UnknownName};
+ghost use Rattle.sno_read.specs.declared.faults.Stop.TheVariants.{Fault};
+
+use crate::characters::{self, Following, Start};
+use crate::faults::{ReadFault, Stop};
+use crate::keywords::{self, Keyword, NumberCall, SetCall, Word};
+use crate::piece::Piece;
+use sno_pattern::{Class, Name, Names, Pattern, Text};
+use std::alloc::Global;
+
+/// What a text is read with.
+#[derive(Clone, Copy)]
+pub struct Reader<'a> {
+    pub alloc: Global,
+    /// The names of the definitions.
+    pub names: &'a Names,
+    /// How many of them a plain name may name.
+    pub earlier: usize,
+    /// The length of the text.
+    pub total: usize,
+}
+
+impl<'a> Reader<'a> {
+    /// The place where this rest of the text begins.
+    pub fn place(&self, rest: Piece) -> usize
+        ensures { result ≡ place (env_of self.now) rest.entry.characters.now }
+    {
+        self.total.saturating_sub(rest.characters.len())
+    }
+
+    /// What begins this rest can't stand there.
+    pub fn unexpected(&self, rest: Piece) -> Stop
+        ensures { result ≡ Fault (Unexpected (place (env_of self.now) rest.entry.characters.now)) }
+    {
+        Stop::Fault(ReadFault::Unexpected(self.place(rest)))
+    }
+
+    /// The characters of a literal, from its opening quote.
+    #[tactic(auto, using(crate::proofs::Runs::runs), unfolding(crate::specs::Reading::literal_at))]
+    pub fn literal(&self, rest: Piece<'a>) -> Result<(Piece<'a>, Piece<'a>), Stop>
+        ensures read { Gives (λ p. (p.0.characters.now, p.1.characters.now)) result (literal_at (env_of self.now) rest.entry.characters.now) }
+        ensures shorter { IfOk result (λ p. length p.1.characters.now < length rest.entry.characters.now) }
+    {
+        let Some(quote) = characters::quote_of(rest.characters) else {
+            return Err(self.unexpected(rest));
+        };
+        let (_quote, inside) = rest.split(1);
+        let count = characters::count_quoted(inside.characters, quote);
+        if count >= inside.characters.len() {
+            return Err(Stop::Fault(ReadFault::OpenQuote(self.place(rest))));
+        }
+        let (content, closing) = inside.split(count);
+        let (_quote, behind) = closing.split(1);
+        Ok((content, behind))
+    }
+
+    // The members of a set: a literal that is not empty.
+    #[tactic(auto, unfolding(crate::specs::Reading::set_at))]
+    fn set(&self, rest: Piece<'a>) -> Result<(Class, Piece<'a>), Stop>
+        ensures read { Gives (λ p. (p.0, p.1.characters.now)) result (set_at (env_of self.now) rest.entry.characters.now) }
+        ensures shorter { IfOk result (λ p. length p.1.characters.now < length rest.entry.characters.now) }
+    {
+        let (content, behind) = self.literal(rest)?;
+        let members = Vec::from_slice(self.alloc, content.characters)?;
+        match Class::new(members) {
+            Some(class) => Ok((class, behind)),
+            None => Err(Stop::Fault(ReadFault::EmptySet(self.place(rest)))),
+        }
+    }
+
+    // The number whose digits stand here, all of them.
+    #[tactic(auto, using(crate::proofs::Runs::runs), unfolding(crate::specs::Reading::number_at))]
+    fn number(&self, rest: Piece<'a>) -> Result<(u32, Piece<'a>), Stop>
+        ensures read { Gives (λ p. (p.0, p.1.characters.now)) result (number_at (env_of self.now) rest.entry.characters.now) }
+        ensures shorter { IfOk result (λ p. length p.1.characters.now < length rest.entry.characters.now) }
+    {
+        let (digits, behind) = rest.split(characters::count_digits(rest.characters));
+        match characters::value_of(digits.characters) {
+            Some(number) => Ok((number, behind)),
+            None => Err(Stop::Fault(ReadFault::BadNumber(self.place(rest)))),
+        }
+    }
+
+    // The name that stands here, as long as it can be.
+    #[tactic(auto, using(crate::proofs::Runs::runs), unfolding(crate::specs::Reading::name_at))]
+    fn name(&self, rest: Piece<'a>) -> Result<Name, Stop>
+        ensures read { Gives (λ name. (name, behind is_name_char rest.entry.characters.now)) result (name_at (env_of self.now) rest.entry.characters.now) }
+        ensures shorter { OnOk result (length (behind is_name_char rest.entry.characters.now) < length rest.entry.characters.now) }
+    {
+        if !characters::begins_letter(rest.characters) {
+            return Err(self.unexpected(rest));
+        }
+        let (letters, _behind) = rest.split(characters::count_name_chars(rest.characters));
+        match Name::read(letters.characters) {
+            Some(name) => Ok(name),
+            None => Err(Stop::Fault(ReadFault::TooLong(self.place(rest)))),
+        }
+    }
+
+    // Whether a name is reserved or that of a definition.
+    fn is_taken(&self, name: &Name) -> bool
+        ensures { result ≡ (is_reserved name.now || is_some (place_of self.now.names.now name.now)) }
+    {
+        name.is_reserved() || self.names.place(name).is_some()
+    }
+
+    /// The name of a variable.
+    #[tactic(auto, unfolding(crate::specs::Reading::variable_at))]
+    pub fn variable(&self, rest: Piece<'a>) -> Result<Name, Stop>
+        ensures read { Gives (λ name. (name, behind is_name_char rest.entry.characters.now)) result (variable_at (env_of self.now) rest.entry.characters.now) }
+        ensures shorter { OnOk result (length (behind is_name_char rest.entry.characters.now) < length rest.entry.characters.now) }
+    {
+        let name = self.name(rest)?;
+        if self.is_taken(&name) {
+            return Err(Stop::Fault(ReadFault::ReservedTarget(self.place(rest))));
+        }
+        Ok(name)
+    }
+
+    // An opening parenthesis and blanks, where so many more may be opened.
+    #[tactic(auto, unfolding(crate::specs::Reading::opened))]
+    fn opened(&self, room: usize, rest: Piece<'a>) -> Result<Piece<'a>, Stop>
+        ensures read { Gives (λ p. p.characters.now) result (opened (env_of self.now) room rest.entry.characters.now) }
+        ensures shorter { IfOk result (λ p. length p.characters.now < length rest.entry.characters.now) }
+        ensures more { OnOk result (0 < room) }
+    {
+        if !characters::begins_with(rest.characters, b'(') {
+            return Err(self.unexpected(rest));
+        }
+        if room == 0 {
+            return Err(Stop::Fault(ReadFault::TooDeep(self.place(rest))));
+        }
+        let (_parenthesis, behind) = rest.split(1);
+        Ok(behind.after_blanks())
+    }
+
+    // Blanks and a closing parenthesis.
+    #[tactic(auto, unfolding(crate::specs::Reading::closed))]
+    fn closed(&self, rest: Piece<'a>) -> Result<Piece<'a>, Stop>
+        ensures read { Gives (λ p. p.characters.now) result (closed (env_of self.now) rest.entry.characters.now) }
+        ensures shorter { IfOk result (λ p. length p.characters.now < length rest.entry.characters.now) }
+    {
+        let rest = rest.after_blanks();
+        if !characters::begins_with(rest.characters, b')') {
+            return Err(self.unexpected(rest));
+        }
+        let (_parenthesis, behind) = rest.split(1);
+        Ok(behind)
+    }
+
+    /// Blanks, at least one.
+    #[tactic(auto, unfolding(crate::specs::Reading::parted))]
+    pub fn parted(&self, rest: Piece<'a>) -> Result<Piece<'a>, Stop>
+        ensures read { Gives (λ p. p.characters.now) result (parted (env_of self.now) rest.entry.characters.now) }
+        ensures shorter { IfOk result (λ p. length p.characters.now ≤ length rest.entry.characters.now) }
+    {
+        if !characters::begins_blank(rest.characters) {
+            return Err(self.unexpected(rest));
+        }
+        Ok(rest.after_blanks())
+    }
+
+    // A number in parentheses, behind the name of its call.
+    #[tactic(auto, unfolding(crate::specs::Reading::counted_at))]
+    fn counted(&self, room: usize, call: NumberCall, rest: Piece<'a>) -> Result<(Pattern, Piece<'a>), Stop>
+        ensures read { Gives (λ p. (tree_of p.0, p.1.characters.now)) result (counted_at (env_of self.now) room call rest.entry.characters.now) }
+        ensures shorter { IfOk result (λ p. length p.1.characters.now < length rest.entry.characters.now) }
+    {
+        let rest = self.opened(room, rest)?;
+        let (number, rest) = self.number(rest)?;
+        let rest = self.closed(rest)?;
+        Ok((call.pattern(number), rest))
+    }
+
+    // A set in parentheses, behind the name of its call.
+    #[tactic(auto, unfolding(crate::specs::Reading::chosen_at))]
+    fn chosen(&self, room: usize, call: SetCall, rest: Piece<'a>) -> Result<(Pattern, Piece<'a>), Stop>
+        ensures read { Gives (λ p. (tree_of p.0, p.1.characters.now)) result (chosen_at (env_of self.now) room call rest.entry.characters.now) }
+        ensures shorter { IfOk result (λ p. length p.1.characters.now < length rest.entry.characters.now) }
+    {
+        let rest = self.opened(room, rest)?;
+        let (members, rest) = self.set(rest)?;
+        let rest = self.closed(rest)?;
+        Ok((call.pattern(members), rest))
+    }
+
+    // What stands behind blanks, a sign and blanks again.
+    #[tactic(auto, using(crate::proofs::Runs::runs), unfolding(crate::specs::Reading::signed))]
+    fn signed(&self, rest: Piece<'a>) -> Result<Piece<'a>, Stop>
+        requires { 0 < length (skip rest.characters.now) }
+        ensures read { Gives (λ p. p.characters.now) result (signed (env_of self.now) rest.entry.characters.now) }
+        ensures shorter { IfOk result (λ p. length p.characters.now < length rest.entry.characters.now) }
+    {
+        let (_sign, rest) = rest.after_blanks().split(1);
+        let rest = self.parted(rest)?;
+        Ok(rest)
+    }
+
+    // The targets of a pattern, the leftmost innermost.
+    fn targets(&self, pattern: Pattern, rest: Piece<'a>) -> Result<(Pattern, Piece<'a>), Stop>
+        ensures read { (n : ℕ) → length rest.entry.characters.now < n → Gives (λ p. (tree_of p.0, p.1.characters.now)) result (targets_at (env_of self.now) n (tree_of pattern) rest.entry.characters.now) }
+        ensures shorter { IfOk result (λ p. length p.1.characters.now ≤ length rest.entry.characters.now) }
+    {
+        match characters::what_follows(rest.characters) {
+            Following::Dot => {
+                let rest = self.signed(rest)?;
+                let name = self.variable(rest)?;
+                let part = Box::new(self.alloc, pattern)?;
+                let read = self.targets(Pattern::Cond(part, name), rest.after_name())?;
+                Ok(read)
+            }
+            Following::Dollar => {
+                let rest = self.signed(rest)?;
+                let name = self.variable(rest)?;
+                let part = Box::new(self.alloc, pattern)?;
+                let read = self.targets(Pattern::Imm(part, name), rest.after_name())?;
+                Ok(read)
+            }
+            Following::Nothing | Following::Bar | Following::Item => Ok((pattern, rest)),
+        }
+    }
+
+    /// A text of these characters.
+    #[tactic(auto, using(crate::proofs::Ascii::text_ok))]
+    pub fn text(&self, content: Piece<'a>) -> Result<Text, Stop>
+        ensures { Gives (λ text. text) result (Ok content.entry.characters.now) }
+    {
+        let characters = Vec::from_slice(self.alloc, content.characters)?;
+        match Text::new(characters) {
+            Ok(text) => Ok(text),
+            Err(_) => unreachable!(),
+        }
+    }
+
+    // A literal.
+    #[tactic(auto, unfolding(crate::specs::Reading::quoted_at))]
+    fn quoted(&self, rest: Piece<'a>) -> Result<(Pattern, Piece<'a>), Stop>
+        ensures read { Gives (λ p. (tree_of p.0, p.1.characters.now)) result (quoted_at (env_of self.now) rest.entry.characters.now) }
+        ensures shorter { IfOk result (λ p. length p.1.characters.now < length rest.entry.characters.now) }
+    {
+        let (content, rest) = self.literal(rest)?;
+        let text = self.text(content)?;
+        Ok((Pattern::Lit(text), rest))
+    }
+
+    // `@` and a variable.
+    #[tactic(auto, unfolding(crate::specs::Reading::cursor_at))]
+    fn cursor(&self, rest: Piece<'a>) -> Result<(Pattern, Piece<'a>), Stop>
+        requires { 0 < length rest.characters.now }
+        ensures read { Gives (λ p. (tree_of p.0, p.1.characters.now)) result (cursor_at (env_of self.now) rest.entry.characters.now) }
+        ensures shorter { IfOk result (λ p. length p.1.characters.now < length rest.entry.characters.now) }
+    {
+        let (_sign, rest) = rest.split(1);
+        let name = self.variable(rest)?;
+        Ok((Pattern::At(name), rest.after_name()))
+    }
+
+    // `*` and the name of a definition.
+    #[tactic(auto, unfolding(crate::specs::Reading::starred_at))]
+    fn starred(&self, rest: Piece<'a>) -> Result<(Pattern, Piece<'a>), Stop>
+        requires { 0 < length rest.characters.now }
+        ensures read { Gives (λ p. (tree_of p.0, p.1.characters.now)) result (starred_at (env_of self.now) rest.entry.characters.now) }
+        ensures shorter { IfOk result (λ p. length p.1.characters.now < length rest.entry.characters.now) }
+    {
+        let (_sign, rest) = rest.split(1);
+        let name = self.name(rest)?;
+        match self.names.place(&name) {
+            Some(number) => Ok((Pattern::Ref(number), rest.after_name())),
+            None => Err(Stop::Fault(ReadFault::UnknownName(self.place(rest)))),
+        }
+    }
+
+    // The number of the earlier definition that a plain name, which begins this rest, names.
+    #[tactic(auto, unfolding(crate::specs::Reading::plain_of))]
+    fn plain(&self, name: &Name, rest: Piece<'a>) -> Result<usize, Stop>
+        ensures { Gives (λ number. number) result (plain_of (env_of self.now) (UnknownName (place (env_of self.now) rest.entry.characters.now)) name.now) }
+    {
+        match self.names.place(name) {
+            Some(number) => {
+                if number < self.earlier {
+                    Ok(number)
+                } else {
+                    Err(Stop::Fault(ReadFault::UnknownName(self.place(rest))))
+                }
+            }
+            None => Err(Stop::Fault(ReadFault::UnknownName(self.place(rest)))),
+        }
+    }
+
+    // An alternation in parentheses.
+    #[cycle(grammar)]
+    #[tactic(auto, unfolding(crate::specs::Reading::group_at), using(crate::proofs::Steps::inside_step))]
+    fn group(&self, room: usize, rest: Piece<'a>) -> Result<(Pattern, Piece<'a>), Stop>
+        ensures read { Gives (λ p. (tree_of p.0, p.1.characters.now)) result (group_at (env_of self.now) room (inside (env_of self.now) room) rest.entry.characters.now) }
+        ensures shorter { IfOk result (λ p. length p.1.characters.now < length rest.entry.characters.now) }
+    {
+        let rest = self.opened(room, rest)?;
+        let (pattern, rest) = self.alternation(room - 1, rest)?;
+        let rest = self.closed(rest)?;
+        Ok((pattern, rest))
+    }
+
+    // What `ARBNO` repeats, behind its name.
+    #[cycle(grammar)]
+    #[tactic(auto, unfolding(crate::specs::Reading::repeated_at))]
+    fn repeated(&self, room: usize, rest: Piece<'a>) -> Result<(Pattern, Piece<'a>), Stop>
+        ensures read { Gives (λ p. (tree_of p.0, p.1.characters.now)) result (repeated_at (env_of self.now) room (inside (env_of self.now) room) rest.entry.characters.now) }
+        ensures shorter { IfOk result (λ p. length p.1.characters.now < length rest.entry.characters.now) }
+    {
+        let (pattern, rest) = self.group(room, rest)?;
+        let part = Box::new(self.alloc, pattern)?;
+        Ok((Pattern::Arbno(part), rest))
+    }
+
+    // What begins with a name: a word, a call or a definition.
+    #[cycle(grammar)]
+    #[tactic(auto, unfolding(crate::specs::Reading::named_at))]
+    fn named(&self, room: usize, rest: Piece<'a>) -> Result<(Pattern, Piece<'a>), Stop>
+        ensures read { Gives (λ p. (tree_of p.0, p.1.characters.now)) result (named_at (env_of self.now) room (inside (env_of self.now) room) rest.entry.characters.now) }
+        ensures shorter { IfOk result (λ p. length p.1.characters.now < length rest.entry.characters.now) }
+    {
+        let name = self.name(rest)?;
+        let behind = rest.after_name();
+        match keywords::keyword_of(name.bytes()) {
+            None => {
+                let number = self.plain(&name, rest)?;
+                Ok((Pattern::Ref(number), behind))
+            }
+            Some(Keyword::Primitive(word)) => Ok((word.pattern(), behind)),
+            Some(Keyword::Counted(call)) => self.counted(room, call, behind),
+            Some(Keyword::Chosen(call)) => self.chosen(room, call, behind),
+            Some(Keyword::Repeated) => self.repeated(room, behind),
+        }
+    }
+
+    // An element.
+    #[cycle(grammar)]
+    #[tactic(auto, unfolding(crate::specs::Reading::element_at))]
+    fn element(&self, room: usize, rest: Piece<'a>) -> Result<(Pattern, Piece<'a>), Stop>
+        ensures read { Gives (λ p. (tree_of p.0, p.1.characters.now)) result (element_at (env_of self.now) room (inside (env_of self.now) room) rest.entry.characters.now) }
+        ensures shorter { IfOk result (λ p. length p.1.characters.now < length rest.entry.characters.now) }
+    {
+        match characters::start_of(rest.characters) {
+            Start::Quote => self.quoted(rest),
+            Start::At => self.cursor(rest),
+            Start::Star => self.starred(rest),
+            Start::Open => self.group(room, rest),
+            Start::Letter => self.named(room, rest),
+            Start::Other => Err(self.unexpected(rest)),
+        }
+    }
+
+    // An element with its targets.
+    #[cycle(grammar)]
+    #[tactic(auto, unfolding(crate::specs::Reading::item_at))]
+    fn item(&self, room: usize, rest: Piece<'a>) -> Result<(Pattern, Piece<'a>), Stop>
+        ensures read { Gives (λ p. (tree_of p.0, p.1.characters.now)) result (item_at (env_of self.now) room (inside (env_of self.now) room) rest.entry.characters.now) }
+        ensures shorter { IfOk result (λ p. length p.1.characters.now < length rest.entry.characters.now) }
+    {
+        let (pattern, rest) = self.element(room, rest)?;
+        let read = self.targets(pattern, rest)?;
+        Ok(read)
+    }
+
+    // Items, joined from the right.
+    #[cycle(grammar)]
+    fn concatenation(&self, room: usize, rest: Piece<'a>) -> Result<(Pattern, Piece<'a>), Stop>
+        ensures read { (n : ℕ) → length rest.entry.characters.now < n → Gives (λ p. (tree_of p.0, p.1.characters.now)) result (items_at (env_of self.now) (item_at (env_of self.now) room (inside (env_of self.now) room)) n rest.entry.characters.now) }
+        ensures shorter { IfOk result (λ p. length p.1.characters.now < length rest.entry.characters.now) }
+    {
+        let (pattern, rest) = self.item(room, rest)?;
+        match characters::what_follows(rest.characters) {
+            Following::Item => {
+                let (others, rest) = self.concatenation(room, rest.after_blanks())?;
+                let first = Box::new(self.alloc, pattern)?;
+                let second = Box::new(self.alloc, others)?;
+                Ok((Pattern::Seq(first, second), rest))
+            }
+            Following::Nothing | Following::Dot | Following::Dollar | Following::Bar => Ok((pattern, rest)),
+        }
+    }
+
+    /// Concatenations, joined from the right.
+    #[cycle(grammar)]
+    pub fn alternation(&self, room: usize, rest: Piece<'a>) -> Result<(Pattern, Piece<'a>), Stop>
+        ensures read { (n : ℕ) → length rest.entry.characters.now < n → Gives (λ p. (tree_of p.0, p.1.characters.now)) result (parts_at (env_of self.now) (concatenation_at (env_of self.now) room (inside (env_of self.now) room)) n rest.entry.characters.now) }
+        ensures shorter { IfOk result (λ p. length p.1.characters.now < length rest.entry.characters.now) }
+    {
+        let (pattern, rest) = self.concatenation(room, rest)?;
+        match characters::what_follows(rest.characters) {
+            Following::Bar => {
+                let rest = self.signed(rest)?;
+                let (others, rest) = self.alternation(room, rest)?;
+                let first = Box::new(self.alloc, pattern)?;
+                let second = Box::new(self.alloc, others)?;
+                Ok((Pattern::Alt(first, second), rest))
+            }
+            Following::Nothing | Following::Dot | Following::Dollar | Following::Item => Ok((pattern, rest)),
+        }
+    }
+}

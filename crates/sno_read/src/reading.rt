@@ -1,0 +1,110 @@
+//! Reading whole texts.
+ghost use Rattle.std.specs.Prelude.{◌≡◌, length};
+ghost use Rattle.sno_pattern.specs.Tree.{tree_of};
+ghost use Rattle.sno_pattern.specs.Texts.{first_non_ascii};
+ghost use Rattle.sno_read.specs.Gives.{Gives, Answers};
+ghost use Rattle.sno_read.specs.Characters.{skip};
+ghost use Rattle.sno_read.specs.Reading.{checked, whole_of, pattern_of};
+ghost use Rattle.sno_read.specs.Objects.{object_of};
+ghost use Rattle.sno_read.specs.Views.{env_of};
+
+use crate::depth;
+use crate::faults::{ReadFault, Stop};
+use crate::objects::Object;
+use crate::piece::Piece;
+use crate::reader::Reader;
+use sno_pattern::{Names, Pattern};
+use std::alloc::Global;
+
+/// The most characters of a pattern's text, and of an object's.
+pub const MAX_EXPRESSION: usize = 4_096;
+
+/// The most parentheses that are open at one place.
+pub const MAX_OPEN: usize = 100;
+
+/// The depth of the deepest tree.
+pub const MAX_DEPTH: usize = 1_000;
+
+fn first_non_ascii(text: &[u8]) -> Option<usize>
+    ensures { result ≡ first_non_ascii text.now }
+{
+    text.iter().position(|c| !c.is_ascii())
+}
+
+// The text, if it is short and ASCII.
+#[tactic(auto, using(crate::proofs::Ascii::all_ascii))]
+fn checked(text: &[u8]) -> Result<Piece<'_>, Stop>
+    ensures { Gives (λ p. p.characters.now) result (checked text.now) }
+{
+    if text.len() > MAX_EXPRESSION {
+        return Err(Stop::Fault(ReadFault::TooLong(MAX_EXPRESSION)));
+    }
+    match first_non_ascii(text) {
+        Some(place) => Err(Stop::Fault(ReadFault::NonAscii(place))),
+        None => Ok(Piece { characters: text }),
+    }
+}
+
+// The pattern that a whole text spells.
+#[tactic(auto, unfolding(crate::specs::Reading::whole_of, crate::specs::Reading::shallow, crate::specs::Reading::ended, crate::specs::Reading::alternation_at))]
+fn whole(reader: &Reader, text: Piece) -> Result<Pattern, Stop>
+    ensures { Gives tree_of result (whole_of (env_of reader.now) text.entry.characters.now) }
+{
+    let rest = text.after_blanks();
+    if rest.characters.is_empty() {
+        return Err(Stop::Fault(ReadFault::Empty(reader.total)));
+    }
+    let (pattern, rest) = reader.alternation(MAX_OPEN, rest)?;
+    let end = rest.after_blanks();
+    if !end.characters.is_empty() {
+        return Err(reader.unexpected(end));
+    }
+    if depth::fits(&pattern, MAX_DEPTH) {
+        Ok(pattern)
+    } else {
+        Err(Stop::Fault(ReadFault::TooDeep(reader.total)))
+    }
+}
+
+#[tactic(auto, unfolding(crate::specs::Reading::pattern_of))]
+fn pattern(alloc: Global, names: &Names, earlier: usize, text: &[u8]) -> Result<Pattern, Stop>
+    ensures { Gives tree_of result (pattern_of names.now earlier text.now) }
+{
+    let piece = checked(text)?;
+    let total = text.len();
+    let pattern = whole(&Reader { alloc, names, earlier, total }, piece)?;
+    Ok(pattern)
+}
+
+#[tactic(auto, unfolding(crate::specs::Objects::object_of))]
+fn object(alloc: Global, names: &Names, text: &[u8]) -> Result<Object, Stop>
+    ensures { Gives (λ object. object) result (object_of names.now text.now) }
+{
+    let piece = checked(text)?;
+    let total = text.len();
+    let reader = Reader { alloc, names, earlier: 0, total };
+    let parts = reader.parts(piece.after_blanks())?;
+    Ok(Object::of(parts))
+}
+
+/// The pattern that the text spells.
+pub fn read_pattern(alloc: Global, names: &Names, earlier: usize, text: &[u8]) -> Result<Pattern, ReadFault>
+    ensures exact { Answers tree_of result (pattern_of names.now earlier text.now) }
+{
+    match pattern(alloc, names, earlier, text) {
+        Ok(pattern) => Ok(pattern),
+        Err(Stop::Memory) => Err(ReadFault::Memory),
+        Err(Stop::Fault(fault)) => Err(fault),
+    }
+}
+
+/// The object that the text spells.
+pub fn read_object(alloc: Global, names: &Names, text: &[u8]) -> Result<Object, ReadFault>
+    ensures exact { Answers (λ object. object) result (object_of names.now text.now) }
+{
+    match object(alloc, names, text) {
+        Ok(object) => Ok(object),
+        Err(Stop::Memory) => Err(ReadFault::Memory),
+        Err(Stop::Fault(fault)) => Err(fault),
+    }
+}
