@@ -9,3 +9,4 @@ pub mod Taking
 pub mod Congruence
 pub mod Depth
 pub mod Settled
+pub mod Marks
