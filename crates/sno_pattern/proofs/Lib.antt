@@ -10,3 +10,4 @@ pub mod Congruence
 pub mod Depth
 pub mod Settled
 pub mod Marks
+pub mod Ways

@@ -1,6 +1,6 @@
 -- What `Rules::admit` answers, and the words of the functions that find it.
-use Rattle.std.specs.Prelude.{◌≡◌, ℕ, ◌<◌, ◌↔◌, Bool, true, false, not, ◌&&◌, ◌||◌, List, [], ◌∷◌, ◌++◌, length, nat_eq, slice_get, slice_index_or, Option, Some, None, if◌then◌else◌}
-use Rattle.std.specs.List.{position_from, IsDistinct}
+use Rattle.std.specs.Prelude.{◌≡◌, ℕ, ◌<◌, ◌↔◌, Bool, true, false, not, ◌&&◌, ◌||◌, List, [], ◌∷◌, ◌++◌, length, nat_eq, slice_get, slice_index, slice_index_or, Option, Some, None, if◌then◌else◌}
+use Rattle.std.specs.List.{position_from, IsDistinct, AllByRecursion}
 use Rattle.sno_pattern.specs.Tree as tree
 use Rattle.sno_pattern.specs.Tree.{Tree, refs_below}
 use Rattle.sno_pattern.specs.Guard.{Takes, Leads, Chain}
@@ -62,11 +62,6 @@ unguarded_by marks (tree.Cond p v) = unguarded_by marks p
 unguarded_by marks (tree.Imm p v) = unguarded_by marks p
 unguarded_by marks _ = []
 
--- the same of what a number names, if it names a pattern
-abbrev pub unguarded_in : List Bool → Option Tree → List ℕ
-unguarded_in marks None = []
-unguarded_in marks (Some body) = unguarded_by marks body
-
 -- a definition that takes, by the marks, and has none
 abbrev pub IsUnmarked : List Tree → List Bool → ℕ → Type 0
 IsUnmarked bodies marks i = (body : Tree) × (slice_get bodies i ≡ Some body) × (takes_by marks body ≡ true) × (slice_index_or marks i false ≡ false)
@@ -75,3 +70,31 @@ IsUnmarked bodies marks i = (body : Tree) × (slice_get bodies i ≡ Some body) 
 abbrev pub AreCompleteBelow : List Tree → List Bool → ℕ → Type 0
 AreCompleteBelow bodies marks n =
     (i : ℕ) (body : Tree) → i < n → slice_get bodies i ≡ Some body → takes_by marks body ≡ true → slice_index_or marks i false ≡ true
+
+-- A way from `from` to `target` through definitions that weren't seen before and that are distinct.
+pub record IsFreshWay (bodies : List Tree) (from : ℕ) (way : List ℕ) (target : ℕ) (before : List Bool) : Type 0 where
+  pub path : IsWay bodies from way target
+  pub fresh : AllByRecursion (λ x. slice_index_or before x false ≡ false) way
+  pub apart : IsDistinct nat_eq way
+
+-- All to which x leads was seen, and the target isn't among it.
+abbrev pub IsClosed : List Tree → ℕ → List Bool → ℕ → Type 0
+IsClosed bodies target seen x = (j : ℕ) → Leads bodies x j → (j ≡ target → ⊥) × (slice_index_or seen j false ≡ true)
+
+-- From `from` nothing leads to the target: what was seen before is still seen, and `from` and all that has been seen since are closed.
+pub record IsDeadEnd (bodies : List Tree) (from target : ℕ) (before after : List Bool) : Type 0 where
+  pub kept : (j : ℕ) → slice_index_or before j false ≡ true → slice_index_or after j false ≡ true
+  pub done : IsClosed bodies target after from
+  pub rest : (x : ℕ) → slice_index_or before x false ≡ false → slice_index_or after x false ≡ true → IsClosed bodies target after x
+
+-- These are all the definitions to which `from` leads, and there are such definitions.
+pub record AreReferences (bodies : List Tree) (from : ℕ) (found : List ℕ) : Type 0 where
+  pub each : (k : ℕ) → k < length found → Leads bodies from (slice_index found k)
+  pub inside : (k : ℕ) → k < length found → slice_index found k < length bodies
+  pub all : (j : ℕ) → Leads bodies from j → (k : ℕ) × (k < length found) × (slice_index found k ≡ j)
+
+-- the same, where only the first n of the references of `from` were looked at
+pub record IsSearched (bodies : List Tree) (found : List ℕ) (n target : ℕ) (before after : List Bool) : Type 0 where
+  pub kept : (j : ℕ) → slice_index_or before j false ≡ true → slice_index_or after j false ≡ true
+  pub done : (k : ℕ) → k < n → (slice_index found k ≡ target → ⊥) × (slice_index_or after (slice_index found k) false ≡ true)
+  pub rest : (x : ℕ) → slice_index_or before x false ≡ false → slice_index_or after x false ≡ true → IsClosed bodies target after x

@@ -1,7 +1,8 @@
 //! Whether each cycle of references takes a character.
-ghost use Rattle.std.specs.Prelude.{◌≡◌, ℕ, ◌<◌, ◌++◌, Bool, true, false, List, length, slice_index_or, IsTrue, IfOk, MatchOption};
+ghost use Rattle.std.specs.Prelude.{◌≡◌, ℕ, ◌<◌, ◌++◌, Bool, true, false, List, length, reverse, slice_index_or, IsTrue, IfOk, MatchOption};
+ghost use Rattle.std.specs.List.{list_all};
 ghost use Rattle.sno_pattern.specs.Tree.{tree_of, trees, refs_below};
-ghost use Rattle.sno_pattern.specs.Admission.{takes_by, unguarded_by, AreSound, AreComplete, AreExact, IsUnmarked};
+ghost use Rattle.sno_pattern.specs.Admission.{takes_by, unguarded_by, AreSound, AreComplete, AreExact, IsUnmarked, AreReferences, IsDeadEnd, IsFreshWay};
 
 use crate::Pattern;
 use std::alloc::{AllocError, Global};
@@ -99,4 +100,47 @@ fn find_unguarded(marks: &[bool], pattern: &Pattern, found: &mut Vec<usize>) -> 
         }
         _ => Ok(takes(marks, pattern)),
     }
+}
+
+// The definitions to which one leads.
+fn references(alloc: Global, bodies: &[Pattern], marks: &[bool], from: usize) -> Result<Vec<usize>, AllocError>
+    requires inside { from < length bodies.now }
+    requires closed { IsTrue (list_all (refs_below (length bodies.now)) (trees bodies.now)) }
+    requires exact { AreExact (trees bodies.now) marks.now }
+    ensures { IfOk result (λ v. AreReferences (trees bodies.now) from v.items) }
+{
+    let mut found = Vec::new(alloc);
+    find_unguarded(marks, &bodies[from], &mut found)?;
+    Ok(found)
+}
+
+// A way from a definition to the target, the last step first, through definitions that were not seen.
+fn way(
+    alloc: Global, bodies: &[Pattern], marks: &[bool], from: usize, target: usize, seen: &mut [bool],
+) -> Result<Option<Vec<usize>>, AllocError>
+    requires inside { from < length bodies.now }
+    requires closed { IsTrue (list_all (refs_below (length bodies.now)) (trees bodies.now)) }
+    requires exact { AreExact (trees bodies.now) marks.now }
+    requires room { length seen.old ≡ length bodies.now }
+    ensures {
+        IfOk result (λ r. MatchOption r (IsDeadEnd (trees bodies.now) from target seen.old seen.new)
+            (λ w. IsFreshWay (trees bodies.now) from (reverse w.items) target seen.old))
+    }
+{
+    let found = references(alloc, bodies, marks, from)?;
+    for next in &found {
+        let next = *next;
+        if next == target {
+            return Ok(Some(Vec::new(alloc)));
+        }
+        if !seen[next] {
+            seen[next] = true;
+            let rest = way(alloc, bodies, marks, next, target, seen)?;
+            if let Some(mut rest) = rest {
+                rest.push(next)?;
+                return Ok(Some(rest));
+            }
+        }
+    }
+    Ok(None)
 }
