@@ -11,3 +11,4 @@ pub mod Depth
 pub mod Settled
 pub mod Marks
 pub mod Ways
+pub mod Search
