@@ -9,3 +9,6 @@ pub mod Taking
 pub mod Congruence
 pub mod Depth
 pub mod Settled
+pub mod Marks
+pub mod Ways
+pub mod Search

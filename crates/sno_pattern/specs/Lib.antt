@@ -12,5 +12,6 @@ pub mod Rows
 pub mod NameList
 pub mod Definitions
 pub mod Guard
+pub mod Admission
 pub mod Laws
 pub mod CursorLaws

@@ -1,6 +1,7 @@
 //! Patterns, names, texts and definitions, and what it means to match.
 #![tactic(auto)]
 
+mod admission;
 mod classes;
 mod cursor_laws;
 mod definitions;
