@@ -10,7 +10,7 @@ use Rattle.sno_pattern.specs.declared.found.Hit.{Hit}
 use Rattle.sno_statement.specs.Task.{Task}
 use Rattle.sno_statement.specs.Bindings.{Bound, bindings_of}
 use Rattle.sno_statement.specs.Value.{value_of, replaced}
-use Rattle.sno_statement.specs.declared.objects.Part.{Part}
+use Rattle.sno_read.specs.declared.objects.Part.{Part}
 use Rattle.sno_statement.specs.declared.outcomes.Outcome.{Outcome}
 use Rattle.sno_statement.specs.declared.outcomes.Outcome.TheVariants as outcomes
 use Rattle.sno_statement.specs.declared.outcomes.StatementFault.{StatementFault}

@@ -3,8 +3,8 @@ use Rattle.std.specs.Prelude.{ℕ, Bool, List, Option, refl}
 use Rattle.std.specs.Coded.{Coded, code_by, coded×, coded_list, coded_ℕ, coded_bool, coded_option}
 use Rattle.sno_pattern.specs.Tree.{Tree}
 use Rattle.sno_pattern.specs.Definitions.{Definitions, definitions_code, tree_code}
-use Rattle.sno_statement.specs.declared.objects.Part.{Part}
-use Rattle.sno_statement.specs.contracts.objects.Part as stored
+use Rattle.sno_read.specs.declared.objects.Part.{Part}
+use Rattle.sno_read.specs.contracts.objects.Part as stored
 
 -- a statement: the caller's number, the definitions, the pattern, the object's parts where it replaces, the text's name, and
 -- whether a match begins at cursor 0 alone

@@ -4,8 +4,8 @@ use Rattle.std.specs.List.{flat_map}
 use Rattle.std.specs.Fmt.{decimal}
 use Rattle.sno_statement.specs.declared.binding.Datum.{Datum}
 use Rattle.sno_statement.specs.declared.binding.Datum.TheVariants.{Str, Int}
-use Rattle.sno_statement.specs.declared.objects.Part.{Part}
-use Rattle.sno_statement.specs.declared.objects.Part.TheVariants.{Quoted, Var}
+use Rattle.sno_read.specs.declared.objects.Part.{Part}
+use Rattle.sno_read.specs.declared.objects.Part.TheVariants.{Quoted, Var}
 use Rattle.sno_statement.specs.Bindings.{Bound, lookup}
 
 -- a variable that was never assigned is the null string, and a number is its decimal text

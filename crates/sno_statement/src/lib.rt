@@ -2,13 +2,13 @@
 #![tactic(auto)]
 
 mod binding;
-mod objects;
 mod outcomes;
 mod performing;
 mod statements;
 mod values;
 
 pub use binding::{Bindings, Datum};
-pub use objects::{Object, Part};
 pub use outcomes::{Outcome, StatementFault};
+pub use performing::perform;
+pub use sno_read::{Object, Part};
 pub use statements::Statement;

@@ -4,11 +4,12 @@ ghost use Rattle.std.specs.Option.{option_copied};
 ghost use Rattle.sno_pattern.specs.CursorLaws.{CursorLies, SetsLie};
 ghost use Rattle.sno_statement.specs.Bindings.{datum_of, bind_sets, bind_conds};
 ghost use Rattle.sno_statement.specs.Value.{value_of, replaced};
-ghost use Rattle.sno_statement.specs.Perform.{Gives, GivesText, finish, finish_found};
+ghost use Rattle.sno_statement.specs.Perform.{Gives, GivesText, finish, finish_found, perform};
 
 use crate::values::{part, replaced};
-use crate::{Bindings, Datum, Object, Outcome, Part, StatementFault};
-use sno_pattern::{Assign, Found, Hit, Name, Text, What};
+use crate::{Bindings, Datum, Outcome, Statement, StatementFault};
+use sno_pattern::{Assign, Found, Hit, Name, Text, What, cursors_lie_within_the_text};
+use sno_read::{Object, Part};
 use std::alloc::{AllocError, Global};
 use std::sync::Arc;
 
@@ -82,7 +83,7 @@ fn new_text(alloc: Global, parts: &[Part], subject: &Text, hit: &Hit, bindings: 
 }
 
 /// What a match that came out so does to the text.
-pub(crate) fn finished(alloc: Global, object: Option<&Object>, subject: &Text, found: &Found) -> Result<Outcome, StatementFault>
+fn finished(alloc: Global, object: Option<&Object>, subject: &Text, found: &Found) -> Result<Outcome, StatementFault>
     requires { SetsLie subject.now found.now.sets }
     ensures { Gives result (finish_found (option_copied object.entry) subject.now found.now) }
 {
@@ -95,4 +96,17 @@ pub(crate) fn finished(alloc: Global, object: Option<&Object>, subject: &Text, f
             Ok(outcome)
         }
     }
+}
+
+/// Performs a statement on a text: matches the pattern, binds the variables and, where the statement has an object and the match
+/// succeeds, makes the new text. Statement and text stay as they are.
+///
+/// Refused, in this order: `TextTooLong` where the new text would have more than 65,536 characters, `Memory`.
+pub fn perform(alloc: Global, statement: &Statement, subject: &Text) -> Result<Outcome, StatementFault>
+    ensures { Gives result (perform statement.now subject.now) }
+{
+    let found = sno_eval::first(alloc, statement.rules(), statement.pattern(), subject, statement.anchored())?;
+    cursors_lie_within_the_text();
+    let outcome = finished(alloc, statement.object(), subject, &found)?;
+    Ok(outcome)
 }

@@ -4,8 +4,8 @@ ghost use Rattle.std.specs.Option.{option_map};
 ghost use Rattle.std.specs.Arc.{arc_value};
 ghost use Rattle.sno_pattern.specs.Tree.{tree_of, refs_below};
 
-use crate::Object;
 use sno_pattern::{Pattern, Rules, TextName};
+use sno_read::Object;
 use std::marker::Model;
 use std::sync::Arc;
 

@@ -6,8 +6,9 @@ ghost use Rattle.std.specs.Fmt.{decimal};
 ghost use Rattle.sno_pattern.specs.Ends.{part};
 ghost use Rattle.sno_statement.specs.Value.{part_value, value_of, replaced};
 
-use crate::{Bindings, Datum, Part};
+use crate::{Bindings, Datum};
 use sno_pattern::Text;
+use sno_read::Part;
 use std::alloc::{AllocError, Global};
 
 /// The first characters, as many as there are up to a number.
