@@ -18,7 +18,12 @@ pub enum Ending {
 }
 
 // Adds the assignments that are done at once before the first End or Halt, and says which of these came.
-pub fn first_ending(alloc: Global, start: usize, events: &[Event], sets: &mut Vec<Assign>) -> Result<Ending, AllocError>
+pub fn first_ending(
+    alloc: Global,
+    start: usize,
+    events: &[Event],
+    sets: &mut Vec<Assign>,
+) -> Result<Ending, AllocError>
     ensures { IfOk result (λ e. GoesOnAs sets.old.items start events.now sets.new.items e) }
 {
     for event in events {
@@ -26,7 +31,11 @@ pub fn first_ending(alloc: Global, start: usize, events: &[Event], sets: &mut Ve
             Event::Told(assign) => sets.push(*assign)?,
             Event::End(end, conds) => {
                 let conds = copied(alloc, conds)?;
-                return Ok(Ending::Success(Hit { start, end: *end, conds }));
+                return Ok(Ending::Success(Hit {
+                    start,
+                    end: *end,
+                    conds,
+                }));
             }
             Event::Halt => return Ok(Ending::Failure),
         }

@@ -73,7 +73,13 @@ fn joined(alloc: Global, first: &Conds, second: &Conds) -> Result<Conds, AllocEr
 }
 
 // The list and then one more part.
-fn with_part(alloc: Global, conds: &Conds, name: Name, start: usize, end: usize) -> Result<Conds, AllocError>
+fn with_part(
+    alloc: Global,
+    conds: &Conds,
+    name: Name,
+    start: usize,
+    end: usize,
+) -> Result<Conds, AllocError>
     ensures { IfOk result (λ v. v ≡ conds.now ++ (name, start, end) ∷ []) }
 {
     let mut list = Vec::from_slice(alloc, conds.as_slice())?;
@@ -89,7 +95,12 @@ pub fn copied(alloc: Global, conds: &Conds) -> Result<Conds, AllocError>
 }
 
 // Adds what follows an End with these assignments, up to the first Halt, and says whether there is one.
-pub fn add_after(alloc: Global, conds: &Conds, later: &[Event], all: &mut Vec<Event>) -> Result<bool, AllocError>
+pub fn add_after(
+    alloc: Global,
+    conds: &Conds,
+    later: &[Event],
+    all: &mut Vec<Event>,
+) -> Result<bool, AllocError>
     ensures added { OnOk result (all.new.items ≡ all.old.items ++ cut (put_before conds.now later.now)) }
     ensures halted { IfOk result (λ b. b ≡ list_any is_halt later.now) }
 {
@@ -107,14 +118,22 @@ pub fn add_after(alloc: Global, conds: &Conds, later: &[Event], all: &mut Vec<Ev
 }
 
 // The part from `start` to each End assigned to the name if the whole match succeeds.
-pub fn assign_later(alloc: Global, name: Name, start: usize, events: &[Event]) -> Result<Vec<Event>, AllocError>
+pub fn assign_later(
+    alloc: Global,
+    name: Name,
+    start: usize,
+    events: &[Event],
+) -> Result<Vec<Event>, AllocError>
     ensures { IfOk result (λ v. v.items ≡ assign_later name start events.now) }
 {
     let mut all = Vec::new(alloc);
     for event in events {
         match event {
             Event::Told(assign) => all.push(Event::Told(*assign))?,
-            Event::End(end, conds) => all.push(Event::End(*end, with_part(alloc, conds, name, start, *end)?))?,
+            Event::End(end, conds) => all.push(Event::End(
+                *end,
+                with_part(alloc, conds, name, start, *end)?,
+            ))?,
             Event::Halt => all.push(Event::Halt)?,
         }
     }
@@ -122,7 +141,12 @@ pub fn assign_later(alloc: Global, name: Name, start: usize, events: &[Event]) -
 }
 
 // The part from `start` to each End assigned to the name at once.
-pub fn assign_now(alloc: Global, name: Name, start: usize, events: &[Event]) -> Result<Vec<Event>, AllocError>
+pub fn assign_now(
+    alloc: Global,
+    name: Name,
+    start: usize,
+    events: &[Event],
+) -> Result<Vec<Event>, AllocError>
     ensures { IfOk result (λ v. v.items ≡ assign_now name start events.now) }
 {
     let mut all = Vec::new(alloc);
@@ -130,7 +154,10 @@ pub fn assign_now(alloc: Global, name: Name, start: usize, events: &[Event]) -> 
         match event {
             Event::Told(assign) => all.push(Event::Told(*assign))?,
             Event::End(end, conds) => {
-                all.push(Event::Told(Assign { name, what: What::Part(start, *end) }))?;
+                all.push(Event::Told(Assign {
+                    name,
+                    what: What::Part(start, *end),
+                }))?;
                 all.push(Event::End(*end, copied(alloc, conds)?))?;
             }
             Event::Halt => all.push(Event::Halt)?,

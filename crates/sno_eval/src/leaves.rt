@@ -8,14 +8,20 @@ ghost use Rattle.sno_eval.specs.Steps.{is_leaf};
 
 use crate::events::{at_most_one, push_end};
 use crate::primitives::{
-    any_end, break_end, is_balanced_part, len_end, literal_end, notany_end, pos_end, rpos_end, rtab_end, span_end, tab_end,
+    any_end, break_end, is_balanced_part, len_end, literal_end, notany_end, pos_end, rpos_end,
+    rtab_end, span_end, tab_end,
 };
 use sno_pattern::{Assign, Event, Name, Pattern, What};
 use std::alloc::{AllocError, Global};
 
 // What a pattern without parts does from a cursor.
 #[tactic(auto, unfolding(sno_pattern::specs::Results::results_of))]
-pub fn leaf(alloc: Global, text: &[u8], pattern: &Pattern, c: usize) -> Result<Vec<Event>, AllocError>
+pub fn leaf(
+    alloc: Global,
+    text: &[u8],
+    pattern: &Pattern,
+    c: usize,
+) -> Result<Vec<Event>, AllocError>
     requires leaf { IsTrue (is_leaf (tree_of pattern.now)) }
     requires within { c ≤ length text.now }
     ensures { (named : ℕ → ℕ → List HappenedEvent) → IfOk result (λ v. v.items ≡ results_of text.now named (tree_of pattern.now) c) }
@@ -38,7 +44,12 @@ pub fn leaf(alloc: Global, text: &[u8], pattern: &Pattern, c: usize) -> Result<V
         Pattern::Abort => abort(alloc),
         Pattern::Fail => Ok(Vec::new(alloc)),
         Pattern::At(name) => cursor(alloc, *name, c),
-        Pattern::Arbno(_) | Pattern::Ref(_) | Pattern::Seq(_, _) | Pattern::Alt(_, _) | Pattern::Cond(_, _) | Pattern::Imm(_, _) => unreachable!(),
+        Pattern::Arbno(_)
+        | Pattern::Ref(_)
+        | Pattern::Seq(_, _)
+        | Pattern::Alt(_, _)
+        | Pattern::Cond(_, _)
+        | Pattern::Imm(_, _) => unreachable!(),
     }
 }
 
@@ -87,7 +98,10 @@ fn cursor(alloc: Global, name: Name, c: usize) -> Result<Vec<Event>, AllocError>
     ensures { IfOk result (λ v. v.items ≡ Event.Told (record { name = name; what = What.Cursor c }) ∷ Event.End c [] ∷ []) }
 {
     let mut events = Vec::new(alloc);
-    events.push(Event::Told(Assign { name, what: What::Cursor(c) }))?;
+    events.push(Event::Told(Assign {
+        name,
+        what: What::Cursor(c),
+    }))?;
     push_end(alloc, &mut events, c)?;
     Ok(events)
 }

@@ -11,6 +11,8 @@ mod leaves;
 mod primitives;
 mod results;
 mod starts;
+#[cfg(test)]
+mod tests;
 
 pub use sno_pattern::{Assign, Assigns, Conds, Found, Hit, What};
 pub use starts::first;

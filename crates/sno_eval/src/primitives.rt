@@ -22,7 +22,11 @@ pub fn len_end(text: &[u8], n: usize, c: usize) -> Option<usize>
     requires { c ≤ length text.now }
     ensures { option_to_list result ≡ len_ends text.now n c }
 {
-    if n <= text.len() - c { Some(c + n) } else { None }
+    if n <= text.len() - c {
+        Some(c + n)
+    } else {
+        None
+    }
 }
 
 pub fn pos_end(n: usize, c: usize) -> Option<usize>
@@ -41,14 +45,22 @@ pub fn rpos_end(text: &[u8], n: usize, c: usize) -> Option<usize>
 pub fn tab_end(text: &[u8], n: usize, c: usize) -> Option<usize>
     ensures { option_to_list result ≡ tab_ends text.now n c }
 {
-    if c <= n && n <= text.len() { Some(n) } else { None }
+    if c <= n && n <= text.len() {
+        Some(n)
+    } else {
+        None
+    }
 }
 
 pub fn rtab_end(text: &[u8], n: usize, c: usize) -> Option<usize>
     requires { c ≤ length text.now }
     ensures { option_to_list result ≡ rtab_ends text.now n c }
 {
-    if n <= text.len() - c { Some(text.len() - n) } else { None }
+    if n <= text.len() - c {
+        Some(text.len() - n)
+    } else {
+        None
+    }
 }
 
 pub fn any_end(text: &[u8], set: &Class, c: usize) -> Option<usize>
@@ -102,7 +114,11 @@ pub fn break_end(text: &[u8], set: &Class, c: usize) -> Option<usize>
 {
     let (_, rest) = text.split_at(c);
     let run = run_outside(rest, set);
-    if run < rest.len() { Some(c + run) } else { None }
+    if run < rest.len() {
+        Some(c + run)
+    } else {
+        None
+    }
 }
 
 // Whether the text has as many `)` as `(`, and no front of it more `)` than `(`.

@@ -13,7 +13,14 @@ use std::alloc::{AllocError, Global};
 // What the pattern does from a cursor, at most `depth` references deep.
 #[cycle(results)]
 #[tactic(auto, unfolding(sno_pattern::specs::Results::results_of))]
-pub fn results(alloc: Global, text: &Text, rules: &Rules, depth: u128, pattern: &Pattern, c: usize) -> Result<Vec<Event>, AllocError>
+pub fn results(
+    alloc: Global,
+    text: &Text,
+    rules: &Rules,
+    depth: u128,
+    pattern: &Pattern,
+    c: usize,
+) -> Result<Vec<Event>, AllocError>
     requires { c ≤ length text.now }
     ensures { IfOk result (λ v. v.items ≡ results text.now rules.now.bodies depth (tree_of pattern.now) c) }
 {
@@ -59,7 +66,14 @@ pub fn results(alloc: Global, text: &Text, rules: &Rules, depth: u128, pattern: 
 
 // What the definition with this number does from a cursor; nothing where no reference may be gone through any more.
 #[cycle(results)]
-fn named(alloc: Global, text: &Text, rules: &Rules, depth: u128, number: usize, c: usize) -> Result<Vec<Event>, AllocError>
+fn named(
+    alloc: Global,
+    text: &Text,
+    rules: &Rules,
+    depth: u128,
+    number: usize,
+    c: usize,
+) -> Result<Vec<Event>, AllocError>
     requires { c ≤ length text.now }
     ensures { IfOk result (λ v. v.items ≡ named_at text.now rules.now.bodies depth number c) }
 {
@@ -77,7 +91,14 @@ fn named(alloc: Global, text: &Text, rules: &Rules, depth: u128, number: usize, 
 
 // What the pattern does behind each End of `first`, up to the first Halt.
 #[cycle(results)]
-fn follow(alloc: Global, text: &Text, rules: &Rules, depth: u128, first: &[Event], pattern: &Pattern) -> Result<Vec<Event>, AllocError>
+fn follow(
+    alloc: Global,
+    text: &Text,
+    rules: &Rules,
+    depth: u128,
+    first: &[Event],
+    pattern: &Pattern,
+) -> Result<Vec<Event>, AllocError>
     requires { AllEnds (Within text.now 0) first.now }
     ensures { IfOk result (λ v. v.items ≡ go_on first.now (results text.now rules.now.bodies depth (tree_of pattern.now))) }
 {
@@ -102,7 +123,15 @@ fn follow(alloc: Global, text: &Text, rules: &Rules, depth: u128, first: &[Event
 
 // What at most so many rounds of the pattern do: the fewest first, each round going on from where the one before ended.
 #[cycle(results)]
-fn repeat(alloc: Global, text: &Text, rules: &Rules, depth: u128, part: &Pattern, count: usize, c: usize) -> Result<Vec<Event>, AllocError>
+fn repeat(
+    alloc: Global,
+    text: &Text,
+    rules: &Rules,
+    depth: u128,
+    part: &Pattern,
+    count: usize,
+    c: usize,
+) -> Result<Vec<Event>, AllocError>
     requires { c ≤ length text.now }
     ensures { IfOk result (λ v. v.items ≡ rounds (results text.now rules.now.bodies depth (tree_of part.now)) count c) }
 {

@@ -19,7 +19,13 @@ use std::alloc::{AllocError, Global};
 /// calls grows with the text. It is the plain reference, for small texts.
 ///
 /// Refused only where memory is.
-pub fn first(alloc: Global, rules: &Rules, pattern: &Pattern, text: &Text, anchored: bool) -> Result<Found, AllocError>
+pub fn first(
+    alloc: Global,
+    rules: &Rules,
+    pattern: &Pattern,
+    text: &Text,
+    anchored: bool,
+) -> Result<Found, AllocError>
     requires { IsTrue (refs_below (length rules.now.bodies) (tree_of pattern.now)) }
     ensures { IfOk result (λ found. found ≡ outcome text.now rules.now.bodies (tree_of pattern.now) anchored) }
 {
@@ -29,12 +35,21 @@ pub fn first(alloc: Global, rules: &Rules, pattern: &Pattern, text: &Text, ancho
     for start in 0..last + 1 {
         let events = results(alloc, text, rules, most, pattern, start)?;
         match first_ending(alloc, start, &events, &mut sets)? {
-            Ending::Success(hit) => return Ok(Found { sets: Assigns::of(sets), end: Some(hit) }),
-            Ending::Failure => return Ok(Found { sets: Assigns::of(sets), end: None }),
+            Ending::Success(hit) => return Ok(Found {
+                sets: Assigns::of(sets),
+                end: Some(hit),
+            }),
+            Ending::Failure => return Ok(Found {
+                sets: Assigns::of(sets),
+                end: None,
+            }),
             Ending::Open => {}
         }
     }
-    Ok(Found { sets: Assigns::of(sets), end: None })
+    Ok(Found {
+        sets: Assigns::of(sets),
+        end: None,
+    })
 }
 
 // A depth that is always enough. It has more bits than a cursor, since nothing here says how few definitions there are.

@@ -22,4 +22,4 @@ pub loop-event-preserved : goal.loop-event-preserved
 loop-event-preserved c = λ others.
     c.loop-event.invariant others
     ∙ found_told c.args.start c.loop-event.sets.items _ _ _ c.in-Told.assign others
-        (left_at c.args.events.now c.loop-event.event-index _ (Told c.in-Told.assign) c.loop-event-test.true c.event-item.is c.in-Told.is) c.in_ok-push-in-Told.ensures.items
+    (left_at c.args.events.now c.loop-event.event-index _ (Told c.in-Told.assign) c.loop-event-test.true c.event-item.is c.in-Told.is) c.in_ok-push-in-Told.ensures.items

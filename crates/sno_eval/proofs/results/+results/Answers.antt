@@ -14,11 +14,10 @@ use Rattle.sno_eval.proofs.results.+results.Goals as goal
 use Rattle.sno_eval.proofs.results.+results.Goals.{follow-in-Told+in_ok-push-in-Told, follow-in-End+in_ok-later-in-End+in_ok-add_after-in-End+else-branch, repeat-in-Told+in_ok-push-in-Told, repeat-in-End+then-c-end+in_ok-later-in-End+in_ok-add_after-in-End+else-branch, repeat-in-End+else-c-end, results-then-not-has_halt+in_ok-others-in-Alt+in_ok-append-in-Alt, results-else-not-has_halt}
 
 pub follow-results-requires : goal.follow-results-requires
-follow-results-requires t c =
-    (
-      omega (arith, c.decreases, work_round (length c.args.text.now) c.args.rules.now.bodies c.args.depth (nodes (tree_of c.args.pattern.now)) 0 1 (omega arith)),
-      (AllEnds-head (Within c.args.text.now 0) _ _ _ _ (left_at c.args.first.now c.loop-event.event-index _ (End c.in-End.end c.in-End.conds) c.loop-event-test.true c.event-item.is c.in-End.is) c.loop-event.invariant.inside).1,
-    )
+follow-results-requires t c = (
+  omega (arith, c.decreases, work_round (length c.args.text.now) c.args.rules.now.bodies c.args.depth (nodes (tree_of c.args.pattern.now)) 0 1 (omega arith)),
+  (AllEnds-head (Within c.args.text.now 0) _ _ _ _ (left_at c.args.first.now c.loop-event.event-index _ (End c.in-End.end c.in-End.conds) c.loop-event-test.true c.event-item.is c.in-End.is) c.loop-event.invariant.inside).1,
+)
 
 pub follow-returns-then-branch : goal.follow-returns-then-branch
 follow-returns-then-branch t c =
@@ -28,15 +27,15 @@ follow-returns-then-branch t c =
 pub follow-loop-event-preserved : goal.follow-loop-event-preserved
 follow-loop-event-preserved t c =
     elim c.match-event.branch [
-      follow-in-Told+in_ok-push-in-Told w ↦ record {
-          added = go_on_told (results c.args.text.now c.args.rules.now.bodies c.args.depth (tree_of c.args.pattern.now)) _ _ _ _ _ _ (left_at c.args.first.now c.loop-event.event-index _ (Told w.in-Told.assign) c.loop-event-test.true c.event-item.is w.in-Told.is) (ap (λ v. v.items) w.all-is ∙ w.in_ok-push-in-Told.ensures.items) c.loop-event.invariant.added;
-          inside = AllEnds-tail (Within c.args.text.now 0) _ _ _ (left_at c.args.first.now c.loop-event.event-index _ (Told w.in-Told.assign) c.loop-event-test.true c.event-item.is w.in-Told.is) c.loop-event.invariant.inside;
-        }
-    | follow-in-End+in_ok-later-in-End+in_ok-add_after-in-End+else-branch w ↦ record {
-          added = go_on_end (results c.args.text.now c.args.rules.now.bodies c.args.depth (tree_of c.args.pattern.now)) _ _ _ _ _ _ _ _ (left_at c.args.first.now c.loop-event.event-index _ (End w.in-End.end w.in-End.conds) c.loop-event-test.true c.event-item.is w.in-End.is) (w.deref.ensures.value ∙ w.in_ok-later-in-End.ensures)
-              (sym w.if-branch.false ∙ w.in_ok-add_after-in-End.ensures.halted) (ap (λ v. v.items) w.all-is ∙ w.in_ok-add_after-in-End.ensures.added) c.loop-event.invariant.added;
-          inside = AllEnds-tail (Within c.args.text.now 0) _ _ _ (left_at c.args.first.now c.loop-event.event-index _ (End w.in-End.end w.in-End.conds) c.loop-event-test.true c.event-item.is w.in-End.is) c.loop-event.invariant.inside;
-        }
+      | follow-in-Told+in_ok-push-in-Told w ↦ record {
+        added = go_on_told (results c.args.text.now c.args.rules.now.bodies c.args.depth (tree_of c.args.pattern.now)) _ _ _ _ _ _ (left_at c.args.first.now c.loop-event.event-index _ (Told w.in-Told.assign) c.loop-event-test.true c.event-item.is w.in-Told.is) (ap (λ v. v.items) w.all-is ∙ w.in_ok-push-in-Told.ensures.items) c.loop-event.invariant.added;
+        inside = AllEnds-tail (Within c.args.text.now 0) _ _ _ (left_at c.args.first.now c.loop-event.event-index _ (Told w.in-Told.assign) c.loop-event-test.true c.event-item.is w.in-Told.is) c.loop-event.invariant.inside;
+      }
+      | follow-in-End+in_ok-later-in-End+in_ok-add_after-in-End+else-branch w ↦ record {
+        added = go_on_end (results c.args.text.now c.args.rules.now.bodies c.args.depth (tree_of c.args.pattern.now)) _ _ _ _ _ _ _ _ (left_at c.args.first.now c.loop-event.event-index _ (End w.in-End.end w.in-End.conds) c.loop-event-test.true c.event-item.is w.in-End.is) (w.deref.ensures.value ∙ w.in_ok-later-in-End.ensures)
+            (sym w.if-branch.false ∙ w.in_ok-add_after-in-End.ensures.halted) (ap (λ v. v.items) w.all-is ∙ w.in_ok-add_after-in-End.ensures.added) c.loop-event.invariant.added;
+        inside = AllEnds-tail (Within c.args.text.now 0) _ _ _ (left_at c.args.first.now c.loop-event.event-index _ (End w.in-End.end w.in-End.conds) c.loop-event-test.true c.event-item.is w.in-End.is) c.loop-event.invariant.inside;
+      }
     ]
 
 pub named-returns-then-depth-eq0 : goal.named-returns-then-depth-eq0
@@ -44,11 +43,10 @@ named-returns-then-depth-eq0 t c =
     named_no_more c.args.text.now c.args.rules.now.bodies c.args.depth c.args.number c.args.c _ c.new.ensures.items c.if-depth-eq0.true
 
 pub named-results-requires : goal.named-results-requires
-named-results-requires t c =
-    (
-      omega (arith, c.decreases, work_body (length c.args.text.now) c.args.rules.now.bodies c.args.depth c.args.number (tree_of c.in-Some.body.now) c.in-Some.ensures (omega arith)),
-      c.requires,
-    )
+named-results-requires t c = (
+  omega (arith, c.decreases, work_body (length c.args.text.now) c.args.rules.now.bodies c.args.depth c.args.number (tree_of c.in-Some.body.now) c.in-Some.ensures (omega arith)),
+  c.requires,
+)
 
 pub named-returns-in-None : goal.named-returns-in-None
 named-returns-in-None t c =
@@ -59,11 +57,10 @@ named-returns-in_ok-events-in-Some t c =
     named_does c.args.text.now c.args.rules.now.bodies c.args.depth c.args.number c.args.c (tree_of c.in-Some.body.now) _ (omega arith) c.in-Some.ensures c.in_ok-events-in-Some.ensures
 
 pub repeat-results-requires : goal.repeat-results-requires
-repeat-results-requires t c =
-    (
-      omega (arith, c.decreases, work_round (length c.args.text.now) c.args.rules.now.bodies c.args.depth (nodes (tree_of c.args.part.now)) 0 (c.args.count + 1) (omega arith)),
-      c.requires,
-    )
+repeat-results-requires t c = (
+  omega (arith, c.decreases, work_round (length c.args.text.now) c.args.rules.now.bodies c.args.depth (nodes (tree_of c.args.part.now)) 0 (c.args.count + 1) (omega arith)),
+  c.requires,
+)
 
 pub repeat-loop-event-init : goal.repeat-loop-event-init
 repeat-loop-event-init t c =
@@ -74,11 +71,10 @@ repeat-loop-event-init t c =
     }
 
 pub repeat-repeat-requires : goal.repeat-repeat-requires
-repeat-repeat-requires t c =
-    (
-      omega (arith, c.decreases, work_round (length c.args.text.now) c.args.rules.now.bodies c.args.depth (nodes (tree_of c.args.part.now)) (c.args.count - 1 + 1) (c.args.count + 1) (omega arith)),
-      (AllEnds-head (Within c.args.text.now 0) _ _ _ _ (left_at c.as_slice-event-items.result.now c.loop-event.event-index _ (End c.in-End.end c.in-End.conds) c.loop-event-test.true c.event-item.is c.in-End.is) c.loop-event.invariant.inside).1,
-    )
+repeat-repeat-requires t c = (
+  omega (arith, c.decreases, work_round (length c.args.text.now) c.args.rules.now.bodies c.args.depth (nodes (tree_of c.args.part.now)) (c.args.count - 1 + 1) (c.args.count + 1) (omega arith)),
+  (AllEnds-head (Within c.args.text.now 0) _ _ _ _ (left_at c.as_slice-event-items.result.now c.loop-event.event-index _ (End c.in-End.end c.in-End.conds) c.loop-event-test.true c.event-item.is c.in-End.is) c.loop-event.invariant.inside).1,
+)
 
 pub repeat-returns-then-branch : goal.repeat-returns-then-branch
 repeat-returns-then-branch t c =
@@ -88,19 +84,19 @@ repeat-returns-then-branch t c =
 pub repeat-loop-event-preserved : goal.repeat-loop-event-preserved
 repeat-loop-event-preserved t c =
     elim c.match-event.branch [
-      repeat-in-Told+in_ok-push-in-Told w ↦ record {
-          added = go_on_told (next_round (results c.args.text.now c.args.rules.now.bodies c.args.depth (tree_of c.args.part.now)) c.args.count c.args.c) _ _ _ _ _ _ (left_at c.as_slice-event-items.result.now c.loop-event.event-index _ (Told w.in-Told.assign) c.loop-event-test.true c.event-item.is w.in-Told.is) (ap (λ v. v.items) w.all-is ∙ w.in_ok-push-in-Told.ensures.items) c.loop-event.invariant.added;
-          inside = AllEnds-tail (Within c.args.text.now 0) _ _ _ (left_at c.as_slice-event-items.result.now c.loop-event.event-index _ (Told w.in-Told.assign) c.loop-event-test.true c.event-item.is w.in-Told.is) c.loop-event.invariant.inside;
-        }
-    | repeat-in-End+then-c-end+in_ok-later-in-End+in_ok-add_after-in-End+else-branch w ↦ record {
-          added = go_on_end (next_round (results c.args.text.now c.args.rules.now.bodies c.args.depth (tree_of c.args.part.now)) c.args.count c.args.c) _ _ _ _ _ _ _ _ (left_at c.as_slice-event-items.result.now c.loop-event.event-index _ (End w.in-End.end w.in-End.conds) c.loop-event-test.true c.event-item.is w.in-End.is) (round_taken (results c.args.text.now c.args.rules.now.bodies c.args.depth (tree_of c.args.part.now)) c.args.count c.args.c w.in-End.end _ _ w.if-c-end.true w.deref.ensures.value w.in_ok-later-in-End.ensures)
-              (sym w.if-branch.false ∙ w.in_ok-add_after-in-End.ensures.halted) (ap (λ v. v.items) w.all-is ∙ w.in_ok-add_after-in-End.ensures.added) c.loop-event.invariant.added;
-          inside = AllEnds-tail (Within c.args.text.now 0) _ _ _ (left_at c.as_slice-event-items.result.now c.loop-event.event-index _ (End w.in-End.end w.in-End.conds) c.loop-event-test.true c.event-item.is w.in-End.is) c.loop-event.invariant.inside;
-        }
-    | repeat-in-End+else-c-end w ↦ record {
-          added = ap (λ v. v.items ++ go_on (drop (c.loop-event.event-index + 1) c.as_slice-event-items.result.now) (next_round (results c.args.text.now c.args.rules.now.bodies c.args.depth (tree_of c.args.part.now)) c.args.count c.args.c)) w.all-is ∙ go_on_none (next_round (results c.args.text.now c.args.rules.now.bodies c.args.depth (tree_of c.args.part.now)) c.args.count c.args.c) _ _ _ _ _ _ (left_at c.as_slice-event-items.result.now c.loop-event.event-index _ (End w.in-End.end w.in-End.conds) c.loop-event-test.true c.event-item.is w.in-End.is) (round_dropped (results c.args.text.now c.args.rules.now.bodies c.args.depth (tree_of c.args.part.now)) c.args.count c.args.c w.in-End.end w.if-c-end.false) c.loop-event.invariant.added;
-          inside = AllEnds-tail (Within c.args.text.now 0) _ _ _ (left_at c.as_slice-event-items.result.now c.loop-event.event-index _ (End w.in-End.end w.in-End.conds) c.loop-event-test.true c.event-item.is w.in-End.is) c.loop-event.invariant.inside;
-        }
+      | repeat-in-Told+in_ok-push-in-Told w ↦ record {
+        added = go_on_told (next_round (results c.args.text.now c.args.rules.now.bodies c.args.depth (tree_of c.args.part.now)) c.args.count c.args.c) _ _ _ _ _ _ (left_at c.as_slice-event-items.result.now c.loop-event.event-index _ (Told w.in-Told.assign) c.loop-event-test.true c.event-item.is w.in-Told.is) (ap (λ v. v.items) w.all-is ∙ w.in_ok-push-in-Told.ensures.items) c.loop-event.invariant.added;
+        inside = AllEnds-tail (Within c.args.text.now 0) _ _ _ (left_at c.as_slice-event-items.result.now c.loop-event.event-index _ (Told w.in-Told.assign) c.loop-event-test.true c.event-item.is w.in-Told.is) c.loop-event.invariant.inside;
+      }
+      | repeat-in-End+then-c-end+in_ok-later-in-End+in_ok-add_after-in-End+else-branch w ↦ record {
+        added = go_on_end (next_round (results c.args.text.now c.args.rules.now.bodies c.args.depth (tree_of c.args.part.now)) c.args.count c.args.c) _ _ _ _ _ _ _ _ (left_at c.as_slice-event-items.result.now c.loop-event.event-index _ (End w.in-End.end w.in-End.conds) c.loop-event-test.true c.event-item.is w.in-End.is) (round_taken (results c.args.text.now c.args.rules.now.bodies c.args.depth (tree_of c.args.part.now)) c.args.count c.args.c w.in-End.end _ _ w.if-c-end.true w.deref.ensures.value w.in_ok-later-in-End.ensures)
+            (sym w.if-branch.false ∙ w.in_ok-add_after-in-End.ensures.halted) (ap (λ v. v.items) w.all-is ∙ w.in_ok-add_after-in-End.ensures.added) c.loop-event.invariant.added;
+        inside = AllEnds-tail (Within c.args.text.now 0) _ _ _ (left_at c.as_slice-event-items.result.now c.loop-event.event-index _ (End w.in-End.end w.in-End.conds) c.loop-event-test.true c.event-item.is w.in-End.is) c.loop-event.invariant.inside;
+      }
+      | repeat-in-End+else-c-end w ↦ record {
+        added = ap (λ v. v.items ++ go_on (drop (c.loop-event.event-index + 1) c.as_slice-event-items.result.now) (next_round (results c.args.text.now c.args.rules.now.bodies c.args.depth (tree_of c.args.part.now)) c.args.count c.args.c)) w.all-is ∙ go_on_none (next_round (results c.args.text.now c.args.rules.now.bodies c.args.depth (tree_of c.args.part.now)) c.args.count c.args.c) _ _ _ _ _ _ (left_at c.as_slice-event-items.result.now c.loop-event.event-index _ (End w.in-End.end w.in-End.conds) c.loop-event-test.true c.event-item.is w.in-End.is) (round_dropped (results c.args.text.now c.args.rules.now.bodies c.args.depth (tree_of c.args.part.now)) c.args.count c.args.c w.in-End.end w.if-c-end.false) c.loop-event.invariant.added;
+        inside = AllEnds-tail (Within c.args.text.now 0) _ _ _ (left_at c.as_slice-event-items.result.now c.loop-event.event-index _ (End w.in-End.end w.in-End.conds) c.loop-event-test.true c.event-item.is w.in-End.is) c.loop-event.invariant.inside;
+      }
     ]
 
 pub results-results-requires : goal.results-results-requires
@@ -137,12 +133,12 @@ results-named-requires t c =
 pub results-returns-after-not-has_halt : goal.results-returns-after-not-has_halt
 results-returns-after-not-has_halt t c =
     elim c.if-not-has_halt.branch [
-      results-then-not-has_halt+in_ok-others-in-Alt+in_ok-append-in-Alt w ↦
-        c.cut.ensures
-        ∙ both_sides c.args.text.now c.args.rules.now.bodies c.args.depth c.args.c (tree_of c.args.pattern.now) (tree_of c.in-Alt.left.value) (tree_of c.in-Alt.right.value) (tree_of c.deref-in-Alt.result.now) (tree_of w.deref-then-not-has_halt.result.now) _ _ _ (ap tree_of c.in-Alt.is) (ap tree_of c.deref-in-Alt.ensures) (ap tree_of w.deref-then-not-has_halt.ensures)
-        c.in_ok-events-in-Alt.ensures w.in_ok-others-in-Alt.ensures (ap (λ v. v.items) w.events-is ∙ w.in_ok-append-in-Alt.ensures.items)
-    | results-else-not-has_halt w ↦
-        c.cut.ensures
-        ∙ one_side c.args.text.now c.args.rules.now.bodies c.args.depth c.args.c (tree_of c.args.pattern.now) (tree_of c.in-Alt.left.value) (tree_of c.in-Alt.right.value) (tree_of c.deref-in-Alt.result.now) _ _ (ap tree_of c.in-Alt.is) (ap tree_of c.deref-in-Alt.ensures)
-        c.in_ok-events-in-Alt.ensures (sym w.if-not-has_halt.false ∙ c.has_halt.ensures ∙ ap (list_any is_halt) c.deref-in-Alt-2.ensures.value) (ap (λ v. v.items) w.events-is)
+      | results-then-not-has_halt+in_ok-others-in-Alt+in_ok-append-in-Alt w ↦
+          c.cut.ensures
+          ∙ both_sides c.args.text.now c.args.rules.now.bodies c.args.depth c.args.c (tree_of c.args.pattern.now) (tree_of c.in-Alt.left.value) (tree_of c.in-Alt.right.value) (tree_of c.deref-in-Alt.result.now) (tree_of w.deref-then-not-has_halt.result.now) _ _ _ (ap tree_of c.in-Alt.is) (ap tree_of c.deref-in-Alt.ensures) (ap tree_of w.deref-then-not-has_halt.ensures)
+          c.in_ok-events-in-Alt.ensures w.in_ok-others-in-Alt.ensures (ap (λ v. v.items) w.events-is ∙ w.in_ok-append-in-Alt.ensures.items)
+      | results-else-not-has_halt w ↦
+          c.cut.ensures
+          ∙ one_side c.args.text.now c.args.rules.now.bodies c.args.depth c.args.c (tree_of c.args.pattern.now) (tree_of c.in-Alt.left.value) (tree_of c.in-Alt.right.value) (tree_of c.deref-in-Alt.result.now) _ _ (ap tree_of c.in-Alt.is) (ap tree_of c.deref-in-Alt.ensures)
+          c.in_ok-events-in-Alt.ensures (sym w.if-not-has_halt.false ∙ c.has_halt.ensures ∙ ap (list_any is_halt) c.deref-in-Alt-2.ensures.value) (ap (λ v. v.items) w.events-is)
     ]

@@ -19,10 +19,10 @@ returns-in-Success c =
     let others = flat_map (tried_from c.args.text.now c.args.rules.now.bodies c.depth-most.result (tree_of c.args.pattern.now)) (up_to (c.loop-start.start + 1) c.last_start-last.result) in
     sym
     (
-      c.loop-start.invariant
-      ∙ start_tried c.args.text.now c.args.rules.now.bodies c.depth-most.result (tree_of c.args.pattern.now) c.loop-start.start c.last_start-last.result _ c.first_ending.new.sets.items _ _ c.in_ok-hit.field-0 (omega arith) c.deref.ensures.value c.in_ok-events.ensures c.in_ok-hit.ensures
-      ∙ ap (λ e. found_after e c.first_ending.new.sets.items others) c.in-Success.is
-      ∙ sets_are c.of.result _ (Some c.in-Success.hit) c.of.ensures
+    c.loop-start.invariant
+    ∙ start_tried c.args.text.now c.args.rules.now.bodies c.depth-most.result (tree_of c.args.pattern.now) c.loop-start.start c.last_start-last.result _ c.first_ending.new.sets.items _ _ c.in_ok-hit.field-0 (omega arith) c.deref.ensures.value c.in_ok-events.ensures c.in_ok-hit.ensures
+    ∙ ap (λ e. found_after e c.first_ending.new.sets.items others) c.in-Success.is
+    ∙ sets_are c.of.result _ (Some c.in-Success.hit) c.of.ensures
     )
 
 pub returns-in-Failure : goal.returns-in-Failure
@@ -30,10 +30,10 @@ returns-in-Failure c =
     let others = flat_map (tried_from c.args.text.now c.args.rules.now.bodies c.depth-most.result (tree_of c.args.pattern.now)) (up_to (c.loop-start.start + 1) c.last_start-last.result) in
     sym
     (
-      c.loop-start.invariant
-      ∙ start_tried c.args.text.now c.args.rules.now.bodies c.depth-most.result (tree_of c.args.pattern.now) c.loop-start.start c.last_start-last.result _ c.first_ending.new.sets.items _ _ c.in_ok-hit.field-0 (omega arith) c.deref.ensures.value c.in_ok-events.ensures c.in_ok-hit.ensures
-      ∙ ap (λ e. found_after e c.first_ending.new.sets.items others) c.in-Failure.is
-      ∙ sets_are c.of-in-Failure.result _ None c.of-in-Failure.ensures
+    c.loop-start.invariant
+    ∙ start_tried c.args.text.now c.args.rules.now.bodies c.depth-most.result (tree_of c.args.pattern.now) c.loop-start.start c.last_start-last.result _ c.first_ending.new.sets.items _ _ c.in_ok-hit.field-0 (omega arith) c.deref.ensures.value c.in_ok-events.ensures c.in_ok-hit.ensures
+    ∙ ap (λ e. found_after e c.first_ending.new.sets.items others) c.in-Failure.is
+    ∙ sets_are c.of-in-Failure.result _ None c.of-in-Failure.ensures
     )
 
 pub loop-start-preserved : goal.loop-start-preserved
