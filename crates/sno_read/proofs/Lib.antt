@@ -3,3 +3,4 @@ pub mod Numbers
 pub mod Steps
 pub mod Ascii
 pub mod Depths
+pub mod Parts

@@ -104,13 +104,7 @@ pub fn quote_of(text: &[u8]) -> Option<u8>
 {
     match text.first() {
         None => None,
-        Some(c) => {
-            if is_quote(*c) {
-                Some(*c)
-            } else {
-                None
-            }
-        }
+        Some(c) => { if is_quote(*c) { Some(*c) } else { None } }
     }
 }
 

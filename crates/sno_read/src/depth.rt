@@ -14,8 +14,12 @@ pub fn fits(pattern: &Pattern, limit: usize) -> bool
         return false;
     }
     match pattern {
-        Pattern::Seq(first, second) | Pattern::Alt(first, second) => fits(first, limit - 1) && fits(second, limit - 1),
-        Pattern::Arbno(part) | Pattern::Cond(part, _) | Pattern::Imm(part, _) => fits(part, limit - 1),
+        Pattern::Seq(first, second) | Pattern::Alt(first, second) => fits(first, limit - 1)
+            && fits(second, limit - 1),
+        Pattern::Arbno(part) | Pattern::Cond(part, _) | Pattern::Imm(part, _) => fits(
+            part,
+            limit - 1,
+        ),
         _ => true,
     }
 }

@@ -175,7 +175,12 @@ impl<'a> Reader<'a> {
 
     // A number in parentheses, behind the name of its call.
     #[tactic(auto, unfolding(crate::specs::Reading::counted_at))]
-    fn counted(&self, room: usize, call: NumberCall, rest: Piece<'a>) -> Result<(Pattern, Piece<'a>), Stop>
+    fn counted(
+        &self,
+        room: usize,
+        call: NumberCall,
+        rest: Piece<'a>,
+    ) -> Result<(Pattern, Piece<'a>), Stop>
         ensures read { Gives (λ p. (tree_of p.0, p.1.characters.now)) result (counted_at (env_of self.now) room call rest.entry.characters.now) }
         ensures shorter { IfOk result (λ p. length p.1.characters.now < length rest.entry.characters.now) }
     {
@@ -187,7 +192,12 @@ impl<'a> Reader<'a> {
 
     // A set in parentheses, behind the name of its call.
     #[tactic(auto, unfolding(crate::specs::Reading::chosen_at))]
-    fn chosen(&self, room: usize, call: SetCall, rest: Piece<'a>) -> Result<(Pattern, Piece<'a>), Stop>
+    fn chosen(
+        &self,
+        room: usize,
+        call: SetCall,
+        rest: Piece<'a>,
+    ) -> Result<(Pattern, Piece<'a>), Stop>
         ensures read { Gives (λ p. (tree_of p.0, p.1.characters.now)) result (chosen_at (env_of self.now) room call rest.entry.characters.now) }
         ensures shorter { IfOk result (λ p. length p.1.characters.now < length rest.entry.characters.now) }
     {
@@ -389,7 +399,9 @@ impl<'a> Reader<'a> {
                 let second = Box::new(self.alloc, others)?;
                 Ok((Pattern::Seq(first, second), rest))
             }
-            Following::Nothing | Following::Dot | Following::Dollar | Following::Bar => Ok((pattern, rest)),
+            Following::Nothing | Following::Dot | Following::Dollar | Following::Bar => Ok((
+                pattern, rest,
+            )),
         }
     }
 
@@ -408,7 +420,9 @@ impl<'a> Reader<'a> {
                 let second = Box::new(self.alloc, others)?;
                 Ok((Pattern::Alt(first, second), rest))
             }
-            Following::Nothing | Following::Dot | Following::Dollar | Following::Item => Ok((pattern, rest)),
+            Following::Nothing | Following::Dot | Following::Dollar | Following::Item => Ok((
+                pattern, rest,
+            )),
         }
     }
 }

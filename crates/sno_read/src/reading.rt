@@ -72,7 +72,15 @@ fn pattern(alloc: Global, names: &Names, earlier: usize, text: &[u8]) -> Result<
 {
     let piece = checked(text)?;
     let total = text.len();
-    let pattern = whole(&Reader { alloc, names, earlier, total }, piece)?;
+    let pattern = whole(
+        &Reader {
+            alloc,
+            names,
+            earlier,
+            total,
+        },
+        piece,
+    )?;
     Ok(pattern)
 }
 
@@ -82,13 +90,23 @@ fn object(alloc: Global, names: &Names, text: &[u8]) -> Result<Object, Stop>
 {
     let piece = checked(text)?;
     let total = text.len();
-    let reader = Reader { alloc, names, earlier: 0, total };
+    let reader = Reader {
+        alloc,
+        names,
+        earlier: 0,
+        total,
+    };
     let parts = reader.parts(piece.after_blanks())?;
     Ok(Object::of(parts))
 }
 
 /// The pattern that the text spells.
-pub fn read_pattern(alloc: Global, names: &Names, earlier: usize, text: &[u8]) -> Result<Pattern, ReadFault>
+pub fn read_pattern(
+    alloc: Global,
+    names: &Names,
+    earlier: usize,
+    text: &[u8],
+) -> Result<Pattern, ReadFault>
     ensures exact { Answers tree_of result (pattern_of names.now earlier text.now) }
 {
     match pattern(alloc, names, earlier, text) {

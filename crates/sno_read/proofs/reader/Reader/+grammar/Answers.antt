@@ -46,21 +46,21 @@ alternation-returns-in-Nothing t c = record { read = λ n h. rw (parts_step (env
 
 pub group-returns-in_err-pattern-clause-read : goal.group-returns-in_err-pattern-clause-read
 unfolding group_at alternation_at
-group-returns-in_err-pattern-clause-read t c = 
+group-returns-in_err-pattern-clause-read t c =
     let i = c.in_err-pattern.ensures.read (suc (length c.in_ok-rest.rest.characters.now)) (omega arith) in
     let e = inside_step (env_of c.args.self.now) c.args.room c.in_ok-rest.rest.characters.now c.in_ok-rest.ensures.more in
     search rules
 
 pub group-returns-in_err-rest-2-clause-read : goal.group-returns-in_err-rest-2-clause-read
 unfolding group_at alternation_at
-group-returns-in_err-rest-2-clause-read t c = 
+group-returns-in_err-rest-2-clause-read t c =
     let i = c.in_ok-pattern.ensures.read (suc (length c.in_ok-rest.rest.characters.now)) (omega arith) in
     let e = inside_step (env_of c.args.self.now) c.args.room c.in_ok-rest.rest.characters.now c.in_ok-rest.ensures.more in
     search rules
 
 pub group-returns-clause-read : goal.group-returns-clause-read
 unfolding group_at alternation_at
-group-returns-clause-read t c = 
+group-returns-clause-read t c =
     let i = c.in_ok-pattern.ensures.read (suc (length c.in_ok-rest.rest.characters.now)) (omega arith) in
     let e = inside_step (env_of c.args.self.now) c.args.room c.in_ok-rest.rest.characters.now c.in_ok-rest.ensures.more in
     search rules
