@@ -12,3 +12,4 @@ pub mod Settled
 pub mod Marks
 pub mod Ways
 pub mod Search
+pub mod Cycles
