@@ -13,3 +13,4 @@ pub mod Marks
 pub mod Ways
 pub mod Search
 pub mod Cycles
+pub mod BadRefs
