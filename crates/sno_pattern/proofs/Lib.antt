@@ -12,3 +12,5 @@ pub mod Settled
 pub mod Marks
 pub mod Ways
 pub mod Search
+pub mod Cycles
+pub mod BadRefs

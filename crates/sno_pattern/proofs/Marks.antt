@@ -8,7 +8,7 @@ use Rattle.sno_pattern.specs.Tree.{Tree, tree_of, trees}
 use Rattle.sno_pattern.specs.declared.tree.Pattern.{Pattern}
 use Rattle.sno_pattern.specs.Guard as guard
 use Rattle.sno_pattern.specs.Guard.{Takes}
-use Rattle.sno_pattern.specs.Admission.{takes_by, AreSound, AreComplete, AreExact, IsUnmarked}
+use Rattle.sno_pattern.specs.Searching.{takes_by, AreSound, AreComplete, AreExact, IsUnmarked}
 
 -- how many places are not marked
 abbrev pub unmarked_count : List Bool → ℕ
@@ -93,7 +93,7 @@ pub exact : (bodies : List Tree) (marks : List Bool) → AreSound bodies marks �
 exact bodies marks sound complete p = (takes_by_sound bodies marks sound p, takes_by_complete bodies marks complete p)
 
 -- no marks at all are sound
-none_marked : (n i : ℕ) → get_or (replicate n false) i false ≡ false
+pub none_marked : (n i : ℕ) → get_or (replicate n false) i false ≡ false
 none_marked zero i = refl
 none_marked (suc n) zero = refl
 none_marked (suc n) (suc i) = none_marked n i

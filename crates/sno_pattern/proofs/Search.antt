@@ -7,7 +7,7 @@ use Rattle.std.proofs.lemmas.Map.Keys.{IsDistinct-cons}
 use Rattle.sno_pattern.specs.Tree.{Tree, tree_of, trees}
 use Rattle.sno_pattern.specs.declared.tree.Pattern.{Pattern}
 use Rattle.sno_pattern.specs.Guard.{Leads}
-use Rattle.sno_pattern.specs.Admission.{IsWay, IsFreshWay, IsClosed, IsDeadEnd, IsSearched, AreReferences}
+use Rattle.sno_pattern.specs.Searching.{IsFreshWay, IsClosed, IsDeadEnd, IsSearched, AreReferences}
 use Rattle.sno_pattern.proofs.Marks.{unmarked_count, one_less}
 
 -- what is marked stays so
@@ -117,7 +117,7 @@ module _ (bodies : List Tree) (target : ℕ) where
       let Q : List ℕ → Type 0 = λ w. IsFreshWay bodies from (reverse w) target before in
       subst Q (sym none) (record { path = subst P here (r.each n inside); fresh = tt; apart = none_apart })
 
-  not_seen_apart : (seen : List Bool) (next : ℕ) → next < length seen → (way : List ℕ) → AllByRecursion (λ x. get_or (set seen next true) x false ≡ false) way
+  pub not_seen_apart : (seen : List Bool) (next : ℕ) → next < length seen → (way : List ℕ) → AllByRecursion (λ x. get_or (set seen next true) x false ≡ false) way
       → AllByRecursion (λ x. eqb next x ≡ false) way
   not_seen_apart seen next inside [] h = tt
   not_seen_apart seen next inside (x ∷ way) h =

@@ -7,7 +7,7 @@ use Rattle.sno_pattern.specs.Tree as tree
 use Rattle.sno_pattern.specs.Tree.{Tree, tree_of, trees, refs_below}
 use Rattle.sno_pattern.specs.declared.tree.Pattern.{Pattern}
 use Rattle.sno_pattern.specs.Guard.{Takes, Unguarded, Leads}
-use Rattle.sno_pattern.specs.Admission.{takes_by, unguarded_by, AreExact, AreReferences}
+use Rattle.sno_pattern.specs.Searching.{takes_by, unguarded_by, AreExact, AreReferences}
 
 -- of each number in a list
 each_weaker : (P Q : ℕ → Type 0) → ((x : ℕ) → P x → Q x) → (l : List ℕ) → AllByRecursion P l → AllByRecursion Q l

@@ -5,6 +5,7 @@ use Rattle.sno_pattern.specs.Events.{go_on}
 use Rattle.sno_pattern.specs.Results.{results, depth}
 use Rattle.sno_pattern.specs.Outcome.{outcome, outcome_at}
 use Rattle.sno_pattern.specs.Guard.{Guarded}
+use Rattle.sno_pattern.specs.Admission.{IsFirstCycle}
 use Rattle.sno_pattern.specs.declared.events.Event.{Event}
 use Rattle.sno_pattern.specs.declared.events.Event.TheVariants.{Told, End, Halt}
 
@@ -37,3 +38,7 @@ DepthIsEnough = (t : List ℕ) (bodies : List Tree) → Guarded bodies → (k : 
 abbrev pub OutcomeIsSettled : Type 0
 OutcomeIsSettled = (t : List ℕ) (bodies : List Tree) → Guarded bodies → (k : ℕ) (p : Tree) (anchored : Bool) → depth t bodies ≤ k
     → outcome_at k t bodies p anchored ≡ outcome t bodies p anchored
+
+-- Definitions with a cycle are not guarded: admission never refuses guarded ones as unguarded.
+abbrev pub CyclesAreUnguarded : Type 0
+CyclesAreUnguarded = (bodies : List Tree) (cycle : List ℕ) → IsFirstCycle bodies cycle → Guarded bodies → ⊥

@@ -13,5 +13,6 @@ pub mod NameList
 pub mod Definitions
 pub mod Guard
 pub mod Admission
+pub mod Searching
 pub mod Laws
 pub mod CursorLaws

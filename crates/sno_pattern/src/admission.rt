@@ -1,8 +1,11 @@
 //! Whether each cycle of references takes a character.
-ghost use Rattle.std.specs.Prelude.{◌≡◌, ℕ, ◌<◌, ◌++◌, Bool, true, false, List, length, reverse, slice_index_or, IsTrue, IfOk, MatchOption};
+ghost use Rattle.std.specs.Prelude.{◌≡◌, ℕ, ◌<◌, ◌++◌, Bool, true, false, List, length, replicate, reverse, slice_index_or, slice_set, IsTrue, IfOk, MatchOption};
 ghost use Rattle.std.specs.List.{list_all};
 ghost use Rattle.sno_pattern.specs.Tree.{tree_of, trees, refs_below};
-ghost use Rattle.sno_pattern.specs.Admission.{takes_by, unguarded_by, AreSound, AreComplete, AreExact, IsUnmarked, AreReferences, IsDeadEnd, IsFreshWay};
+ghost use Rattle.sno_pattern.specs.Searching.{takes_by, unguarded_by, AreSound, AreComplete, AreExact, IsUnmarked, AreReferences, IsDeadEnd, IsFreshWay};
+
+ghost use Rattle.sno_pattern.specs.Guard.{Chain, Guarded};
+ghost use Rattle.sno_pattern.specs.Admission.{IsCycle, IsFirstCycle};
 
 use crate::Pattern;
 use std::alloc::{AllocError, Global};
@@ -140,6 +143,50 @@ fn way(
                 rest.push(next)?;
                 return Ok(Some(rest));
             }
+        }
+    }
+    Ok(None)
+}
+
+// So many marks, of which one alone stands.
+fn only(alloc: Global, count: usize, number: usize) -> Result<Vec<bool>, AllocError>
+    requires { number < count }
+    ensures { IfOk result (λ v. v.items ≡ slice_set (replicate count false) number true) }
+{
+    let mut marks = vec![in alloc; false; count]?;
+    marks[number] = true;
+    Ok(marks)
+}
+
+// A cycle from this definition, if it lies on one.
+fn cycle_from(alloc: Global, bodies: &[Pattern], marks: &[bool], start: usize) -> Result<Option<Vec<usize>>, AllocError>
+    requires inside { start < length bodies.now }
+    requires closed { IsTrue (list_all (refs_below (length bodies.now)) (trees bodies.now)) }
+    requires exact { AreExact (trees bodies.now) marks.now }
+    ensures { IfOk result (λ r. MatchOption r (Chain (trees bodies.now) start start → ⊥) (λ l. IsCycle (trees bodies.now) start l.items)) }
+{
+    let mut seen = only(alloc, bodies.len(), start)?;
+    let found = way(alloc, bodies, marks, start, start, &mut seen)?;
+    match found {
+        None => Ok(None),
+        Some(mut cycle) => {
+            cycle.push(start)?;
+            cycle.reverse();
+            Ok(Some(cycle))
+        }
+    }
+}
+
+/// A cycle of unguarded references, from the first definition that lies on one; none where the definitions are guarded.
+pub(crate) fn first_cycle(alloc: Global, bodies: &[Pattern]) -> Result<Option<Vec<usize>>, AllocError>
+    requires { IsTrue (list_all (refs_below (length bodies.now)) (trees bodies.now)) }
+    ensures { IfOk result (λ r. MatchOption r (Guarded (trees bodies.now)) (λ l. IsFirstCycle (trees bodies.now) l.items)) }
+{
+    let marks = taking(alloc, bodies)?;
+    for start in 0..bodies.len() {
+        let found = cycle_from(alloc, bodies, &marks, start)?;
+        if let Some(cycle) = found {
+            return Ok(Some(cycle));
         }
     }
     Ok(None)

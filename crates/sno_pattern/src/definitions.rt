@@ -1,9 +1,13 @@
 //! Admitted definitions.
-ghost use Rattle.std.specs.Prelude.{◌≡◌, ◌↔◌, [], length, slice_get, IsTrue, Ok};
+ghost use Rattle.std.specs.Prelude.{◌≡◌, ◌↔◌, [], length, slice_get, not, IsTrue};
 ghost use Rattle.std.specs.Option.{option_copied, option_map};
-ghost use Rattle.std.specs.List.{list_all};
+ghost use Rattle.std.specs.List.{list_all, position_from};
 ghost use Rattle.sno_pattern.specs.Tree.{tree_of, trees, refs_below};
 
+ghost use Rattle.sno_pattern.specs.Guard.{Guarded};
+ghost use Rattle.sno_pattern.specs.Admission.{IsAdmitted, first_bad_ref};
+
+use crate::admission::first_cycle;
 use crate::{Name, Names, Pattern};
 use std::alloc::Global;
 use std::marker::Model;
@@ -19,6 +23,7 @@ pub struct Rules {
 impl Model for Rules {
     ghost use Rattle.sno_pattern.specs.Tree.{trees};
     ghost use Rattle.sno_pattern.specs.Definitions.{Definitions, definitions_code, AreClosed};
+    ghost use Rattle.sno_pattern.specs.Guard.{Guarded};
 
     ghost Value = { Definitions };
 
@@ -26,7 +31,7 @@ impl Model for Rules {
 
     ghost view = { λ s. record { names = s.names; bodies = trees s.bodies.items } };
 
-    ghost invariant = { λ s. AreClosed s.names (trees s.bodies.items) };
+    ghost invariant = { λ s. AreClosed s.names (trees s.bodies.items) × Guarded (trees s.bodies.items) };
 }
 
 /// Why definitions are not admitted.
@@ -44,13 +49,24 @@ pub enum RulesFault {
 }
 
 impl Rules {
-    /// No definitions; with some the call is not to be had yet.
-    pub fn admit(_alloc: Global, names: Names, bodies: Vec<Pattern>) -> Result<Rules, RulesFault>
-        requires nameless { names ≡ [] }
-        requires bodiless { bodies.items ≡ [] }
-        ensures { result ≡ Ok (record { names = []; bodies = [] }) }
+    /// These definitions, with as many bodies as names.
+    ///
+    /// Refused, in this order: `BadRef` with the first definition that refers past the last; `Unguarded` with distinct
+    /// definitions of which each refers to the next, and the last to the first, with no part before the reference that takes a
+    /// character; the first of them is the first definition that lies on such a cycle; `Memory`. Names and bodies are
+    /// dropped then.
+    pub fn admit(alloc: Global, names: Names, bodies: Vec<Pattern>) -> Result<Rules, RulesFault>
+        requires { length names ≡ length bodies.items }
+        ensures { IsAdmitted result names (trees bodies.items) }
     {
-        Ok(Rules { names, bodies })
+        if let Some(place) = first_bad_ref(&bodies) {
+            return Err(RulesFault::BadRef(place));
+        }
+        match first_cycle(alloc, &bodies) {
+            Ok(None) => Ok(Rules { names, bodies }),
+            Ok(Some(cycle)) => Err(RulesFault::Unguarded(cycle)),
+            Err(_) => Err(RulesFault::Memory),
+        }
     }
 
     /// Whether each reference of the pattern is to one of these definitions.
@@ -67,10 +83,12 @@ impl Rules {
         self.bodies.get(number)
     }
 
-    /// The patterns of all definitions, in order. Each reference in them is to one of them.
+    /// The patterns of all definitions, in order. Each reference in them is to one of them, and each cycle of references
+    /// takes a character.
     pub fn bodies(&self) -> &[Pattern]
         ensures value { trees result.now ≡ self.now.bodies }
         ensures closed { IsTrue (list_all (refs_below (length self.now.bodies)) self.now.bodies) }
+        ensures guarded { Guarded self.now.bodies }
     {
         self.bodies.as_slice()
     }
@@ -103,6 +121,20 @@ impl Rules {
     {
         self.bodies.is_empty()
     }
+}
+
+// The first definition that refers past the last.
+fn first_bad_ref(bodies: &[Pattern]) -> Option<usize>
+    ensures { result ≡ first_bad_ref (trees bodies.now) }
+{
+    first_past(bodies.len(), bodies)
+}
+
+// The first pattern that refers past so many definitions.
+fn first_past(count: usize, bodies: &[Pattern]) -> Option<usize>
+    ensures { result ≡ position_from (λ p. not (refs_below count (tree_of p))) 0 bodies.now }
+{
+    bodies.iter().position(|body| !refs_below(count, body))
 }
 
 fn refs_below(count: usize, pattern: &Pattern) -> bool

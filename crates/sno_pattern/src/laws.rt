@@ -1,5 +1,5 @@
 //! Laws of matching. Each function does nothing: its contract is the law.
-ghost use Rattle.sno_pattern.specs.Laws.{DepthIsEnough, EndsLieBehind, OutcomeIsSettled, Repetition};
+ghost use Rattle.sno_pattern.specs.Laws.{CyclesAreUnguarded, DepthIsEnough, EndsLieBehind, OutcomeIsSettled, Repetition};
 
 /// Every end of a match lies at the cursor where it begins or behind it, and within the text.
 pub fn ends_lie_behind_the_cursor()
@@ -19,4 +19,9 @@ pub fn a_greater_depth_gives_nothing_more()
 /// Where the definitions are guarded, what comes of a match is the same at every depth that is at least `depth`.
 pub fn a_greater_depth_changes_no_outcome()
     ensures { OutcomeIsSettled }
+{}
+
+/// Definitions with a cycle, as `RulesFault::Unguarded` has one, are not guarded.
+pub fn definitions_with_a_cycle_are_not_guarded()
+    ensures { CyclesAreUnguarded }
 {}

@@ -2,7 +2,7 @@
 use Rattle.std.proofs.Common.{◌≡◌, ◌<◌, ℕ, ◌+◌, Bool, true, List, length, reverse, slice_index_or, slice_set, sym, subst, ◌∙◌, arith}
 use Rattle.std.proofs.lemmas.List.{length-set}
 use Rattle.sno_pattern.specs.Tree.{trees}
-use Rattle.sno_pattern.specs.Admission.{AreReferences, IsFreshWay, IsDeadEnd, IsSearched}
+use Rattle.sno_pattern.specs.Searching.{AreReferences, IsFreshWay, IsDeadEnd, IsSearched}
 use Rattle.sno_pattern.proofs.Search.{searched_none, searched_seen, searched_more, dead_end, way_ends, way_goes_on, search_falls, low_reference, same_references}
 use Rattle.sno_pattern.proofs.admission.+way.Goals as goal
 use Rattle.sno_pattern.proofs.admission.+way.Goals.{then-not-seen-next+in_ok-rest+in_default, else-not-seen-next}

@@ -1,6 +1,6 @@
 -- The references so far lead nowhere new; each search marks a definition that was not seen.
 use Rattle.sno_pattern.specs.Tree.{trees}
-use Rattle.sno_pattern.specs.Admission.{IsSearched}
+use Rattle.sno_pattern.specs.Searching.{IsSearched}
 use Rattle.sno_pattern.proofs.Marks.{unmarked_count}
 use Rattle.sno_pattern.proofs.admission.+way.Given as goal
 

@@ -1,6 +1,6 @@
 -- The marks so far are sound; one more stands each time.
 use Rattle.sno_pattern.specs.Tree.{trees}
-use Rattle.sno_pattern.specs.Admission.{AreSound}
+use Rattle.sno_pattern.specs.Searching.{AreSound}
 use Rattle.sno_pattern.proofs.Marks.{unmarked_count}
 use Rattle.sno_pattern.proofs.admission.mark.Given as goal
 

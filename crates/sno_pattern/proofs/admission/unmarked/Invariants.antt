@@ -1,6 +1,6 @@
 -- All the definitions so far that take have their marks.
 use Rattle.sno_pattern.specs.Tree.{trees}
-use Rattle.sno_pattern.specs.Admission.{AreCompleteBelow}
+use Rattle.sno_pattern.specs.Searching.{AreCompleteBelow}
 use Rattle.sno_pattern.proofs.admission.unmarked.Given as goal
 
 abbrev pub invariant-loop-number : goal.invariant-loop-number
