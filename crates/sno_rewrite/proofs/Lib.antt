@@ -1,2 +1,3 @@
 pub mod JsonLemmas
 pub mod FaultLemmas
+pub mod PlaceLemmas

@@ -2,3 +2,4 @@ pub mod Faults
 pub mod Json
 pub mod Shape
 pub mod Rows
+pub mod Document

@@ -3,6 +3,7 @@ ghost use Rattle.std.specs.Prelude.{◌≡◌};
 ghost use Rattle.sno_rewrite.specs.Faults.{status};
 
 use sno_pattern::Name;
+use sno_read::ReadFault;
 use std::alloc::{AllocError, AllocFailed};
 use thiserror::Error;
 
@@ -18,9 +19,6 @@ pub enum RunFault {
     /// A member is missing or of another kind.
     #[error("input: wrong shape")]
     Shape,
-    /// The document has definitions, or an expression that is more than one literal.
-    #[error("input: not yet")]
-    NotYet,
     /// More than 64 definitions.
     #[error("patterns: too many")]
     TooManyPatterns,
@@ -33,6 +31,9 @@ pub enum RunFault {
     /// The name of this definition stands earlier, too.
     #[error("pattern {0}: duplicate")]
     PatternDuplicate(usize),
+    /// The expression of this definition is not read.
+    #[error("pattern {0}: {1}")]
+    PatternRead(usize, ReadFault),
     /// Definitions that refer to one another in a circle without taking a character; this is the first of them.
     #[error("patterns: unguarded {0}")]
     Unguarded(Name),
@@ -57,6 +58,12 @@ pub enum RunFault {
     /// The name of the text of this statement is none.
     #[error("statement {0}: bad name")]
     StatementName(usize),
+    /// The pattern of this statement is not read.
+    #[error("statement {0}: pattern: {1}")]
+    StatementPattern(usize, ReadFault),
+    /// The object of this statement is not read.
+    #[error("statement {0}: object: {1}")]
+    StatementObject(usize, ReadFault),
     /// Memory was refused.
     #[error("out of memory")]
     Memory,

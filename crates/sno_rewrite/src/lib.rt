@@ -1,6 +1,7 @@
 //! Documents, their listings, and the run of a program over them.
 #![tactic(auto)]
 
+mod definitions;
 mod faults;
 mod json;
 mod rows;

@@ -1,0 +1,82 @@
+//! The definitions of a document.
+ghost use Rattle.std.specs.Prelude.{◌≡◌, ◌<◌, ◌≤◌, ◌+◌, [], map, length, Some, IfOk};
+ghost use Rattle.sno_pattern.specs.Tree.{tree_of, trees};
+ghost use Rattle.sno_pattern.specs.NameList.{names_of};
+ghost use Rattle.sno_read.specs.Reading.{pattern_of};
+ghost use Rattle.sno_rewrite.specs.Faults.{Gives};
+ghost use Rattle.sno_rewrite.specs.Rows.{pair_seen};
+ghost use Rattle.sno_rewrite.specs.Document.{names_from, names_checked, reading, bodies_from, definitions_of};
+ghost use Rattle.sno_rewrite.specs.declared.faults.RunFault.TheVariants.{PatternRead};
+
+use crate::RunFault;
+use crate::rows::PairRow;
+use sno_pattern::{Name, Names, NamesFault, Pattern};
+use sno_read::{ReadFault, read_pattern};
+use std::alloc::Global;
+
+const MAX_DEFINITIONS: usize = 64;
+
+fn names_in(alloc: Global, rows: &[PairRow<'_>]) -> Result<Vec<Name>, RunFault>
+    ensures names { Gives (λ v. v.items) result (names_from 1 [] (map pair_seen rows.now)) }
+    ensures as_many { IfOk result (λ v. length v.items ≡ length rows.now) }
+{
+    let mut names = Vec::new(alloc);
+    for (name, _) in rows {
+        match Name::read(name.as_bytes()) {
+            Some(name) => names.push(name)?,
+            None => return Err(RunFault::PatternName(names.len() + 1)),
+        }
+    }
+    Ok(names)
+}
+
+#[tactic(auto, using(crate::proofs::PlaceLemmas::reserved_place, crate::proofs::PlaceLemmas::duplicate_place))]
+fn names_checked(alloc: Global, names: &[Name]) -> Result<Names, RunFault>
+    requires { length names.now ≤ 64 }
+    ensures { Gives (λ n. n) result (names_checked (names_of names.now)) }
+{
+    match Names::new(alloc, names) {
+        Ok(names) => Ok(names),
+        Err(NamesFault::TooMany) => Err(RunFault::TooManyPatterns),
+        Err(NamesFault::Reserved(place)) => Err(RunFault::PatternReserved(place + 1)),
+        Err(NamesFault::Duplicate(place)) => Err(RunFault::PatternDuplicate(place + 1)),
+        Err(NamesFault::Memory) => Err(RunFault::Memory),
+    }
+}
+
+/// The expression of the definition at a place.
+fn body(alloc: Global, names: &Names, place: usize, text: &str) -> Result<Pattern, RunFault>
+    requires { place < 64 }
+    ensures { Gives tree_of result (reading (λ e. PatternRead (place + 1) e) (pattern_of names.now place text.now)) }
+{
+    match read_pattern(alloc, names, place, text.as_bytes()) {
+        Ok(pattern) => Ok(pattern),
+        Err(ReadFault::Memory) => Err(RunFault::Memory),
+        Err(fault) => Err(RunFault::PatternRead(place + 1, fault)),
+    }
+}
+
+fn bodies(alloc: Global, names: &Names, rows: &[PairRow<'_>]) -> Result<Vec<Pattern>, RunFault>
+    requires { length rows.now ≤ 64 }
+    ensures { Gives (λ v. trees v.items) result (bodies_from names.now 0 [] (map pair_seen rows.now)) }
+{
+    let mut bodies = Vec::new(alloc);
+    for (place, (_, text)) in rows.iter().enumerate() {
+        bodies.push(body(alloc, names, place, text)?)?;
+    }
+    Ok(bodies)
+}
+
+/// Names and bodies of the definitions, before they are admitted.
+#[tactic(auto, unfolding(crate::specs::Document::definitions_of))]
+pub(crate) fn definitions(alloc: Global, rows: &[PairRow<'_>]) -> Result<(Names, Vec<Pattern>), RunFault>
+    ensures { Gives (λ d. record { names = d.0; bodies = trees d.1.items }) result (definitions_of (map pair_seen rows.now)) }
+{
+    if rows.len() > MAX_DEFINITIONS {
+        return Err(RunFault::TooManyPatterns);
+    }
+    let written = names_in(alloc, rows)?;
+    let names = names_checked(alloc, &written)?;
+    let bodies = bodies(alloc, &names, rows)?;
+    Ok((names, bodies))
+}
