@@ -1,3 +1,4 @@
 pub mod JsonLemmas
 pub mod FaultLemmas
 pub mod PlaceLemmas
+pub mod IndexLemmas

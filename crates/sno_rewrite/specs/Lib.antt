@@ -3,3 +3,4 @@ pub mod Json
 pub mod Shape
 pub mod Rows
 pub mod Document
+pub mod Texts

@@ -5,5 +5,6 @@ mod definitions;
 mod faults;
 mod json;
 mod rows;
+mod texts;
 
 pub use faults::{RunFault, status_of};
