@@ -1,5 +1,5 @@
 -- How much is left to do: a measure that falls with each call.
-use Rattle.std.proofs.Common.{◌≡◌, ℕ, zero, suc, ◌+◌, ◌-◌, ◌*◌, ◌<◌, ◌≤◌, List, [], ◌∷◌, Option, Some, None, slice_get, arith, ap, sym, ◌∙◌, refl}
+use Rattle.std.proofs.Common.{◌≡◌, ℕ, zero, suc, ◌+◌, ◌-◌, ◌*◌, ◌<◌, ◌≤◌, List, [], ◌∷◌, Some, slice_get, arith, ap}
 use Rattle.std.proofs.Math.Nat.{mul-le-mul_right}
 use Rattle.std.proofs.Math.Numerals.{sub-one}
 use Rattle.sno_pattern.specs.Tree.{Tree, Lit, Len, Pos, Rpos, Tab, Rtab, AnyOf, NoneOf, Span, Break, Arb, Arbno, Bal, Rem, Fence, Abort, Fail, At, Ref, Seq, Alt, Cond, Imm}

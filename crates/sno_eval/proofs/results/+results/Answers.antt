@@ -1,15 +1,15 @@
 -- Each call has less to do than the one that makes it, and what each adds is what the definitions say.
-use Rattle.std.proofs.Common.{◌≡◌, ℕ, ◌+◌, ◌-◌, ◌<◌, ◌≤◌, List, [], ◌∷◌, ◌++◌, length, drop, arith, ap, sym, subst, ◌∙◌}
-use Rattle.sno_pattern.specs.Tree.{Tree, tree_of}
+use Rattle.std.proofs.Common.{◌+◌, ◌-◌, [], ◌∷◌, ◌++◌, length, drop, arith, ap, sym, ◌∙◌}
+use Rattle.sno_pattern.specs.Tree.{tree_of}
 use Rattle.sno_pattern.specs.Events.{go_on}
-use Rattle.sno_pattern.specs.Results.{results, rounds, named_at}
-use Rattle.sno_pattern.specs.Laws.{AllEnds, Within}
-use Rattle.sno_pattern.specs.declared.events.Event.TheVariants.{Told, End, Halt}
+use Rattle.sno_pattern.specs.Results.{results}
+use Rattle.sno_pattern.specs.Laws.{Within}
+use Rattle.sno_pattern.specs.declared.events.Event.TheVariants.{Told, End}
 use Rattle.std.specs.List.{list_any}
 use Rattle.sno_eval.specs.Steps.{is_halt}
 use Rattle.sno_eval.proofs.Parts.{inside, both_sides, one_side, named_no_more, named_missing, named_does, round_taken, round_dropped}
-use Rattle.sno_eval.proofs.Going.{left_at, go_on_told, go_on_end, go_on_last, go_on_none, AllEnds-tail, AllEnds-head, next_round, rounds_begun, rounds_none}
-use Rattle.sno_eval.proofs.Work.{work, nodes, work_part, work_round, work_body, falls, nodes_of_seq, nodes_of_alt, nodes_of_arbno, nodes_of_cond, nodes_of_imm, some_nodes}
+use Rattle.sno_eval.proofs.Going.{left_at, go_on_told, go_on_end, go_on_last, go_on_none, AllEnds-tail, AllEnds-head, next_round, rounds_begun}
+use Rattle.sno_eval.proofs.Work.{nodes, work_round, work_body, falls, nodes_of_seq, nodes_of_alt, nodes_of_arbno, nodes_of_cond, nodes_of_imm, some_nodes}
 use Rattle.sno_eval.proofs.results.+results.Goals as goal
 use Rattle.sno_eval.proofs.results.+results.Goals.{follow-in-Told+in_ok-push-in-Told, follow-in-End+in_ok-later-in-End+in_ok-add_after-in-End+else-branch, repeat-in-Told+in_ok-push-in-Told, repeat-in-End+then-c-end+in_ok-later-in-End+in_ok-add_after-in-End+else-branch, repeat-in-End+else-c-end, results-then-not-has_halt+in_ok-others-in-Alt+in_ok-append-in-Alt, results-else-not-has_halt}
 
