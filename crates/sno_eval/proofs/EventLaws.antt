@@ -1,5 +1,5 @@
 -- Laws of lists of events.
-use Rattle.std.proofs.Common.{◌≡◌, ℕ, suc, ◌+◌, ◌-◌, ◌≤◌, Bool, true, false, ◌||◌, List, [], ◌∷◌, ◌++◌, cond, ap, sym, ◌∙◌, arith, append_assoc, refl, take, add-one, Option, Some, None}
+use Rattle.std.proofs.Common.{◌≡◌, ℕ, suc, ◌+◌, ◌-◌, ◌≤◌, true, false, List, [], ◌∷◌, ◌++◌, ap, sym, ◌∙◌, arith, refl, take, Some, None}
 use Rattle.std.specs.List.{list_any, position, position_from}
 use Rattle.std.proofs.lemmas.Iterator.Adapters.{position_from-zero}
 use Rattle.sno_pattern.specs.Events.{cut, put_before, spread, go_on, CondList}

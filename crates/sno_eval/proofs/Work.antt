@@ -1,5 +1,5 @@
 -- How much is left to do: a measure that falls with each call.
-use Rattle.std.proofs.Common.{◌≡◌, ℕ, zero, suc, ◌+◌, ◌-◌, ◌*◌, ◌<◌, ◌≤◌, List, [], ◌∷◌, Option, Some, None, slice_get, arith, ap, sym, ◌∙◌, refl}
+use Rattle.std.proofs.Common.{◌≡◌, ℕ, zero, suc, ◌+◌, ◌-◌, ◌*◌, ◌<◌, ◌≤◌, List, [], ◌∷◌, Some, slice_get, arith, ap}
 use Rattle.std.proofs.Math.Nat.{mul-le-mul_right}
 use Rattle.std.proofs.Math.Numerals.{sub-one}
 use Rattle.sno_pattern.specs.Tree.{Tree, Lit, Len, Pos, Rpos, Tab, Rtab, AnyOf, NoneOf, Span, Break, Arb, Arbno, Bal, Rem, Fence, Abort, Fail, At, Ref, Seq, Alt, Cond, Imm}
@@ -50,34 +50,26 @@ work_body len bodies (suc depth) i body h deep =
     let few : nodes body * (len + 3) ≤ all_nodes bodies * (len + 3) = mul-le-mul_right (len + 3) (body_nodes bodies i body h) in
     rw sub-one (one_deeper len (all_nodes bodies) (nodes body) depth few)
 
--- the parts of a pattern have fewer nodes
-pub left_of_seq : (whole left right part : Tree) → whole ≡ Seq left right → part ≡ left → nodes part < nodes whole
+-- how many nodes a pattern with parts has
+pub nodes_of_seq : (whole left right : Tree) → whole ≡ Seq left right → nodes whole ≡ nodes left + nodes right + 1
 unfolding nodes
-left_of_seq whole left right part is same = omega (arith, ap nodes is, ap nodes same)
+nodes_of_seq whole left right is = ap nodes is
 
-pub right_of_seq : (whole left right part : Tree) → whole ≡ Seq left right → part ≡ right → nodes part < nodes whole
+pub nodes_of_alt : (whole left right : Tree) → whole ≡ Alt left right → nodes whole ≡ nodes left + nodes right + 1
 unfolding nodes
-right_of_seq whole left right part is same = omega (arith, ap nodes is, ap nodes same)
+nodes_of_alt whole left right is = ap nodes is
 
-pub left_of_alt : (whole left right part : Tree) → whole ≡ Alt left right → part ≡ left → nodes part < nodes whole
+pub nodes_of_arbno : (whole child : Tree) → whole ≡ Arbno child → nodes whole ≡ nodes child + 1
 unfolding nodes
-left_of_alt whole left right part is same = omega (arith, ap nodes is, ap nodes same)
+nodes_of_arbno whole child is = ap nodes is
 
-pub right_of_alt : (whole left right part : Tree) → whole ≡ Alt left right → part ≡ right → nodes part < nodes whole
+pub nodes_of_cond : (whole child : Tree) (v : List ℕ) → whole ≡ Cond child v → nodes whole ≡ nodes child + 1
 unfolding nodes
-right_of_alt whole left right part is same = omega (arith, ap nodes is, ap nodes same)
+nodes_of_cond whole child v is = ap nodes is
 
-pub of_arbno : (whole child part : Tree) → whole ≡ Arbno child → part ≡ child → nodes part < nodes whole
+pub nodes_of_imm : (whole child : Tree) (v : List ℕ) → whole ≡ Imm child v → nodes whole ≡ nodes child + 1
 unfolding nodes
-of_arbno whole child part is same = omega (arith, ap nodes is, ap nodes same)
-
-pub of_cond : (whole child part : Tree) (v : List ℕ) → whole ≡ Cond child v → part ≡ child → nodes part < nodes whole
-unfolding nodes
-of_cond whole child part v is same = omega (arith, ap nodes is, ap nodes same)
-
-pub of_imm : (whole child part : Tree) (v : List ℕ) → whole ≡ Imm child v → part ≡ child → nodes part < nodes whole
-unfolding nodes
-of_imm whole child part v is same = omega (arith, ap nodes is, ap nodes same)
+nodes_of_imm whole child v is = ap nodes is
 
 -- a pattern has itself among its nodes
 pub some_nodes : (p : Tree) → 0 < nodes p

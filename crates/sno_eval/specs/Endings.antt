@@ -1,5 +1,5 @@
 -- How the events of one start end.
-use Rattle.std.specs.Prelude.{◌≡◌, ℕ, List, [], ◌++◌, map, Option, Some, None}
+use Rattle.std.specs.Prelude.{◌≡◌, ℕ, List, ◌++◌, map, Some, None}
 use Rattle.sno_pattern.specs.Outcome.{Tried, cut_scan, found_in}
 use Rattle.sno_pattern.specs.declared.events.Assign.{Assign}
 use Rattle.sno_pattern.specs.declared.events.Event.{Event}

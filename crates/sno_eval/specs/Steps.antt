@@ -1,5 +1,5 @@
 -- Words for the steps in which lists of events are made.
-use Rattle.std.specs.Prelude.{ℕ, Bool, true, false}
+use Rattle.std.specs.Prelude.{Bool, true, false}
 use Rattle.sno_pattern.specs.Tree.{Tree, Arbno, Ref, Seq, Alt, Cond, Imm}
 use Rattle.sno_pattern.specs.declared.events.Event.{Event}
 use Rattle.sno_pattern.specs.declared.events.Event.TheVariants.{Told, End, Halt}

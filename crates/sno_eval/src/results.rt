@@ -121,7 +121,8 @@ fn follow(
     Ok(all)
 }
 
-// What at most so many rounds of the pattern do: the fewest first, each round going on from where the one before ended.
+// What at most so many rounds of the pattern do: first none; then each round that took a character, with all that follows it
+// before the next alternative of the round.
 #[cycle(results)]
 fn repeat(
     alloc: Global,

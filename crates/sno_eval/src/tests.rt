@@ -111,3 +111,22 @@ fn an_immediate_assignment_stays_though_the_match_fails(rt: HostRuntime) -> Resu
     );
     Ok(())
 }
+
+// P is '(' *P ')' | 'x'; anchored, *P RPOS(0) on ((x))
+#[test]
+fn a_definition_refers_to_itself(rt: HostRuntime) -> Result<(), Fail> {
+    let alloc = rt.alloc();
+    let inner = seq(alloc, Pattern::Ref(0), literal(alloc, b")")?)?;
+    let nested = seq(alloc, literal(alloc, b"(")?, inner)?;
+    let body = Pattern::Alt(Box::new(alloc, nested)?, Box::new(alloc, literal(alloc, b"x")?)?);
+    let mut bodies = Vec::new(alloc);
+    bodies.push(body)?;
+    let names = Names::new(alloc, &[name(b"P")?])?;
+    assert_eq!(rt; names.len(), bodies.len());
+    let rules = Rules::admit(alloc, names, bodies)?;
+    let pattern = seq(alloc, Pattern::Ref(0), Pattern::Rpos(0))?;
+    assert!(rt; rules.covers(&pattern));
+    let found = first(alloc, &rules, &pattern, &text(alloc, b"((x))")?, true)?;
+    assert_eq!(rt; place(&found), Some((0, 5)));
+    Ok(())
+}

@@ -1,9 +1,6 @@
 -- The events are looked at one after the other.
-use Rattle.std.proofs.Common.{◌≡◌, ◌+◌, List, ◌∷◌, ◌++◌, drop, map, ap, sym, ◌∙◌, Some}
-use Rattle.sno_pattern.specs.Outcome.{Tried, cut_scan, found_in}
-use Rattle.sno_pattern.specs.declared.events.Event.{Event}
+use Rattle.std.proofs.Common.{◌∙◌}
 use Rattle.sno_pattern.specs.declared.events.Event.TheVariants.{Told, End, Halt}
-use Rattle.sno_pattern.specs.declared.found.Found.{Found}
 use Rattle.sno_eval.proofs.Going.{left_at}
 use Rattle.sno_eval.proofs.StartLaws.{found_told, found_halt, found_end}
 use Rattle.sno_eval.proofs.endings.first_ending.Goals as goal

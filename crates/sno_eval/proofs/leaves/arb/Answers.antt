@@ -1,5 +1,5 @@
 -- One End more.
-use Rattle.std.proofs.Common.{arith, length, ◌≤◌}
+use Rattle.std.proofs.Common.{arith, length}
 use Rattle.sno_eval.proofs.Ranges.{ends_more}
 use Rattle.sno_eval.proofs.leaves.arb.Goals as goal
 

@@ -1,5 +1,5 @@
 -- One End more where the part is balanced, and none where it isn't.
-use Rattle.std.proofs.Common.{arith, length, ◌≤◌, sym, ap, ◌∙◌}
+use Rattle.std.proofs.Common.{arith, length, sym, ap, ◌∙◌}
 use Rattle.sno_pattern.specs.Ends.{balanced, part}
 use Rattle.sno_eval.proofs.Ranges.{tested_more, tested_none}
 use Rattle.sno_eval.proofs.leaves.bal.Goals as goal

@@ -1,15 +1,15 @@
 -- Each call has less to do than the one that makes it, and what each adds is what the definitions say.
-use Rattle.std.proofs.Common.{◌≡◌, ℕ, ◌+◌, ◌-◌, ◌<◌, ◌≤◌, List, [], ◌∷◌, ◌++◌, length, drop, arith, ap, sym, subst, ◌∙◌}
-use Rattle.sno_pattern.specs.Tree.{Tree, tree_of}
+use Rattle.std.proofs.Common.{◌+◌, ◌-◌, [], ◌∷◌, ◌++◌, length, drop, arith, ap, sym, ◌∙◌}
+use Rattle.sno_pattern.specs.Tree.{tree_of}
 use Rattle.sno_pattern.specs.Events.{go_on}
-use Rattle.sno_pattern.specs.Results.{results, rounds, named_at}
-use Rattle.sno_pattern.specs.Laws.{AllEnds, Within}
-use Rattle.sno_pattern.specs.declared.events.Event.TheVariants.{Told, End, Halt}
+use Rattle.sno_pattern.specs.Results.{results}
+use Rattle.sno_pattern.specs.Laws.{Within}
+use Rattle.sno_pattern.specs.declared.events.Event.TheVariants.{Told, End}
 use Rattle.std.specs.List.{list_any}
 use Rattle.sno_eval.specs.Steps.{is_halt}
 use Rattle.sno_eval.proofs.Parts.{inside, both_sides, one_side, named_no_more, named_missing, named_does, round_taken, round_dropped}
-use Rattle.sno_eval.proofs.Going.{left_at, go_on_told, go_on_end, go_on_last, go_on_none, AllEnds-tail, AllEnds-head, next_round, rounds_begun, rounds_none}
-use Rattle.sno_eval.proofs.Work.{work, nodes, work_part, work_round, work_body, falls, left_of_seq, right_of_seq, left_of_alt, right_of_alt, of_arbno, of_cond, of_imm, some_nodes}
+use Rattle.sno_eval.proofs.Going.{left_at, go_on_told, go_on_end, go_on_last, go_on_none, AllEnds-tail, AllEnds-head, next_round, rounds_begun}
+use Rattle.sno_eval.proofs.Work.{nodes, work_round, work_body, falls, nodes_of_seq, nodes_of_alt, nodes_of_arbno, nodes_of_cond, nodes_of_imm, some_nodes}
 use Rattle.sno_eval.proofs.results.+results.Goals as goal
 use Rattle.sno_eval.proofs.results.+results.Goals.{follow-in-Told+in_ok-push-in-Told, follow-in-End+in_ok-later-in-End+in_ok-add_after-in-End+else-branch, repeat-in-Told+in_ok-push-in-Told, repeat-in-End+then-c-end+in_ok-later-in-End+in_ok-add_after-in-End+else-branch, repeat-in-End+else-c-end, results-then-not-has_halt+in_ok-others-in-Alt+in_ok-append-in-Alt, results-else-not-has_halt}
 
@@ -100,31 +100,31 @@ repeat-loop-event-preserved t c =
     ]
 
 pub results-results-requires : goal.results-results-requires
-results-results-requires t c = (falls _ _ _ _ _ 0 t c.decreases (left_of_seq _ _ _ _ (ap tree_of c.in-Seq.is) (ap tree_of c.deref.ensures)) (omega arith), c.requires)
+results-results-requires t c = (falls _ _ _ _ _ 0 t c.decreases (omega (arith, nodes_of_seq _ _ _ (ap tree_of c.in-Seq.is), ap (λ p. nodes (tree_of p)) c.deref.ensures)) (omega arith), c.requires)
 
 pub results-follow-requires : goal.results-follow-requires
 results-follow-requires t c =
-    (falls _ _ _ _ _ 1 t c.decreases (right_of_seq _ _ _ _ (ap tree_of c.in-Seq.is) (ap tree_of c.deref-in-Seq-2.ensures)) (omega arith), inside c.args.text.now c.args.rules.now.bodies c.args.depth (tree_of c.deref.result.now) c.args.c _ _ c.requires c.deref-in-Seq.ensures.value c.in_ok-first-in-Seq.ensures)
+    (falls _ _ _ _ _ 1 t c.decreases (omega (arith, nodes_of_seq _ _ _ (ap tree_of c.in-Seq.is), ap (λ p. nodes (tree_of p)) c.deref-in-Seq-2.ensures)) (omega arith), inside c.args.text.now c.args.rules.now.bodies c.args.depth (tree_of c.deref.result.now) c.args.c _ _ c.requires c.deref-in-Seq.ensures.value c.in_ok-first-in-Seq.ensures)
 
 pub results-results-requires-in-Alt : goal.results-results-requires-in-Alt
 results-results-requires-in-Alt t c =
-    (falls _ _ _ _ _ 0 t c.decreases (left_of_alt _ _ _ _ (ap tree_of c.in-Alt.is) (ap tree_of c.deref-in-Alt.ensures)) (omega arith), c.requires)
+    (falls _ _ _ _ _ 0 t c.decreases (omega (arith, nodes_of_alt _ _ _ (ap tree_of c.in-Alt.is), ap (λ p. nodes (tree_of p)) c.deref-in-Alt.ensures)) (omega arith), c.requires)
 
 pub results-results-requires-then-not-has_halt : goal.results-results-requires-then-not-has_halt
 results-results-requires-then-not-has_halt t c =
-    (falls _ _ _ _ _ 0 t c.decreases (right_of_alt _ _ _ _ (ap tree_of c.in-Alt.is) (ap tree_of c.deref-then-not-has_halt.ensures)) (omega arith), c.requires)
+    (falls _ _ _ _ _ 0 t c.decreases (omega (arith, nodes_of_alt _ _ _ (ap tree_of c.in-Alt.is), ap (λ p. nodes (tree_of p)) c.deref-then-not-has_halt.ensures)) (omega arith), c.requires)
 
 pub results-repeat-requires : goal.results-repeat-requires
 results-repeat-requires t c =
-    (falls _ _ _ _ _ (length c.bytes.result.now - c.args.c + 1 + 1) t c.decreases (of_arbno _ _ _ (ap tree_of c.in-Arbno.is) (ap tree_of c.deref-in-Arbno.ensures)) (omega (arith, ap length c.bytes.ensures.value)), c.requires)
+    (falls _ _ _ _ _ (length c.bytes.result.now - c.args.c + 1 + 1) t c.decreases (omega (arith, nodes_of_arbno _ _ (ap tree_of c.in-Arbno.is), ap (λ p. nodes (tree_of p)) c.deref-in-Arbno.ensures)) (omega (arith, ap length c.bytes.ensures.value)), c.requires)
 
 pub results-results-requires-in-Cond : goal.results-results-requires-in-Cond
 results-results-requires-in-Cond t c =
-    (falls _ _ _ _ _ 0 t c.decreases (of_cond _ _ _ _ (ap tree_of c.in-Cond.is) (ap tree_of c.deref-in-Cond.ensures)) (omega arith), c.requires)
+    (falls _ _ _ _ _ 0 t c.decreases (omega (arith, nodes_of_cond _ _ _ (ap tree_of c.in-Cond.is), ap (λ p. nodes (tree_of p)) c.deref-in-Cond.ensures)) (omega arith), c.requires)
 
 pub results-results-requires-in-Imm : goal.results-results-requires-in-Imm
 results-results-requires-in-Imm t c =
-    (falls _ _ _ _ _ 0 t c.decreases (of_imm _ _ _ _ (ap tree_of c.in-Imm.is) (ap tree_of c.deref-in-Imm.ensures)) (omega arith), c.requires)
+    (falls _ _ _ _ _ 0 t c.decreases (omega (arith, nodes_of_imm _ _ _ (ap tree_of c.in-Imm.is), ap (λ p. nodes (tree_of p)) c.deref-in-Imm.ensures)) (omega arith), c.requires)
 
 pub results-named-requires : goal.results-named-requires
 results-named-requires t c =

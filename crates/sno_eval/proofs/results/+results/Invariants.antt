@@ -1,5 +1,5 @@
 -- Each call has less to do; what was added and what is left to go on from are all.
-use Rattle.std.proofs.Common.{◌≡◌, ◌+◌, ◌++◌, length, drop, nat_lt, cond, [], zero, ◌-◌}
+use Rattle.std.proofs.Common.{◌≡◌, ◌+◌, ◌++◌, length, drop}
 use Rattle.sno_pattern.specs.Tree.{tree_of}
 use Rattle.sno_pattern.specs.Events.{go_on}
 use Rattle.sno_pattern.specs.Results.{results, rounds}

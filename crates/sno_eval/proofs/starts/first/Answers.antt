@@ -1,10 +1,8 @@
 -- The starts are tried one after the other.
-use Rattle.std.proofs.Common.{◌≡◌, ◌+◌, ◌≤◌, List, ap, sym, ◌∙◌, arith, Some, None}
+use Rattle.std.proofs.Common.{◌+◌, ap, sym, ◌∙◌, arith, Some, None}
 use Rattle.std.specs.List.{flat_map}
 use Rattle.sno_pattern.specs.Tree.{tree_of}
-use Rattle.sno_pattern.specs.Outcome.{tried_from, outcome}
-use Rattle.sno_pattern.specs.declared.events.Assign.{Assign}
-use Rattle.sno_pattern.specs.declared.found.Found.{Found}
+use Rattle.sno_pattern.specs.Outcome.{tried_from}
 use Rattle.sno_eval.specs.Endings.{found_after}
 use Rattle.sno_eval.proofs.Ranges.{up_to}
 use Rattle.sno_eval.proofs.StartLaws.{begun, start_tried, sets_are}

@@ -1,5 +1,5 @@
 -- With the assignments done so far, the starts that are left come to the outcome.
-use Rattle.std.proofs.Common.{◌≡◌, ◌≤◌}
+use Rattle.std.proofs.Common.{◌≡◌}
 use Rattle.std.specs.List.{flat_map}
 use Rattle.sno_pattern.specs.Tree.{tree_of}
 use Rattle.sno_pattern.specs.Outcome.{tried_from, cut_scan, found_in, outcome}
