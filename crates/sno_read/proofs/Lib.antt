@@ -4,3 +4,8 @@ pub mod Steps
 pub mod Ascii
 pub mod Depths
 pub mod Parts
+pub mod Fronts
+pub mod Results
+pub mod Tokens
+pub mod Reserved
+pub mod Sound

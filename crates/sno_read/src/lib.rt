@@ -5,6 +5,7 @@ mod characters;
 mod depth;
 mod faults;
 mod keywords;
+mod laws;
 mod object_reader;
 mod objects;
 mod piece;
