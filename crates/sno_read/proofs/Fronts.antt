@@ -9,7 +9,8 @@ run_more : (v : Bool) (n m : ℕ) → v ≡ true → n ≡ m → cond v (1 + n) 
 run_more true n m e h = omega arith
 run_more false n m e h = cc
 
-prefix_run : (p : ℕ → Bool) (x r : List ℕ) → list_all p x ≡ true → begins p r ≡ false → prefix_len p (x ++ r) ≡ length x
+-- how long that front is
+pub prefix_run : (p : ℕ → Bool) (x r : List ℕ) → list_all p x ≡ true → begins p r ≡ false → prefix_len p (x ++ r) ≡ length x
 prefix_run p [] [] h e = refl
 prefix_run p [] (c ∷ r) h e = rw e refl
 prefix_run p (c ∷ x) r h e = run_more (p c) _ _ (and_parts (p c) (list_all p x) h).0 (prefix_run p x r (and_parts (p c) (list_all p x) h).1 e)

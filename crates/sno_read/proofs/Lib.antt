@@ -9,3 +9,6 @@ pub mod Results
 pub mod Tokens
 pub mod Reserved
 pub mod Sound
+pub mod SoundTexts
+pub mod Marks
+pub mod TokensAgain

@@ -1,5 +1,6 @@
-use Rattle.sno_read.proofs.Sound.{paren_split}
+use Rattle.sno_read.proofs.SoundTexts.{pattern_sound}
+use Rattle.sno_read.proofs.TokensAgain.{signed_again}
 use Rattle.sno_read.proofs.laws.one_tree.Goals as goal
 
 pub returns : goal.returns
-returns c = let f = paren_split in ?
+returns c = let f = pattern_sound in ?
