@@ -12,3 +12,5 @@ pub mod Sound
 pub mod SoundTexts
 pub mod Marks
 pub mod TokensAgain
+pub mod Complete
+pub mod CompleteTexts

@@ -65,10 +65,10 @@ pub name_starts : (w : List ℕ) → IsTrue (is_name w) → (c : ℕ) × (is_let
 name_starts [] h = cc
 name_starts (c ∷ cs) h = (c, (and_parts (is_letter c) _ h).0, cs, refl)
 
-named_starts : (w : List ℕ) → IsTrue (is_name w) → Starts w
+pub named_starts : (w : List ℕ) → IsTrue (is_name w) → Starts w
 named_starts w h = let n = name_starts w h in (n.0, letter_start n.0 n.1, n.2, n.3)
 
-literal_starts : (x s : List ℕ) → IsLiteral x s → Starts x
+pub literal_starts : (x s : List ℕ) → IsLiteral x s → Starts x
 literal_starts x s l = (l.quote, quote_start l.quote l.is_quote, s ++ (l.quote ∷ []), l.spelled)
 
 module _ (names : List (List ℕ)) (earlier : ℕ) where
@@ -118,7 +118,7 @@ pub blanks_or : (p : ℕ → Bool) (b r : List ℕ) → p 32 ≡ false → p 9 �
 blanks_or p [] r e f h g = g
 blanks_or p (c ∷ b) r e f h g = blanks_stop p (c ∷ b) r e f (h, omega arith)
 
-blanks_begin : (b r : List ℕ) → SomeBlanks b → begins is_blank (b ++ r) ≡ true
+pub blanks_begin : (b r : List ℕ) → SomeBlanks b → begins is_blank (b ++ r) ≡ true
 blanks_begin [] r h = absurd (omega (arith, h.1))
 blanks_begin (c ∷ b) r h = (and_parts (is_blank c) (list_all is_blank b) h.0).0
 
@@ -162,3 +162,7 @@ letter_begins c r h =
   where
   no_quote : (c : ℕ) → 39 < c → is_quote c ≡ false
   no_quote c h = grind (arith, nat_tests)
+
+-- a digit is no blank
+pub digit_no_blank : (c : ℕ) → is_ascii_digit c ≡ true → is_blank c ≡ false
+digit_no_blank c h = grind (arith, nat_tests)

@@ -30,7 +30,7 @@ use Rattle.sno_read.proofs.Tokens.{literal_sound, set_sound, number_sound, name_
 pub paren_split : (b x c rest : List ℕ) → parenthesized b x c ++ rest ≡ 40 ∷ (b ++ (x ++ (c ++ (41 ∷ rest))))
 paren_split b x c rest = simp append_assoc
 
-signed_split : (sign : ℕ) (b c v rest : List ℕ) → signed_by sign b c v ++ rest ≡ b ++ (sign ∷ (c ++ (v ++ rest)))
+pub signed_split : (sign : ℕ) (b c v rest : List ℕ) → signed_by sign b c v ++ rest ≡ b ++ (sign ∷ (c ++ (v ++ rest)))
 signed_split sign b c v rest = simp append_assoc
 
 -- how an element begins, by its tests

@@ -71,7 +71,9 @@ variable_again env v r i h = rw (name_again env v r i.is_name h, i.not_reserved,
 
 pub opened_again : (env : Env) (k : ℕ) (b r : List ℕ) → AreBlanks b → begins is_blank r ≡ false → opened env (suc k) (40 ∷ (b ++ r)) ≡ Ok r
 unfolding opened
-opened_again env k b r h e = rw (skip_blanks b r h e) refl
+opened_again env k b r h e =
+    let some : nat_eq (suc k) 0 ≡ false = ne_eqb (suc k) 0 (λ i. omega arith) in
+    rw (skip_blanks b r h e, some) refl
 
 pub closed_paren_again : (env : Env) (c r : List ℕ) → AreBlanks c → closed env (c ++ (41 ∷ r)) ≡ Ok r
 unfolding closed
