@@ -68,7 +68,7 @@ paren_ends_name b x c r = refl
 below_again : (n i : ℕ) (o : Option ℕ) → o ≡ Some i → i < n → below n o ≡ Some i
 below_again n i o e h = rw (e, lt-ltb i n h) refl
 
-quoted_starts : (x r : List ℕ) (s : List ℕ) → IsLiteral x s → start_of (x ++ r) ≡ start.Quote
+pub quoted_starts : (x r : List ℕ) (s : List ℕ) → IsLiteral x s → start_of (x ++ r) ≡ start.Quote
 unfolding start_of
 quoted_starts x r s l = rw (l.spelled, l.is_quote) refl
 
@@ -125,7 +125,7 @@ at_once_again env n u b c v r m l bb cb i h =
 signed_longer : (sign : ℕ) (b c v r : List ℕ) → suc (length r) ≤ length (b ++ (sign ∷ (c ++ (v ++ r))))
 signed_longer sign b c v r = simp length-append (omega arith)
 
-blank_ends_name : (b r : List ℕ) → SomeBlanks b → begins is_name_char (b ++ r) ≡ false
+pub blank_ends_name : (b r : List ℕ) → SomeBlanks b → begins is_name_char (b ++ r) ≡ false
 unfolding is_name_char
 blank_ends_name b r h = blanks_stop is_name_char b r refl refl h
 
@@ -134,14 +134,18 @@ unfolding item_at
 item_again env room x t (grammar.element y u e) inner again r h = (suc (length r), omega arith, rw (element_again env room y u e inner again r h) refl)
 item_again env room x t (grammar.later y b c v u i bb cb j) inner again r h =
     let q = item_again env room y u i inner again (b ++ (46 ∷ (c ++ (v ++ r)))) (blank_ends_name b _ bb) in
-    let l = signed_longer 46 b c v r in
-    (q.0 - 1, omega (arith, q.1, l),
-     ap (λ k. item_at env room inner k) (append_assoc y (signed_by 46 b c v) r ∙ ap (λ k. y ++ k) (signed_split 46 b c v r)) ∙ q.2 ∙ later_again env q.0 u b c v r _ q.1 bb cb j h)
+    let l = signed_longer 46 b c v r in (
+      q.0 - 1,
+      omega (arith, q.1, l),
+      ap (λ k. item_at env room inner k) (append_assoc y (signed_by 46 b c v) r ∙ ap (λ k. y ++ k) (signed_split 46 b c v r)) ∙ q.2 ∙ later_again env q.0 u b c v r _ q.1 bb cb j h,
+    )
 item_again env room x t (grammar.at_once y b c v u i bb cb j) inner again r h =
     let q = item_again env room y u i inner again (b ++ (36 ∷ (c ++ (v ++ r)))) (blank_ends_name b _ bb) in
-    let l = signed_longer 36 b c v r in
-    (q.0 - 1, omega (arith, q.1, l),
-     ap (λ k. item_at env room inner k) (append_assoc y (signed_by 36 b c v) r ∙ ap (λ k. y ++ k) (signed_split 36 b c v r)) ∙ q.2 ∙ at_once_again env q.0 u b c v r _ q.1 bb cb j h)
+    let l = signed_longer 36 b c v r in (
+      q.0 - 1,
+      omega (arith, q.1, l),
+      ap (λ k. item_at env room inner k) (append_assoc y (signed_by 36 b c v) r ∙ ap (λ k. y ++ k) (signed_split 36 b c v r)) ∙ q.2 ∙ at_once_again env q.0 u b c v r _ q.1 bb cb j h,
+    )
 
 item_alone : (env : Env) (room : ℕ) (x : List ℕ) (t : Tree) → IsItem env.names env.earlier room x t → (inner : List ℕ → Read Tree) → InnerAgain env room inner → (r : List ℕ) → begins is_name_char r ≡ false → NoTarget r → item_at env room inner (x ++ r) ≡ Ok (t, r)
 item_alone env room x t i inner again r h e =

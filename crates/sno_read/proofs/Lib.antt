@@ -14,3 +14,5 @@ pub mod Marks
 pub mod TokensAgain
 pub mod Complete
 pub mod CompleteTexts
+pub mod ObjectTexts
+pub mod Answered

@@ -50,9 +50,9 @@ letter_start c h =
 quote_start : (c : ℕ) → is_quote c ≡ true → IsStart c
 quote_start c h = by_case (quote_cases c h)
   where
-  by_case : (c ≡ 39) ⊎ (c ≡ 34) → IsStart c
-  by_case (inl e) = rw e (record { no_blank = refl; no_closing = refl; no_dot = refl; no_dollar = refl; no_bar = refl })
-  by_case (inr e) = rw e (record { no_blank = refl; no_closing = refl; no_dot = refl; no_dollar = refl; no_bar = refl })
+    by_case : (c ≡ 39) ⊎ (c ≡ 34) → IsStart c
+    by_case (inl e) = rw e (record { no_blank = refl; no_closing = refl; no_dot = refl; no_dollar = refl; no_bar = refl })
+    by_case (inr e) = rw e (record { no_blank = refl; no_closing = refl; no_dot = refl; no_dollar = refl; no_bar = refl })
 
 -- a text that begins with such a character
 abbrev pub Starts : List ℕ → Type 0
@@ -109,9 +109,9 @@ pub blanks_stop : (p : ℕ → Bool) (b r : List ℕ) → p 32 ≡ false → p 9
 blanks_stop p [] r e f h = absurd (omega (arith, h.1))
 blanks_stop p (c ∷ b) r e f h = by_case (blank_cases c (and_parts (is_blank c) (list_all is_blank b) h.0).0)
   where
-  by_case : (c ≡ 32) ⊎ (c ≡ 9) → p c ≡ false
-  by_case (inl g) = rw g e
-  by_case (inr g) = rw g f
+    by_case : (c ≡ 32) ⊎ (c ≡ 9) → p c ≡ false
+    by_case (inl g) = rw g e
+    by_case (inr g) = rw g f
 
 -- the same, where there need be none
 pub blanks_or : (p : ℕ → Bool) (b r : List ℕ) → p 32 ≡ false → p 9 ≡ false → AreBlanks b → begins p r ≡ false → begins p (b ++ r) ≡ false
@@ -160,8 +160,8 @@ letter_begins c r h =
     let d : nat_eq c 40 ≡ false = ne_eqb c 40 (λ e. omega (arith, l.0)) in
     rw (q, a, b, d, h) refl
   where
-  no_quote : (c : ℕ) → 39 < c → is_quote c ≡ false
-  no_quote c h = grind (arith, nat_tests)
+    no_quote : (c : ℕ) → 39 < c → is_quote c ≡ false
+    no_quote c h = grind (arith, nat_tests)
 
 -- a digit is no blank
 pub digit_no_blank : (c : ℕ) → is_ascii_digit c ≡ true → is_blank c ≡ false

@@ -68,9 +68,17 @@ parens_sound : (env : Env) (room : ℕ) (P : ℕ → List ℕ → Type 0) (text 
 parens_sound env room P text a m rest o mid e =
     let p = opened_sound env room text a o in
     let q = mid p.0 p.1 in
-    let r = closed_sound env m rest e in
-    (p.0, p.1, p.2, p.3, q.0, q.1, r.0, r.1,
-     p.4 ∙ ap (λ l. 40 ∷ (p.2 ++ l)) (q.2 ∙ ap (λ l. q.0 ++ l) r.2) ∙ sym (paren_split p.2 q.0 r.0 rest))
+    let r = closed_sound env m rest e in (
+      p.0,
+      p.1,
+      p.2,
+      p.3,
+      q.0,
+      q.1,
+      r.0,
+      r.1,
+      p.4 ∙ ap (λ l. 40 ∷ (p.2 ++ l)) (q.2 ∙ ap (λ l. q.0 ++ l) r.2) ∙ sym (paren_split p.2 q.0 r.0 rest),
+    )
 
 counted_sound : (env : Env) (room : ℕ) (call : NumberCall) (text : List ℕ) (t : Tree) (rest : List ℕ) → counted_at env room call text ≡ Ok (t, rest) → (n : ℕ) × (number_tree call n ≡ t) × Inside room text rest (λ k ds. IsNumber ds n)
 unfolding counted_at
@@ -191,32 +199,33 @@ module _ (env : Env) (room : ℕ) (inner : List ℕ → Read Tree) where
 
   -- one target more
   grown : (x text a v r : List ℕ) (sign : ℕ) (u : Tree) (rest : List ℕ) (s : Signed sign text a) → a ≡ v ++ r → Item (x ++ signed_by sign s.0 s.2 v) r u rest → Item x text u rest
-  grown x text a v r sign u rest s split i =
-      (signed_by sign s.0 s.2 v ++ i.0,
-       rw (append_assoc x (signed_by sign s.0 s.2 v) i.0) at i.1,
-       s.4 ∙ ap (λ l. s.0 ++ (sign ∷ (s.2 ++ l))) split ∙ sym (signed_split sign s.0 s.2 v r) ∙ ap (λ l. signed_by sign s.0 s.2 v ++ l) i.2 ∙ sym (append_assoc (signed_by sign s.0 s.2 v) i.0 rest))
+  grown x text a v r sign u rest s split i = (
+    signed_by sign s.0 s.2 v ++ i.0,
+    rw (append_assoc x (signed_by sign s.0 s.2 v) i.0) at i.1,
+    s.4 ∙ ap (λ l. s.0 ++ (sign ∷ (s.2 ++ l))) split ∙ sym (signed_split sign s.0 s.2 v r) ∙ ap (λ l. signed_by sign s.0 s.2 v ++ l) i.2 ∙ sym (append_assoc (signed_by sign s.0 s.2 v) i.0 rest),
+  )
 
   targets_sound : (n : ℕ) (x : List ℕ) (t : Tree) (text : List ℕ) (u : Tree) (rest : List ℕ) → IsItem env.names env.earlier room x t → targets_at env n t text ≡ Ok (u, rest) → Item x text u rest
   unfolding targets_at
   targets_sound zero x t text u rest i h = cc
   targets_sound (suc n) x t text u rest i h = by_sign (targets_at env n) (λ y v a. targets_sound n y v a u rest) (what_follows text) refl h
     where
-    by_sign : (more : Tree → List ℕ → Read Tree) → ((y : List ℕ) (v : Tree) (a : List ℕ) → IsItem env.names env.earlier room y v → more v a ≡ Ok (u, rest) → Item y a u rest) → (f : Following) → what_follows text ≡ f → target_by env more t text f ≡ Ok (u, rest) → Item x text u rest
-    by_sign more sound follows.Dot e g =
-        let a = bind_ok (signed env text) _ (u, rest) g in
-        let v = bind_ok (variable_at env a.0) _ (u, rest) a.2 in
-        let s = dot_sound env text a.0 e a.1 in
-        let q = variable_sound env a.0 v.0.0 v.0.1 v.1 in
-        grown x text a.0 v.0.0 v.0.1 46 u rest s q.1 (sound (x ++ signed_by 46 s.0 s.2 v.0.0) (tree.Cond t v.0.0) v.0.1 (grammar.later x s.0 s.2 v.0.0 t i s.1 s.3 q.0) v.2)
-    by_sign more sound follows.Dollar e g =
-        let a = bind_ok (signed env text) _ (u, rest) g in
-        let v = bind_ok (variable_at env a.0) _ (u, rest) a.2 in
-        let s = dollar_sound env text a.0 e a.1 in
-        let q = variable_sound env a.0 v.0.0 v.0.1 v.1 in
-        grown x text a.0 v.0.0 v.0.1 36 u rest s q.1 (sound (x ++ signed_by 36 s.0 s.2 v.0.0) (tree.Imm t v.0.0) v.0.1 (grammar.at_once x s.0 s.2 v.0.0 t i s.1 s.3 q.0) v.2)
-    by_sign more sound follows.Nothing e g = item_as_is x text t u rest i g
-    by_sign more sound follows.Bar e g = item_as_is x text t u rest i g
-    by_sign more sound follows.Item e g = item_as_is x text t u rest i g
+      by_sign : (more : Tree → List ℕ → Read Tree) → ((y : List ℕ) (v : Tree) (a : List ℕ) → IsItem env.names env.earlier room y v → more v a ≡ Ok (u, rest) → Item y a u rest) → (f : Following) → what_follows text ≡ f → target_by env more t text f ≡ Ok (u, rest) → Item x text u rest
+      by_sign more sound follows.Dot e g =
+          let a = bind_ok (signed env text) _ (u, rest) g in
+          let v = bind_ok (variable_at env a.0) _ (u, rest) a.2 in
+          let s = dot_sound env text a.0 e a.1 in
+          let q = variable_sound env a.0 v.0.0 v.0.1 v.1 in
+          grown x text a.0 v.0.0 v.0.1 46 u rest s q.1 (sound (x ++ signed_by 46 s.0 s.2 v.0.0) (tree.Cond t v.0.0) v.0.1 (grammar.later x s.0 s.2 v.0.0 t i s.1 s.3 q.0) v.2)
+      by_sign more sound follows.Dollar e g =
+          let a = bind_ok (signed env text) _ (u, rest) g in
+          let v = bind_ok (variable_at env a.0) _ (u, rest) a.2 in
+          let s = dollar_sound env text a.0 e a.1 in
+          let q = variable_sound env a.0 v.0.0 v.0.1 v.1 in
+          grown x text a.0 v.0.0 v.0.1 36 u rest s q.1 (sound (x ++ signed_by 36 s.0 s.2 v.0.0) (tree.Imm t v.0.0) v.0.1 (grammar.at_once x s.0 s.2 v.0.0 t i s.1 s.3 q.0) v.2)
+      by_sign more sound follows.Nothing e g = item_as_is x text t u rest i g
+      by_sign more sound follows.Bar e g = item_as_is x text t u rest i g
+      by_sign more sound follows.Item e g = item_as_is x text t u rest i g
 
   item_sound : Reads → (text : List ℕ) (t : Tree) (rest : List ℕ) → item_at env room inner text ≡ Ok (t, rest) → (x : List ℕ) × IsItem env.names env.earlier room x t × (text ≡ x ++ rest)
   unfolding item_at
@@ -242,18 +251,20 @@ module _ (env : Env) (room : ℕ) (inner : List ℕ → Read Tree) where
       let i = item_sound reads text a.0.0 a.0.1 a.1 in
       by_next (items_at env (item_at env room inner) n) (λ m u. items_sound reads n m u rest) a.0 i.0 i.1 i.2 (what_follows a.0.1) refl a.2
     where
-    by_next : (more : List ℕ → Read Tree) → ((m : List ℕ) (u : Tree) → more m ≡ Ok (u, rest) → Concatenation m u rest) → (p : Tree × List ℕ) (x : List ℕ) → IsItem env.names env.earlier room x p.0 → text ≡ x ++ p.1 → (f : Following) → what_follows p.1 ≡ f → item_by more p f ≡ Ok (t, rest) → Concatenation text t rest
-    by_next more sound p x i split follows.Item e g =
-        let b = bind_ok (more (skip p.1)) _ (t, rest) g in
-        let s = follows_shape p.1 follows.Item e (λ k. (cc)) in
-        let same = pair_ok (tree.Seq p.0 b.0.0, b.0.1) t rest b.2 in
-        let y = sound (skip p.1) b.0.0 (b.1 ∙ ap (λ l. Ok (b.0.0, l)) same.1) in
-        (x ++ (front is_blank p.1 ++ y.0), subst (λ u. IsConcatenation env.names env.earlier room (x ++ (front is_blank p.1 ++ y.0)) u) same.0 (grammar.followed x (front is_blank p.1) y.0 p.0 b.0.0 i s.0 y.1),
-         split ∙ ap (λ l. x ++ l) (s.1 ∙ ap (λ l. front is_blank p.1 ++ l) y.2 ∙ sym (append_assoc (front is_blank p.1) y.0 rest)) ∙ sym (append_assoc x (front is_blank p.1 ++ y.0) rest))
-    by_next more sound p x i split follows.Nothing e g = item_alone text p t rest x i split g
-    by_next more sound p x i split follows.Dot e g = item_alone text p t rest x i split g
-    by_next more sound p x i split follows.Dollar e g = item_alone text p t rest x i split g
-    by_next more sound p x i split follows.Bar e g = item_alone text p t rest x i split g
+      by_next : (more : List ℕ → Read Tree) → ((m : List ℕ) (u : Tree) → more m ≡ Ok (u, rest) → Concatenation m u rest) → (p : Tree × List ℕ) (x : List ℕ) → IsItem env.names env.earlier room x p.0 → text ≡ x ++ p.1 → (f : Following) → what_follows p.1 ≡ f → item_by more p f ≡ Ok (t, rest) → Concatenation text t rest
+      by_next more sound p x i split follows.Item e g =
+          let b = bind_ok (more (skip p.1)) _ (t, rest) g in
+          let s = follows_shape p.1 follows.Item e (λ k. (cc)) in
+          let same = pair_ok (tree.Seq p.0 b.0.0, b.0.1) t rest b.2 in
+          let y = sound (skip p.1) b.0.0 (b.1 ∙ ap (λ l. Ok (b.0.0, l)) same.1) in (
+            x ++ (front is_blank p.1 ++ y.0),
+            subst (λ u. IsConcatenation env.names env.earlier room (x ++ (front is_blank p.1 ++ y.0)) u) same.0 (grammar.followed x (front is_blank p.1) y.0 p.0 b.0.0 i s.0 y.1),
+            split ∙ ap (λ l. x ++ l) (s.1 ∙ ap (λ l. front is_blank p.1 ++ l) y.2 ∙ sym (append_assoc (front is_blank p.1) y.0 rest)) ∙ sym (append_assoc x (front is_blank p.1 ++ y.0) rest),
+          )
+      by_next more sound p x i split follows.Nothing e g = item_alone text p t rest x i split g
+      by_next more sound p x i split follows.Dot e g = item_alone text p t rest x i split g
+      by_next more sound p x i split follows.Dollar e g = item_alone text p t rest x i split g
+      by_next more sound p x i split follows.Bar e g = item_alone text p t rest x i split g
 
   abbrev Alternation : List ℕ → Tree → List ℕ → Type 0
   Alternation text t rest = (x : List ℕ) × IsAlternation env.names env.earlier room x t × (text ≡ x ++ rest)
@@ -271,19 +282,21 @@ module _ (env : Env) (room : ℕ) (inner : List ℕ → Read Tree) where
       let i = items_sound reads (suc (length text)) text a.0.0 a.0.1 a.1 in
       by_next (parts_at env (concatenation_at env room inner) n) (λ m u. parts_sound reads n m u rest) a.0 i.0 i.1 i.2 (what_follows a.0.1) refl a.2
     where
-    by_next : (more : List ℕ → Read Tree) → ((m : List ℕ) (u : Tree) → more m ≡ Ok (u, rest) → Alternation m u rest) → (p : Tree × List ℕ) (x : List ℕ) → IsConcatenation env.names env.earlier room x p.0 → text ≡ x ++ p.1 → (f : Following) → what_follows p.1 ≡ f → part_by env more p f ≡ Ok (t, rest) → Alternation text t rest
-    by_next more sound p x i split follows.Bar e g =
-        let a = bind_ok (signed env p.1) _ (t, rest) g in
-        let b = bind_ok (more a.0) _ (t, rest) a.2 in
-        let s = bar_sound env p.1 a.0 e a.1 in
-        let same = pair_ok (tree.Alt p.0 b.0.0, b.0.1) t rest b.2 in
-        let y = sound a.0 b.0.0 (b.1 ∙ ap (λ l. Ok (b.0.0, l)) same.1) in
-        (x ++ signed_by 124 s.0 s.2 y.0, subst (λ u. IsAlternation env.names env.earlier room (x ++ signed_by 124 s.0 s.2 y.0) u) same.0 (grammar.otherwise x s.0 s.2 y.0 p.0 b.0.0 i s.1 s.3 y.1),
-         split ∙ ap (λ l. x ++ l) (s.4 ∙ ap (λ l. s.0 ++ (124 ∷ (s.2 ++ l))) y.2 ∙ sym (signed_split 124 s.0 s.2 y.0 rest)) ∙ sym (append_assoc x (signed_by 124 s.0 s.2 y.0) rest))
-    by_next more sound p x i split follows.Nothing e g = part_alone text p t rest x i split g
-    by_next more sound p x i split follows.Dot e g = part_alone text p t rest x i split g
-    by_next more sound p x i split follows.Dollar e g = part_alone text p t rest x i split g
-    by_next more sound p x i split follows.Item e g = part_alone text p t rest x i split g
+      by_next : (more : List ℕ → Read Tree) → ((m : List ℕ) (u : Tree) → more m ≡ Ok (u, rest) → Alternation m u rest) → (p : Tree × List ℕ) (x : List ℕ) → IsConcatenation env.names env.earlier room x p.0 → text ≡ x ++ p.1 → (f : Following) → what_follows p.1 ≡ f → part_by env more p f ≡ Ok (t, rest) → Alternation text t rest
+      by_next more sound p x i split follows.Bar e g =
+          let a = bind_ok (signed env p.1) _ (t, rest) g in
+          let b = bind_ok (more a.0) _ (t, rest) a.2 in
+          let s = bar_sound env p.1 a.0 e a.1 in
+          let same = pair_ok (tree.Alt p.0 b.0.0, b.0.1) t rest b.2 in
+          let y = sound a.0 b.0.0 (b.1 ∙ ap (λ l. Ok (b.0.0, l)) same.1) in (
+            x ++ signed_by 124 s.0 s.2 y.0,
+            subst (λ u. IsAlternation env.names env.earlier room (x ++ signed_by 124 s.0 s.2 y.0) u) same.0 (grammar.otherwise x s.0 s.2 y.0 p.0 b.0.0 i s.1 s.3 y.1),
+            split ∙ ap (λ l. x ++ l) (s.4 ∙ ap (λ l. s.0 ++ (124 ∷ (s.2 ++ l))) y.2 ∙ sym (signed_split 124 s.0 s.2 y.0 rest)) ∙ sym (append_assoc x (signed_by 124 s.0 s.2 y.0) rest),
+          )
+      by_next more sound p x i split follows.Nothing e g = part_alone text p t rest x i split g
+      by_next more sound p x i split follows.Dot e g = part_alone text p t rest x i split g
+      by_next more sound p x i split follows.Dollar e g = part_alone text p t rest x i split g
+      by_next more sound p x i split follows.Item e g = part_alone text p t rest x i split g
 
 -- what is read inside parentheses
 inside_sound : (env : Env) (room : ℕ) → Reads env room (inside env room)

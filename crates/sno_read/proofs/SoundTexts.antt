@@ -27,7 +27,7 @@ checked_ok text t h =
     let q = ascii_ok (first_non_ascii text) text t p.1 in
     (ltb-false _ _ p.0, all_ascii text (sym q.0), q.1)
 
-nothing_left : (l : List ℕ) → length l ≡ 0 → l ≡ []
+pub nothing_left : (l : List ℕ) → length l ≡ 0 → l ≡ []
 nothing_left [] h = refl
 nothing_left (c ∷ cs) h = absurd (omega arith)
 

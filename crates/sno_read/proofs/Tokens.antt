@@ -29,19 +29,21 @@ closed_shape e q text s rest h =
     let p = if_ok (nat_lt (prefix_len (is_other q) text) (length text)) _ e (s, rest) h in
     let same = pair_ok (front (is_other q) text, drop 1 (behind (is_other q) text)) s rest p.1 in
     let within : prefix_len (is_other q) text < length text = ltb-true _ _ p.0 in
-    let long : 0 < length (behind (is_other q) text) = rw (length-drop (prefix_len (is_other q) text) text) (omega arith) in
-    (rw same.0 at (front_passes (is_other q) text),
-     front_behind (is_other q) text ∙ ap (λ l. l ++ behind (is_other q) text) same.0 ∙ ap (λ l. s ++ l) (other_shape q (behind (is_other q) text) long (behind_stops (is_other q) text) ∙ ap (λ l. q ∷ l) same.1))
+    let long : 0 < length (behind (is_other q) text) = rw (length-drop (prefix_len (is_other q) text) text) (omega arith) in (
+      rw same.0 at (front_passes (is_other q) text),
+      front_behind (is_other q) text ∙ ap (λ l. l ++ behind (is_other q) text) same.0 ∙ ap (λ l. s ++ l) (other_shape q (behind (is_other q) text) long (behind_stops (is_other q) text) ∙ ap (λ l. q ∷ l) same.1),
+    )
 
 pub literal_sound : (env : Env) (text s rest : List ℕ) → literal_at env text ≡ Ok (s, rest) → (x : List ℕ) × IsLiteral x s × (text ≡ x ++ rest)
 unfolding literal_at
 literal_sound env text s rest h =
     let a = bind_ok (found_or (fault.Unexpected (place env text)) (quote_of text)) _ (s, rest) h in
     let q = quote_shape text a.0 (found_ok _ _ _ a.1) in
-    let c = closed_shape _ a.0 (drop 1 text) s rest a.2 in
-    (a.0 ∷ (s ++ (a.0 ∷ [])),
-     record { quote = a.0; is_quote = q.0; others = c.0; spelled = refl },
-     q.1 ∙ ap (λ l. a.0 ∷ l) (c.1 ∙ sym (append_assoc s (a.0 ∷ []) rest)))
+    let c = closed_shape _ a.0 (drop 1 text) s rest a.2 in (
+      a.0 ∷ (s ++ (a.0 ∷ [])),
+      record { quote = a.0; is_quote = q.0; others = c.0; spelled = refl },
+      q.1 ∙ ap (λ l. a.0 ∷ l) (c.1 ∙ sym (append_assoc s (a.0 ∷ []) rest)),
+    )
 
 pub set_sound : (env : Env) (text s rest : List ℕ) → set_at env text ≡ Ok (s, rest) → (x : List ℕ) × IsLiteral x s × (0 < length s) × (text ≡ x ++ rest)
 unfolding set_at
@@ -69,9 +71,11 @@ number_sound env text n rest h =
     let same = pair_ok (a.0, behind is_ascii_digit text) n rest a.2 in
     let v = unless_some (nat_eq (length ds) 0) (number_from 0 ds) a.0 (found_ok _ _ _ a.1) in
     let d = number_decimal 0 ds a.0 (omega arith) v.1 in
-    let e : length ds ≡ 0 → ⊥ = eqb-false _ _ v.0 in
-    (ds, record { some = omega (arith, e); all_digits = front_passes is_ascii_digit text; value = d.0 ∙ same.0; small = rw (← same.0) d.1 },
-     front_behind is_ascii_digit text ∙ ap (λ l. ds ++ l) same.1)
+    let e : length ds ≡ 0 → ⊥ = eqb-false _ _ v.0 in (
+      ds,
+      record { some = omega (arith, e); all_digits = front_passes is_ascii_digit text; value = d.0 ∙ same.0; small = rw (← same.0) d.1 },
+      front_behind is_ascii_digit text ∙ ap (λ l. ds ++ l) same.1,
+    )
 
 pub name_sound : (env : Env) (text w rest : List ℕ) → name_at env text ≡ Ok (w, rest) → IsTrue (is_name w) × (text ≡ w ++ rest)
 unfolding name_at
@@ -100,26 +104,32 @@ opened_sound env room text rest h =
     let p = if_ok (begins (λ c. nat_eq c 40) text) _ _ rest h in
     let q = unless_ok (nat_eq room 0) _ _ rest p.1 in
     let e : room ≡ 0 → ⊥ = eqb-false _ _ q.0 in
-    let same = ok_same _ rest q.1 in
-    (room - 1, omega (arith, e), front is_blank (drop 1 text), front_passes is_blank (drop 1 text),
-     begins_shape 40 text p.0 ∙ ap (λ l. 40 ∷ l) (front_behind is_blank (drop 1 text) ∙ ap (λ l. front is_blank (drop 1 text) ++ l) same))
+    let same = ok_same _ rest q.1 in (
+      room - 1,
+      omega (arith, e),
+      front is_blank (drop 1 text),
+      front_passes is_blank (drop 1 text),
+      begins_shape 40 text p.0 ∙ ap (λ l. 40 ∷ l) (front_behind is_blank (drop 1 text) ∙ ap (λ l. front is_blank (drop 1 text) ++ l) same),
+    )
 
 pub closed_sound : (env : Env) (text rest : List ℕ) → closed env text ≡ Ok rest → (c : List ℕ) × AreBlanks c × (text ≡ c ++ (41 ∷ rest))
 unfolding closed
 closed_sound env text rest h =
     let p = if_ok (begins (λ c. nat_eq c 41) (skip text)) _ _ rest h in
-    let same = ok_same _ rest p.1 in
-    (front is_blank text, front_passes is_blank text,
-     front_behind is_blank text ∙ ap (λ l. front is_blank text ++ l) (begins_shape 41 (skip text) p.0 ∙ ap (λ l. 41 ∷ l) same))
+    let same = ok_same _ rest p.1 in (
+      front is_blank text,
+      front_passes is_blank text,
+      front_behind is_blank text ∙ ap (λ l. front is_blank text ++ l) (begins_shape 41 (skip text) p.0 ∙ ap (λ l. 41 ∷ l) same),
+    )
 
 -- a front of blanks that isn't empty, where one begins the text
 some_front : (p : ℕ → Bool) (text : List ℕ) → begins p text ≡ true → 0 < length (front p text)
 some_front p [] h = cc
 some_front p (c ∷ cs) h = some_taken p c cs (prefix_len p cs) (p c) h
   where
-  some_taken : (p : ℕ → Bool) (c : ℕ) (cs : List ℕ) (n : ℕ) (v : Bool) → v ≡ true → 0 < length (take (cond v (1 + n) 0) (c ∷ cs))
-  some_taken p c cs n true h = rw (one-add n) (omega arith)
-  some_taken p c cs n false h = cc
+    some_taken : (p : ℕ → Bool) (c : ℕ) (cs : List ℕ) (n : ℕ) (v : Bool) → v ≡ true → 0 < length (take (cond v (1 + n) 0) (c ∷ cs))
+    some_taken p c cs n true h = rw (one-add n) (omega arith)
+    some_taken p c cs n false h = cc
 
 pub parted_sound : (env : Env) (text rest : List ℕ) → parted env text ≡ Ok rest → (b : List ℕ) × SomeBlanks b × (text ≡ b ++ rest)
 unfolding parted

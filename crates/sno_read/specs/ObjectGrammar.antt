@@ -24,5 +24,5 @@ pub record SpellsObject (names : List (List ℕ)) (text : List ℕ) (parts : Lis
   pub before : List ℕ
   pub inside : List ℕ
   pub blank_before : AreBlanks before
-  pub parts : AreParts names inside parts
+  pub are_parts : AreParts names inside parts
   pub joined : text ≡ before ++ inside

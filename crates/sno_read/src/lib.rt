@@ -13,5 +13,6 @@ mod reader;
 mod reading;
 
 pub use faults::ReadFault;
+pub use laws::{one_object, one_tree};
 pub use objects::{Object, Part};
 pub use reading::{read_object, read_pattern};

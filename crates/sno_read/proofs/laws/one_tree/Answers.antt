@@ -1,5 +1,4 @@
 -- Both trees are what is read.
-use Rattle.sno_read.proofs.SoundTexts.{pattern_sound}
 use Rattle.sno_read.proofs.CompleteTexts.{one_tree_law}
 use Rattle.sno_read.proofs.laws.one_tree.Goals as goal
 
