@@ -14,6 +14,10 @@ none_from : (i : ℕ) (bytes : List ℕ) → IsTrue (list_all is_ascii bytes) �
 none_from i [] h = refl
 none_from i (b ∷ bs) h = none_more (is_ascii b) i _ _ (none_from (i + 1) bs) h
 
+-- what is ASCII has no byte above 127
+pub none_non_ascii : (bytes : List ℕ) → IsTrue (list_all is_ascii bytes) → first_non_ascii bytes ≡ None
+none_non_ascii bytes ascii = none_from 0 bytes ascii
+
 not_longer : (n : ℕ) (x y : Result (List ℕ) TextFault) → n ≤ 4096 → cond (ltb 65536 n) x y ≡ y
 not_longer n x y h = grind (arith, nat_tests)
 

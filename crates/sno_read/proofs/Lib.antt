@@ -4,3 +4,15 @@ pub mod Steps
 pub mod Ascii
 pub mod Depths
 pub mod Parts
+pub mod Fronts
+pub mod Results
+pub mod Tokens
+pub mod Reserved
+pub mod Sound
+pub mod SoundTexts
+pub mod Marks
+pub mod TokensAgain
+pub mod Complete
+pub mod CompleteTexts
+pub mod ObjectTexts
+pub mod Answered

@@ -9,15 +9,15 @@ use Rattle.sno_read.specs.Reading.{Env, Read}
 use Rattle.sno_read.specs.Objects.{part_at, gap_at, parts_of, with_front}
 
 -- what is read of a text that isn't empty
-abbrev more_of : Env → ℕ → List ℕ → Result (List Part) ReadFault
+abbrev pub more_of : Env → ℕ → List ℕ → Result (List Part) ReadFault
 more_of env m text = part_at env text >>= λ x. gap_at env x.1 >>= λ rest. parts_of env m rest >>= λ others. Ok (x.0 ∷ others)
 
-more_step : (env : Env) (m : ℕ) (text : List ℕ) (k : ℕ) → k < m → nat_eq (length text) 0 ≡ false → parts_of env m text ≡ more_of env (m - 1) text
+pub more_step : (env : Env) (m : ℕ) (text : List ℕ) (k : ℕ) → k < m → nat_eq (length text) 0 ≡ false → parts_of env m text ≡ more_of env (m - 1) text
 unfolding parts_of
 more_step env zero text k h e = absurd (omega arith)
 more_step env (suc m) text k h e = let p : suc m - 1 ≡ m = omega arith in rw (e, p) refl
 
-end_step : (env : Env) (m : ℕ) (text : List ℕ) (k : ℕ) → k < m → nat_eq (length text) 0 ≡ true → parts_of env m text ≡ Ok []
+pub end_step : (env : Env) (m : ℕ) (text : List ℕ) (k : ℕ) → k < m → nat_eq (length text) 0 ≡ true → parts_of env m text ≡ Ok []
 unfolding parts_of
 end_step env zero text k h e = absurd (omega arith)
 end_step env (suc m) text k h e = rw e refl

@@ -4,5 +4,8 @@ pub mod Depth
 pub mod Gives
 pub mod Reading
 pub mod Objects
+pub mod Grammar
+pub mod ObjectGrammar
 pub mod ReadingRows
 pub mod Views
+pub mod Laws

@@ -5,6 +5,7 @@ mod characters;
 mod depth;
 mod faults;
 mod keywords;
+mod laws;
 mod object_reader;
 mod objects;
 mod piece;
@@ -12,5 +13,6 @@ mod reader;
 mod reading;
 
 pub use faults::ReadFault;
+pub use laws::{one_object, one_tree};
 pub use objects::{Object, Part};
 pub use reading::{read_object, read_pattern};

@@ -1,6 +1,9 @@
 //! Reading whole texts.
-ghost use Rattle.std.specs.Prelude.{◌≡◌, length};
-ghost use Rattle.sno_pattern.specs.Tree.{tree_of};
+ghost use Rattle.std.specs.Prelude.{◌≡◌, List, IfOk, Ok};
+ghost use Rattle.sno_pattern.specs.Tree.{Tree, tree_of};
+ghost use Rattle.sno_read.specs.declared.objects.Part.{Part};
+ghost use Rattle.sno_read.specs.Grammar.{Spells};
+ghost use Rattle.sno_read.specs.ObjectGrammar.{SpellsObject};
 ghost use Rattle.sno_pattern.specs.Texts.{first_non_ascii};
 ghost use Rattle.sno_read.specs.Gives.{Gives, Answers};
 ghost use Rattle.sno_read.specs.Characters.{skip};
@@ -100,14 +103,13 @@ fn object(alloc: Global, names: &Names, text: &[u8]) -> Result<Object, Stop>
     Ok(Object::of(parts))
 }
 
-/// The pattern that the text spells.
-pub fn read_pattern(
+fn answered_pattern(
     alloc: Global,
     names: &Names,
     earlier: usize,
     text: &[u8],
 ) -> Result<Pattern, ReadFault>
-    ensures exact { Answers tree_of result (pattern_of names.now earlier text.now) }
+    ensures { Answers tree_of result (pattern_of names.now earlier text.now) }
 {
     match pattern(alloc, names, earlier, text) {
         Ok(pattern) => Ok(pattern),
@@ -116,13 +118,51 @@ pub fn read_pattern(
     }
 }
 
-/// The object that the text spells.
-pub fn read_object(alloc: Global, names: &Names, text: &[u8]) -> Result<Object, ReadFault>
-    ensures exact { Answers (λ object. object) result (object_of names.now text.now) }
+fn answered_object(alloc: Global, names: &Names, text: &[u8]) -> Result<Object, ReadFault>
+    ensures { Answers (λ object. object) result (object_of names.now text.now) }
 {
     match object(alloc, names, text) {
         Ok(object) => Ok(object),
         Err(Stop::Memory) => Err(ReadFault::Memory),
         Err(Stop::Fault(fault)) => Err(fault),
     }
+}
+
+/// The pattern that the text spells, where a plain name may name the first `earlier` definitions (at most all of `names`)
+/// and a starred one any.
+///
+/// It is read exactly where the text spells a tree by the grammar of `specs/Grammar.antt`: at most 4,096 ASCII characters,
+/// 100 open parentheses and a depth of 1,000. Refused with the first fault and its place: first `TooLong` for the length,
+/// then `NonAscii`, then from left to right the first fault of the text as `specs/Reading.antt` finds it, and last `TooDeep`
+/// for the tree. `Memory` is answered only where memory was refused.
+pub fn read_pattern(
+    alloc: Global,
+    names: &Names,
+    earlier: usize,
+    text: &[u8],
+) -> Result<Pattern, ReadFault>
+    // Which answer it is, with the fault and its place.
+    ensures exact { Answers tree_of result (pattern_of names.now earlier text.now) }
+    // What is read is spelled so.
+    ensures found { IfOk result (λ p. Spells names.now earlier text.now (tree_of p)) }
+    // What is spelled so is read.
+    ensures only { (t : Tree) → Spells names.now earlier text.now t → Answers tree_of result (Ok t) }
+{
+    answered_pattern(alloc, names, earlier, text)
+}
+
+/// The object that the text spells; a text of blanks alone is the object of no parts.
+///
+/// It is read exactly where the text spells parts by the grammar of `specs/ObjectGrammar.antt`: at most 4,096 ASCII
+/// characters. Refused with the first fault and its place: first `TooLong` for the length, then `NonAscii`, then from left to
+/// right the first fault of the text. `Memory` is answered only where memory was refused.
+pub fn read_object(alloc: Global, names: &Names, text: &[u8]) -> Result<Object, ReadFault>
+    // Which answer it is, with the fault and its place.
+    ensures exact { Answers (λ object. object) result (object_of names.now text.now) }
+    // What is read is spelled so.
+    ensures found { IfOk result (λ parts. SpellsObject names.now text.now parts) }
+    // What is spelled so is read.
+    ensures only { (parts : List Part) → SpellsObject names.now text.now parts → Answers (λ object. object) result (Ok parts) }
+{
+    answered_object(alloc, names, text)
 }

@@ -1,0 +1,68 @@
+-- What is read of a whole text is spelled so.
+use Rattle.std.proofs.Common.{◌≡◌, ℕ, suc, ◌-◌, ◌<◌, ◌≤◌, Bool, true, false, not, cond, List, [], ◌∷◌, ◌++◌, length, nat_eq, nat_lt, Option, Some, None, Result, Ok, Err, IsTrue, refl, sym, ap, subst, ◌∙◌, arith, append-nil}
+use Rattle.std.specs.List.{list_all}
+use Rattle.std.specs.Char.{is_ascii}
+use Rattle.std.proofs.lemmas.Bool.{ltb-false, eqb-true}
+use Rattle.sno_pattern.specs.Texts.{first_non_ascii}
+use Rattle.sno_pattern.specs.Tree.{Tree}
+use Rattle.sno_read.specs.declared.faults.ReadFault.{ReadFault}
+use Rattle.sno_read.specs.declared.faults.ReadFault.TheVariants as fault
+use Rattle.sno_read.specs.Gives.{◌>>=◌}
+use Rattle.sno_read.specs.Characters.{is_blank, front, behind, skip}
+use Rattle.sno_read.specs.Depth.{depth}
+use Rattle.sno_read.specs.Grammar.{AreBlanks, IsAlternation, Spells}
+use Rattle.sno_read.specs.Reading.{Env, place, ended, shallow, whole_of, checked, ascii_only, pattern_of, alternation_at, inside}
+use Rattle.sno_read.proofs.Ascii.{all_ascii}
+use Rattle.sno_read.proofs.Fronts.{front_passes, front_behind}
+use Rattle.sno_read.proofs.Results.{bind_ok, if_ok, unless_ok, ok_same}
+use Rattle.sno_read.proofs.Sound.{alternation_sound}
+
+ascii_ok : (o : Option ℕ) (text t : List ℕ) → ascii_only o text ≡ Ok t → (o ≡ None) × (text ≡ t)
+ascii_ok None text t h = (refl, ok_same text t h)
+ascii_ok (Some i) text t h = cc
+
+pub checked_ok : (text t : List ℕ) → checked text ≡ Ok t → (length text ≤ 4096) × IsTrue (list_all is_ascii text) × (text ≡ t)
+checked_ok text t h =
+    let p = unless_ok (nat_lt 4096 (length text)) (ascii_only (first_non_ascii text) text) (fault.TooLong 4096) t h in
+    let q = ascii_ok (first_non_ascii text) text t p.1 in
+    (ltb-false _ _ p.0, all_ascii text (sym q.0), q.1)
+
+pub nothing_left : (l : List ℕ) → length l ≡ 0 → l ≡ []
+nothing_left [] h = refl
+nothing_left (c ∷ cs) h = absurd (omega arith)
+
+pub ended_ok : (env : Env) (text : List ℕ) (n : ℕ) → ended env text ≡ Ok n → text ≡ []
+unfolding ended
+ended_ok env text n h = nothing_left text (eqb-true _ _ (if_ok (nat_eq (length text) 0) (Ok 0) _ n h).0)
+
+shallow_ok : (env : Env) (t u : Tree) → shallow env t ≡ Ok u → (depth u ≤ 1000) × (t ≡ u)
+unfolding shallow
+shallow_ok env t u h =
+    let p = unless_ok (nat_lt 1000 (depth t)) (Ok t) _ u h in
+    let e = ok_same t u p.1 in
+    (subst (λ v. depth v ≤ 1000) e (ltb-false _ _ p.0), e)
+
+pub pattern_sound : (names : List (List ℕ)) (earlier : ℕ) (text : List ℕ) (t : Tree) → pattern_of names earlier text ≡ Ok t → Spells names earlier text t
+unfolding pattern_of whole_of
+pattern_sound names earlier text t h =
+    let c = bind_ok (checked text) _ t h in
+    let k = checked_ok text c.0 c.1 in
+    let env : Env = record { names = names; earlier = earlier; total = length text } in
+    let w = unless_ok (nat_eq (length (skip c.0)) 0) _ (fault.Empty env.total) t c.2 in
+    let a = bind_ok (alternation_at env 100 (inside env 100) (skip c.0)) _ t w.1 in
+    let e = bind_ok (ended env (skip a.0.1)) _ t a.2 in
+    let s = shallow_ok env a.0.0 t e.2 in
+    let x = alternation_sound env 100 (skip c.0) a.0.0 a.0.1 a.1 in
+    let rest : a.0.1 ≡ front is_blank a.0.1 = front_behind is_blank a.0.1 ∙ ap (λ l. front is_blank a.0.1 ++ l) (ended_ok env (skip a.0.1) e.0 e.1) ∙ append-nil (front is_blank a.0.1) in
+    record {
+      short = k.0;
+      ascii = k.1;
+      before = front is_blank c.0;
+      inside = x.0;
+      after = front is_blank a.0.1;
+      blank_before = front_passes is_blank c.0;
+      alternation = subst (λ u. IsAlternation names earlier 100 x.0 u) s.1 x.1;
+      blank_after = front_passes is_blank a.0.1;
+      joined = k.2 ∙ front_behind is_blank c.0 ∙ ap (λ l. front is_blank c.0 ++ l) (x.2 ∙ ap (λ l. x.0 ++ l) rest);
+      shallow = s.0;
+    }

@@ -1,0 +1,97 @@
+-- The grammar of patterns: which texts spell which trees. A text is joined from parts; k is how many parentheses may be
+-- open inside one.
+use Rattle.std.specs.Prelude.{◌≡◌, ℕ, suc, ◌+◌, ◌-◌, ◌*◌, ◌≤◌, ◌<◌, Bool, false, not, ◌&&◌, List, [], ◌∷◌, ◌++◌, length, nat_eq, Option, Some, None, IsTrue}
+use Rattle.std.specs.List.{list_all}
+use Rattle.std.specs.Char.{is_ascii, is_ascii_digit}
+use Rattle.sno_pattern.specs.Identifiers.{is_name, is_reserved}
+use Rattle.sno_pattern.specs.NameList.{place_of}
+use Rattle.sno_pattern.specs.Tree.{Tree, Lit, At, Ref, Arbno, Seq, Alt, Cond, Imm}
+use Rattle.sno_read.specs.declared.keywords.Word.{Word}
+use Rattle.sno_read.specs.declared.keywords.NumberCall.{NumberCall}
+use Rattle.sno_read.specs.declared.keywords.SetCall.{SetCall}
+use Rattle.sno_read.specs.declared.keywords.Keyword.{Keyword}
+use Rattle.sno_read.specs.declared.keywords.Keyword.TheVariants.{Primitive, Counted, Chosen, Repeated}
+use Rattle.sno_read.specs.Characters.{is_blank, is_quote, is_other}
+use Rattle.sno_read.specs.Depth.{depth}
+use Rattle.sno_read.specs.Keywords.{keyword_of, word_tree, number_tree, set_tree}
+
+-- blanks, or nothing
+abbrev pub AreBlanks : List ℕ → Type 0
+AreBlanks b = IsTrue (list_all is_blank b)
+
+-- at least one blank, and nothing else
+abbrev pub SomeBlanks : List ℕ → Type 0
+SomeBlanks b = AreBlanks b × (0 < length b)
+
+-- the decimal value of digits behind those of value n
+abbrev pub decimal : ℕ → List ℕ → ℕ
+decimal n [] = n
+decimal n (d ∷ ds) = decimal (n * 10 + (d - 48)) ds
+
+-- digits that spell the number
+pub record IsNumber (digits : List ℕ) (n : ℕ) : Type 0 where
+  pub some : 0 < length digits
+  pub all_digits : IsTrue (list_all is_ascii_digit digits)
+  pub value : decimal 0 digits ≡ n
+  pub small : n ≤ 65536
+
+-- quotes of one kind, with these characters inside
+pub record IsLiteral (text characters : List ℕ) : Type 0 where
+  pub quote : ℕ
+  pub is_quote : IsTrue (is_quote quote)
+  pub others : IsTrue (list_all (is_other quote) characters)
+  pub spelled : text ≡ quote ∷ (characters ++ (quote ∷ []))
+
+-- a name of no definition, and not reserved
+pub record IsVariable (names : List (List ℕ)) (name : List ℕ) : Type 0 where
+  pub is_name : IsTrue (is_name name)
+  pub not_reserved : is_reserved name ≡ false
+  pub no_definition : place_of names name ≡ None
+
+-- x in parentheses, with blanks inside them
+abbrev pub parenthesized : List ℕ → List ℕ → List ℕ → List ℕ
+parenthesized b x c = 40 ∷ (b ++ (x ++ (c ++ (41 ∷ []))))
+
+-- a sign between blanks, and a variable
+abbrev pub signed_by : ℕ → List ℕ → List ℕ → List ℕ → List ℕ
+signed_by sign b c v = b ++ (sign ∷ (c ++ v))
+
+module _ (names : List (List ℕ)) (earlier : ℕ) where
+  mutual
+    pub data IsElement : ℕ → List ℕ → Tree → Type 0 where
+      quoted : {k : ℕ} (x s : List ℕ) → IsLiteral x s → IsElement k x (Lit s)
+      cursor : {k : ℕ} (v : List ℕ) → IsVariable names v → IsElement k (64 ∷ v) (At v)
+      starred : {k : ℕ} (w : List ℕ) (i : ℕ) → IsTrue (is_name w) → place_of names w ≡ Some i → IsElement k (42 ∷ w) (Ref i)
+      plain : {k : ℕ} (w : List ℕ) (i : ℕ) → IsTrue (is_name w) → is_reserved w ≡ false → place_of names w ≡ Some i → i < earlier → IsElement k w (Ref i)
+      word : {k : ℕ} (w : List ℕ) (it : Word) → keyword_of w ≡ Some (Primitive it) → IsElement k w (word_tree it)
+      counted : {k : ℕ} (w b ds c : List ℕ) (call : NumberCall) (n : ℕ) → keyword_of w ≡ Some (Counted call) → AreBlanks b → IsNumber ds n → AreBlanks c → IsElement (suc k) (w ++ parenthesized b ds c) (number_tree call n)
+      chosen : {k : ℕ} (w b x s c : List ℕ) (call : SetCall) → keyword_of w ≡ Some (Chosen call) → AreBlanks b → IsLiteral x s → 0 < length s → AreBlanks c → IsElement (suc k) (w ++ parenthesized b x c) (set_tree call s)
+      repeated : {k : ℕ} (w b x c : List ℕ) (t : Tree) → keyword_of w ≡ Some Repeated → AreBlanks b → IsAlternation k x t → AreBlanks c → IsElement (suc k) (w ++ parenthesized b x c) (Arbno t)
+      group : {k : ℕ} (b x c : List ℕ) (t : Tree) → AreBlanks b → IsAlternation k x t → AreBlanks c → IsElement (suc k) (parenthesized b x c) t
+
+    pub data IsItem : ℕ → List ℕ → Tree → Type 0 where
+      element : {k : ℕ} (x : List ℕ) (t : Tree) → IsElement k x t → IsItem k x t
+      later : {k : ℕ} (x b c v : List ℕ) (t : Tree) → IsItem k x t → SomeBlanks b → SomeBlanks c → IsVariable names v → IsItem k (x ++ signed_by 46 b c v) (Cond t v)
+      at_once : {k : ℕ} (x b c v : List ℕ) (t : Tree) → IsItem k x t → SomeBlanks b → SomeBlanks c → IsVariable names v → IsItem k (x ++ signed_by 36 b c v) (Imm t v)
+
+    pub data IsConcatenation : ℕ → List ℕ → Tree → Type 0 where
+      single : {k : ℕ} (x : List ℕ) (t : Tree) → IsItem k x t → IsConcatenation k x t
+      followed : {k : ℕ} (x b y : List ℕ) (t u : Tree) → IsItem k x t → SomeBlanks b → IsConcatenation k y u → IsConcatenation k (x ++ (b ++ y)) (Seq t u)
+
+    pub data IsAlternation : ℕ → List ℕ → Tree → Type 0 where
+      only : {k : ℕ} (x : List ℕ) (t : Tree) → IsConcatenation k x t → IsAlternation k x t
+      otherwise : {k : ℕ} (x b c y : List ℕ) (t u : Tree) → IsConcatenation k x t → SomeBlanks b → SomeBlanks c → IsAlternation k y u → IsAlternation k (x ++ signed_by 124 b c y) (Alt t u)
+
+-- The text spells the tree: at most 4,096 ASCII characters, an alternation with blanks around it and at most 100
+-- parentheses open at any place, and a tree of depth at most 1,000.
+pub record Spells (names : List (List ℕ)) (earlier : ℕ) (text : List ℕ) (tree : Tree) : Type 0 where
+  pub short : length text ≤ 4096
+  pub ascii : IsTrue (list_all is_ascii text)
+  pub before : List ℕ
+  pub inside : List ℕ
+  pub after : List ℕ
+  pub blank_before : AreBlanks before
+  pub alternation : IsAlternation names earlier 100 inside tree
+  pub blank_after : AreBlanks after
+  pub joined : text ≡ before ++ (inside ++ after)
+  pub shallow : depth tree ≤ 1000

@@ -1,0 +1,14 @@
+-- Laws of the grammar.
+use Rattle.std.specs.Prelude.{◌≡◌, ℕ, List}
+use Rattle.sno_pattern.specs.Tree.{Tree}
+use Rattle.sno_read.specs.declared.objects.Part.{Part}
+use Rattle.sno_read.specs.Grammar.{Spells}
+use Rattle.sno_read.specs.ObjectGrammar.{SpellsObject}
+
+-- no text spells two trees
+abbrev pub OneTree : Type 0
+OneTree = (names : List (List ℕ)) (earlier : ℕ) (text : List ℕ) (t u : Tree) → Spells names earlier text t → Spells names earlier text u → t ≡ u
+
+-- no text spells two objects
+abbrev pub OneObject : Type 0
+OneObject = (names : List (List ℕ)) (text : List ℕ) (ps qs : List Part) → SpellsObject names text ps → SpellsObject names text qs → ps ≡ qs

@@ -1,0 +1,28 @@
+-- The grammar of objects: which texts spell which parts.
+use Rattle.std.specs.Prelude.{◌≡◌, ℕ, ◌≤◌, List, [], ◌∷◌, ◌++◌, length, IsTrue}
+use Rattle.std.specs.List.{list_all}
+use Rattle.std.specs.Char.{is_ascii}
+use Rattle.sno_read.specs.declared.objects.Part.{Part}
+use Rattle.sno_read.specs.declared.objects.Part.TheVariants.{Quoted, Var}
+use Rattle.sno_read.specs.Grammar.{AreBlanks, SomeBlanks, IsLiteral, IsVariable}
+
+module _ (names : List (List ℕ)) where
+  pub data IsPart : List ℕ → Part → Type 0 where
+    quoted : (x s : List ℕ) → IsLiteral x s → IsPart x (Quoted s)
+    variable : (v : List ℕ) → IsVariable names v → IsPart v (Var v)
+
+  -- parts with blanks between them, and blanks behind the last
+  pub data AreParts : List ℕ → List Part → Type 0 where
+    none : AreParts [] []
+    last : (x b : List ℕ) (p : Part) → IsPart x p → AreBlanks b → AreParts (x ++ b) (p ∷ [])
+    more : (x b y : List ℕ) (p q : Part) (ps : List Part) → IsPart x p → SomeBlanks b → AreParts y (q ∷ ps) → AreParts (x ++ (b ++ y)) (p ∷ q ∷ ps)
+
+-- The text spells the parts: at most 4,096 ASCII characters, and the parts with blanks around them.
+pub record SpellsObject (names : List (List ℕ)) (text : List ℕ) (parts : List Part) : Type 0 where
+  pub short : length text ≤ 4096
+  pub ascii : IsTrue (list_all is_ascii text)
+  pub before : List ℕ
+  pub inside : List ℕ
+  pub blank_before : AreBlanks before
+  pub are_parts : AreParts names inside parts
+  pub joined : text ≡ before ++ inside

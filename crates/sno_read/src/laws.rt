@@ -1,0 +1,12 @@
+//! Laws of the grammars: what a text spells is one.
+ghost use Rattle.sno_read.specs.Laws.{OneObject, OneTree};
+
+/// No text spells two trees.
+pub fn one_tree()
+    ensures { OneTree }
+{}
+
+/// No text spells two objects.
+pub fn one_object()
+    ensures { OneObject }
+{}
