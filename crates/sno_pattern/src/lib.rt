@@ -2,6 +2,8 @@
 #![tactic(auto)]
 
 mod admission;
+#[cfg(test)]
+mod admission_tests;
 mod classes;
 mod cursor_laws;
 mod definitions;
