@@ -31,7 +31,12 @@ fn name(letters: &[u8]) -> Result<Name, Fail> {
     Ok(name)
 }
 
-fn admit(rt: &impl Abort, alloc: Global, names: &[Name], bodies: Vec<Pattern>) -> Result<Result<Rules, RulesFault>, Fail> {
+fn admit(
+    rt: &impl Abort,
+    alloc: Global,
+    names: &[Name],
+    bodies: Vec<Pattern>,
+) -> Result<Result<Rules, RulesFault>, Fail> {
     let names = Names::new(alloc, names)?;
     assert_eq!(rt; names.len(), bodies.len());
     Ok(Rules::admit(alloc, names, bodies))
@@ -62,7 +67,12 @@ fn a_list_of_items_is_admitted(rt: HostRuntime) -> Result<(), Fail> {
     let item = seq(alloc, span(alloc, b"ab")?, literal(alloc, b",")?)?;
     let items = seq(alloc, Pattern::Ref(0), Pattern::Ref(1))?;
     let list = alt(alloc, items, literal(alloc, b"")?)?;
-    let rules = admit(&rt, alloc, &[name(b"ITEM")?, name(b"LIST")?], vec![in alloc; item, list]?)??;
+    let rules = admit(
+        &rt,
+        alloc,
+        &[name(b"ITEM")?, name(b"LIST")?],
+        vec![in alloc; item, list]?,
+    )??;
     assert_eq!(rt; rules.len(), 2);
     assert!(rt; rules.covers(&Pattern::Ref(1)));
     assert!(rt; !rules.covers(&Pattern::Ref(2)));
@@ -91,7 +101,12 @@ fn the_first_cycle_is_answered(rt: HostRuntime) -> Result<(), Fail> {
     let last = seq(alloc, Pattern::Arb, Pattern::Ref(1))?;
     let last = alt(alloc, Pattern::Ref(0), last)?;
     let bodies = vec![in alloc; first, Pattern::Ref(3), third, last]?;
-    let answer = admit(&rt, alloc, &[name(b"A")?, name(b"B")?, name(b"C")?, name(b"D")?], bodies)?;
+    let answer = admit(
+        &rt,
+        alloc,
+        &[name(b"A")?, name(b"B")?, name(b"C")?, name(b"D")?],
+        bodies,
+    )?;
     assert!(rt; is_unguarded(answer, &[1, 3]));
     Ok(())
 }
