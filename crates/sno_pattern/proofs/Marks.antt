@@ -1,8 +1,8 @@
 -- Marks of the definitions that take.
-use Rattle.std.proofs.Common.{◌≡◌, ℕ, zero, suc, ◌+◌, ◌<◌, ◌≤◌, ◌↔◌, Bool, true, false, not, ◌&&◌, ◌||◌, cond, List, [], ◌∷◌, length, map, Option, Some, None, slice_get, nat_eq, eqb, get_or, set, replicate, inl, inr, ⊎_elim, refl, arith, ap, sym, subst, ◌∙◌}
+use Rattle.std.proofs.Common.{◌≡◌, ℕ, zero, suc, ◌<◌, Bool, true, false, not, ◌||◌, List, [], ◌∷◌, length, Some, slice_get, nat_eq, get_or, set, replicate, ⊎_elim, refl, arith, ap, sym, subst, ◌∙◌}
 use Rattle.std.proofs.lemmas.Bool.{and_parts, or_cases, and_from, cases_eq, ne_eqb}
 use Rattle.std.proofs.lemmas.Option.{slice_get_within}
-use Rattle.std.proofs.lemmas.List.{length-map, get_or-set_same, get_or-set_other}
+use Rattle.std.proofs.lemmas.List.{length-map, get_or-set_other}
 use Rattle.sno_pattern.specs.Tree as tree
 use Rattle.sno_pattern.specs.Tree.{Tree, tree_of, trees}
 use Rattle.sno_pattern.specs.declared.tree.Pattern.{Pattern}
@@ -106,7 +106,7 @@ pub sound_more : (bodies : List Tree) (marks : List Bool) (n : ℕ) → AreSound
 sound_more bodies marks n sound u i h =
     ⊎_elim
     (λ same. let there : Takes bodies (tree.Ref n) = guard.ref u.1 (takes_by_sound bodies marks sound u.0 u.2) in
-        let P : ℕ → Type 0 = λ x. Takes bodies (tree.Ref x) in subst P (sym same) there)
+    let P : ℕ → Type 0 = λ x. Takes bodies (tree.Ref x) in subst P (sym same) there)
     (λ other. let still : get_or marks i false ≡ true = sym (get_or-set_other marks n i true false other) ∙ h in sound i still)
     (cases_eq i n)
 

@@ -1,8 +1,8 @@
 -- A search along unguarded references, depth first, through definitions that were not seen.
-use Rattle.std.proofs.Common.{◌≡◌, ℕ, zero, suc, ◌+◌, ◌<◌, ◌≤◌, ◌≢◌, ◌⊎◌, Bool, true, false, List, [], ◌∷◌, ◌++◌, length, reverse, get_or, set, eqb, inl, inr, ⊎_elim, refl, arith, ap, sym, subst, ◌∙◌}
+use Rattle.std.proofs.Common.{◌≡◌, ℕ, suc, ◌+◌, ◌<◌, ◌≤◌, ◌⊎◌, Bool, true, false, List, [], ◌∷◌, ◌++◌, length, reverse, get_or, set, eqb, inl, inr, ⊎_elim, refl, arith, ap, sym, subst, ◌∙◌}
 use Rattle.std.specs.List.{AllByRecursion, IsDistinct}
 use Rattle.std.proofs.lemmas.Bool.{both_ways, cases_eq, cases_lt, cases_Bool, ne_eqb}
-use Rattle.std.proofs.lemmas.List.{get_or-set_same, get_or-set_other, length-set, length-map, reverse-append}
+use Rattle.std.proofs.lemmas.List.{get_or-set_same, get_or-set_other, length-map, reverse-append}
 use Rattle.std.proofs.lemmas.Map.Keys.{IsDistinct-cons}
 use Rattle.sno_pattern.specs.Tree.{Tree, tree_of, trees}
 use Rattle.sno_pattern.specs.declared.tree.Pattern.{Pattern}
@@ -66,7 +66,7 @@ module _ (bodies : List Tree) (target : ℕ) where
   one_more found n seen below here k h =
       ⊎_elim (below k)
       (λ last. let same : n ≡ k = omega arith in
-        let P : ℕ → Type 0 = λ i. (get_or found i 0 ≡ target → ⊥) × (get_or seen (get_or found i 0) false ≡ true) in subst P same here)
+      let P : ℕ → Type 0 = λ i. (get_or found i 0 ≡ target → ⊥) × (get_or seen (get_or found i 0) false ≡ true) in subst P same here)
       (cases_lt k n)
 
   -- the next reference was seen before
@@ -92,9 +92,9 @@ module _ (bodies : List Tree) (target : ℕ) where
         rest = λ x no_mark mark.
             ⊎_elim
             (λ marked. ⊎_elim
-              (λ same. let P : ℕ → Type 0 = IsClosed bodies target later in subst P (sym same) d.done)
-              (λ was. closed_kept after later x on (s.rest x no_mark was))
-              (marked_now after next x marked))
+            (λ same. let P : ℕ → Type 0 = IsClosed bodies target later in subst P (sym same) d.done)
+            (λ was. closed_kept after later x on (s.rest x no_mark was))
+            (marked_now after next x marked))
             (λ unmarked. d.rest x unmarked mark)
             (cases_Bool (get_or (set after next true) x false));
       }
@@ -120,11 +120,12 @@ module _ (bodies : List Tree) (target : ℕ) where
   pub not_seen_apart : (seen : List Bool) (next : ℕ) → next < length seen → (way : List ℕ) → AllByRecursion (λ x. get_or (set seen next true) x false ≡ false) way
       → AllByRecursion (λ x. eqb next x ≡ false) way
   not_seen_apart seen next inside [] h = tt
-  not_seen_apart seen next inside (x ∷ way) h =
-      (ne_eqb next x
+  not_seen_apart seen next inside (x ∷ way) h = (
+    ne_eqb next x
         (λ same. let here : get_or (set seen next true) next false ≡ true = get_or-set_same seen next true false inside in
-          let P : ℕ → Type 0 = λ i. get_or (set seen next true) i false ≡ true in both_ways (get_or (set seen next true) x false) h.0 (subst P same here)),
-        not_seen_apart seen next inside way h.1)
+        let P : ℕ → Type 0 = λ i. get_or (set seen next true) i false ≡ true in both_ways (get_or (set seen next true) x false) h.0 (subst P same here)),
+    not_seen_apart seen next inside way h.1,
+  )
 
   not_seen_before : (before after : List Bool) → Kept before after → (way : List ℕ) → AllByRecursion (λ x. get_or after x false ≡ false) way
       → AllByRecursion (λ x. get_or before x false ≡ false) way
@@ -136,8 +137,10 @@ module _ (bodies : List Tree) (target : ℕ) where
       → get_or after next false ≡ false → IsFreshWay bodies next way target (set after next true) → IsFreshWay bodies from (next ∷ way) target before
   fresh_on from next before after way leads kept inside new w = record {
     path = (leads, w.path);
-    fresh = (unseen_before before after kept next new,
-      not_seen_before before (set after next true) (λ j h. marked_kept after next inside j (kept j h)) way w.fresh);
+    fresh = (
+      unseen_before before after kept next new,
+      not_seen_before before (set after next true) (λ j h. marked_kept after next inside j (kept j h)) way w.fresh,
+    );
     apart = IsDistinct-cons eqb next way (not_seen_apart after next inside way w.fresh) w.apart;
   }
 

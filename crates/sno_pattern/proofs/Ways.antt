@@ -1,12 +1,12 @@
 -- Ways along unguarded references.
-use Rattle.std.proofs.Common.{◌≡◌, ℕ, zero, suc, ◌+◌, ◌<◌, ◌≤◌, Bool, true, false, ◌&&◌, cond, List, [], ◌∷◌, ◌++◌, length, map, Some, slice_get, get_or, IsTrue, inl, inr, ⊎_elim, refl, arith, ap, sym, subst, ◌∙◌}
+use Rattle.std.proofs.Common.{◌≡◌, ℕ, zero, suc, ◌+◌, ◌<◌, Bool, true, false, cond, List, [], ◌∷◌, ◌++◌, length, Some, slice_get, get_or, IsTrue, inl, inr, refl, arith, ap, sym, subst, ◌∙◌}
 use Rattle.std.specs.List.{list_all, AllByRecursion}
 use Rattle.std.proofs.lemmas.Bool.{and_parts, ltb-true, both_ways}
 use Rattle.std.proofs.lemmas.List.{length-map, length-append, get_or_append_left, get_or-append-add}
 use Rattle.sno_pattern.specs.Tree as tree
 use Rattle.sno_pattern.specs.Tree.{Tree, tree_of, trees, refs_below}
 use Rattle.sno_pattern.specs.declared.tree.Pattern.{Pattern}
-use Rattle.sno_pattern.specs.Guard.{Takes, Unguarded, Leads}
+use Rattle.sno_pattern.specs.Guard.{Takes, Unguarded}
 use Rattle.sno_pattern.specs.Searching.{takes_by, unguarded_by, AreExact, AreReferences}
 
 -- of each number in a list
@@ -67,7 +67,7 @@ module _ (bodies : List Tree) (marks : List Bool) (exact : AreExact bodies marks
       each_joined (Unguarded bodies (tree.Seq p q)) (unguarded_by marks p) (cond (takes_by marks p) [] (unguarded_by marks q))
       (each_weaker (Unguarded bodies p) (Unguarded bodies (tree.Seq p q)) (λ j u. inl u) (unguarded_by marks p) (found_unguarded p))
       (each_weaker (λ j. (Takes bodies p → ⊥) × Unguarded bodies q j) (Unguarded bodies (tree.Seq p q)) (λ j u. inr u)
-        (cond (takes_by marks p) [] (unguarded_by marks q)) (behind p q (takes_by marks p) refl (found_unguarded q)))
+      (cond (takes_by marks p) [] (unguarded_by marks q)) (behind p q (takes_by marks p) refl (found_unguarded q)))
   found_unguarded (tree.Alt p q) =
       each_joined (Unguarded bodies (tree.Alt p q)) (unguarded_by marks p) (unguarded_by marks q)
       (each_weaker (Unguarded bodies p) (Unguarded bodies (tree.Alt p q)) (λ j u. inl u) (unguarded_by marks p) (found_unguarded p))
@@ -154,12 +154,12 @@ references_of : (bodies : List Tree) (marks : List Bool) → AreExact bodies mar
     → (from : ℕ) (body : Tree) → slice_get bodies from ≡ Some body → AreReferences bodies from (unguarded_by marks body)
 references_of bodies marks exact closed from body is =
     let each : (k : ℕ) → k < length (unguarded_by marks body) → Unguarded bodies body (get_or (unguarded_by marks body) k 0) =
-        λ k h. each_at (Unguarded bodies body) (unguarded_by marks body) k h (found_unguarded bodies marks exact body) in
+    λ k h. each_at (Unguarded bodies body) (unguarded_by marks body) k h (found_unguarded bodies marks exact body) in
     record {
       each = λ k h. (body, is, each k h);
       inside = λ k h. unguarded_inside bodies (length bodies) body _ (closed_body (length bodies) bodies from body closed is) (each k h);
       all = λ j leads. let same : leads.0 ≡ body = cc in
-        let P : Tree → Type 0 = λ p. Unguarded bodies p j in all_found bodies marks exact body j (subst P same leads.2);
+          let P : Tree → Type 0 = λ p. Unguarded bodies p j in all_found bodies marks exact body j (subst P same leads.2);
     }
 
 pub references_found : (bodies : List Pattern) (marks : List Bool) → AreExact (trees bodies) marks → IsTrue (list_all (refs_below (length bodies)) (trees bodies))

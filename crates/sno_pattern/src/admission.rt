@@ -3,7 +3,6 @@ ghost use Rattle.std.specs.Prelude.{◌≡◌, ℕ, ◌<◌, ◌++◌, Bool, tru
 ghost use Rattle.std.specs.List.{list_all};
 ghost use Rattle.sno_pattern.specs.Tree.{tree_of, trees, refs_below};
 ghost use Rattle.sno_pattern.specs.Searching.{takes_by, unguarded_by, AreSound, AreComplete, AreExact, IsUnmarked, AreReferences, IsDeadEnd, IsFreshWay};
-
 ghost use Rattle.sno_pattern.specs.Guard.{Chain, Guarded};
 ghost use Rattle.sno_pattern.specs.Admission.{IsCycle, IsFirstCycle};
 
@@ -71,7 +70,11 @@ fn taking(alloc: Global, bodies: &[Pattern]) -> Result<Vec<bool>, AllocError>
 }
 
 // Puts the unguarded references of the pattern behind those found so far. Whether the pattern takes is answered.
-fn find_unguarded(marks: &[bool], pattern: &Pattern, found: &mut Vec<usize>) -> Result<bool, AllocError>
+fn find_unguarded(
+    marks: &[bool],
+    pattern: &Pattern,
+    found: &mut Vec<usize>,
+) -> Result<bool, AllocError>
     ensures answer { IfOk result (λ b. b ≡ takes_by marks.now (tree_of pattern.now)) }
     ensures found { IfOk result (λ b. found.new.items ≡ found.old.items ++ unguarded_by marks.now (tree_of pattern.now)) }
 {
@@ -106,7 +109,12 @@ fn find_unguarded(marks: &[bool], pattern: &Pattern, found: &mut Vec<usize>) -> 
 }
 
 // The definitions to which one leads.
-fn references(alloc: Global, bodies: &[Pattern], marks: &[bool], from: usize) -> Result<Vec<usize>, AllocError>
+fn references(
+    alloc: Global,
+    bodies: &[Pattern],
+    marks: &[bool],
+    from: usize,
+) -> Result<Vec<usize>, AllocError>
     requires inside { from < length bodies.now }
     requires closed { IsTrue (list_all (refs_below (length bodies.now)) (trees bodies.now)) }
     requires exact { AreExact (trees bodies.now) marks.now }
@@ -119,16 +127,19 @@ fn references(alloc: Global, bodies: &[Pattern], marks: &[bool], from: usize) ->
 
 // A way from a definition to the target, the last step first, through definitions that were not seen.
 fn way(
-    alloc: Global, bodies: &[Pattern], marks: &[bool], from: usize, target: usize, seen: &mut [bool],
+    alloc: Global,
+    bodies: &[Pattern],
+    marks: &[bool],
+    from: usize,
+    target: usize,
+    seen: &mut [bool],
 ) -> Result<Option<Vec<usize>>, AllocError>
     requires inside { from < length bodies.now }
     requires closed { IsTrue (list_all (refs_below (length bodies.now)) (trees bodies.now)) }
     requires exact { AreExact (trees bodies.now) marks.now }
     requires room { length seen.old ≡ length bodies.now }
-    ensures {
-        IfOk result (λ r. MatchOption r (IsDeadEnd (trees bodies.now) from target seen.old seen.new)
-            (λ w. IsFreshWay (trees bodies.now) from (reverse w.items) target seen.old))
-    }
+    ensures { IfOk result (λ r. MatchOption r (IsDeadEnd (trees bodies.now) from target seen.old seen.new)
+        (λ w. IsFreshWay (trees bodies.now) from (reverse w.items) target seen.old)) }
 {
     let found = references(alloc, bodies, marks, from)?;
     for next in &found {
@@ -159,7 +170,12 @@ fn only(alloc: Global, count: usize, number: usize) -> Result<Vec<bool>, AllocEr
 }
 
 // A cycle from this definition, if it lies on one.
-fn cycle_from(alloc: Global, bodies: &[Pattern], marks: &[bool], start: usize) -> Result<Option<Vec<usize>>, AllocError>
+fn cycle_from(
+    alloc: Global,
+    bodies: &[Pattern],
+    marks: &[bool],
+    start: usize,
+) -> Result<Option<Vec<usize>>, AllocError>
     requires inside { start < length bodies.now }
     requires closed { IsTrue (list_all (refs_below (length bodies.now)) (trees bodies.now)) }
     requires exact { AreExact (trees bodies.now) marks.now }
@@ -178,7 +194,10 @@ fn cycle_from(alloc: Global, bodies: &[Pattern], marks: &[bool], start: usize) -
 }
 
 /// A cycle of unguarded references, from the first definition that lies on one; none where the definitions are guarded.
-pub(crate) fn first_cycle(alloc: Global, bodies: &[Pattern]) -> Result<Option<Vec<usize>>, AllocError>
+pub(crate) fn first_cycle(
+    alloc: Global,
+    bodies: &[Pattern],
+) -> Result<Option<Vec<usize>>, AllocError>
     requires { IsTrue (list_all (refs_below (length bodies.now)) (trees bodies.now)) }
     ensures { IfOk result (λ r. MatchOption r (Guarded (trees bodies.now)) (λ l. IsFirstCycle (trees bodies.now) l.items)) }
 {

@@ -3,7 +3,6 @@ ghost use Rattle.std.specs.Prelude.{◌≡◌, ◌↔◌, [], length, slice_get,
 ghost use Rattle.std.specs.Option.{option_copied, option_map};
 ghost use Rattle.std.specs.List.{list_all, position_from};
 ghost use Rattle.sno_pattern.specs.Tree.{tree_of, trees, refs_below};
-
 ghost use Rattle.sno_pattern.specs.Guard.{Guarded};
 ghost use Rattle.sno_pattern.specs.Admission.{IsAdmitted, first_bad_ref};
 
@@ -142,8 +141,11 @@ fn refs_below(count: usize, pattern: &Pattern) -> bool
 {
     match pattern {
         Pattern::Ref(number) => *number < count,
-        Pattern::Arbno(child) | Pattern::Cond(child, _) | Pattern::Imm(child, _) => refs_below(count, child),
-        Pattern::Seq(left, right) | Pattern::Alt(left, right) => refs_below(count, left) && refs_below(count, right),
+        Pattern::Arbno(child) | Pattern::Cond(child, _) | Pattern::Imm(child, _) => refs_below(
+            count, child,
+        ),
+        Pattern::Seq(left, right) | Pattern::Alt(left, right) => refs_below(count, left)
+            && refs_below(count, right),
         _ => true,
     }
 }

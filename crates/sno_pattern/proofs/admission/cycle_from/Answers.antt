@@ -1,6 +1,5 @@
 -- A dead end shows that there is no cycle; a way back, with the definition itself in front, is one.
-use Rattle.std.proofs.Common.{◌≡◌, ℕ, Bool, true, false, List, length, replicate, reverse, slice_set, subst, ◌∙◌}
-use Rattle.std.proofs.lemmas.List.{length-replicate, length-set}
+use Rattle.std.proofs.Common.{Bool, List, length, reverse, subst, ◌∙◌}
 use Rattle.sno_pattern.specs.Tree.{trees}
 use Rattle.sno_pattern.specs.Searching.{IsDeadEnd, IsFreshWay}
 use Rattle.sno_pattern.proofs.Cycles.{no_chain, cycle_found}

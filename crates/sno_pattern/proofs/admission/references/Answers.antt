@@ -1,5 +1,5 @@
 -- What was found are the references.
-use Rattle.std.proofs.Common.{◌≡◌, List, ℕ, [], ◌++◌, ap, ◌∙◌}
+use Rattle.std.proofs.Common.{List, ℕ, ◌++◌, ap, ◌∙◌}
 use Rattle.sno_pattern.specs.Tree.{tree_of}
 use Rattle.sno_pattern.specs.Searching.{unguarded_by}
 use Rattle.sno_pattern.proofs.Ways.{references_found}

@@ -1,5 +1,5 @@
 -- Where no reference is past the last and no cycle was found, the invariant holds.
-use Rattle.std.proofs.Common.{◌≡◌, List, None, length, ap, sym, subst, ◌∙◌}
+use Rattle.std.proofs.Common.{◌≡◌, List, None, sym, subst, ◌∙◌}
 use Rattle.std.proofs.lemmas.List.{length-map}
 use Rattle.sno_pattern.specs.declared.tree.Pattern.{Pattern}
 use Rattle.sno_pattern.specs.Tree.{tree_of, trees}
@@ -17,8 +17,10 @@ pub invariant_of-result : goal.invariant_of-result
 invariant_of-result c =
     let P : List Pattern → Type 0 = λ l. first_bad_ref (trees l) ≡ None in
     let Q : List Pattern → Type 0 = λ l. Guarded (trees l) in
-    let g : Guarded (trees c.deref-2.result.now) = rw c.in-Ok-None.field-0-is at c.in-Ok-None.ensures in
-    (record {
+    let g : Guarded (trees c.deref-2.result.now) = rw c.in-Ok-None.field-0-is at c.in-Ok-None.ensures in (
+      record {
         as_many = c.requires ∙ sym (length-map c.args.bodies.items tree_of);
         closed = all_closed (trees c.args.bodies.items) (subst P c.deref.ensures.value (sym c.in_default.ensures));
-      }, subst Q c.deref-2.ensures.value g)
+      },
+      subst Q c.deref-2.ensures.value g,
+    )
