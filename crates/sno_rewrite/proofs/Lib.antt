@@ -2,3 +2,4 @@ pub mod JsonLemmas
 pub mod FaultLemmas
 pub mod PlaceLemmas
 pub mod IndexLemmas
+pub mod References

@@ -10,7 +10,7 @@ here_or_later : (b : Bool) (i k n : ℕ) (later : Option ℕ) → (later ≡ Som
 here_or_later true i k n later more h = let e : i ≡ k = cc in omega arith
 here_or_later false i k n later more h = let m = more h in omega arith
 
-position_inside : {X : Type 0} (p : X → Bool) (i k : ℕ) (xs : List X) → position_from p i xs ≡ Some k → k < i + length xs
+pub position_inside : {X : Type 0} (p : X → Bool) (i k : ℕ) (xs : List X) → position_from p i xs ≡ Some k → k < i + length xs
 position_inside p i k [] h = cc
 position_inside p i k (x ∷ xs) h = here_or_later (p x) i k (length xs) (position_from p (i + 1) xs) (position_inside p (i + 1) k xs) h
 

@@ -106,15 +106,17 @@ abbrev pub object_row : List (List ℕ) → ℕ → Option (List ℕ) → Result
 object_row defined s None = Ok None
 object_row defined s (Some text) = reading (fault.StatementObject s) (object_of defined text) >>= λ parts. Ok (Some parts)
 
+-- the name of the text of statement number s
+abbrev pub text_name_row : ℕ → List ℕ → Result (List ℕ) RunFault
+text_name_row s name = if is_text_name name then Ok name else Err (fault.StatementName s)
+
 -- statement number s: the name of its text, then its pattern, in which plain names may name all definitions, then its object;
 -- `anchor` is for those that don't say whether they are anchored
-abbrev pub statement_row : Definitions → Bool → ℕ → StatementRow → Result Task RunFault
+unfoldable pub statement_row : Definitions → Bool → ℕ → StatementRow → Result Task RunFault
 statement_row rules anchor s row =
-    if is_text_name row.text
-    then reading (fault.StatementPattern s) (pattern_of rules.names (length rules.names) row.pattern) >>= (λ pattern.
-      object_row rules.names s row.object >>= λ object.
-      Ok (record { number = s; rules = rules; pattern = pattern; object = object; text = row.text; anchored = unwrap_or row.anchored anchor }))
-    else Err (fault.StatementName s)
+    text_name_row s row.text >>= λ text. reading (fault.StatementPattern s) (pattern_of rules.names (length rules.names) row.pattern) >>= λ pattern.
+    object_row rules.names s row.object >>= λ object.
+    Ok (record { number = s; rules = rules; pattern = pattern; object = object; text = text; anchored = unwrap_or row.anchored anchor })
 
 -- the statements from number s on, behind those before
 abbrev pub statements_from : Definitions → Bool → ℕ → List Task → List StatementRow → Result (List Task) RunFault

@@ -5,6 +5,7 @@ mod definitions;
 mod faults;
 mod json;
 mod rows;
+mod statements;
 mod texts;
 
 pub use faults::{RunFault, status_of};
