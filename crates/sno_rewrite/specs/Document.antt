@@ -128,13 +128,13 @@ statements_from rules anchor s done (row ∷ rows) =
 unfoldable pub statements_of : Definitions → Bool → List StatementRow → Result (List Task) RunFault
 statements_of rules anchor rows = at_most 1000000 fault.TooManyStatements rows >>= λ rows. statements_from rules anchor 1 [] rows
 
--- what comes before the definitions: the length, then JSON, then its shape
-abbrev pub shaped : Option Data → Result Rows RunFault
-shaped None = Err fault.NotJson
-shaped (Some d) = rows_of d
+-- the value that bytes stand for: the length is looked at first
+abbrev pub value_or : Option Data → Result Data RunFault
+value_or None = Err fault.NotJson
+value_or (Some d) = Ok d
 
-unfoldable pub rows_in : List ℕ → Result Rows RunFault
-rows_in bytes = if nat_lt 16777216 (length bytes) then Err fault.DocumentTooLong else shaped (json_of bytes)
+unfoldable pub value_in : List ℕ → Result Data RunFault
+value_in bytes = if nat_lt 16777216 (length bytes) then Err fault.DocumentTooLong else value_or (json_of bytes)
 
 -- what comes behind the definitions, once they are admitted
 unfoldable pub document_with : Definitions → Bool → Rows → Result Document RunFault
@@ -142,12 +142,20 @@ document_with rules anchor rows =
     texts_of rows.texts >>= λ done. statements_of rules anchor rows.statements >>= λ statements.
     Ok (record { rules = rules; texts = done; statements = statements })
 
--- What bytes stand for: a fault before the definitions are read; a fault in them; the first definition that lies on a circle of
--- references that takes no character; or what stands behind admitted definitions.
+-- What definitions stand for: themselves, where they are guarded; or the fault with the name of the first that lies on a circle of
+-- references that takes no character.
+pub data IsAdmitted (rules : Definitions) : Result Definitions RunFault → Type 0 where
+  guarded : Guarded rules.bodies → IsAdmitted rules (Ok rules)
+  circle : {name : List ℕ} (i : ℕ) (others : List ℕ) → IsFirstCycle rules.bodies (i ∷ others) → slice_get rules.names i ≡ Some name
+      → IsAdmitted rules (Err (fault.Unguarded name))
+
+-- What bytes stand for: the value, its shape, the definitions, their admission, and then the rest; or the first fault among these.
 pub data IsDocument (anchor : Bool) (bytes : List ℕ) : Result Document RunFault → Type 0 where
-  no_rows : {e : RunFault} → rows_in bytes ≡ Err e → IsDocument anchor bytes (Err e)
-  no_definitions : {rows : Rows} {e : RunFault} → rows_in bytes ≡ Ok rows → definitions_of rows.patterns ≡ Err e → IsDocument anchor bytes (Err e)
-  circle : {rows : Rows} {rules : Definitions} {i : ℕ} {name : List ℕ} (others : List ℕ) → rows_in bytes ≡ Ok rows → definitions_of rows.patterns ≡ Ok rules
-      → IsFirstCycle rules.bodies (i ∷ others) → slice_get rules.names i ≡ Some name → IsDocument anchor bytes (Err (fault.Unguarded name))
-  admitted : {rows : Rows} {rules : Definitions} {r : Result Document RunFault} → rows_in bytes ≡ Ok rows → definitions_of rows.patterns ≡ Ok rules
-      → Guarded rules.bodies → document_with rules anchor rows ≡ r → IsDocument anchor bytes r
+  no_value : {e : RunFault} → value_in bytes ≡ Err e → IsDocument anchor bytes (Err e)
+  no_rows : {e : RunFault} (d : Data) → value_in bytes ≡ Ok d → rows_of d ≡ Err e → IsDocument anchor bytes (Err e)
+  no_definitions : {e : RunFault} (d : Data) (rows : Rows) → value_in bytes ≡ Ok d → rows_of d ≡ Ok rows → definitions_of rows.patterns ≡ Err e
+      → IsDocument anchor bytes (Err e)
+  not_admitted : {e : RunFault} (d : Data) (rows : Rows) (rules : Definitions) → value_in bytes ≡ Ok d → rows_of d ≡ Ok rows
+      → definitions_of rows.patterns ≡ Ok rules → IsAdmitted rules (Err e) → IsDocument anchor bytes (Err e)
+  whole : {r : Result Document RunFault} (d : Data) (rows : Rows) (rules : Definitions) → value_in bytes ≡ Ok d → rows_of d ≡ Ok rows
+      → definitions_of rows.patterns ≡ Ok rules → IsAdmitted rules (Ok rules) → document_with rules anchor rows ≡ r → IsDocument anchor bytes r

@@ -4,3 +4,4 @@ pub mod Shape
 pub mod Rows
 pub mod Document
 pub mod Texts
+pub mod Drafts

@@ -1,16 +1,18 @@
 //! The definitions of a document.
-ghost use Rattle.std.specs.Prelude.{◌≡◌, ◌<◌, ◌≤◌, ◌+◌, [], map, length, Some, IfOk};
-ghost use Rattle.sno_pattern.specs.Tree.{tree_of, trees};
+ghost use Rattle.std.specs.Prelude.{◌≡◌, ◌<◌, ◌≤◌, ◌+◌, [], map, length, IfOk, IsTrue};
+ghost use Rattle.std.specs.List.{list_all};
+ghost use Rattle.sno_pattern.specs.Tree.{tree_of, trees, refs_below};
 ghost use Rattle.sno_pattern.specs.NameList.{names_of};
 ghost use Rattle.sno_read.specs.Reading.{pattern_of};
 ghost use Rattle.sno_rewrite.specs.Faults.{Gives};
 ghost use Rattle.sno_rewrite.specs.Rows.{pair_seen};
+ghost use Rattle.sno_rewrite.specs.Drafts.{drafted_seen, IsDrafted, Admits};
 ghost use Rattle.sno_rewrite.specs.Document.{names_from, names_checked, reading, bodies_from, definitions_of};
 ghost use Rattle.sno_rewrite.specs.declared.faults.RunFault.TheVariants.{PatternRead};
 
 use crate::RunFault;
 use crate::rows::PairRow;
-use sno_pattern::{Name, Names, NamesFault, Pattern};
+use sno_pattern::{Name, Names, NamesFault, Pattern, Rules, RulesFault};
 use sno_read::{ReadFault, read_pattern};
 use std::alloc::Global;
 
@@ -44,10 +46,12 @@ fn names_checked(alloc: Global, names: &[Name]) -> Result<Names, RunFault>
     }
 }
 
-/// The expression of the definition at a place.
+/// The expression of the definition at a place. Its references are to definitions.
+#[tactic(auto, using(crate::proofs::References::spelled_covered))]
 fn body(alloc: Global, names: &Names, place: usize, text: &str) -> Result<Pattern, RunFault>
     requires { place < 64 }
-    ensures { Gives tree_of result (reading (λ e. PatternRead (place + 1) e) (pattern_of names.now place text.now)) }
+    ensures read { Gives tree_of result (reading (λ e. PatternRead (place + 1) e) (pattern_of names.now place text.now)) }
+    ensures covered { IfOk result (λ p. IsTrue (refs_below (length names.now) (tree_of p))) }
 {
     match read_pattern(alloc, names, place, text.as_bytes()) {
         Ok(pattern) => Ok(pattern),
@@ -58,7 +62,9 @@ fn body(alloc: Global, names: &Names, place: usize, text: &str) -> Result<Patter
 
 fn bodies(alloc: Global, names: &Names, rows: &[PairRow<'_>]) -> Result<Vec<Pattern>, RunFault>
     requires { length rows.now ≤ 64 }
-    ensures { Gives (λ v. trees v.items) result (bodies_from names.now 0 [] (map pair_seen rows.now)) }
+    ensures bodies { Gives (λ v. trees v.items) result (bodies_from names.now 0 [] (map pair_seen rows.now)) }
+    ensures covered { IfOk result (λ v. IsTrue (list_all (refs_below (length names.now)) (trees v.items))) }
+    ensures as_many { IfOk result (λ v. length v.items ≡ length rows.now) }
 {
     let mut bodies = Vec::new(alloc);
     for (place, (_, text)) in rows.iter().enumerate() {
@@ -67,10 +73,19 @@ fn bodies(alloc: Global, names: &Names, rows: &[PairRow<'_>]) -> Result<Vec<Patt
     Ok(bodies)
 }
 
-/// Names and bodies of the definitions, before they are admitted.
+/// Definitions that are not admitted yet.
+#[derive(Drop)]
+pub(crate) struct Drafted {
+    pub(crate) names: Names,
+    pub(crate) bodies: Vec<Pattern>,
+    pub(crate) written: Vec<Name>,
+}
+
+/// The definitions, before they are admitted: as many bodies as names, and their references are to definitions.
 #[tactic(auto, unfolding(crate::specs::Document::definitions_of))]
-pub(crate) fn definitions(alloc: Global, rows: &[PairRow<'_>]) -> Result<(Names, Vec<Pattern>), RunFault>
-    ensures { Gives (λ d. record { names = d.0; bodies = trees d.1.items }) result (definitions_of (map pair_seen rows.now)) }
+pub(crate) fn definitions(alloc: Global, rows: &[PairRow<'_>]) -> Result<Drafted, RunFault>
+    ensures definitions { Gives drafted_seen result (definitions_of (map pair_seen rows.now)) }
+    ensures sound { IfOk result IsDrafted }
 {
     if rows.len() > MAX_DEFINITIONS {
         return Err(RunFault::TooManyPatterns);
@@ -78,5 +93,22 @@ pub(crate) fn definitions(alloc: Global, rows: &[PairRow<'_>]) -> Result<(Names,
     let written = names_in(alloc, rows)?;
     let names = names_checked(alloc, &written)?;
     let bodies = bodies(alloc, &names, rows)?;
-    Ok((names, bodies))
+    Ok(Drafted { names, bodies, written })
+}
+
+/// The definitions admitted; `Unguarded` with the first that lies on a circle of references that takes no character.
+pub(crate) fn admitted(alloc: Global, drafted: Drafted) -> Result<Rules, RunFault>
+    requires { IsDrafted drafted }
+    ensures { Admits (drafted_seen drafted) result }
+{
+    let Drafted { names, bodies, written } = drafted;
+    match Rules::admit(alloc, names, bodies) {
+        Ok(rules) => Ok(rules),
+        Err(RulesFault::Memory) => Err(RunFault::Memory),
+        Err(RulesFault::BadRef(_)) => unreachable!(),
+        Err(RulesFault::Unguarded(cycle)) => match cycle.first() {
+            Some(first) => Err(RunFault::Unguarded(written[*first])),
+            None => unreachable!(),
+        },
+    }
 }
