@@ -1,6 +1,9 @@
 -- A fault passes on through the steps that follow.
-use Rattle.std.proofs.Common.{◌≡◌, ◌≢◌, Result, Ok, Err, IsErrAnd, sym, ◌∙◌, ap, subst}
+use Rattle.std.proofs.Common.{◌≡◌, ◌≢◌, ℕ, Bool, List, Result, Ok, Err, IsErrAnd, sym, ◌∙◌, ap, subst}
 use Rattle.sno_rewrite.specs.Faults.{Fails, Gives, ◌>>=◌}
+use Rattle.sno_rewrite.specs.Document.{IsDocument}
+use Rattle.sno_rewrite.specs.Reads.{Reads}
+use Rattle.sno_rewrite.specs.declared.documents.Document.{Document}
 use Rattle.sno_rewrite.specs.declared.faults.RunFault.{RunFault}
 use Rattle.sno_rewrite.specs.declared.faults.RunFault.TheVariants.{Memory}
 
@@ -12,3 +15,9 @@ pub gives_err : {X Y A : Type 0} (view : X → Y) (result : Result X RunFault) (
     → IsErrAnd result (λ d. d ≡ e) → Fails e r → Gives view result (r >>= f)
 gives_err view (Err d) e r f is h = λ memory. ap (λ x. x >>= f) (h (λ m. memory (is ∙ m))) ∙ ap (λ x. Err x) (sym is)
 gives_err view (Ok x) e r f is h = absurd is
+
+-- the exit of a `?` of a document
+pub reads_err : (anchor : Bool) (bytes : List ℕ) (result : Result Document RunFault) (e : RunFault) → IsErrAnd result (λ d. d ≡ e)
+    → (e ≢ Memory → IsDocument anchor bytes (Err e)) → Reads anchor bytes result
+reads_err anchor bytes (Err d) e is h = λ memory. subst (λ f. IsDocument anchor bytes (Err f)) (sym is) (h (λ m. memory (is ∙ m)))
+reads_err anchor bytes (Ok x) e is h = absurd is

@@ -3,3 +3,5 @@ pub mod FaultLemmas
 pub mod PlaceLemmas
 pub mod IndexLemmas
 pub mod References
+pub mod CircleLemmas
+pub mod HistoryLemmas

@@ -5,3 +5,6 @@ pub mod Rows
 pub mod Document
 pub mod Texts
 pub mod Drafts
+pub mod Reads
+pub mod Serial
+pub mod Histories

@@ -2,9 +2,11 @@
 #![tactic(auto)]
 
 mod definitions;
+mod documents;
 mod faults;
 mod json;
 mod rows;
+mod serial;
 mod statements;
 mod texts;
 

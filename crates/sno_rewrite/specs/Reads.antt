@@ -1,0 +1,17 @@
+-- Documents of the program by value.
+use Rattle.std.specs.Prelude.{◌≢◌, ℕ, Bool, List, Result, Ok, Err}
+use Rattle.std.specs.Arc.{arc_value}
+use Rattle.sno_rewrite.specs.Document as document
+use Rattle.sno_rewrite.specs.Document.{IsDocument}
+use Rattle.sno_rewrite.specs.Texts.{named_all}
+use Rattle.sno_rewrite.specs.declared.documents.Document.{Document}
+use Rattle.sno_rewrite.specs.declared.faults.RunFault.{RunFault}
+use Rattle.sno_rewrite.specs.declared.faults.RunFault.TheVariants.{Memory}
+
+abbrev pub document_seen : Document → document.Document
+document_seen d = record { rules = arc_value d.rules; texts = named_all d.texts.items; statements = d.statements.items }
+
+-- the answer is what the bytes stand for, or want of memory
+abbrev pub Reads : Bool → List ℕ → Result Document RunFault → Type 0
+Reads anchor bytes (Ok d) = IsDocument anchor bytes (Ok (document_seen d))
+Reads anchor bytes (Err e) = e ≢ Memory → IsDocument anchor bytes (Err e)
