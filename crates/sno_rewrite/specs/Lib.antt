@@ -8,3 +8,4 @@ pub mod Drafts
 pub mod Reads
 pub mod Serial
 pub mod Histories
+pub mod Listing

@@ -5,6 +5,7 @@ mod definitions;
 mod documents;
 mod faults;
 mod json;
+mod listing;
 mod rows;
 mod serial;
 mod statements;

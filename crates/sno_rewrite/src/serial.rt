@@ -1,11 +1,11 @@
 //! The serial run of a document.
-ghost use Rattle.std.specs.Prelude.{◌≡◌, ◌≤◌, ◌<◌, ◌+◌, length, OnOk, IfOk, IfErr, Some, slice_get, map, [], vec_len};
+ghost use Rattle.std.specs.Prelude.{◌≡◌, ◌≤◌, ◌<◌, ◌+◌, ◌^◌, ℕ, length, OnOk, IfOk, IfErr, Some, slice_get, map, [], vec_len};
 ghost use Rattle.std.specs.Option.{option_map};
 ghost use Rattle.std.specs.Arc.{arc_value};
 ghost use Rattle.sno_statement.specs.Perform.{done_of};
 ghost use Rattle.sno_rewrite.specs.declared.faults.RunFault.TheVariants.{Memory};
 ghost use Rattle.sno_rewrite.specs.Texts.{named_all};
-ghost use Rattle.sno_rewrite.specs.Serial.{after_of, refuse, accept, advance, run, opening};
+ghost use Rattle.sno_rewrite.specs.Serial.{after_of, put, refuse, accept, advance, run, opening};
 ghost use Rattle.sno_rewrite.specs.Histories.{history_seen, held_seen, VersionsBelow};
 
 use crate::RunFault;
@@ -78,8 +78,20 @@ fn refuse(history: &mut History<'_>, statement: &Statement, reason: Reason) -> R
     Ok(())
 }
 
-/// The statement's entry in the journal, and the new text in place of the old one.
+/// The new text, where there is one, in place of the old one.
 #[tactic(auto, using(crate::proofs::HistoryLemmas::map_set, crate::proofs::HistoryLemmas::versions_set, crate::proofs::HistoryLemmas::versions_more))]
+fn put(held: &mut Vec<Held>, place: usize, version: u64, after: Option<Arc<Text>>)
+    requires inside { place < vec_len held.old }
+    requires small { version + 1 < 2 ^ 64 }
+    ensures put { map held_seen held.new.items ≡ put (map held_seen held.old.items) place version (option_map arc_value after) }
+    ensures below { (n : ℕ) → version ≤ n → VersionsBelow n held.old.items → VersionsBelow (n + 1) held.new.items }
+{
+    if let Some(text) = after {
+        held[place] = Held { text, version: version + 1 };
+    }
+}
+
+/// The statement's entry in the journal, and the new text in place of the old one.
 fn accept<'s>(history: &mut History<'s>, place: usize, version: u64, statement: &'s Statement, outcome: Outcome) -> Result<(), RunFault>
     requires inside { place < vec_len history.old.held }
     requires below { VersionsBelow (vec_len history.old.journal) history.old.held.items }
@@ -90,9 +102,7 @@ fn accept<'s>(history: &mut History<'s>, place: usize, version: u64, statement: 
 {
     let after = after(&outcome)?;
     history.journal.push(Entry { statement, version, outcome })?;
-    if let Some(text) = after {
-        history.held[place] = Held { text, version: version + 1 };
-    }
+    put(&mut history.held, place, version, after);
     Ok(())
 }
 
