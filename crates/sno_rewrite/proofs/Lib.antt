@@ -7,3 +7,5 @@ pub mod CircleLemmas
 pub mod HistoryLemmas
 pub mod ListingLemmas
 pub mod DocumentLaw
+pub mod StreamLemmas
+pub mod ReadLemmas

@@ -10,3 +10,4 @@ pub mod Serial
 pub mod Histories
 pub mod Listing
 pub mod Reports
+pub mod Streams

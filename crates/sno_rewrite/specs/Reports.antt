@@ -1,5 +1,8 @@
 -- Reports: what a run answers for a document.
-use Rattle.std.specs.Prelude.{◌≡◌, ℕ, Bool, List, length, Ok}
+use Rattle.std.specs.Prelude.{◌≡◌, ◌⊎◌, ℕ, Bool, List, Option, length, nat_eq, Ok, if◌then◌else◌}
+use Rattle.std.specs.Io.KnownBytes.{Appends}
+use Rattle.sno_rewrite.specs.declared.faults.RunFault.{RunFault}
+use Rattle.sno_rewrite.specs.declared.faults.RunFault.TheVariants.{Read, Write}
 use Rattle.sno_rewrite.specs.Document.{Document, IsDocument}
 use Rattle.sno_rewrite.specs.Serial.{serial, names_in}
 use Rattle.sno_rewrite.specs.Listing.{listing}
@@ -17,3 +20,18 @@ pub record IsReport (anchor : Bool) (bytes lines : List ℕ) (refused : ℕ) : T
   pub is_document : IsDocument anchor bytes (Ok document)
   pub listed : lines ≡ listing_of document
   pub counted : refused ≡ refused_of document
+
+-- a fault of the world outside: a read or a write that failed
+abbrev pub IsOutside : RunFault → Type 0
+IsOutside e = (e ≡ Read) ⊎ (e ≡ Write)
+
+-- the status of a run: whether a statement was refused
+abbrev pub status_of_run : ℕ → ℕ
+status_of_run refused = if nat_eq refused 0 then 0 else 1
+
+-- the bytes are a document, its listing was written behind what the writer held, and this is the status
+pub record IsRun (anchor : Bool) (bytes : List ℕ) (before after : Option (List ℕ)) (status : ℕ) : Type 0 where
+  pub document : Document
+  pub is_document : IsDocument anchor bytes (Ok document)
+  pub written : Appends before after (listing_of document)
+  pub told : status ≡ status_of_run (refused_of document)

@@ -11,9 +11,10 @@ mod rows;
 mod running;
 mod serial;
 mod statements;
+mod streams;
 mod texts;
 
 pub use faults::{RunFault, status_of};
 pub use options::Options;
-pub use running::{Report, run_serial};
+pub use running::{Report, run, run_serial};
 pub use serial::{Reason, Refusal};

@@ -1,14 +1,17 @@
 //! Runs over bytes, and over readers and writers.
-ghost use Rattle.std.specs.Prelude.{◌≡◌, ◌≢◌, ◌≤◌, ◌++◌, ℕ, List, Err, Ok, None, false, length, IfOk, IfErr, IfSome, OnErr};
-ghost use Rattle.sno_rewrite.specs.declared.faults.RunFault.TheVariants.{Memory, Read as ReadFailed, Write as WriteFailed};
+ghost use Rattle.std.specs.Prelude.{◌≡◌, ◌≢◌, ◌⊎◌, Err, Ok, None, false, IfOk, IfErr, IfSome, OnOk};
+ghost use Rattle.sno_rewrite.specs.declared.faults.RunFault.TheVariants.{Memory, Write as WriteFailed};
 ghost use Rattle.sno_rewrite.specs.Document.{Document, IsDocument};
-ghost use Rattle.sno_rewrite.specs.Reports.{IsReport};
+ghost use Rattle.sno_rewrite.specs.Reports.{IsReport, IsRun, IsOutside};
+ghost use Rattle.std.specs.Io.KnownBytes.{IsAtEnd};
 
-use crate::documents::{MAX_DOCUMENT, read_document};
+use crate::documents::read_document;
 use crate::listing::listing;
 use crate::serial::serial;
+use crate::streams::{read_all, write_all};
 use crate::{Options, RunFault};
 use std::alloc::Global;
+use std::io::{Read, Write};
 
 /// What came of a run.
 #[derive(Debug, Drop)]
@@ -46,4 +49,29 @@ fn reported(alloc: Global, bytes: &[u8], anchor: bool) -> Result<Report, RunFaul
     let refused = history.refused.len();
     drop(history);
     Ok(Report { bytes, refused })
+}
+
+/// Reads a document to its end, performs its statements in order, and writes the listing and nothing else. It answers the status of a
+/// run that did so: 0 where no statement was refused, and 1 otherwise. Workers and the listing as JSON are not to be had yet.
+///
+/// Refused: `Read` where a read fails, an interrupted one too; a fault of the document as `run_serial` answers it, of which more than
+/// 16,777,216 bytes are one; `Memory`; and `Write` where a write fails, an interrupted one too, or takes no byte. After a fault other
+/// than `Write` nothing was written.
+pub fn run<R: Read, W: Write>(alloc: Global, reader: &mut R, writer: &mut W, options: &Options) -> Result<u8, RunFault>
+    requires serial { options.now.workers ≡ None }
+    requires lines { options.now.json ≡ false }
+    // The reader was read to its end.
+    ensures end { OnOk result (IsAtEnd (R.remaining reader.new)) }
+    // What was written is the listing of the document, and the status tells whether a statement was refused.
+    ensures done { IfOk result (λ status. IfSome (R.remaining reader.old) (λ bytes.
+        IsRun options.now.anchor bytes (W.contents writer.old) (W.contents writer.new) status)) }
+    // A fault is that of the document, but for memory, a read or a write.
+    ensures fault { IfErr result (λ e. IsOutside e ⊎ IfSome (R.remaining reader.old) (λ bytes. e ≢ Memory → IsDocument options.now.anchor bytes (Err e))) }
+    // Nothing was written but for what a failed write took before.
+    ensures nothing { IfErr result (λ e. (e ≡ WriteFailed) ⊎ (writer.new ≡ writer.old)) }
+{
+    let bytes = read_all(alloc, reader)?;
+    let report = run_serial(alloc, &bytes, options)?;
+    write_all(writer, &report.bytes)?;
+    Ok(if report.refused == 0 { 0 } else { 1 })
 }

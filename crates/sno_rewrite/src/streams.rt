@@ -1,0 +1,64 @@
+//! Bytes from a reader and to a writer.
+ghost use Rattle.std.specs.Prelude.{◌≡◌, ◌<◌, ◌≤◌, ◌+◌, length, IfOk, IfErr, IfSome, OnOk, vec_len};
+ghost use Rattle.std.specs.Io.KnownBytes.{Appends, Consumes, IsAtEnd, Keeps};
+ghost use Rattle.sno_rewrite.specs.Streams.{ConsumesBehind, IsMemoryOrRead, IsWholeInput, IsReadFault};
+ghost use Rattle.sno_rewrite.specs.declared.faults.RunFault.TheVariants.{Write as WriteFailed};
+
+use crate::RunFault;
+use crate::documents::MAX_DOCUMENT;
+use std::alloc::Global;
+use std::io::{Read, Write};
+
+const PIECE: usize = 4_096;
+
+/// Adds at most `room` bytes of the reader behind those that are read, and says how many; none at the end alone.
+fn read_piece<R: Read>(reader: &mut R, bytes: &mut Vec<u8>, room: usize) -> Result<usize, RunFault>
+    requires { 0 < room }
+    ensures more { IfOk result (λ n. vec_len bytes.new ≡ vec_len bytes.old + n) }
+    ensures bound { IfOk result (λ n. n ≤ room) }
+    ensures consumed { IfOk result (λ n. ConsumesBehind (R.remaining reader.old) (R.remaining reader.new) bytes.old.items bytes.new.items) }
+    ensures end { IfOk result (λ n. n ≡ 0 → IsAtEnd (R.remaining reader.new)) }
+    ensures fault { IfErr result IsMemoryOrRead }
+{
+    let mut piece = [0; PIECE];
+    let room = room.min(PIECE);
+    match reader.read(&mut piece[..room]) {
+        Ok(count) => {
+            bytes.extend_from_slice(&piece[..count])?;
+            Ok(count)
+        }
+        Err(_) => Err(RunFault::Read),
+    }
+}
+
+/// All bytes of the reader. Refused: `Read` where a read fails, an interrupted one too; `DocumentTooLong` where there are more than
+/// 16,777,216, of which one more is read; `Memory`.
+pub(crate) fn read_all<R: Read>(alloc: Global, reader: &mut R) -> Result<Vec<u8>, RunFault>
+    ensures whole { IfOk result (λ v. IsWholeInput (R.remaining reader.old) (R.remaining reader.new) v.items) }
+    ensures fault { IfErr result (IsReadFault (R.remaining reader.old)) }
+{
+    let mut bytes = Vec::new(alloc);
+    while bytes.len() <= MAX_DOCUMENT {
+        let room = MAX_DOCUMENT + 1 - bytes.len();
+        let count = read_piece(reader, &mut bytes, room)?;
+        if count == 0 {
+            return Ok(bytes);
+        }
+    }
+    Err(RunFault::DocumentTooLong)
+}
+
+/// Writes all bytes. `Write` where a write fails, an interrupted one too, or takes no byte.
+pub(crate) fn write_all<W: Write>(writer: &mut W, bytes: &[u8]) -> Result<(), RunFault>
+    ensures written { OnOk result (Appends (W.contents writer.old) (W.contents writer.new) bytes.now) }
+    ensures fault { IfErr result (λ e. e ≡ WriteFailed) }
+{
+    let mut rest = bytes;
+    while !rest.is_empty() {
+        match writer.write(rest) {
+            Ok(0) | Err(_) => return Err(RunFault::Write),
+            Ok(count) => rest = rest.split_at(count).1,
+        }
+    }
+    Ok(())
+}
