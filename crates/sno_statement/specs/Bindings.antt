@@ -1,5 +1,6 @@
 -- What the variables are bound to.
-use Rattle.std.specs.Prelude.{ℕ, List, [], ◌∷◌, Option, Some, None}
+use Rattle.std.specs.Prelude.{ℕ, List, [], ◌∷◌, Option, Some, None, map}
+use Rattle.std.specs.List.{IsDistinct}
 use Rattle.std.specs.Map.{lookup as find_value}
 use Rattle.indexmap.specs.IndexMap.{insert_entry}
 use Rattle.sno_pattern.specs.Identifiers.{same}
@@ -16,6 +17,10 @@ use Rattle.sno_statement.specs.declared.binding.Datum.TheVariants.{Str, Int}
 -- variables with their values, in the order of their first assignment
 abbrev pub Bound : Type 0
 Bound = List (List ℕ × Datum)
+
+-- no variable stands twice
+abbrev pub AreDistinct : Bound → Type 0
+AreDistinct bound = IsDistinct same (map (λ b. b.0) bound)
 
 -- one more assignment: a variable keeps its first place and has its last value
 abbrev pub bind : Bound → List ℕ → Datum → Bound

@@ -1,7 +1,7 @@
 //! Variables and their values.
 ghost use Rattle.std.specs.Prelude.{◌≡◌, ◌↔◌, [], length, slice_get, IsTrue, OnOk, OnErr, Some};
 ghost use Rattle.std.specs.Option.{option_map};
-ghost use Rattle.sno_statement.specs.Bindings.{bind, lookup};
+ghost use Rattle.sno_statement.specs.Bindings.{AreDistinct, bind, lookup};
 
 use indexmap::IndexMap;
 use sno_pattern::{Name, Text};
@@ -13,11 +13,12 @@ use std::marker::Model;
 pub enum Datum {
     /// A string.
     Str(Text),
-    /// A number: a cursor.
+    /// A number: a cursor, at most 65,536.
     Int(u32),
 }
 
-/// The variables that a statement assigned, in the order of their first assignment, each with its last value.
+/// The variables that a statement assigned, in the order of their first assignment, each with its last value. No variable stands
+/// twice, and one that was never assigned does not stand at all. The readers take no memory.
 #[derive(Drop)]
 pub struct Bindings {
     map: IndexMap<Name, Datum>,
@@ -50,9 +51,10 @@ impl Bindings {
         Ok(())
     }
 
-    /// How many variables there are.
+    /// How many variables there are. They are distinct.
     pub fn len(&self) -> usize
-        ensures { result ≡ length self.now }
+        ensures value { result ≡ length self.now }
+        ensures distinct { AreDistinct self.now }
     {
         self.map.len()
     }
@@ -64,14 +66,14 @@ impl Bindings {
         self.map.is_empty()
     }
 
-    /// The variable at a place in the order of first assignments, with its value.
+    /// The variable at a place in the order of first assignments, counted from 0, with its value; none from [`Bindings::len`] on.
     pub fn get(&self, place: usize) -> Option<(&Name, &Datum)>
         ensures { option_map (λ b. (b.0.now, b.1.now)) result ≡ slice_get self.now place }
     {
         self.map.get_index(place)
     }
 
-    /// The value of a variable; none where it was never assigned.
+    /// The last value of a variable; none where it was never assigned.
     pub fn value(&self, name: &Name) -> Option<&Datum>
         ensures { option_map (λ d. d.now) result ≡ lookup name.now self.now }
     {

@@ -8,15 +8,15 @@ use thiserror::Error;
 /// What came of a statement on a text.
 #[derive(Drop)]
 pub enum Outcome {
-    /// The pattern matched between two cursors.
+    /// The pattern matched between two cursors of the text.
     Matched {
         /// The cursor from which the match began.
         start: usize,
         /// The cursor at which it ended.
         end: usize,
-        /// The variables that were assigned.
+        /// The variables that were assigned: those assigned at once first, then those of the conditional assignments.
         bindings: Bindings,
-        /// The new text, exactly where the statement has an object.
+        /// The new text, exactly where the statement has an object; also where it is the same as the old one.
         after: Option<Arc<Text>>,
     },
     /// The pattern did not match. Nothing is replaced.
@@ -26,13 +26,13 @@ pub enum Outcome {
     },
 }
 
-/// Why a statement is refused.
+/// Why a statement is refused on a text. Statement and text are as they were.
 #[derive(Clone, Copy, Debug, PartialEq, Eq, Error)]
 pub enum StatementFault {
     /// The new text would have more than 65,536 characters.
     #[error("text too long")]
     TextTooLong,
-    /// Memory was refused.
+    /// Memory was refused, at whatever growth it was.
     #[error("out of memory")]
     Memory,
 }

@@ -30,17 +30,16 @@ fn datum(alloc: Global, subject: &Text, what: What) -> Result<Datum, AllocError>
     }
 }
 
-/// The assignments that were done at once, bound.
-fn bound_at_once(alloc: Global, subject: &Text, sets: &[Assign]) -> Result<Bindings, AllocError>
+/// The assignments that were done at once bound behind what is bound.
+fn bind_at_once(alloc: Global, subject: &Text, bindings: &mut Bindings, sets: &[Assign]) -> Result<(), AllocError>
     requires { SetsLie subject.now sets.now }
-    ensures { IfOk result (λ b. b ≡ bind_sets subject.now [] sets.now) }
+    ensures { OnOk result (bindings.new ≡ bind_sets subject.now bindings.old sets.now) }
 {
-    let mut bindings = Bindings::new(alloc);
     for set in sets {
         let value = datum(alloc, subject, set.what)?;
         bindings.set(set.name, value)?;
     }
-    Ok(bindings)
+    Ok(())
 }
 
 /// The conditional assignments bound behind what is bound.
@@ -87,7 +86,8 @@ fn finished(alloc: Global, object: Option<&Object>, subject: &Text, found: &Foun
     requires { SetsLie subject.now found.now.sets }
     ensures { Gives result (finish_found (option_copied object.entry) subject.now found.now) }
 {
-    let mut bindings = bound_at_once(alloc, subject, found.sets.as_slice())?;
+    let mut bindings = Bindings::new(alloc);
+    bind_at_once(alloc, subject, &mut bindings, found.sets.as_slice())?;
     match &found.end {
         None => Ok(Outcome::Failed { bindings }),
         Some(hit) => {
@@ -99,9 +99,14 @@ fn finished(alloc: Global, object: Option<&Object>, subject: &Text, found: &Foun
 }
 
 /// Performs a statement on a text: matches the pattern, binds the variables and, where the statement has an object and the match
-/// succeeds, makes the new text. Statement and text stay as they are.
+/// succeeds, makes the new text. Statement and text stay as they are, whatever is answered.
 ///
-/// Refused, in this order: `TextTooLong` where the new text would have more than 65,536 characters, `Memory`.
+/// `Matched` has the two cursors of the first success, the bindings of the assignments done at once and, behind them, of the
+/// conditional ones, and the new text exactly where there is an object. `Failed` has what was assigned at once; nothing is replaced
+/// then, and the object is not evaluated.
+///
+/// Refused with `TextTooLong` exactly where the new text would have more than 65,536 characters, and with `Memory` where
+/// memory is, at the growth that was refused and so in place of any refusal that would have come later.
 pub fn perform(alloc: Global, statement: &Statement, subject: &Text) -> Result<Outcome, StatementFault>
     ensures { Gives result (perform statement.now subject.now) }
 {

@@ -9,7 +9,8 @@ use sno_read::Object;
 use std::marker::Model;
 use std::sync::Arc;
 
-/// A statement: a pattern to be sought in a text, and what the matched part is to be replaced by, if anything.
+/// A statement: a pattern to be sought in a text, and what the matched part is to be replaced by, if anything. The definitions cover
+/// the pattern: each of its references is to one of them. The readers take no memory.
 #[derive(Drop)]
 pub struct Statement {
     number: u32,
@@ -43,8 +44,9 @@ impl Model for Statement {
 }
 
 impl Statement {
-    /// A statement on the text with this name. The rules have to cover the pattern. With no object it only matches.
-    /// The number is the caller's own and is printed in a listing. It takes no memory.
+    /// A statement on the text with this name, of exactly these parts. The rules have to cover the pattern (`Rules::covers`), as they
+    /// do where the pattern was read with their names. With no object it only matches; anchored, a match begins at cursor 0 alone.
+    /// The number is the caller's own: nothing here depends on it. It takes no memory and is never refused.
     pub fn new(number: u32, rules: Arc<Rules>, pattern: Pattern, object: Option<Object>, text: TextName, anchored: bool) -> Statement
         requires { IsTrue (refs_below (length (arc_value rules).bodies) (tree_of pattern)) }
         ensures { result ≡ record {
@@ -60,14 +62,14 @@ impl Statement {
         }
     }
 
-    /// The caller's number.
+    /// The caller's number, as it was given.
     pub fn number(&self) -> u32
         ensures { result ≡ self.now.number }
     {
         self.number
     }
 
-    /// The definitions.
+    /// The definitions. They cover the pattern.
     pub fn rules(&self) -> &Rules
         ensures value { result.now ≡ self.now.rules }
         ensures covered { IsTrue (refs_below (length self.now.rules.bodies) self.now.pattern) }
@@ -82,14 +84,14 @@ impl Statement {
         &self.pattern
     }
 
-    /// The object, where the statement replaces.
+    /// The object, where the statement replaces; none where it only matches.
     pub fn object(&self) -> Option<&Object>
         ensures { option_map (λ o. o.now) result ≡ self.now.object }
     {
         self.object.as_ref()
     }
 
-    /// The name of the text.
+    /// The name of the text that the statement is for. `perform` is handed the text itself and does not look at it.
     pub fn text(&self) -> &TextName
         ensures { result.now ≡ self.now.text }
     {
