@@ -16,3 +16,6 @@ pub use faults::ReadFault;
 pub use laws::{one_object, one_tree};
 pub use objects::{Object, Part};
 pub use reading::{read_object, read_pattern};
+
+#[cfg(test)]
+mod tests;
