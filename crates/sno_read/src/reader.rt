@@ -219,6 +219,40 @@ impl<'a> Reader<'a> {
         Ok(rest)
     }
 
+    // One pattern and then another.
+    fn seq(&self, first: Pattern, second: Pattern) -> Result<Pattern, Stop>
+        ensures { Gives tree_of result (Ok (Seq (tree_of first) (tree_of second))) }
+    {
+        let first = Box::new(self.alloc, first)?;
+        let second = Box::new(self.alloc, second)?;
+        Ok(Pattern::Seq(first, second))
+    }
+
+    // One pattern or else another.
+    fn alt(&self, first: Pattern, second: Pattern) -> Result<Pattern, Stop>
+        ensures { Gives tree_of result (Ok (Alt (tree_of first) (tree_of second))) }
+    {
+        let first = Box::new(self.alloc, first)?;
+        let second = Box::new(self.alloc, second)?;
+        Ok(Pattern::Alt(first, second))
+    }
+
+    // A part that is assigned later.
+    fn cond(&self, part: Pattern, name: Name) -> Result<Pattern, Stop>
+        ensures { Gives tree_of result (Ok (Cond (tree_of part) name)) }
+    {
+        let part = Box::new(self.alloc, part)?;
+        Ok(Pattern::Cond(part, name))
+    }
+
+    // A part that is assigned at once.
+    fn imm(&self, part: Pattern, name: Name) -> Result<Pattern, Stop>
+        ensures { Gives tree_of result (Ok (Imm (tree_of part) name)) }
+    {
+        let part = Box::new(self.alloc, part)?;
+        Ok(Pattern::Imm(part, name))
+    }
+
     // The targets of a pattern, the leftmost innermost.
     fn targets(&self, pattern: Pattern, rest: Piece<'a>) -> Result<(Pattern, Piece<'a>), Stop>
         ensures read { (n : ℕ) → length rest.entry.characters.now < n → Gives (λ p. (tree_of p.0, p.1.characters.now)) result (targets_at (env_of self.now) n (tree_of pattern) rest.entry.characters.now) }
@@ -228,15 +262,15 @@ impl<'a> Reader<'a> {
             Following::Dot => {
                 let rest = self.signed(rest)?;
                 let name = self.variable(rest)?;
-                let part = Box::new(self.alloc, pattern)?;
-                let read = self.targets(Pattern::Cond(part, name), rest.after_name())?;
+                let part = self.cond(pattern, name)?;
+                let read = self.targets(part, rest.after_name())?;
                 Ok(read)
             }
             Following::Dollar => {
                 let rest = self.signed(rest)?;
                 let name = self.variable(rest)?;
-                let part = Box::new(self.alloc, pattern)?;
-                let read = self.targets(Pattern::Imm(part, name), rest.after_name())?;
+                let part = self.imm(pattern, name)?;
+                let read = self.targets(part, rest.after_name())?;
                 Ok(read)
             }
             Following::Nothing | Following::Bar | Following::Item => Ok((pattern, rest)),
@@ -395,9 +429,8 @@ impl<'a> Reader<'a> {
         match characters::what_follows(rest.characters) {
             Following::Item => {
                 let (others, rest) = self.concatenation(room, rest.after_blanks())?;
-                let first = Box::new(self.alloc, pattern)?;
-                let second = Box::new(self.alloc, others)?;
-                Ok((Pattern::Seq(first, second), rest))
+                let joined = self.seq(pattern, others)?;
+                Ok((joined, rest))
             }
             Following::Nothing | Following::Dot | Following::Dollar | Following::Bar => Ok((
                 pattern, rest,
@@ -416,9 +449,8 @@ impl<'a> Reader<'a> {
             Following::Bar => {
                 let rest = self.signed(rest)?;
                 let (others, rest) = self.alternation(room, rest)?;
-                let first = Box::new(self.alloc, pattern)?;
-                let second = Box::new(self.alloc, others)?;
-                Ok((Pattern::Alt(first, second), rest))
+                let joined = self.alt(pattern, others)?;
+                Ok((joined, rest))
             }
             Following::Nothing | Following::Dot | Following::Dollar | Following::Item => Ok((
                 pattern, rest,
