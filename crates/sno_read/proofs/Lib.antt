@@ -16,3 +16,4 @@ pub mod Complete
 pub mod CompleteTexts
 pub mod ObjectTexts
 pub mod Answered
+pub mod NoMemory
