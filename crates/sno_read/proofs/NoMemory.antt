@@ -1,5 +1,5 @@
 -- Want of memory is no fault of a text.
-use Rattle.std.proofs.Common.{◌≡◌, ℕ, zero, suc, ◌+◌, ◌-◌, ◌*◌, Bool, true, false, cond, ◌||◌, List, [], ◌∷◌, length, drop, nat_eq, nat_lt, Option, Some, None, Result, Ok, Err, sym, ap, ◌∙◌}
+use Rattle.std.proofs.Common.{◌≡◌, ℕ, zero, suc, Bool, true, false, cond, ◌||◌, List, length, drop, nat_eq, nat_lt, Option, Some, None, Result, Ok, Err, ap}
 use Rattle.std.specs.Option.{is_some}
 use Rattle.std.specs.List.{prefix_len}
 use Rattle.std.specs.Char.{is_ascii_digit}
@@ -17,7 +17,6 @@ use Rattle.sno_read.specs.declared.keywords.Keyword.{Keyword}
 use Rattle.sno_read.specs.declared.keywords.Keyword.TheVariants.{Primitive, Counted, Chosen, Repeated}
 use Rattle.sno_read.specs.declared.keywords.NumberCall.{NumberCall}
 use Rattle.sno_read.specs.declared.keywords.SetCall.{SetCall}
-use Rattle.sno_read.specs.declared.objects.Part.{Part}
 use Rattle.sno_read.specs.Depth.{depth}
 use Rattle.sno_read.specs.Gives.{◌>>=◌, found_or}
 use Rattle.sno_read.specs.Keywords.{keyword_of}

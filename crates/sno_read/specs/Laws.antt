@@ -1,8 +1,7 @@
 -- Laws of the grammar.
-use Rattle.std.specs.Prelude.{◌≡◌, ◌≢◌, ℕ, List, Result, Ok, Err}
+use Rattle.std.specs.Prelude.{◌≡◌, ◌≢◌, ℕ, List, Err}
 use Rattle.sno_pattern.specs.Tree.{Tree}
 use Rattle.sno_read.specs.declared.objects.Part.{Part}
-use Rattle.sno_read.specs.declared.faults.ReadFault.{ReadFault}
 use Rattle.sno_read.specs.declared.faults.ReadFault.TheVariants as fault
 use Rattle.sno_read.specs.Reading.{pattern_of}
 use Rattle.sno_read.specs.Objects.{object_of}

@@ -21,6 +21,7 @@ mod objects;
 mod piece;
 mod reader;
 mod reading;
+mod tokens;
 
 pub use faults::ReadFault;
 pub use laws::{memory_is_no_fault, one_object, one_tree};

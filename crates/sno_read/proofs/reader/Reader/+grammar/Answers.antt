@@ -1,6 +1,5 @@
 -- Each exit of a loop is one step of its reading, whatever bounds it; a group is what `inside` reads.
-use Rattle.std.proofs.Common.{◌≡◌, ℕ, suc, ◌-◌, ◌<◌, length, Ok, arith, rules}
-use Rattle.std.proofs.lemmas.Grind.{common_steps}
+use Rattle.std.proofs.Common.{suc, ◌-◌, length, arith, rules}
 use Rattle.sno_read.specs.Reading.{item_at, concatenation_at, alternation_at, group_at, inside}
 use Rattle.sno_read.specs.Views.{env_of}
 use Rattle.sno_read.proofs.Steps.{items_step, parts_step, inside_step}
