@@ -1,5 +1,5 @@
 -- What a public call answers, against the grammars.
-use Rattle.std.proofs.Common.{◌≡◌, ℕ, List, Option, Result, Ok, Err, IfOk, sym, subst}
+use Rattle.std.proofs.Common.{ℕ, List, Result, Ok, Err, IfOk, subst}
 use Rattle.sno_pattern.specs.Tree.{Tree, tree_of}
 use Rattle.sno_pattern.specs.declared.tree.Pattern.{Pattern}
 use Rattle.sno_read.specs.declared.faults.ReadFault.{ReadFault}

@@ -1,5 +1,5 @@
 -- What is short and ASCII is a text.
-use Rattle.std.proofs.Common.{◌≡◌, ℕ, ◌+◌, ◌≤◌, ◌&&◌, Bool, true, false, not, cond, List, [], ◌∷◌, length, ltb, Option, Some, None, Result, Ok, Err, IsTrue, sym, refl, ap, ◌∙◌, arith}
+use Rattle.std.proofs.Common.{◌≡◌, ℕ, ◌+◌, ◌≤◌, ◌&&◌, Bool, true, false, not, cond, List, [], ◌∷◌, length, ltb, Option, Some, None, Result, Ok, IsTrue, sym, refl, ap, ◌∙◌, arith}
 use Rattle.std.specs.List.{list_all, position_from}
 use Rattle.std.specs.Char.{is_ascii}
 use Rattle.std.proofs.lemmas.Bool.Decides.{nat_tests}

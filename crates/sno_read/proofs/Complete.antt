@@ -1,31 +1,28 @@
 -- What is spelled so is read.
-use Rattle.std.proofs.Common.{◌≡◌, ℕ, zero, suc, ◌+◌, ◌-◌, ◌<◌, ◌≤◌, Bool, true, false, not, cond, ◌⊎◌, inl, inr, List, [], ◌∷◌, ◌++◌, length, take, drop, nat_eq, nat_lt, Option, Some, None, Result, Ok, Err, IsTrue, refl, sym, ap, subst, ◌∙◌, arith, append_assoc, append-nil, length-append}
+use Rattle.std.proofs.Common.{◌≡◌, ℕ, zero, suc, ◌-◌, ◌<◌, ◌≤◌, false, List, [], ◌∷◌, ◌++◌, length, Option, Some, Ok, IsTrue, refl, ap, subst, ◌∙◌, arith, append_assoc, length-append}
 use Rattle.std.specs.Char.{is_ascii_digit}
 use Rattle.std.specs.List.{list_all}
 use Rattle.std.proofs.lemmas.Bool.{lt-ltb, and_parts}
-use Rattle.sno_pattern.specs.Identifiers.{is_letter, is_name_char, is_name, is_reserved}
+use Rattle.sno_pattern.specs.Identifiers.{is_name_char, is_name}
 use Rattle.sno_pattern.specs.NameList.{place_of}
 use Rattle.sno_pattern.specs.Tree as tree
 use Rattle.sno_pattern.specs.Tree.{Tree}
-use Rattle.sno_read.specs.declared.faults.ReadFault.{ReadFault}
 use Rattle.sno_read.specs.declared.characters.Start.TheVariants as start
-use Rattle.sno_read.specs.declared.characters.Following.{Following}
 use Rattle.sno_read.specs.declared.characters.Following.TheVariants as follows
 use Rattle.sno_read.specs.declared.faults.ReadFault.TheVariants as fault
 use Rattle.sno_read.specs.declared.keywords.NumberCall.{NumberCall}
 use Rattle.sno_read.specs.declared.keywords.SetCall.{SetCall}
 use Rattle.sno_read.specs.declared.keywords.Keyword.{Keyword}
-use Rattle.sno_read.specs.Gives.{◌>>=◌, found_or}
-use Rattle.sno_read.specs.Keywords.{keyword_of, word_tree, number_tree, set_tree}
-use Rattle.sno_read.specs.Characters.{is_blank, is_quote, skip, begins, start_of, what_follows, sign_of}
+use Rattle.sno_read.specs.Keywords.{keyword_of, number_tree, set_tree}
+use Rattle.sno_read.specs.Characters.{is_blank, begins, start_of, what_follows, sign_of}
 use Rattle.sno_read.specs.Grammar.{AreBlanks, SomeBlanks, IsNumber, IsLiteral, IsVariable, parenthesized, signed_by, IsElement, IsItem, IsConcatenation, IsAlternation}
 use Rattle.sno_read.specs.Grammar as grammar
-use Rattle.sno_read.specs.Reading.{Env, Read, place, below, literal_at, set_at, number_at, name_at, variable_at, opened, closed, parted, signed, cursor_at, starred_at, plain_of, counted_at, chosen_at, group_at, repeated_at, named_by, named_at, quoted_at, element_at, target_by, targets_at, item_at, item_by, items_at, part_by, parts_at, concatenation_at, alternation_at, inside}
+use Rattle.sno_read.specs.Reading.{Env, Read, place, below, cursor_at, starred_at, plain_of, counted_at, chosen_at, group_at, repeated_at, named_by, named_at, quoted_at, element_at, target_by, targets_at, item_at, item_by, items_at, parts_at, concatenation_at, alternation_at, inside}
 use Rattle.sno_read.proofs.Sound.{paren_split, signed_split}
 use Rattle.sno_read.proofs.Steps.{targets_step, items_step, parts_step}
 use Rattle.sno_read.proofs.Reserved.{keyword_none, keyword_name}
-use Rattle.sno_read.proofs.Marks.{Starts, digit_no_blank, name_starts, named_starts, literal_starts, item_starts, concatenation_starts, alternation_starts, starts_no_blank, starts_item, blanks_stop, blanks_or, skip_blanks, follows_blanks, follows_closing, letter_begins}
-use Rattle.sno_read.proofs.TokensAgain.{literal_again, set_again, number_again, name_again, variable_again, opened_again, closed_paren_again, parted_again, signed_again}
+use Rattle.sno_read.proofs.Marks.{digit_no_blank, name_starts, named_starts, literal_starts, concatenation_starts, alternation_starts, starts_no_blank, starts_item, blanks_stop, blanks_or, skip_blanks, follows_blanks, follows_closing, letter_begins}
+use Rattle.sno_read.proofs.TokensAgain.{literal_again, set_again, number_again, name_again, variable_again, opened_again, closed_paren_again, signed_again}
 
 -- behind a part in parentheses stand blanks and the closing parenthesis
 abbrev pub InnerAgain : Env → ℕ → (List ℕ → Read Tree) → Type 0

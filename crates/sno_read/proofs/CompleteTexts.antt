@@ -1,19 +1,17 @@
 -- A whole text is read as the tree that it spells, and so it spells no other.
-use Rattle.std.proofs.Common.{◌≡◌, ℕ, suc, ◌<◌, ◌≤◌, Bool, true, false, not, cond, List, [], ◌∷◌, ◌++◌, length, nat_eq, nat_lt, Option, Some, None, Result, Ok, Err, IsTrue, refl, sym, ap, subst, ◌∙◌, arith, append-nil, length-append}
+use Rattle.std.proofs.Common.{◌≡◌, ℕ, suc, ◌≤◌, false, List, [], ◌++◌, length, nat_eq, nat_lt, Ok, IsTrue, refl, sym, ap, ◌∙◌, arith, append-nil, length-append}
 use Rattle.std.specs.List.{list_all}
 use Rattle.std.specs.Char.{is_ascii}
 use Rattle.std.proofs.lemmas.Bool.{le-ltb, ne_eqb}
 use Rattle.sno_pattern.specs.Identifiers.{is_name_char}
-use Rattle.sno_pattern.specs.Texts.{first_non_ascii}
 use Rattle.sno_pattern.specs.Tree.{Tree}
-use Rattle.sno_read.specs.Gives.{◌>>=◌}
-use Rattle.sno_read.specs.Characters.{is_blank, skip, begins}
+use Rattle.sno_read.specs.Characters.{skip, begins}
 use Rattle.sno_read.specs.Depth.{depth}
 use Rattle.sno_read.specs.Grammar.{AreBlanks, IsAlternation, Spells}
 use Rattle.sno_read.specs.Laws.{OneTree}
-use Rattle.sno_read.specs.Reading.{Env, ended, shallow, whole_of, checked, ascii_only, pattern_of, alternation_at, inside}
+use Rattle.sno_read.specs.Reading.{Env, ended, shallow, whole_of, checked, pattern_of, alternation_at, inside}
 use Rattle.sno_read.proofs.Ascii.{none_non_ascii}
-use Rattle.sno_read.proofs.Marks.{Starts, alternation_starts, starts_no_blank, blanks_or, skip_blanks, follows_end}
+use Rattle.sno_read.proofs.Marks.{alternation_starts, starts_no_blank, blanks_or, skip_blanks, follows_end}
 use Rattle.sno_read.proofs.Complete.{alternation_again, inside_again}
 use Rattle.sno_read.proofs.Results.{ok_same}
 

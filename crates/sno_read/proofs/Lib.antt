@@ -6,7 +6,7 @@ pub mod Depths
 pub mod Parts
 pub mod Fronts
 pub mod Results
-pub mod Tokens
+pub mod TokensRead
 pub mod Reserved
 pub mod Sound
 pub mod SoundTexts
@@ -16,3 +16,4 @@ pub mod Complete
 pub mod CompleteTexts
 pub mod ObjectTexts
 pub mod Answered
+pub mod NoMemory

@@ -1,14 +1,14 @@
 -- How texts of the grammar begin, and what may stand behind them.
-use Rattle.std.proofs.Common.{◌≡◌, ℕ, suc, ◌+◌, ◌-◌, ◌<◌, ◌≤◌, Bool, true, false, not, cond, ◌&&◌, ◌||◌, ◌⊎◌, inl, inr, List, [], ◌∷◌, ◌++◌, length, nat_eq, IsTrue, refl, sym, ap, subst, ◌∙◌, arith, append_assoc, append-nil}
+use Rattle.std.proofs.Common.{◌≡◌, ℕ, ◌<◌, ◌≤◌, Bool, true, false, ◌⊎◌, inl, inr, List, [], ◌∷◌, ◌++◌, nat_eq, IsTrue, refl, sym, ap, ◌∙◌, arith, append-nil}
 use Rattle.std.specs.List.{list_all}
-use Rattle.std.specs.Char.{is_ascii_digit, is_ascii_alphabetic}
-use Rattle.std.proofs.lemmas.Bool.{and_parts, or_cases, eqb-true, ne_eqb, leb-true}
+use Rattle.std.specs.Char.{is_ascii_digit}
+use Rattle.std.proofs.lemmas.Bool.{and_parts, ne_eqb}
 use Rattle.std.proofs.lemmas.Bool.Decides.{nat_tests}
 use Rattle.sno_pattern.specs.Identifiers.{is_letter, is_name_char, is_name}
 use Rattle.sno_pattern.specs.Tree.{Tree}
 use Rattle.sno_read.specs.declared.characters.Start.TheVariants as start
 use Rattle.sno_read.specs.declared.characters.Following.TheVariants as follows
-use Rattle.sno_read.specs.Characters.{is_blank, is_quote, is_other, skip, begins, start_of, what_follows, sign_of}
+use Rattle.sno_read.specs.Characters.{is_blank, is_quote, skip, begins, start_of, what_follows, sign_of}
 use Rattle.sno_read.specs.Grammar.{AreBlanks, SomeBlanks, IsLiteral, parenthesized, signed_by, IsElement, IsItem, IsConcatenation, IsAlternation}
 use Rattle.sno_read.specs.Grammar as grammar
 use Rattle.sno_read.proofs.Fronts.{behind_run}

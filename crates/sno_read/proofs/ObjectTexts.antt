@@ -1,8 +1,6 @@
 -- Objects: what is read is spelled so, and what is spelled so is read.
-use Rattle.std.proofs.Common.{◌≡◌, ℕ, zero, suc, ◌+◌, ◌-◌, ◌<◌, ◌≤◌, Bool, true, false, not, cond, List, [], ◌∷◌, ◌++◌, length, nat_eq, nat_lt, Option, Some, None, Result, Ok, Err, IsTrue, refl, sym, ap, subst, ◌∙◌, arith, append_assoc, append-nil, length-append}
-use Rattle.std.specs.List.{list_all}
-use Rattle.std.specs.Char.{is_ascii}
-use Rattle.std.proofs.lemmas.Bool.{eqb-true, eqb-false, ne_eqb, eq-eqb}
+use Rattle.std.proofs.Common.{◌≡◌, ℕ, zero, suc, ◌-◌, ◌<◌, Bool, true, false, cond, List, [], ◌∷◌, ◌++◌, length, nat_eq, Result, Ok, refl, sym, ap, subst, ◌∙◌, arith, append-nil, length-append}
+use Rattle.std.proofs.lemmas.Bool.{eqb-true, ne_eqb}
 use Rattle.sno_pattern.specs.Identifiers.{is_name_char}
 use Rattle.sno_read.specs.declared.faults.ReadFault.{ReadFault}
 use Rattle.sno_read.specs.declared.characters.Start.{Start}
@@ -11,19 +9,19 @@ use Rattle.sno_read.specs.declared.objects.Part.{Part}
 use Rattle.sno_read.specs.declared.objects.Part.TheVariants.{Quoted, Var}
 use Rattle.sno_read.specs.Gives.{◌>>=◌}
 use Rattle.sno_read.specs.Characters.{is_blank, front, skip, begins, start_of}
-use Rattle.sno_read.specs.Grammar.{AreBlanks, SomeBlanks, IsLiteral, IsVariable}
+use Rattle.sno_read.specs.Grammar.{AreBlanks, SomeBlanks}
 use Rattle.sno_read.specs.ObjectGrammar.{IsPart, AreParts, SpellsObject}
 use Rattle.sno_read.specs.ObjectGrammar as grammar
 use Rattle.sno_read.specs.Laws.{OneObject}
-use Rattle.sno_read.specs.Reading.{Env, Read, literal_at, variable_at, parted, checked}
+use Rattle.sno_read.specs.Reading.{Env, literal_at, variable_at, parted, checked}
 use Rattle.sno_read.specs.Objects.{part_by, part_at, gap_at, parts_of, object_of}
 use Rattle.sno_read.proofs.Fronts.{front_passes, front_behind}
 use Rattle.sno_read.proofs.Results.{bind_ok, ok_same, pair_ok}
-use Rattle.sno_read.proofs.Tokens.{literal_sound, variable_sound, parted_sound}
+use Rattle.sno_read.proofs.TokensRead.{literal_sound, variable_sound, parted_sound}
 use Rattle.sno_read.proofs.TokensAgain.{literal_again, variable_again, parted_again}
 use Rattle.sno_read.proofs.Marks.{Starts, starts_more, literal_starts, named_starts, name_starts, letter_begins, starts_no_blank, blanks_or, skip_blanks}
 use Rattle.sno_read.proofs.Complete.{quoted_starts, blank_ends_name}
-use Rattle.sno_read.proofs.Parts.{more_of, more_step, end_step}
+use Rattle.sno_read.proofs.Parts.{more_step, end_step}
 use Rattle.sno_read.proofs.SoundTexts.{checked_ok, nothing_left}
 use Rattle.sno_read.proofs.CompleteTexts.{checked_again}
 

@@ -1,11 +1,11 @@
 -- The parts of an object, one after the other.
-use Rattle.std.proofs.Common.{◌≡◌, ℕ, zero, suc, ◌-◌, ◌<◌, ◌≤◌, List, [], ◌∷◌, ◌++◌, length, Bool, true, false, cond, nat_eq, Result, Ok, Err, refl, sym, ap, subst, ◌∙◌, arith, append_assoc, append-nil}
+use Rattle.std.proofs.Common.{◌≡◌, ℕ, zero, suc, ◌-◌, ◌<◌, List, [], ◌∷◌, ◌++◌, length, true, false, nat_eq, Result, Ok, Err, refl, sym, ap, ◌∙◌, arith, append_assoc, append-nil}
 use Rattle.sno_read.specs.declared.faults.ReadFault.{ReadFault}
 use Rattle.sno_read.specs.declared.faults.Stop.{Stop}
 use Rattle.sno_read.specs.declared.faults.Stop.TheVariants.{Memory, Fault}
 use Rattle.sno_read.specs.declared.objects.Part.{Part}
 use Rattle.sno_read.specs.Gives.{◌>>=◌, Stops}
-use Rattle.sno_read.specs.Reading.{Env, Read}
+use Rattle.sno_read.specs.Reading.{Env}
 use Rattle.sno_read.specs.Objects.{part_at, gap_at, parts_of, with_front}
 
 -- what is read of a text that isn't empty

@@ -1,8 +1,7 @@
 -- What is read is spelled so.
-use Rattle.std.proofs.Common.{◌≡◌, ℕ, zero, suc, ◌+◌, ◌-◌, ◌<◌, ◌≤◌, Bool, true, false, not, cond, List, [], ◌∷◌, ◌++◌, length, take, drop, nat_eq, nat_lt, Option, Some, None, Result, Ok, Err, IsTrue, refl, sym, ap, subst, ◌∙◌, arith, append_assoc, append-nil}
-use Rattle.std.specs.List.{list_any}
-use Rattle.std.proofs.lemmas.Bool.{ltb-true, ltb-false, eqb-true, eqb-false}
-use Rattle.sno_pattern.specs.Identifiers.{is_letter, is_name, is_reserved, same}
+use Rattle.std.proofs.Common.{◌≡◌, ℕ, zero, suc, ◌<◌, Bool, true, false, cond, List, [], ◌∷◌, ◌++◌, length, drop, nat_eq, nat_lt, Option, Some, None, Result, Ok, IsTrue, refl, sym, ap, subst, ◌∙◌, append_assoc, append-nil}
+use Rattle.std.proofs.lemmas.Bool.{ltb-true, eqb-true}
+use Rattle.sno_pattern.specs.Identifiers.{is_letter, is_name, same}
 use Rattle.sno_pattern.specs.NameList.{place_of}
 use Rattle.sno_pattern.specs.Tree as tree
 use Rattle.sno_pattern.specs.Tree.{Tree}
@@ -16,15 +15,15 @@ use Rattle.sno_read.specs.declared.keywords.NumberCall.{NumberCall}
 use Rattle.sno_read.specs.declared.keywords.SetCall.{SetCall}
 use Rattle.sno_read.specs.declared.keywords.Keyword.{Keyword}
 use Rattle.sno_read.specs.declared.keywords.Keyword.TheVariants.{Primitive, Counted, Chosen, Repeated}
-use Rattle.sno_read.specs.Gives.{◌>>=◌, found_or}
-use Rattle.sno_read.specs.Keywords.{keyword_of, call_of, word_tree, number_tree, set_tree}
-use Rattle.sno_read.specs.Characters.{is_blank, is_quote, front, behind, skip, begins, start_of, what_follows, sign_of}
+use Rattle.sno_read.specs.Gives.{found_or}
+use Rattle.sno_read.specs.Keywords.{keyword_of, word_tree, number_tree, set_tree}
+use Rattle.sno_read.specs.Characters.{is_blank, is_quote, front, skip, start_of, what_follows}
 use Rattle.sno_read.specs.Grammar.{AreBlanks, SomeBlanks, IsNumber, IsLiteral, IsVariable, parenthesized, signed_by, IsElement, IsItem, IsConcatenation, IsAlternation, Spells}
 use Rattle.sno_read.specs.Grammar as grammar
-use Rattle.sno_read.specs.Reading.{Env, Read, place, below, literal_at, set_at, number_at, name_at, variable_at, opened, closed, parted, signed, cursor_at, starred_at, plain_of, counted_at, chosen_at, group_at, repeated_at, named_by, named_at, quoted_at, element_by, element_at, target_by, targets_at, item_at, item_by, items_at, part_by, parts_at, concatenation_at, alternation_at, inside}
-use Rattle.sno_read.proofs.Results.{bind_ok, found_ok, if_ok, unless_ok, if_some, unless_some, ok_same, pair_ok}
+use Rattle.sno_read.specs.Reading.{Env, Read, place, below, literal_at, set_at, number_at, name_at, variable_at, opened, closed, signed, cursor_at, starred_at, plain_of, counted_at, chosen_at, group_at, repeated_at, named_by, named_at, quoted_at, element_by, element_at, target_by, targets_at, item_at, item_by, items_at, part_by, parts_at, concatenation_at, alternation_at, inside}
+use Rattle.sno_read.proofs.Results.{bind_ok, found_ok, if_some, pair_ok}
 use Rattle.sno_read.proofs.Reserved.{reserved_not}
-use Rattle.sno_read.proofs.Tokens.{literal_sound, set_sound, number_sound, name_sound, variable_sound, opened_sound, closed_sound, parted_sound, Signed, dot_sound, dollar_sound, bar_sound, follows_shape}
+use Rattle.sno_read.proofs.TokensRead.{literal_sound, set_sound, number_sound, name_sound, variable_sound, opened_sound, closed_sound, Signed, dot_sound, dollar_sound, bar_sound, follows_shape}
 
 -- a text in parentheses, and what stands behind it
 pub paren_split : (b x c rest : List ℕ) → parenthesized b x c ++ rest ≡ 40 ∷ (b ++ (x ++ (c ++ (41 ∷ rest))))

@@ -1,17 +1,15 @@
 -- What is read of a whole text is spelled so.
-use Rattle.std.proofs.Common.{◌≡◌, ℕ, suc, ◌-◌, ◌<◌, ◌≤◌, Bool, true, false, not, cond, List, [], ◌∷◌, ◌++◌, length, nat_eq, nat_lt, Option, Some, None, Result, Ok, Err, IsTrue, refl, sym, ap, subst, ◌∙◌, arith, append-nil}
+use Rattle.std.proofs.Common.{◌≡◌, ℕ, ◌≤◌, List, [], ◌∷◌, ◌++◌, length, nat_eq, nat_lt, Option, Some, None, Ok, IsTrue, refl, sym, ap, subst, ◌∙◌, arith, append-nil}
 use Rattle.std.specs.List.{list_all}
 use Rattle.std.specs.Char.{is_ascii}
 use Rattle.std.proofs.lemmas.Bool.{ltb-false, eqb-true}
 use Rattle.sno_pattern.specs.Texts.{first_non_ascii}
 use Rattle.sno_pattern.specs.Tree.{Tree}
-use Rattle.sno_read.specs.declared.faults.ReadFault.{ReadFault}
 use Rattle.sno_read.specs.declared.faults.ReadFault.TheVariants as fault
-use Rattle.sno_read.specs.Gives.{◌>>=◌}
-use Rattle.sno_read.specs.Characters.{is_blank, front, behind, skip}
+use Rattle.sno_read.specs.Characters.{is_blank, front, skip}
 use Rattle.sno_read.specs.Depth.{depth}
-use Rattle.sno_read.specs.Grammar.{AreBlanks, IsAlternation, Spells}
-use Rattle.sno_read.specs.Reading.{Env, place, ended, shallow, whole_of, checked, ascii_only, pattern_of, alternation_at, inside}
+use Rattle.sno_read.specs.Grammar.{IsAlternation, Spells}
+use Rattle.sno_read.specs.Reading.{Env, ended, shallow, whole_of, checked, ascii_only, pattern_of, alternation_at, inside}
 use Rattle.sno_read.proofs.Ascii.{all_ascii}
 use Rattle.sno_read.proofs.Fronts.{front_passes, front_behind}
 use Rattle.sno_read.proofs.Results.{bind_ok, if_ok, unless_ok, ok_same}

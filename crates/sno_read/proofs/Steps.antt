@@ -1,9 +1,8 @@
 -- One step of each loop of the reading, whatever bounds it.
-use Rattle.std.proofs.Common.{◌≡◌, ℕ, zero, suc, ◌-◌, ◌<◌, ◌≤◌, List, length, Result, Ok, Err, refl, arith}
+use Rattle.std.proofs.Common.{◌≡◌, ℕ, zero, suc, ◌-◌, ◌<◌, List, refl, arith}
 use Rattle.sno_pattern.specs.Tree.{Tree}
-use Rattle.sno_read.specs.declared.characters.Following.TheVariants as follows
 use Rattle.sno_read.specs.Gives.{◌>>=◌}
-use Rattle.sno_read.specs.Characters.{skip, what_follows, sign_of}
+use Rattle.sno_read.specs.Characters.{what_follows}
 use Rattle.sno_read.specs.Reading.{Env, Read, targets_at, target_by, items_at, item_by, parts_at, part_by, inside, alternation_at}
 
 pub targets_step : (env : Env) (n : ℕ) (t : Tree) (text : List ℕ) (m : ℕ) → m < n → targets_at env n t text ≡ target_by env (targets_at env (n - 1)) t text (what_follows text)

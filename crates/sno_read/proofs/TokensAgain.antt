@@ -1,18 +1,15 @@
 -- Literals, numbers, names and parentheses are read where they are spelled.
-use Rattle.std.proofs.Common.{◌≡◌, ℕ, zero, suc, ◌+◌, ◌-◌, ◌*◌, ◌<◌, ◌≤◌, Bool, true, false, not, cond, ◌||◌, ◌&&◌, List, [], ◌∷◌, ◌++◌, length, take, drop, nat_eq, nat_lt, ltb, eqb, Option, Some, None, Result, Ok, Err, IsTrue, refl, sym, ap, ◌∙◌, arith, append_assoc, length-append}
-use Rattle.std.specs.Option.{is_some}
+use Rattle.std.proofs.Common.{◌≡◌, ℕ, suc, ◌+◌, ◌-◌, ◌*◌, ◌<◌, ◌≤◌, true, false, not, ◌&&◌, List, [], ◌∷◌, ◌++◌, length, nat_eq, nat_lt, Some, Ok, IsTrue, refl, ap, ◌∙◌, arith, append_assoc, length-append}
 use Rattle.std.specs.List.{prefix_len, list_all}
 use Rattle.std.specs.Char.{is_ascii_digit}
 use Rattle.std.proofs.lemmas.Bool.{lt-ltb, le-ltb, eq-eqb, ne_eqb, and_parts, and_from}
-use Rattle.sno_pattern.specs.Identifiers.{is_letter, is_name_char, is_name, is_reserved, name_of}
-use Rattle.sno_pattern.specs.NameList.{place_of}
+use Rattle.sno_pattern.specs.Identifiers.{is_letter, is_name_char, is_name}
 use Rattle.sno_read.specs.declared.faults.ReadFault.{ReadFault}
-use Rattle.sno_read.specs.Gives.{◌>>=◌, found_or}
-use Rattle.sno_read.specs.Characters.{is_blank, is_quote, is_other, quote_of, front, behind, skip, begins, value_of, number_from, sign_of}
-use Rattle.sno_read.specs.Grammar.{AreBlanks, SomeBlanks, decimal, IsNumber, IsLiteral, IsVariable, signed_by}
-use Rattle.sno_read.specs.Reading.{Env, Read, place, closed_by, literal_at, set_at, number_at, name_at, variable_at, opened, closed, parted, signed}
+use Rattle.sno_read.specs.Characters.{is_blank, is_other, begins, number_from}
+use Rattle.sno_read.specs.Grammar.{AreBlanks, SomeBlanks, decimal, IsNumber, IsLiteral, IsVariable}
+use Rattle.sno_read.specs.Reading.{Env, closed_by, literal_at, set_at, number_at, name_at, variable_at, opened, closed, parted, signed}
 use Rattle.sno_read.proofs.Fronts.{prefix_run, front_run, behind_run}
-use Rattle.sno_read.proofs.Marks.{name_starts, letter_in_name, blanks_stop, blanks_or, blanks_begin, skip_blanks}
+use Rattle.sno_read.proofs.Marks.{name_starts, letter_in_name, blanks_begin, skip_blanks}
 
 closed_again : (e : ReadFault) (q : ℕ) (s r : List ℕ) → IsTrue (list_all (is_other q) s) → closed_by e q (s ++ (q ∷ r)) ≡ Ok (s, r)
 closed_again e q s r h =

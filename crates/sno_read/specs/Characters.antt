@@ -1,7 +1,6 @@
 -- Characters, runs of them, and what a text goes on with.
-use Rattle.std.specs.Prelude.{ℕ, Bool, true, false, not, ◌||◌, ◌+◌, ◌-◌, ◌*◌, List, [], ◌∷◌, length, take, drop, nat_eq, nat_lt, Option, Some, None, if◌then◌else◌}
+use Rattle.std.specs.Prelude.{ℕ, Bool, false, not, ◌||◌, ◌+◌, ◌-◌, ◌*◌, List, [], ◌∷◌, length, take, drop, nat_eq, nat_lt, Option, Some, None, if◌then◌else◌}
 use Rattle.std.specs.List.{prefix_len}
-use Rattle.std.specs.Char.{is_ascii_digit}
 use Rattle.sno_pattern.specs.Identifiers.{is_letter}
 use Rattle.sno_read.specs.declared.characters.Start.{Start}
 use Rattle.sno_read.specs.declared.characters.Start.TheVariants as start

@@ -1,6 +1,6 @@
 -- The grammar of patterns: which texts spell which trees. A text is joined from parts; k is how many parentheses may be
 -- open inside one.
-use Rattle.std.specs.Prelude.{◌≡◌, ℕ, suc, ◌+◌, ◌-◌, ◌*◌, ◌≤◌, ◌<◌, Bool, false, not, ◌&&◌, List, [], ◌∷◌, ◌++◌, length, nat_eq, Option, Some, None, IsTrue}
+use Rattle.std.specs.Prelude.{◌≡◌, ℕ, suc, ◌+◌, ◌-◌, ◌*◌, ◌≤◌, ◌<◌, false, List, [], ◌∷◌, ◌++◌, length, Some, None, IsTrue}
 use Rattle.std.specs.List.{list_all}
 use Rattle.std.specs.Char.{is_ascii, is_ascii_digit}
 use Rattle.sno_pattern.specs.Identifiers.{is_name, is_reserved}
@@ -9,7 +9,6 @@ use Rattle.sno_pattern.specs.Tree.{Tree, Lit, At, Ref, Arbno, Seq, Alt, Cond, Im
 use Rattle.sno_read.specs.declared.keywords.Word.{Word}
 use Rattle.sno_read.specs.declared.keywords.NumberCall.{NumberCall}
 use Rattle.sno_read.specs.declared.keywords.SetCall.{SetCall}
-use Rattle.sno_read.specs.declared.keywords.Keyword.{Keyword}
 use Rattle.sno_read.specs.declared.keywords.Keyword.TheVariants.{Primitive, Counted, Chosen, Repeated}
 use Rattle.sno_read.specs.Characters.{is_blank, is_quote, is_other}
 use Rattle.sno_read.specs.Depth.{depth}

@@ -1,7 +1,10 @@
 -- Laws of the grammar.
-use Rattle.std.specs.Prelude.{◌≡◌, ℕ, List}
+use Rattle.std.specs.Prelude.{◌≡◌, ◌≢◌, ℕ, List, Err}
 use Rattle.sno_pattern.specs.Tree.{Tree}
 use Rattle.sno_read.specs.declared.objects.Part.{Part}
+use Rattle.sno_read.specs.declared.faults.ReadFault.TheVariants as fault
+use Rattle.sno_read.specs.Reading.{pattern_of}
+use Rattle.sno_read.specs.Objects.{object_of}
 use Rattle.sno_read.specs.Grammar.{Spells}
 use Rattle.sno_read.specs.ObjectGrammar.{SpellsObject}
 
@@ -12,3 +15,9 @@ OneTree = (names : List (List ℕ)) (earlier : ℕ) (text : List ℕ) (t u : Tre
 -- no text spells two objects
 abbrev pub OneObject : Type 0
 OneObject = (names : List (List ℕ)) (text : List ℕ) (ps qs : List Part) → SpellsObject names text ps → SpellsObject names text qs → ps ≡ qs
+
+-- no text is refused for want of memory: that is a fault of the machine
+abbrev pub MemoryIsNoFault : Type 0
+MemoryIsNoFault =
+    ((names : List (List ℕ)) (earlier : ℕ) (text : List ℕ) → pattern_of names earlier text ≢ Err fault.Memory)
+    × ((names : List (List ℕ)) (text : List ℕ) → object_of names text ≢ Err fault.Memory)

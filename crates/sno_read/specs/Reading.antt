@@ -1,5 +1,5 @@
 -- Reading a pattern from left to right, with the first fault that is met.
-use Rattle.std.specs.Prelude.{◌≡◌, ℕ, zero, suc, ◌+◌, ◌-◌, Bool, true, false, ◌&&◌, ◌||◌, List, [], ◌∷◌, length, drop, take, nat_eq, nat_lt, Option, Some, None, Result, Ok, Err, if◌then◌else◌}
+use Rattle.std.specs.Prelude.{ℕ, zero, suc, ◌-◌, ◌||◌, List, length, drop, nat_eq, nat_lt, Option, Some, None, Result, Ok, Err, if◌then◌else◌}
 use Rattle.std.specs.Option.{is_some}
 use Rattle.std.specs.List.{prefix_len}
 use Rattle.std.specs.Char.{is_ascii_digit}
@@ -21,7 +21,7 @@ use Rattle.sno_pattern.specs.Texts.{first_non_ascii}
 use Rattle.sno_read.specs.Depth.{depth}
 use Rattle.sno_read.specs.Gives.{◌>>=◌, found_or}
 use Rattle.sno_read.specs.Keywords.{keyword_of, word_tree, number_tree, set_tree}
-use Rattle.sno_read.specs.Characters.{is_blank, is_quote, is_other, quote_of, front, behind, skip, begins, value_of, start_of, what_follows}
+use Rattle.sno_read.specs.Characters.{is_blank, is_other, quote_of, front, behind, skip, begins, value_of, start_of, what_follows}
 
 -- what a text is read with: the names of the definitions, how many of them a plain name may name, and the text's length
 pub record Env : Type 0 where

@@ -1,8 +1,7 @@
 -- Worked examples of reading: each holds by computation alone.
-use Rattle.std.specs.Prelude.{◌≡◌, ℕ, List, [], ◌∷◌, Option, Some, None, Result, Ok, Err, codes, refl}
+use Rattle.std.specs.Prelude.{◌≡◌, [], ◌∷◌, Ok, Err, codes, refl}
 use Rattle.sno_pattern.specs.Identifiers.{is_letter, is_name_char, is_reserved}
-use Rattle.sno_pattern.specs.Tree.{Tree, Lit, Len, Ref, Seq, Alt, Cond, Imm}
-use Rattle.sno_read.specs.declared.faults.ReadFault.{ReadFault}
+use Rattle.sno_pattern.specs.Tree.{Lit, Len, Ref, Seq, Alt, Cond, Imm}
 use Rattle.sno_read.specs.declared.faults.ReadFault.TheVariants as fault
 use Rattle.sno_read.specs.Depth.{depth}
 use Rattle.sno_read.specs.Keywords.{keyword_of, call_of}

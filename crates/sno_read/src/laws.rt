@@ -1,5 +1,5 @@
 //! Laws of the grammars: what a text spells is one.
-ghost use Rattle.sno_read.specs.Laws.{OneObject, OneTree};
+ghost use Rattle.sno_read.specs.Laws.{MemoryIsNoFault, OneObject, OneTree};
 
 /// No text spells two trees.
 pub fn one_tree()
@@ -9,4 +9,9 @@ pub fn one_tree()
 /// No text spells two objects.
 pub fn one_object()
     ensures { OneObject }
+{}
+
+/// No text has the fault `Memory`.
+pub fn memory_is_no_fault()
+    ensures { MemoryIsNoFault }
 {}

@@ -1,5 +1,5 @@
 //! The reader of objects.
-ghost use Rattle.std.specs.Prelude.{◌≡◌, ◌<◌, ◌≤◌, length, suc, IfOk};
+ghost use Rattle.std.specs.Prelude.{◌<◌, ◌≤◌, length, suc, IfOk};
 ghost use Rattle.sno_read.specs.Gives.{Gives};
 ghost use Rattle.sno_read.specs.Objects.{part_at, gap_at, parts_of};
 ghost use Rattle.sno_read.specs.Views.{env_of};

@@ -5,7 +5,7 @@ use sno_pattern::{Name, Text};
 use std::marker::Model;
 
 /// One part of an object.
-#[derive(Debug, Drop)]
+#[derive(Debug, PartialEq, Eq, Drop)]
 pub enum Part {
     /// The characters of a literal.
     Quoted(Text),

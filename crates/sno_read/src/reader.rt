@@ -1,24 +1,16 @@
 //! The reader of patterns: a method for each rule of the grammar.
-ghost use Rattle.std.specs.Prelude.{◌≡◌, ◌||◌, ℕ, suc, ◌-◌, ◌<◌, ◌≤◌, length, drop, IfOk, IfSome, OnOk, Ok};
-ghost use Rattle.std.specs.List.{prefix_len};
-ghost use Rattle.std.specs.Char.{is_ascii_digit};
-ghost use Rattle.std.specs.Option.{is_some};
-ghost use Rattle.sno_pattern.specs.Identifiers.{is_letter, is_name_char, is_reserved};
-ghost use Rattle.sno_pattern.specs.NameList.{place_of};
-ghost use Rattle.sno_pattern.specs.Tree.{tree_of, Seq, Alt, Cond, Imm, Arbno};
+ghost use Rattle.std.specs.Prelude.{ℕ, ◌<◌, ◌≤◌, length, IfOk, Ok};
+ghost use Rattle.sno_pattern.specs.Tree.{tree_of, Seq, Alt, Cond, Imm};
 ghost use Rattle.sno_read.specs.Gives.{Gives};
-ghost use Rattle.sno_read.specs.Characters.{behind, skip, begins, what_follows, start_of};
-ghost use Rattle.sno_read.specs.Keywords.{word_tree, number_tree, set_tree};
-ghost use Rattle.sno_read.specs.Reading.{Env, place, literal_at, set_at, number_at, name_at, variable_at, opened, closed, parted, cursor_at, starred_at, plain_of, counted_at, chosen_at, group_at, repeated_at, named_at, quoted_at, element_at, signed, targets_at, item_at, items_at, parts_at, concatenation_at, alternation_at, inside};
+ghost use Rattle.sno_read.specs.Reading.{place, cursor_at, starred_at, plain_of, counted_at, chosen_at, group_at, repeated_at, named_at, quoted_at, element_at, targets_at, item_at, items_at, parts_at, concatenation_at, inside};
 ghost use Rattle.sno_read.specs.Views.{env_of};
-ghost use Rattle.sno_read.specs.declared.faults.ReadFault.TheVariants.{Unexpected, UnknownName};
-ghost use Rattle.sno_read.specs.declared.faults.Stop.TheVariants.{Fault};
+ghost use Rattle.sno_read.specs.declared.faults.ReadFault.TheVariants.{UnknownName};
 
 use crate::characters::{self, Following, Start};
 use crate::faults::{ReadFault, Stop};
-use crate::keywords::{self, Keyword, NumberCall, SetCall, Word};
+use crate::keywords::{self, Keyword, NumberCall, SetCall};
 use crate::piece::Piece;
-use sno_pattern::{Class, Name, Names, Pattern, Text};
+use sno_pattern::{Name, Names, Pattern};
 use std::alloc::Global;
 
 /// What a text is read with.
@@ -34,145 +26,6 @@ pub struct Reader<'a> {
 }
 
 impl<'a> Reader<'a> {
-    /// The place where this rest of the text begins.
-    pub fn place(&self, rest: Piece) -> usize
-        ensures { result ≡ place (env_of self.now) rest.entry.characters.now }
-    {
-        self.total.saturating_sub(rest.characters.len())
-    }
-
-    /// What begins this rest can't stand there.
-    pub fn unexpected(&self, rest: Piece) -> Stop
-        ensures { result ≡ Fault (Unexpected (place (env_of self.now) rest.entry.characters.now)) }
-    {
-        Stop::Fault(ReadFault::Unexpected(self.place(rest)))
-    }
-
-    /// The characters of a literal, from its opening quote.
-    #[tactic(auto, using(crate::proofs::Runs::runs), unfolding(crate::specs::Reading::literal_at))]
-    pub fn literal(&self, rest: Piece<'a>) -> Result<(Piece<'a>, Piece<'a>), Stop>
-        ensures read { Gives (λ p. (p.0.characters.now, p.1.characters.now)) result (literal_at (env_of self.now) rest.entry.characters.now) }
-        ensures shorter { IfOk result (λ p. length p.1.characters.now < length rest.entry.characters.now) }
-    {
-        let Some(quote) = characters::quote_of(rest.characters) else {
-            return Err(self.unexpected(rest));
-        };
-        let (_quote, inside) = rest.split(1);
-        let count = characters::count_quoted(inside.characters, quote);
-        if count >= inside.characters.len() {
-            return Err(Stop::Fault(ReadFault::OpenQuote(self.place(rest))));
-        }
-        let (content, closing) = inside.split(count);
-        let (_quote, behind) = closing.split(1);
-        Ok((content, behind))
-    }
-
-    // The members of a set: a literal that is not empty.
-    #[tactic(auto, unfolding(crate::specs::Reading::set_at))]
-    fn set(&self, rest: Piece<'a>) -> Result<(Class, Piece<'a>), Stop>
-        ensures read { Gives (λ p. (p.0, p.1.characters.now)) result (set_at (env_of self.now) rest.entry.characters.now) }
-        ensures shorter { IfOk result (λ p. length p.1.characters.now < length rest.entry.characters.now) }
-    {
-        let (content, behind) = self.literal(rest)?;
-        let members = Vec::from_slice(self.alloc, content.characters)?;
-        match Class::new(members) {
-            Some(class) => Ok((class, behind)),
-            None => Err(Stop::Fault(ReadFault::EmptySet(self.place(rest)))),
-        }
-    }
-
-    // The number whose digits stand here, all of them.
-    #[tactic(auto, using(crate::proofs::Runs::runs), unfolding(crate::specs::Reading::number_at))]
-    fn number(&self, rest: Piece<'a>) -> Result<(u32, Piece<'a>), Stop>
-        ensures read { Gives (λ p. (p.0, p.1.characters.now)) result (number_at (env_of self.now) rest.entry.characters.now) }
-        ensures shorter { IfOk result (λ p. length p.1.characters.now < length rest.entry.characters.now) }
-    {
-        let (digits, behind) = rest.split(characters::count_digits(rest.characters));
-        match characters::value_of(digits.characters) {
-            Some(number) => Ok((number, behind)),
-            None => Err(Stop::Fault(ReadFault::BadNumber(self.place(rest)))),
-        }
-    }
-
-    // The name that stands here, as long as it can be.
-    #[tactic(auto, using(crate::proofs::Runs::runs), unfolding(crate::specs::Reading::name_at))]
-    fn name(&self, rest: Piece<'a>) -> Result<Name, Stop>
-        ensures read { Gives (λ name. (name, behind is_name_char rest.entry.characters.now)) result (name_at (env_of self.now) rest.entry.characters.now) }
-        ensures shorter { OnOk result (length (behind is_name_char rest.entry.characters.now) < length rest.entry.characters.now) }
-    {
-        if !characters::begins_letter(rest.characters) {
-            return Err(self.unexpected(rest));
-        }
-        let (letters, _behind) = rest.split(characters::count_name_chars(rest.characters));
-        match Name::read(letters.characters) {
-            Some(name) => Ok(name),
-            None => Err(Stop::Fault(ReadFault::TooLong(self.place(rest)))),
-        }
-    }
-
-    // Whether a name is reserved or that of a definition.
-    fn is_taken(&self, name: &Name) -> bool
-        ensures { result ≡ (is_reserved name.now || is_some (place_of self.now.names.now name.now)) }
-    {
-        name.is_reserved() || self.names.place(name).is_some()
-    }
-
-    /// The name of a variable.
-    #[tactic(auto, unfolding(crate::specs::Reading::variable_at))]
-    pub fn variable(&self, rest: Piece<'a>) -> Result<Name, Stop>
-        ensures read { Gives (λ name. (name, behind is_name_char rest.entry.characters.now)) result (variable_at (env_of self.now) rest.entry.characters.now) }
-        ensures shorter { OnOk result (length (behind is_name_char rest.entry.characters.now) < length rest.entry.characters.now) }
-    {
-        let name = self.name(rest)?;
-        if self.is_taken(&name) {
-            return Err(Stop::Fault(ReadFault::ReservedTarget(self.place(rest))));
-        }
-        Ok(name)
-    }
-
-    // An opening parenthesis and blanks, where so many more may be opened.
-    #[tactic(auto, unfolding(crate::specs::Reading::opened))]
-    fn opened(&self, room: usize, rest: Piece<'a>) -> Result<Piece<'a>, Stop>
-        ensures read { Gives (λ p. p.characters.now) result (opened (env_of self.now) room rest.entry.characters.now) }
-        ensures shorter { IfOk result (λ p. length p.characters.now < length rest.entry.characters.now) }
-        ensures more { OnOk result (0 < room) }
-    {
-        if !characters::begins_with(rest.characters, b'(') {
-            return Err(self.unexpected(rest));
-        }
-        if room == 0 {
-            return Err(Stop::Fault(ReadFault::TooDeep(self.place(rest))));
-        }
-        let (_parenthesis, behind) = rest.split(1);
-        Ok(behind.after_blanks())
-    }
-
-    // Blanks and a closing parenthesis.
-    #[tactic(auto, unfolding(crate::specs::Reading::closed))]
-    fn closed(&self, rest: Piece<'a>) -> Result<Piece<'a>, Stop>
-        ensures read { Gives (λ p. p.characters.now) result (closed (env_of self.now) rest.entry.characters.now) }
-        ensures shorter { IfOk result (λ p. length p.characters.now < length rest.entry.characters.now) }
-    {
-        let rest = rest.after_blanks();
-        if !characters::begins_with(rest.characters, b')') {
-            return Err(self.unexpected(rest));
-        }
-        let (_parenthesis, behind) = rest.split(1);
-        Ok(behind)
-    }
-
-    /// Blanks, at least one.
-    #[tactic(auto, unfolding(crate::specs::Reading::parted))]
-    pub fn parted(&self, rest: Piece<'a>) -> Result<Piece<'a>, Stop>
-        ensures read { Gives (λ p. p.characters.now) result (parted (env_of self.now) rest.entry.characters.now) }
-        ensures shorter { IfOk result (λ p. length p.characters.now ≤ length rest.entry.characters.now) }
-    {
-        if !characters::begins_blank(rest.characters) {
-            return Err(self.unexpected(rest));
-        }
-        Ok(rest.after_blanks())
-    }
-
     // A number in parentheses, behind the name of its call.
     #[tactic(auto, unfolding(crate::specs::Reading::counted_at))]
     fn counted(
@@ -207,16 +60,38 @@ impl<'a> Reader<'a> {
         Ok((call.pattern(members), rest))
     }
 
-    // What stands behind blanks, a sign and blanks again.
-    #[tactic(auto, using(crate::proofs::Runs::runs), unfolding(crate::specs::Reading::signed))]
-    fn signed(&self, rest: Piece<'a>) -> Result<Piece<'a>, Stop>
-        requires { 0 < length (skip rest.characters.now) }
-        ensures read { Gives (λ p. p.characters.now) result (signed (env_of self.now) rest.entry.characters.now) }
-        ensures shorter { IfOk result (λ p. length p.characters.now < length rest.entry.characters.now) }
+    // One pattern and then another.
+    fn seq(&self, first: Pattern, second: Pattern) -> Result<Pattern, Stop>
+        ensures { Gives tree_of result (Ok (Seq (tree_of first) (tree_of second))) }
     {
-        let (_sign, rest) = rest.after_blanks().split(1);
-        let rest = self.parted(rest)?;
-        Ok(rest)
+        let first = Box::new(self.alloc, first)?;
+        let second = Box::new(self.alloc, second)?;
+        Ok(Pattern::Seq(first, second))
+    }
+
+    // One pattern or else another.
+    fn alt(&self, first: Pattern, second: Pattern) -> Result<Pattern, Stop>
+        ensures { Gives tree_of result (Ok (Alt (tree_of first) (tree_of second))) }
+    {
+        let first = Box::new(self.alloc, first)?;
+        let second = Box::new(self.alloc, second)?;
+        Ok(Pattern::Alt(first, second))
+    }
+
+    // A part that is assigned later.
+    fn cond(&self, part: Pattern, name: Name) -> Result<Pattern, Stop>
+        ensures { Gives tree_of result (Ok (Cond (tree_of part) name)) }
+    {
+        let part = Box::new(self.alloc, part)?;
+        Ok(Pattern::Cond(part, name))
+    }
+
+    // A part that is assigned at once.
+    fn imm(&self, part: Pattern, name: Name) -> Result<Pattern, Stop>
+        ensures { Gives tree_of result (Ok (Imm (tree_of part) name)) }
+    {
+        let part = Box::new(self.alloc, part)?;
+        Ok(Pattern::Imm(part, name))
     }
 
     // The targets of a pattern, the leftmost innermost.
@@ -228,30 +103,18 @@ impl<'a> Reader<'a> {
             Following::Dot => {
                 let rest = self.signed(rest)?;
                 let name = self.variable(rest)?;
-                let part = Box::new(self.alloc, pattern)?;
-                let read = self.targets(Pattern::Cond(part, name), rest.after_name())?;
+                let part = self.cond(pattern, name)?;
+                let read = self.targets(part, rest.after_name())?;
                 Ok(read)
             }
             Following::Dollar => {
                 let rest = self.signed(rest)?;
                 let name = self.variable(rest)?;
-                let part = Box::new(self.alloc, pattern)?;
-                let read = self.targets(Pattern::Imm(part, name), rest.after_name())?;
+                let part = self.imm(pattern, name)?;
+                let read = self.targets(part, rest.after_name())?;
                 Ok(read)
             }
             Following::Nothing | Following::Bar | Following::Item => Ok((pattern, rest)),
-        }
-    }
-
-    /// A text of these characters.
-    #[tactic(auto, using(crate::proofs::Ascii::text_ok))]
-    pub fn text(&self, content: Piece<'a>) -> Result<Text, Stop>
-        ensures { Gives (λ text. text) result (Ok content.entry.characters.now) }
-    {
-        let characters = Vec::from_slice(self.alloc, content.characters)?;
-        match Text::new(characters) {
-            Ok(text) => Ok(text),
-            Err(_) => unreachable!(),
         }
     }
 
@@ -395,9 +258,8 @@ impl<'a> Reader<'a> {
         match characters::what_follows(rest.characters) {
             Following::Item => {
                 let (others, rest) = self.concatenation(room, rest.after_blanks())?;
-                let first = Box::new(self.alloc, pattern)?;
-                let second = Box::new(self.alloc, others)?;
-                Ok((Pattern::Seq(first, second), rest))
+                let joined = self.seq(pattern, others)?;
+                Ok((joined, rest))
             }
             Following::Nothing | Following::Dot | Following::Dollar | Following::Bar => Ok((
                 pattern, rest,
@@ -416,9 +278,8 @@ impl<'a> Reader<'a> {
             Following::Bar => {
                 let rest = self.signed(rest)?;
                 let (others, rest) = self.alternation(room, rest)?;
-                let first = Box::new(self.alloc, pattern)?;
-                let second = Box::new(self.alloc, others)?;
-                Ok((Pattern::Alt(first, second), rest))
+                let joined = self.alt(pattern, others)?;
+                Ok((joined, rest))
             }
             Following::Nothing | Following::Dot | Following::Dollar | Following::Item => Ok((
                 pattern, rest,

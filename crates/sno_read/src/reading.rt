@@ -6,7 +6,6 @@ ghost use Rattle.sno_read.specs.Grammar.{Spells};
 ghost use Rattle.sno_read.specs.ObjectGrammar.{SpellsObject};
 ghost use Rattle.sno_pattern.specs.Texts.{first_non_ascii};
 ghost use Rattle.sno_read.specs.Gives.{Gives, Answers};
-ghost use Rattle.sno_read.specs.Characters.{skip};
 ghost use Rattle.sno_read.specs.Reading.{checked, whole_of, pattern_of};
 ghost use Rattle.sno_read.specs.Objects.{object_of};
 ghost use Rattle.sno_read.specs.Views.{env_of};

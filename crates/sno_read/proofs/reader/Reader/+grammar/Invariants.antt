@@ -1,5 +1,5 @@
 -- Each rule is read off what is left of the text, or leads to a rule below it.
-use Rattle.std.proofs.Common.{ℕ, ◌+◌, ◌*◌, length}
+use Rattle.std.proofs.Common.{◌+◌, ◌*◌, length}
 use Rattle.sno_read.proofs.reader.Reader.+grammar.Given as goal
 
 abbrev pub decreases-alternation : goal.decreases-alternation

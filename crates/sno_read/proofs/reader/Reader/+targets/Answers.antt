@@ -1,6 +1,5 @@
 -- Each exit is one step of `targets_at`, whatever bounds it.
-use Rattle.std.proofs.Common.{ℕ, ◌-◌, ◌<◌, length, arith, rules}
-use Rattle.std.proofs.lemmas.Grind.{common_steps}
+use Rattle.std.proofs.Common.{◌-◌, arith, rules}
 use Rattle.sno_pattern.specs.Tree.{tree_of}
 use Rattle.sno_read.specs.Views.{env_of}
 use Rattle.sno_read.proofs.Steps.{targets_step}

@@ -1,8 +1,7 @@
 -- One part more, at each turn.
-use Rattle.std.proofs.Common.{◌-◌, length, is_ok, ◌∷◌, [], ◌++◌, sym, ap, subst, arith, rules}
+use Rattle.std.proofs.Common.{◌-◌, is_ok, ap, arith, rules}
 use Rattle.std.proofs.ResultArms.{chosen}
 use Rattle.std.proofs.lemmas.Result.{err_from_is_err_and}
-use Rattle.sno_read.specs.Objects.{parts_of, with_front}
 use Rattle.sno_read.specs.Views.{env_of}
 use Rattle.sno_read.proofs.Parts.{parts_end, part_stops, gap_stops, part_more}
 use Rattle.sno_read.proofs.reader.Reader.parts.Goals as goal

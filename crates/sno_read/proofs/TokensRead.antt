@@ -1,5 +1,5 @@
 -- Literals, numbers, names and parentheses: what is read of them is spelled so.
-use Rattle.std.proofs.Common.{◌≡◌, ℕ, zero, suc, ◌+◌, ◌-◌, ◌*◌, ◌<◌, ◌≤◌, Bool, true, false, not, cond, ◌||◌, List, [], ◌∷◌, ◌++◌, length, take, drop, nat_eq, nat_lt, ltb, eqb, Option, Some, None, Result, Ok, Err, IsTrue, refl, sym, ap, ◌∙◌, arith, one-add, append_assoc, length-drop}
+use Rattle.std.proofs.Common.{◌≡◌, ℕ, suc, ◌+◌, ◌-◌, ◌*◌, ◌<◌, ◌≤◌, Bool, true, false, cond, ◌||◌, List, [], ◌∷◌, ◌++◌, length, take, drop, nat_eq, nat_lt, Some, Ok, IsTrue, refl, sym, ap, ◌∙◌, arith, one-add, append_assoc, length-drop}
 use Rattle.std.specs.Option.{is_some}
 use Rattle.std.specs.List.{prefix_len, list_all}
 use Rattle.std.specs.Char.{is_ascii_digit}
@@ -10,10 +10,10 @@ use Rattle.sno_read.specs.declared.faults.ReadFault.{ReadFault}
 use Rattle.sno_read.specs.declared.faults.ReadFault.TheVariants as fault
 use Rattle.sno_read.specs.declared.characters.Following.{Following}
 use Rattle.sno_read.specs.declared.characters.Following.TheVariants as follows
-use Rattle.sno_read.specs.Gives.{◌>>=◌, found_or}
+use Rattle.sno_read.specs.Gives.{found_or}
 use Rattle.sno_read.specs.Characters.{is_blank, is_quote, is_other, quote_of, front, behind, skip, begins, value_of, number_from, what_follows, sign_of}
-use Rattle.sno_read.specs.Grammar.{AreBlanks, SomeBlanks, decimal, IsNumber, IsLiteral, IsVariable, signed_by}
-use Rattle.sno_read.specs.Reading.{Env, Read, place, closed_by, literal_at, set_at, number_at, name_at, variable_at, opened, closed, parted, signed}
+use Rattle.sno_read.specs.Grammar.{AreBlanks, SomeBlanks, decimal, IsNumber, IsLiteral, IsVariable}
+use Rattle.sno_read.specs.Reading.{Env, place, closed_by, literal_at, set_at, number_at, name_at, variable_at, opened, closed, parted, signed}
 use Rattle.sno_read.proofs.Fronts.{front_passes, behind_stops, front_behind, begins_shape, other_shape}
 use Rattle.sno_read.proofs.Results.{bind_ok, found_ok, if_ok, unless_ok, if_some, unless_some, ok_same, pair_ok, or_false, none_is}
 

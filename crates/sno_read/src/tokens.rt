@@ -1,0 +1,182 @@
+//! Literals, sets, numbers, names, parentheses and blanks.
+ghost use Rattle.std.specs.Prelude.{◌≡◌, ◌||◌, ◌<◌, ◌≤◌, length, IfOk, OnOk, Ok};
+ghost use Rattle.std.specs.Option.{is_some};
+ghost use Rattle.sno_pattern.specs.Identifiers.{is_name_char, is_reserved};
+ghost use Rattle.sno_pattern.specs.NameList.{place_of};
+ghost use Rattle.sno_read.specs.Gives.{Gives};
+ghost use Rattle.sno_read.specs.Characters.{behind, skip};
+ghost use Rattle.sno_read.specs.Reading.{place, literal_at, set_at, number_at, name_at, variable_at, opened, closed, parted, signed};
+ghost use Rattle.sno_read.specs.Views.{env_of};
+ghost use Rattle.sno_read.specs.declared.faults.ReadFault.TheVariants.{Unexpected};
+ghost use Rattle.sno_read.specs.declared.faults.Stop.TheVariants.{Fault};
+
+use crate::characters;
+use crate::faults::{ReadFault, Stop};
+use crate::piece::Piece;
+use crate::reader::Reader;
+use sno_pattern::{Class, Name, Text};
+
+impl<'a> Reader<'a> {
+    /// The place where this rest of the text begins.
+    pub fn place(&self, rest: Piece) -> usize
+        ensures { result ≡ place (env_of self.now) rest.entry.characters.now }
+    {
+        self.total.saturating_sub(rest.characters.len())
+    }
+
+    /// What begins this rest can't stand there.
+    pub fn unexpected(&self, rest: Piece) -> Stop
+        ensures { result ≡ Fault (Unexpected (place (env_of self.now) rest.entry.characters.now)) }
+    {
+        Stop::Fault(ReadFault::Unexpected(self.place(rest)))
+    }
+
+    /// The characters of a literal, from its opening quote.
+    #[tactic(auto, using(crate::proofs::Runs::runs), unfolding(crate::specs::Reading::literal_at))]
+    pub fn literal(&self, rest: Piece<'a>) -> Result<(Piece<'a>, Piece<'a>), Stop>
+        ensures read { Gives (λ p. (p.0.characters.now, p.1.characters.now)) result (literal_at (env_of self.now) rest.entry.characters.now) }
+        ensures shorter { IfOk result (λ p. length p.1.characters.now < length rest.entry.characters.now) }
+    {
+        let Some(quote) = characters::quote_of(rest.characters) else {
+            return Err(self.unexpected(rest));
+        };
+        let (_quote, inside) = rest.split(1);
+        let count = characters::count_quoted(inside.characters, quote);
+        if count >= inside.characters.len() {
+            return Err(Stop::Fault(ReadFault::OpenQuote(self.place(rest))));
+        }
+        let (content, closing) = inside.split(count);
+        let (_quote, behind) = closing.split(1);
+        Ok((content, behind))
+    }
+
+    /// A text of these characters.
+    #[tactic(auto, using(crate::proofs::Ascii::text_ok))]
+    pub fn text(&self, content: Piece<'a>) -> Result<Text, Stop>
+        ensures { Gives (λ text. text) result (Ok content.entry.characters.now) }
+    {
+        let characters = Vec::from_slice(self.alloc, content.characters)?;
+        match Text::new(characters) {
+            Ok(text) => Ok(text),
+            Err(_) => unreachable!(),
+        }
+    }
+
+    /// The members of a set: a literal that is not empty.
+    #[tactic(auto, unfolding(crate::specs::Reading::set_at))]
+    pub fn set(&self, rest: Piece<'a>) -> Result<(Class, Piece<'a>), Stop>
+        ensures read { Gives (λ p. (p.0, p.1.characters.now)) result (set_at (env_of self.now) rest.entry.characters.now) }
+        ensures shorter { IfOk result (λ p. length p.1.characters.now < length rest.entry.characters.now) }
+    {
+        let (content, behind) = self.literal(rest)?;
+        let members = Vec::from_slice(self.alloc, content.characters)?;
+        match Class::new(members) {
+            Some(class) => Ok((class, behind)),
+            None => Err(Stop::Fault(ReadFault::EmptySet(self.place(rest)))),
+        }
+    }
+
+    /// The number whose digits stand here, all of them.
+    #[tactic(auto, using(crate::proofs::Runs::runs), unfolding(crate::specs::Reading::number_at))]
+    pub fn number(&self, rest: Piece<'a>) -> Result<(u32, Piece<'a>), Stop>
+        ensures read { Gives (λ p. (p.0, p.1.characters.now)) result (number_at (env_of self.now) rest.entry.characters.now) }
+        ensures shorter { IfOk result (λ p. length p.1.characters.now < length rest.entry.characters.now) }
+    {
+        let (digits, behind) = rest.split(characters::count_digits(rest.characters));
+        match characters::value_of(digits.characters) {
+            Some(number) => Ok((number, behind)),
+            None => Err(Stop::Fault(ReadFault::BadNumber(self.place(rest)))),
+        }
+    }
+
+    /// The name that stands here, as long as it can be.
+    #[tactic(auto, using(crate::proofs::Runs::runs), unfolding(crate::specs::Reading::name_at))]
+    pub fn name(&self, rest: Piece<'a>) -> Result<Name, Stop>
+        ensures read { Gives (λ name. (name, behind is_name_char rest.entry.characters.now)) result (name_at (env_of self.now) rest.entry.characters.now) }
+        ensures shorter { OnOk result (length (behind is_name_char rest.entry.characters.now) < length rest.entry.characters.now) }
+    {
+        if !characters::begins_letter(rest.characters) {
+            return Err(self.unexpected(rest));
+        }
+        let (letters, _behind) = rest.split(characters::count_name_chars(rest.characters));
+        match Name::read(letters.characters) {
+            Some(name) => Ok(name),
+            None => Err(Stop::Fault(ReadFault::TooLong(self.place(rest)))),
+        }
+    }
+
+    /// Whether a name is reserved or that of a definition.
+    pub fn is_taken(&self, name: &Name) -> bool
+        ensures { result ≡ (is_reserved name.now || is_some (place_of self.now.names.now name.now)) }
+    {
+        name.is_reserved() || self.names.place(name).is_some()
+    }
+
+    /// The name of a variable.
+    #[tactic(auto, unfolding(crate::specs::Reading::variable_at))]
+    pub fn variable(&self, rest: Piece<'a>) -> Result<Name, Stop>
+        ensures read { Gives (λ name. (name, behind is_name_char rest.entry.characters.now)) result (variable_at (env_of self.now) rest.entry.characters.now) }
+        ensures shorter { OnOk result (length (behind is_name_char rest.entry.characters.now) < length rest.entry.characters.now) }
+    {
+        let name = self.name(rest)?;
+        if self.is_taken(&name) {
+            return Err(Stop::Fault(ReadFault::ReservedTarget(self.place(rest))));
+        }
+        Ok(name)
+    }
+
+    /// An opening parenthesis and blanks, where so many more may be opened.
+    #[tactic(auto, unfolding(crate::specs::Reading::opened))]
+    pub fn opened(&self, room: usize, rest: Piece<'a>) -> Result<Piece<'a>, Stop>
+        ensures read { Gives (λ p. p.characters.now) result (opened (env_of self.now) room rest.entry.characters.now) }
+        ensures shorter { IfOk result (λ p. length p.characters.now < length rest.entry.characters.now) }
+        ensures more { OnOk result (0 < room) }
+    {
+        if !characters::begins_with(rest.characters, b'(') {
+            return Err(self.unexpected(rest));
+        }
+        if room == 0 {
+            return Err(Stop::Fault(ReadFault::TooDeep(self.place(rest))));
+        }
+        let (_parenthesis, behind) = rest.split(1);
+        Ok(behind.after_blanks())
+    }
+
+    /// Blanks and a closing parenthesis.
+    #[tactic(auto, unfolding(crate::specs::Reading::closed))]
+    pub fn closed(&self, rest: Piece<'a>) -> Result<Piece<'a>, Stop>
+        ensures read { Gives (λ p. p.characters.now) result (closed (env_of self.now) rest.entry.characters.now) }
+        ensures shorter { IfOk result (λ p. length p.characters.now < length rest.entry.characters.now) }
+    {
+        let rest = rest.after_blanks();
+        if !characters::begins_with(rest.characters, b')') {
+            return Err(self.unexpected(rest));
+        }
+        let (_parenthesis, behind) = rest.split(1);
+        Ok(behind)
+    }
+
+    /// Blanks, at least one.
+    #[tactic(auto, unfolding(crate::specs::Reading::parted))]
+    pub fn parted(&self, rest: Piece<'a>) -> Result<Piece<'a>, Stop>
+        ensures read { Gives (λ p. p.characters.now) result (parted (env_of self.now) rest.entry.characters.now) }
+        ensures shorter { IfOk result (λ p. length p.characters.now ≤ length rest.entry.characters.now) }
+    {
+        if !characters::begins_blank(rest.characters) {
+            return Err(self.unexpected(rest));
+        }
+        Ok(rest.after_blanks())
+    }
+
+    /// What stands behind blanks, a sign and blanks again.
+    #[tactic(auto, using(crate::proofs::Runs::runs), unfolding(crate::specs::Reading::signed))]
+    pub fn signed(&self, rest: Piece<'a>) -> Result<Piece<'a>, Stop>
+        requires { 0 < length (skip rest.characters.now) }
+        ensures read { Gives (λ p. p.characters.now) result (signed (env_of self.now) rest.entry.characters.now) }
+        ensures shorter { IfOk result (λ p. length p.characters.now < length rest.entry.characters.now) }
+    {
+        let (_sign, rest) = rest.after_blanks().split(1);
+        let rest = self.parted(rest)?;
+        Ok(rest)
+    }
+}
