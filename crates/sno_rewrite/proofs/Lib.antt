@@ -5,3 +5,4 @@ pub mod IndexLemmas
 pub mod References
 pub mod CircleLemmas
 pub mod HistoryLemmas
+pub mod ListingLemmas

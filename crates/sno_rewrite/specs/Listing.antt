@@ -50,10 +50,17 @@ done_lines (Matched s e bound after) =
     codes " matched " ++ (decimal s ++ (32 ∷ [] ++ (decimal e ++ (10 ∷ [] ++ (flat_map binding_line bound ++ after_line after)))))
 done_lines (Failed bound) = codes " failed" ++ (10 ∷ [] ++ flat_map binding_line bound)
 
--- an entry of the journal: its index, the statement's number, the text's name, the version, and what came of it
-unfoldable pub entry_lines : ℕ → Entry → List ℕ
-entry_lines index e =
-    decimal index ++ (codes " statement " ++ (decimal e.statement.number ++ (32 ∷ [] ++ (escaped e.statement.text ++ (32 ∷ [] ++ (decimal e.version ++ done_lines e.done))))))
+-- the index of an entry and the statement's number
+unfoldable pub entry_label : ℕ → ℕ → List ℕ
+entry_label index number = decimal index ++ (codes " statement " ++ decimal number)
+
+-- the text's name and its version
+unfoldable pub entry_subject : List ℕ → ℕ → List ℕ
+entry_subject name version = 32 ∷ [] ++ (escaped name ++ (32 ∷ [] ++ decimal version))
+
+-- an entry of the journal, and what came of it
+abbrev pub entry_lines : ℕ → Entry → List ℕ
+entry_lines index e = entry_label index e.statement.number ++ (entry_subject e.statement.text e.version ++ done_lines e.done)
 
 -- the entries, from an index on
 abbrev pub entries_from : ℕ → List Entry → List ℕ

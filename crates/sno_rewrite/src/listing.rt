@@ -7,7 +7,7 @@ ghost use Rattle.std.specs.Fmt.{decimal};
 ghost use Rattle.sno_statement.specs.Perform.{done_of};
 ghost use Rattle.sno_rewrite.specs.Texts.{named_all};
 ghost use Rattle.sno_rewrite.specs.Histories.{held_seen, entry_seen, history_seen};
-ghost use Rattle.sno_rewrite.specs.Listing.{hex_digit, is_plain, escaped_character, escaped, text_line, value_words, binding_line, after_line, done_lines, entry_lines, entries_from, reason_words, refused_line, count_line, listing};
+ghost use Rattle.sno_rewrite.specs.Listing.{hex_digit, is_plain, escaped_character, escaped, text_line, value_words, binding_line, after_line, done_lines, entry_label, entry_subject, entry_lines, entries_from, reason_words, refused_line, count_line, listing};
 
 use crate::serial::{Entry, Held, History, Reason, Refusal};
 use crate::texts::NamedText;
@@ -134,4 +134,117 @@ fn reason_words(reason: Reason) -> &'static [u8]
         Reason::NoText => b"no text",
         Reason::TextTooLong => b"text too long",
     }
+}
+
+#[tactic(auto, using(crate::proofs::ListingLemmas::binding_there))]
+fn put_bindings(alloc: Global, out: &mut Vec<u8>, bindings: &Bindings) -> Result<(), AllocError>
+    ensures { OnOk result (out.new.items ≡ out.old.items ++ flat_map binding_line bindings.now) }
+{
+    for place in 0..bindings.len() {
+        match bindings.get(place) {
+            Some((name, value)) => put_binding(alloc, out, name, value)?,
+            None => unreachable!(),
+        }
+    }
+    Ok(())
+}
+
+#[tactic(auto, unfolding(crate::specs::Listing::done_lines))]
+fn put_match(alloc: Global, out: &mut Vec<u8>, start: usize, end: usize) -> Result<(), AllocError>
+    ensures { OnOk result (out.new.items ≡ out.old.items ++ (codes " matched " ++ (decimal start ++ (32 ∷ [] ++ (decimal end ++ (10 ∷ [])))))) }
+{
+    put(out, b" matched ")?;
+    put_number(alloc, out, start as u64)?;
+    put(out, b" ")?;
+    put_number(alloc, out, end as u64)?;
+    put(out, b"\n")
+}
+
+#[tactic(auto, unfolding(crate::specs::Listing::done_lines))]
+fn put_done(alloc: Global, out: &mut Vec<u8>, outcome: &Outcome) -> Result<(), AllocError>
+    ensures { OnOk result (out.new.items ≡ out.old.items ++ done_lines (done_of outcome.now)) }
+{
+    match outcome {
+        Outcome::Matched { start, end, bindings, after } => {
+            put_match(alloc, out, *start, *end)?;
+            put_bindings(alloc, out, bindings)?;
+            put_after(out, after.as_ref())
+        }
+        Outcome::Failed { bindings } => {
+            put(out, b" failed\n")?;
+            put_bindings(alloc, out, bindings)
+        }
+    }
+}
+
+#[tactic(auto, unfolding(crate::specs::Listing::entry_label))]
+fn put_label(alloc: Global, out: &mut Vec<u8>, index: usize, number: u32) -> Result<(), AllocError>
+    ensures { OnOk result (out.new.items ≡ out.old.items ++ entry_label index number) }
+{
+    put_number(alloc, out, index as u64)?;
+    put(out, b" statement ")?;
+    put_number(alloc, out, u64::from(number))
+}
+
+#[tactic(auto, unfolding(crate::specs::Listing::entry_subject))]
+fn put_subject(alloc: Global, out: &mut Vec<u8>, name: &[u8], version: u64) -> Result<(), AllocError>
+    ensures { OnOk result (out.new.items ≡ out.old.items ++ entry_subject name.now version) }
+{
+    put(out, b" ")?;
+    put_escaped(out, name)?;
+    put(out, b" ")?;
+    put_number(alloc, out, version)
+}
+
+fn put_entry(alloc: Global, out: &mut Vec<u8>, index: usize, entry: &Entry<'_>) -> Result<(), AllocError>
+    ensures { OnOk result (out.new.items ≡ out.old.items ++ entry_lines index (entry_seen entry.now)) }
+{
+    put_label(alloc, out, index, entry.statement.number())?;
+    put_subject(alloc, out, entry.statement.text().bytes(), entry.version)?;
+    put_done(alloc, out, &entry.outcome)
+}
+
+fn put_entries(alloc: Global, out: &mut Vec<u8>, journal: &[Entry<'_>]) -> Result<(), AllocError>
+    ensures { OnOk result (out.new.items ≡ out.old.items ++ entries_from 0 (map entry_seen journal.now)) }
+{
+    for (index, entry) in journal.iter().enumerate() {
+        put_entry(alloc, out, index, entry)?;
+    }
+    Ok(())
+}
+
+fn put_refusals(alloc: Global, out: &mut Vec<u8>, refused: &[Refusal]) -> Result<(), AllocError>
+    ensures { OnOk result (out.new.items ≡ out.old.items ++ flat_map refused_line refused.now) }
+{
+    for refusal in refused {
+        put_refusal(alloc, out, refusal)?;
+    }
+    Ok(())
+}
+
+#[tactic(auto, using(crate::proofs::ListingLemmas::text_next))]
+fn put_texts(alloc: Global, out: &mut Vec<u8>, texts: &[NamedText], held: &[Held]) -> Result<(), AllocError>
+    requires { length texts.now ≡ length held.now }
+    ensures { OnOk result (out.new.items ≡ out.old.items ++ flat_map text_line (zip (map (λ t. t.0) (named_all texts.now)) (map held_seen held.now))) }
+{
+    for (place, held) in held.iter().enumerate() {
+        put_text(alloc, out, texts[place].name.bytes(), held)?;
+    }
+    Ok(())
+}
+
+/// The listing of what a run did to texts.
+#[tactic(auto, unfolding(crate::specs::Listing::listing))]
+pub(crate) fn listing(alloc: Global, texts: &[NamedText], history: &History<'_>) -> Result<Vec<u8>, AllocError>
+    requires { length texts.now ≡ length history.now.held.items }
+    ensures { IfOk result (λ v. v.items ≡ listing (map (λ t. t.0) (named_all texts.now)) (history_seen history.now)) }
+{
+    let mut out = Vec::new(alloc);
+    put_count(alloc, &mut out, "texts ", history.held.len())?;
+    put_texts(alloc, &mut out, texts, &history.held)?;
+    put_count(alloc, &mut out, "entries ", history.journal.len())?;
+    put_entries(alloc, &mut out, &history.journal)?;
+    put_count(alloc, &mut out, "refused ", history.refused.len())?;
+    put_refusals(alloc, &mut out, &history.refused)?;
+    Ok(out)
 }
