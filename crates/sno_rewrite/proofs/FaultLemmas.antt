@@ -1,7 +1,11 @@
 -- A fault passes on through the steps that follow.
-use Rattle.std.proofs.Common.{◌≡◌, ◌≢◌, ℕ, Bool, List, Result, Ok, Err, IsErrAnd, sym, ◌∙◌, ap, subst}
+use Rattle.std.proofs.Common.{◌≡◌, ◌≢◌, ℕ, Bool, List, Result, Ok, Err, IsErrAnd, IfErr, map, refl, sym, ◌∙◌, ap, subst}
 use Rattle.sno_rewrite.specs.Faults.{Fails, Gives, ◌>>=◌}
-use Rattle.sno_rewrite.specs.Document.{IsDocument}
+use Rattle.std.specs.Borrow.{Bor}
+use Rattle.sno_pattern.specs.Definitions.{Definitions}
+use Rattle.sno_rewrite.specs.Rows.{pair_seen, rows_seen}
+use Rattle.sno_rewrite.specs.declared.rows.Rows.{Rows}
+use Rattle.sno_rewrite.specs.Document.{IsDocument, definitions_of}
 use Rattle.sno_rewrite.specs.Reads.{Reads}
 use Rattle.sno_rewrite.specs.declared.documents.Document.{Document}
 use Rattle.sno_rewrite.specs.declared.faults.RunFault.{RunFault}
@@ -21,3 +25,18 @@ pub reads_err : (anchor : Bool) (bytes : List ℕ) (result : Result Document Run
     → (e ≢ Memory → IsDocument anchor bytes (Err e)) → Reads anchor bytes result
 reads_err anchor bytes (Err d) e is h = λ memory. subst (λ f. IsDocument anchor bytes (Err f)) (sym is) (h (λ m. memory (is ∙ m)))
 reads_err anchor bytes (Ok x) e is h = absurd is
+
+-- the definitions of the rows are those of the slice of them
+pub drafted_from : (rows : Rows) (slice : List (Bor (List ℕ) × Bor (List ℕ))) (r : Result Definitions RunFault) → slice ≡ rows.patterns.items
+    → definitions_of (map pair_seen slice) ≡ r → definitions_of (rows_seen rows).patterns ≡ r
+drafted_from rows slice r is h = ap (λ (l : List (Bor (List ℕ) × Bor (List ℕ))). definitions_of (map pair_seen l)) (sym is) ∙ h
+
+-- what isn't unlike want of memory is want of memory
+pub memory_only : (e : RunFault) → (e ≢ Memory → ⊥) → e ≡ Memory
+memory_only Memory h = refl
+memory_only e h = absurd (h (λ m. cc))
+
+-- the exit of a `?` that is want of memory
+pub memory_err : {X : Type 0} (result : Result X RunFault) (e : RunFault) → IsErrAnd result (λ d. d ≡ e) → e ≡ Memory → IfErr result (λ d. d ≡ Memory)
+memory_err (Err d) e is h = is ∙ h
+memory_err (Ok x) e is h = absurd is

@@ -1,5 +1,5 @@
 -- Names behind references, in a set.
-use Rattle.std.proofs.Common.{◌≡◌, ℕ, ◌+◌, Bool, true, false, cond, ◌||◌, List, [], ◌∷◌, ◌++◌, Option, Some, None, Result, Err, refl, sym, ap, ◌∙◌, map, suc, ◌<◌, not, length, get_or, drop, drop-cons, arith}
+use Rattle.std.proofs.Common.{◌≡◌, ℕ, ◌+◌, Bool, true, false, cond, ◌||◌, List, [], ◌∷◌, ◌++◌, Option, Some, None, Result, Ok, Err, refl, sym, ap, ◌∙◌, map, suc, ◌<◌, not, length, get_or, drop, drop-cons, arith}
 use Rattle.std.proofs.Math.ListN.{get_or-map, length-map}
 use Rattle.sno_pattern.specs.Identifiers.{same}
 use Rattle.sno_pattern.specs.NameList.{repeat_from, first_repeat}
@@ -63,3 +63,15 @@ repeat_found keys names i name inside is there rest =
 pub true_of_not : (b added : Bool) → added ≡ not b → added ≡ false → b ≡ true
 true_of_not true added h g = refl
 true_of_not false added h g = cc
+
+apart_by : (o : Option ℕ) (names index : List (List ℕ)) → unless_repeated o names ≡ Ok index → o ≡ None
+apart_by None names index h = refl
+apart_by (Some i) names index h = cc
+
+-- names of which none repeats another
+pub apart_from_distinct : (names index : List (List ℕ)) → distinct names ≡ Ok index → first_repeat names ≡ None
+apart_from_distinct names index h = apart_by (first_repeat names) names index h
+
+-- names apart are all of them
+pub distinct_from_apart : (names : List (List ℕ)) → first_repeat names ≡ None → distinct names ≡ Ok names
+distinct_from_apart names h = ap (λ (o : Option ℕ). unless_repeated o names) h

@@ -6,3 +6,4 @@ pub mod References
 pub mod CircleLemmas
 pub mod HistoryLemmas
 pub mod ListingLemmas
+pub mod DocumentLaw

@@ -9,3 +9,4 @@ pub mod Reads
 pub mod Serial
 pub mod Histories
 pub mod Listing
+pub mod Reports

@@ -1,11 +1,13 @@
 //! Documents.
-ghost use Rattle.std.specs.Prelude.{◌≡◌, map};
+ghost use Rattle.std.specs.Prelude.{◌≡◌, ◌≤◌, map, length, None, IfOk};
+ghost use Rattle.sno_pattern.specs.NameList.{first_repeat};
 ghost use Rattle.serde_json.specs.View.{view};
 ghost use Rattle.sno_rewrite.specs.Faults.{Gives};
 ghost use Rattle.sno_rewrite.specs.Json.{json_of};
 ghost use Rattle.sno_rewrite.specs.Rows.{rows_seen};
 ghost use Rattle.sno_rewrite.specs.Document.{value_or, value_in, document_with};
 ghost use Rattle.sno_rewrite.specs.Reads.{document_seen, Reads};
+ghost use Rattle.sno_rewrite.specs.Texts.{named_all};
 
 use crate::RunFault;
 use crate::definitions::{admitted, definitions};
@@ -53,7 +55,9 @@ fn value_of(alloc: Global, bytes: &[u8]) -> Result<Value, RunFault>
 /// What stands behind admitted definitions.
 #[tactic(auto, unfolding(crate::specs::Document::document_with))]
 fn document_with(alloc: Global, rules: Rules, anchor: bool, rows: &Rows<'_>) -> Result<Document, RunFault>
-    ensures { Gives document_seen result (document_with rules anchor (rows_seen rows.now)) }
+    ensures document { Gives document_seen result (document_with rules anchor (rows_seen rows.now)) }
+    ensures few { IfOk result (λ d. length d.texts.items ≤ 1024) }
+    ensures apart { IfOk result (λ d. first_repeat (map (λ t. t.0) (named_all d.texts.items)) ≡ None) }
 {
     let rules = Arc::new(alloc, rules)?;
     let texts = texts(alloc, &rows.texts)?;
@@ -63,7 +67,9 @@ fn document_with(alloc: Global, rules: Rules, anchor: bool, rows: &Rows<'_>) -> 
 
 /// The document that the bytes are; `anchor` is for statements that don't say whether they are anchored.
 pub(crate) fn read_document(alloc: Global, bytes: &[u8], anchor: bool) -> Result<Document, RunFault>
-    ensures { Reads anchor bytes.now result }
+    ensures document { Reads anchor bytes.now result }
+    ensures few { IfOk result (λ d. length d.texts.items ≤ 1024) }
+    ensures apart { IfOk result (λ d. first_repeat (map (λ t. t.0) (named_all d.texts.items)) ≡ None) }
 {
     let value = value_of(alloc, bytes)?;
     let rows = rows_of(alloc, &value)?;

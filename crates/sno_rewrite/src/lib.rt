@@ -6,9 +6,14 @@ mod documents;
 mod faults;
 mod json;
 mod listing;
+mod options;
 mod rows;
+mod running;
 mod serial;
 mod statements;
 mod texts;
 
 pub use faults::{RunFault, status_of};
+pub use options::Options;
+pub use running::{Report, run_serial};
+pub use serial::{Reason, Refusal};

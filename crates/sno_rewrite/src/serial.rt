@@ -1,14 +1,17 @@
 //! The serial run of a document.
-ghost use Rattle.std.specs.Prelude.{◌≡◌, ◌≤◌, ◌<◌, ◌+◌, ◌^◌, ℕ, length, OnOk, IfOk, IfErr, Some, slice_get, map, [], vec_len};
+ghost use Rattle.std.specs.Prelude.{◌≡◌, ◌≢◌, ◌≤◌, ◌<◌, ◌+◌, ◌^◌, ℕ, length, OnOk, IfOk, IfErr, Some, slice_get, map, None, vec_len};
 ghost use Rattle.std.specs.Option.{option_map};
 ghost use Rattle.std.specs.Arc.{arc_value};
 ghost use Rattle.sno_statement.specs.Perform.{done_of};
 ghost use Rattle.sno_rewrite.specs.declared.faults.RunFault.TheVariants.{Memory};
+ghost use Rattle.sno_pattern.specs.NameList.{first_repeat};
+ghost use Rattle.sno_rewrite.specs.Reads.{document_seen};
 ghost use Rattle.sno_rewrite.specs.Texts.{named_all};
-ghost use Rattle.sno_rewrite.specs.Serial.{after_of, put, refuse, accept, advance, run, opening};
+ghost use Rattle.sno_rewrite.specs.Serial.{after_of, put, refuse, accept, advance, run, opening, serial};
 ghost use Rattle.sno_rewrite.specs.Histories.{history_seen, held_seen, VersionsBelow};
 
 use crate::RunFault;
+use crate::documents::Document;
 use crate::texts::{Index, NamedText};
 use sno_pattern::Text;
 use sno_statement::{Outcome, Statement, StatementFault, perform};
@@ -84,6 +87,7 @@ fn put(held: &mut Vec<Held>, place: usize, version: u64, after: Option<Arc<Text>
     requires inside { place < vec_len held.old }
     requires small { version + 1 < 2 ^ 64 }
     ensures put { map held_seen held.new.items ≡ put (map held_seen held.old.items) place version (option_map arc_value after) }
+    ensures as_many { length held.new.items ≡ length held.old.items }
     ensures below { (n : ℕ) → version ≤ n → VersionsBelow n held.old.items → VersionsBelow (n + 1) held.new.items }
 {
     if let Some(text) = after {
@@ -98,6 +102,7 @@ fn accept<'s>(history: &mut History<'s>, place: usize, version: u64, statement: 
     requires small { version ≤ vec_len history.old.journal }
     ensures accepted { OnOk result (history_seen history.new ≡ accept (history_seen history.old) place version statement.now (done_of outcome)) }
     ensures below { OnOk result (VersionsBelow (vec_len history.new.journal) history.new.held.items) }
+    ensures as_many { OnOk result (length history.new.held.items ≡ length history.old.held.items) }
     ensures memory { IfErr result (λ e. e ≡ Memory) }
 {
     let after = after(&outcome)?;
@@ -112,6 +117,7 @@ fn advance<'s>(alloc: Global, index: &Index<'_>, history: &mut History<'s>, stat
     requires { VersionsBelow (vec_len history.old.journal) history.old.held.items }
     ensures advanced { OnOk result (history_seen history.new ≡ advance index.now (history_seen history.old) statement.now) }
     ensures below { OnOk result (VersionsBelow (vec_len history.new.journal) history.new.held.items) }
+    ensures as_many { OnOk result (length history.new.held.items ≡ length history.old.held.items) }
     ensures memory { IfErr result (λ e. e ≡ Memory) }
 {
     let Some(place) = index.place(statement.text()) else {
@@ -126,4 +132,52 @@ fn advance<'s>(alloc: Global, index: &Index<'_>, history: &mut History<'s>, stat
         Err(StatementFault::TextTooLong) => refuse(history, statement, Reason::TextTooLong),
         Err(StatementFault::Memory) => Err(RunFault::Memory),
     }
+}
+
+/// All texts at version 0.
+#[tactic(auto, using(crate::proofs::HistoryLemmas::versions_push))]
+fn opening(alloc: Global, texts: &[NamedText]) -> Result<Vec<Held>, RunFault>
+    ensures opening { IfOk result (λ v. map held_seen v.items ≡ opening (named_all texts.now)) }
+    ensures below { IfOk result (λ v. VersionsBelow 0 v.items) }
+    ensures as_many { IfOk result (λ v. length v.items ≡ length texts.now) }
+    ensures memory { IfErr result (λ e. e ≡ Memory) }
+{
+    let mut held = Vec::new(alloc);
+    for named in texts {
+        let text = Arc::try_clone(&named.text)?;
+        held.push(Held { text, version: 0 })?;
+    }
+    Ok(held)
+}
+
+/// The statements in order.
+fn run<'s>(alloc: Global, index: &Index<'_>, history: &mut History<'s>, statements: &'s [Statement]) -> Result<(), RunFault>
+    requires { VersionsBelow (vec_len history.old.journal) history.old.held.items }
+    ensures run { OnOk result (history_seen history.new ≡ run index.now (history_seen history.old) statements.now) }
+    ensures as_many { OnOk result (length history.new.held.items ≡ length history.old.held.items) }
+    ensures memory { IfErr result (λ e. e ≡ Memory) }
+{
+    for statement in statements {
+        advance(alloc, index, history, statement)?;
+    }
+    Ok(())
+}
+
+/// What the statements of the document, performed in order on its texts, do.
+pub(crate) fn serial(alloc: Global, document: &Document) -> Result<History<'_>, RunFault>
+    requires few { length document.now.texts.items ≤ 1024 }
+    requires apart { first_repeat (map (λ t. t.0) (named_all document.now.texts.items)) ≡ None }
+    ensures serial { IfOk result (λ h. history_seen h ≡ serial (document_seen document.now)) }
+    ensures as_many { IfOk result (λ h. length h.held.items ≡ length document.now.texts.items) }
+    ensures memory { IfErr result (λ e. e ≢ Memory → ⊥) }
+{
+    let index = Index::of(alloc, &document.texts)?;
+    let held = opening(alloc, &document.texts)?;
+    let mut history = History {
+        held,
+        journal: Vec::new(alloc),
+        refused: Vec::new(alloc),
+    };
+    run(alloc, &index, &mut history, &document.statements)?;
+    Ok(history)
 }

@@ -1,8 +1,8 @@
 //! The texts of a document.
-ghost use Rattle.std.specs.Prelude.{◌≡◌, ◌≤◌, ◌+◌, [], ◌∷◌, ◌++◌, map, length, not, IfOk, IfErr, OnOk, if◌then◌else◌};
+ghost use Rattle.std.specs.Prelude.{◌≡◌, ◌≤◌, ◌+◌, [], ◌∷◌, ◌++◌, map, length, not, None, IfOk, IfErr, OnOk, if◌then◌else◌};
 ghost use Rattle.std.specs.List.{list_any};
 ghost use Rattle.sno_pattern.specs.Identifiers.{same};
-ghost use Rattle.sno_pattern.specs.NameList.{place_of};
+ghost use Rattle.sno_pattern.specs.NameList.{place_of, first_repeat};
 ghost use Rattle.sno_rewrite.specs.Faults.{Gives};
 ghost use Rattle.sno_rewrite.specs.Rows.{pair_seen};
 ghost use Rattle.sno_rewrite.specs.Document.{text_row, texts_from, distinct, texts_of};
@@ -105,10 +105,11 @@ impl<'t> Index<'t> {
 }
 
 /// The texts of the document.
-#[tactic(auto, unfolding(crate::specs::Document::texts_of))]
+#[tactic(auto, unfolding(crate::specs::Document::texts_of), using(crate::proofs::IndexLemmas::apart_from_distinct))]
 pub(crate) fn texts(alloc: Global, rows: &[PairRow<'_>]) -> Result<Vec<NamedText>, RunFault>
     ensures texts { Gives (λ v. named_all v.items) result (texts_of (map pair_seen rows.now)) }
     ensures few { IfOk result (λ v. length v.items ≤ 1024) }
+    ensures apart { IfOk result (λ v. first_repeat (map (λ t. t.0) (named_all v.items)) ≡ None) }
 {
     if rows.len() > MAX_TEXTS {
         return Err(RunFault::TooManyTexts);

@@ -1,0 +1,10 @@
+-- A document has no other answer than itself.
+use Rattle.std.proofs.Common.{Ok, Err}
+use Rattle.sno_rewrite.proofs.FaultLemmas.{memory_only, memory_err}
+use Rattle.sno_rewrite.proofs.DocumentLaw.{one_answer}
+use Rattle.sno_rewrite.proofs.running.run_serial.Goals as goal
+
+pub returns-in_err-report-clause-only : goal.returns-in_err-report-clause-only
+returns-in_err-report-clause-only c = λ d h.
+    memory_err _ _ c.from_residual.ensures.1
+    (memory_only _ (λ m. let both = one_answer c.args.options.now.anchor c.args.bytes.now _ _ (c.in_err-report.ensures.fault m) h in cc))
