@@ -118,7 +118,10 @@ fn a_definition_refers_to_itself(rt: HostRuntime) -> Result<(), Fail> {
     let alloc = rt.alloc();
     let inner = seq(alloc, Pattern::Ref(0), literal(alloc, b")")?)?;
     let nested = seq(alloc, literal(alloc, b"(")?, inner)?;
-    let body = Pattern::Alt(Box::new(alloc, nested)?, Box::new(alloc, literal(alloc, b"x")?)?);
+    let body = Pattern::Alt(
+        Box::new(alloc, nested)?,
+        Box::new(alloc, literal(alloc, b"x")?)?,
+    );
     let mut bodies = Vec::new(alloc);
     bodies.push(body)?;
     let names = Names::new(alloc, &[name(b"P")?])?;

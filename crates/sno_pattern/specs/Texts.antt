@@ -5,9 +5,6 @@ use Rattle.std.specs.Char.{is_ascii}
 use Rattle.sno_pattern.specs.declared.texts.TextFault.{TextFault}
 use Rattle.sno_pattern.specs.declared.texts.TextFault.TheVariants.{TooLong, NonAscii}
 
-
-
-
 -- the place of the first byte above 127
 abbrev pub first_non_ascii : List ℕ → Option ℕ
 first_non_ascii bytes = position_from (λ b. not (is_ascii b)) 0 bytes

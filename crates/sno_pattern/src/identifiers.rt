@@ -44,7 +44,6 @@ impl Model for Name {
     } };
 }
 
-
 impl Name {
     /// The name that the bytes spell: a letter, then letters, digits, `.` and `_`, 1 to 64 characters.
     pub fn read(bytes: &[u8]) -> Option<Name>

@@ -23,10 +23,12 @@ way_chain bodies i (x ∷ rest) j w = more_way bodies i x rest j (Chain.one w.0)
 first_same : (bodies : List Tree) (i : ℕ) (others : List ℕ) (k : ℕ) (more : List ℕ) → IsFirstCycle bodies (i ∷ others) → IsFirstCycle bodies (k ∷ more) → i ≡ k
 first_same bodies i others k more h g =
     elim (cases_lt h.0 g.0) [
-      inl below ↦ absurd (g.2 h.0 below (way_chain bodies h.0 others h.0 h.1.1))
-    | inr above ↦ elim (cases_lt g.0 h.0) [
-        inl below ↦ absurd (h.2 g.0 below (way_chain bodies g.0 more g.0 g.1.1))
-      | inr under ↦ (let same : h.0 ≡ g.0 = omega arith in h.1.0 ∙ same ∙ sym g.1.0) ] ]
+      | inl below ↦ absurd (g.2 h.0 below (way_chain bodies h.0 others h.0 h.1.1))
+      | inr above ↦ elim (cases_lt g.0 h.0) [
+        | inl below ↦ absurd (h.2 g.0 below (way_chain bodies g.0 more g.0 g.1.1))
+        | inr under ↦ (let same : h.0 ≡ g.0 = omega arith in h.1.0 ∙ same ∙ sym g.1.0)
+      ]
+    ]
 
 admitted_once : (rules : Definitions) (r s : Result Definitions RunFault) → IsAdmitted rules r → IsAdmitted rules s → r ≡ s
 admitted_once rules _ _ (IsAdmitted.guarded h) (IsAdmitted.guarded g) = refl

@@ -56,7 +56,7 @@ pub repeat_found : (keys names : List (List ℕ)) (i : ℕ) (name : List ℕ) �
 repeat_found keys names i name inside is there rest =
     let split : drop i names ≡ name ∷ drop (suc i) names = drop-cons names i name inside ∙ ap (λ (n : List ℕ). n ∷ drop (suc i) names) (sym is) in
     let found : first_repeat names ≡ Some i =
-        sym rest ∙ ap (repeat_from keys i) split ∙ some_of (list_any (same name) keys) i (repeat_from (keys ++ name ∷ []) (i + 1) (drop (suc i) names)) there in
+    sym rest ∙ ap (repeat_from keys i) split ∙ some_of (list_any (same name) keys) i (repeat_from (keys ++ name ∷ []) (i + 1) (drop (suc i) names)) there in
     ap (λ (o : Option ℕ). unless_repeated o names) found
 
 -- `not b` is false where b is true

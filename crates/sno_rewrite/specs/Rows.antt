@@ -14,7 +14,7 @@ statement_seen row = record { text = row.text.now; pattern = row.pattern.now; ob
 
 abbrev pub rows_seen : Rows → written.Rows
 rows_seen rows = record {
-    patterns = map pair_seen rows.patterns.items;
-    texts = map pair_seen rows.texts.items;
-    statements = map statement_seen rows.statements.items;
-  }
+  patterns = map pair_seen rows.patterns.items;
+  texts = map pair_seen rows.texts.items;
+  statements = map statement_seen rows.statements.items;
+}

@@ -44,10 +44,10 @@ refuse h s reason = record { held = h.held; journal = h.journal; refused = h.ref
 -- an accepted one is one entry of the journal, and at most one new text
 abbrev pub accept : History → ℕ → ℕ → Task → Done → History
 accept h place version s done = record {
-    held = put h.held place version (after_of done);
-    journal = h.journal ++ record { statement = s; version = version; done = done } ∷ [];
-    refused = h.refused;
-  }
+  held = put h.held place version (after_of done);
+  journal = h.journal ++ record { statement = s; version = version; done = done } ∷ [];
+  refused = h.refused;
+}
 
 abbrev pub settle : History → ℕ → ℕ → Task → Result Done StatementFault → History
 settle h place version s (Ok done) = accept h place version s done

@@ -93,7 +93,11 @@ pub(crate) fn definitions(alloc: Global, rows: &[PairRow<'_>]) -> Result<Drafted
     let written = names_in(alloc, rows)?;
     let names = names_checked(alloc, &written)?;
     let bodies = bodies(alloc, &names, rows)?;
-    Ok(Drafted { names, bodies, written })
+    Ok(Drafted {
+        names,
+        bodies,
+        written,
+    })
 }
 
 /// The definitions admitted; `Unguarded` with the first that lies on a circle of references that takes no character.
@@ -101,7 +105,11 @@ pub(crate) fn admitted(alloc: Global, drafted: Drafted) -> Result<Rules, RunFaul
     requires { IsDrafted drafted }
     ensures { Admits (drafted_seen drafted) result }
 {
-    let Drafted { names, bodies, written } = drafted;
+    let Drafted {
+        names,
+        bodies,
+        written,
+    } = drafted;
     match Rules::admit(alloc, names, bodies) {
         Ok(rules) => Ok(rules),
         Err(RulesFault::Memory) => Err(RunFault::Memory),

@@ -38,7 +38,11 @@ fn parsed(alloc: Global, bytes: &[u8]) -> Result<Value, RunFault>
 {
     match Value::from_slice(alloc, bytes) {
         Ok(value) => Ok(value),
-        Err(error) => Err(if error.is_memory() { RunFault::Memory } else { RunFault::NotJson }),
+        Err(error) => Err(if error.is_memory() {
+            RunFault::Memory
+        } else {
+            RunFault::NotJson
+        }),
     }
 }
 
@@ -54,7 +58,12 @@ fn value_of(alloc: Global, bytes: &[u8]) -> Result<Value, RunFault>
 
 /// What stands behind admitted definitions.
 #[tactic(auto, unfolding(crate::specs::Document::document_with))]
-fn document_with(alloc: Global, rules: Rules, anchor: bool, rows: &Rows<'_>) -> Result<Document, RunFault>
+fn document_with(
+    alloc: Global,
+    rules: Rules,
+    anchor: bool,
+    rows: &Rows<'_>,
+) -> Result<Document, RunFault>
     ensures document { Gives document_seen result (document_with rules anchor (rows_seen rows.now)) }
     ensures few { IfOk result (λ d. length d.texts.items ≤ 1024) }
     ensures apart { IfOk result (λ d. first_repeat (map (λ t. t.0) (named_all d.texts.items)) ≡ None) }
@@ -62,7 +71,11 @@ fn document_with(alloc: Global, rules: Rules, anchor: bool, rows: &Rows<'_>) -> 
     let rules = Arc::new(alloc, rules)?;
     let texts = texts(alloc, &rows.texts)?;
     let statements = statements(alloc, &rules, anchor, &rows.statements)?;
-    Ok(Document { rules, texts, statements })
+    Ok(Document {
+        rules,
+        texts,
+        statements,
+    })
 }
 
 /// The document that the bytes are; `anchor` is for statements that don't say whether they are anchored.

@@ -33,7 +33,11 @@ fn hex_digit(digit: u8) -> u8
     requires { digit < 16 }
     ensures { result ≡ hex_digit digit }
 {
-    if digit < 10 { digit + b'0' } else { digit + (b'a' - 10) }
+    if digit < 10 {
+        digit + b'0'
+    } else {
+        digit + (b'a' - 10)
+    }
 }
 
 fn is_plain(character: u8) -> bool
@@ -48,7 +52,15 @@ fn put_character(out: &mut Vec<u8>, character: u8) -> Result<(), AllocError>
     if is_plain(character) {
         put(out, &[character])
     } else {
-        put(out, &[b'\\', b'x', hex_digit(character / 16), hex_digit(character % 16)])
+        put(
+            out,
+            &[
+                b'\\',
+                b'x',
+                hex_digit(character / 16),
+                hex_digit(character % 16),
+            ],
+        )
     }
 }
 
@@ -95,7 +107,12 @@ fn put_value(alloc: Global, out: &mut Vec<u8>, value: &Datum) -> Result<(), Allo
 }
 
 #[tactic(auto, unfolding(crate::specs::Listing::binding_line))]
-fn put_binding(alloc: Global, out: &mut Vec<u8>, name: &Name, value: &Datum) -> Result<(), AllocError>
+fn put_binding(
+    alloc: Global,
+    out: &mut Vec<u8>,
+    name: &Name,
+    value: &Datum,
+) -> Result<(), AllocError>
     ensures { OnOk result (out.new.items ≡ out.old.items ++ binding_line (name.now, value.now)) }
 {
     put(out, b"  ")?;
@@ -165,7 +182,12 @@ fn put_done(alloc: Global, out: &mut Vec<u8>, outcome: &Outcome) -> Result<(), A
     ensures { OnOk result (out.new.items ≡ out.old.items ++ done_lines (done_of outcome.now)) }
 {
     match outcome {
-        Outcome::Matched { start, end, bindings, after } => {
+        Outcome::Matched {
+            start,
+            end,
+            bindings,
+            after,
+        } => {
             put_match(alloc, out, *start, *end)?;
             put_bindings(alloc, out, bindings)?;
             put_after(out, after.as_ref())
@@ -187,7 +209,12 @@ fn put_label(alloc: Global, out: &mut Vec<u8>, index: usize, number: u32) -> Res
 }
 
 #[tactic(auto, unfolding(crate::specs::Listing::entry_subject))]
-fn put_subject(alloc: Global, out: &mut Vec<u8>, name: &[u8], version: u64) -> Result<(), AllocError>
+fn put_subject(
+    alloc: Global,
+    out: &mut Vec<u8>,
+    name: &[u8],
+    version: u64,
+) -> Result<(), AllocError>
     ensures { OnOk result (out.new.items ≡ out.old.items ++ entry_subject name.now version) }
 {
     put(out, b" ")?;
@@ -196,7 +223,12 @@ fn put_subject(alloc: Global, out: &mut Vec<u8>, name: &[u8], version: u64) -> R
     put_number(alloc, out, version)
 }
 
-fn put_entry(alloc: Global, out: &mut Vec<u8>, index: usize, entry: &Entry<'_>) -> Result<(), AllocError>
+fn put_entry(
+    alloc: Global,
+    out: &mut Vec<u8>,
+    index: usize,
+    entry: &Entry<'_>,
+) -> Result<(), AllocError>
     ensures { OnOk result (out.new.items ≡ out.old.items ++ entry_lines index (entry_seen entry.now)) }
 {
     put_label(alloc, out, index, entry.statement.number())?;
@@ -223,7 +255,12 @@ fn put_refusals(alloc: Global, out: &mut Vec<u8>, refused: &[Refusal]) -> Result
 }
 
 #[tactic(auto, using(crate::proofs::ListingLemmas::text_next))]
-fn put_texts(alloc: Global, out: &mut Vec<u8>, texts: &[NamedText], held: &[Held]) -> Result<(), AllocError>
+fn put_texts(
+    alloc: Global,
+    out: &mut Vec<u8>,
+    texts: &[NamedText],
+    held: &[Held],
+) -> Result<(), AllocError>
     requires { length texts.now ≡ length held.now }
     ensures { OnOk result (out.new.items ≡ out.old.items ++ flat_map text_line (zip (map (λ t. t.0) (named_all texts.now)) (map held_seen held.now))) }
 {
@@ -235,7 +272,11 @@ fn put_texts(alloc: Global, out: &mut Vec<u8>, texts: &[NamedText], held: &[Held
 
 /// The listing of what a run did to texts.
 #[tactic(auto, unfolding(crate::specs::Listing::listing))]
-pub(crate) fn listing(alloc: Global, texts: &[NamedText], history: &History<'_>) -> Result<Vec<u8>, AllocError>
+pub(crate) fn listing(
+    alloc: Global,
+    texts: &[NamedText],
+    history: &History<'_>,
+) -> Result<Vec<u8>, AllocError>
     requires { length texts.now ≡ length history.now.held.items }
     ensures { IfOk result (λ v. v.items ≡ listing (map (λ t. t.0) (named_all texts.now)) (history_seen history.now)) }
 {

@@ -39,7 +39,12 @@ fn pair_row<'v>(value: &'v Value, first: &str, second: &str) -> Result<PairRow<'
     }
 }
 
-fn pair_rows<'v>(alloc: Global, values: &'v [Value], first: &str, second: &str) -> Result<Vec<PairRow<'v>>, RunFault>
+fn pair_rows<'v>(
+    alloc: Global,
+    values: &'v [Value],
+    first: &str,
+    second: &str,
+) -> Result<Vec<PairRow<'v>>, RunFault>
     ensures { Gives (λ v. map pair_seen v.items) result (each_row (pair_row first.now second.now) [] (map view values.now)) }
 {
     let mut rows = Vec::new(alloc);
@@ -76,7 +81,13 @@ fn statement_rows(alloc: Global, values: &[Value]) -> Result<Vec<StatementRow<'_
 
 /// The rows of an array of pairs.
 #[tactic(auto, unfolding(crate::specs::Shape::pairs_at))]
-fn pairs_at<'v>(alloc: Global, value: &'v Value, key: &str, first: &str, second: &str) -> Result<Vec<PairRow<'v>>, RunFault>
+fn pairs_at<'v>(
+    alloc: Global,
+    value: &'v Value,
+    key: &str,
+    first: &str,
+    second: &str,
+) -> Result<Vec<PairRow<'v>>, RunFault>
     ensures { Gives (λ v. map pair_seen v.items) result (pairs_at key.now first.now second.now (view value.now)) }
 {
     match array_at(value, key) {

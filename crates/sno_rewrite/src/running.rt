@@ -57,7 +57,12 @@ fn reported(alloc: Global, bytes: &[u8], anchor: bool) -> Result<Report, RunFaul
 /// Refused: `Read` where a read fails, an interrupted one too; a fault of the document as `run_serial` answers it, of which more than
 /// 16,777,216 bytes are one; `Memory`; and `Write` where a write fails, an interrupted one too, or takes no byte. After a fault other
 /// than `Write` nothing was written.
-pub fn run<R: Read, W: Write>(alloc: Global, reader: &mut R, writer: &mut W, options: &Options) -> Result<u8, RunFault>
+pub fn run<R: Read, W: Write>(
+    alloc: Global,
+    reader: &mut R,
+    writer: &mut W,
+    options: &Options,
+) -> Result<u8, RunFault>
     requires serial { options.now.workers ≡ None }
     requires lines { options.now.json ≡ false }
     // The reader was read to its end.

@@ -65,7 +65,10 @@ fn after(outcome: &Outcome) -> Result<Option<Arc<Text>>, RunFault>
     ensures memory { IfErr result (λ e. e ≡ Memory) }
 {
     match outcome {
-        Outcome::Matched { after: Some(text), .. } => Ok(Some(Arc::try_clone(text)?)),
+        Outcome::Matched {
+            after: Some(text),
+            ..
+        } => Ok(Some(Arc::try_clone(text)?)),
         Outcome::Matched { after: None, .. } | Outcome::Failed { .. } => Ok(None),
     }
 }
@@ -91,12 +94,21 @@ fn put(held: &mut Vec<Held>, place: usize, version: u64, after: Option<Arc<Text>
     ensures below { (n : ℕ) → version ≤ n → VersionsBelow n held.old.items → VersionsBelow (n + 1) held.new.items }
 {
     if let Some(text) = after {
-        held[place] = Held { text, version: version + 1 };
+        held[place] = Held {
+            text,
+            version: version + 1,
+        };
     }
 }
 
 /// The statement's entry in the journal, and the new text in place of the old one.
-fn accept<'s>(history: &mut History<'s>, place: usize, version: u64, statement: &'s Statement, outcome: Outcome) -> Result<(), RunFault>
+fn accept<'s>(
+    history: &mut History<'s>,
+    place: usize,
+    version: u64,
+    statement: &'s Statement,
+    outcome: Outcome,
+) -> Result<(), RunFault>
     requires inside { place < vec_len history.old.held }
     requires below { VersionsBelow (vec_len history.old.journal) history.old.held.items }
     requires small { version ≤ vec_len history.old.journal }
@@ -106,14 +118,23 @@ fn accept<'s>(history: &mut History<'s>, place: usize, version: u64, statement: 
     ensures memory { IfErr result (λ e. e ≡ Memory) }
 {
     let after = after(&outcome)?;
-    history.journal.push(Entry { statement, version, outcome })?;
+    history.journal.push(Entry {
+        statement,
+        version,
+        outcome,
+    })?;
     put(&mut history.held, place, version, after);
     Ok(())
 }
 
 /// One statement performed on the text of its name, as it is now.
 #[tactic(auto, unfolding(crate::specs::Serial::advance), using(crate::proofs::HistoryLemmas::version_below, crate::proofs::HistoryLemmas::get_seen))]
-fn advance<'s>(alloc: Global, index: &Index<'_>, history: &mut History<'s>, statement: &'s Statement) -> Result<(), RunFault>
+fn advance<'s>(
+    alloc: Global,
+    index: &Index<'_>,
+    history: &mut History<'s>,
+    statement: &'s Statement,
+) -> Result<(), RunFault>
     requires { VersionsBelow (vec_len history.old.journal) history.old.held.items }
     ensures advanced { OnOk result (history_seen history.new ≡ advance index.now (history_seen history.old) statement.now) }
     ensures below { OnOk result (VersionsBelow (vec_len history.new.journal) history.new.held.items) }
@@ -151,7 +172,12 @@ fn opening(alloc: Global, texts: &[NamedText]) -> Result<Vec<Held>, RunFault>
 }
 
 /// The statements in order.
-fn run<'s>(alloc: Global, index: &Index<'_>, history: &mut History<'s>, statements: &'s [Statement]) -> Result<(), RunFault>
+fn run<'s>(
+    alloc: Global,
+    index: &Index<'_>,
+    history: &mut History<'s>,
+    statements: &'s [Statement],
+) -> Result<(), RunFault>
     requires { VersionsBelow (vec_len history.old.journal) history.old.held.items }
     ensures run { OnOk result (history_seen history.new ≡ run index.now (history_seen history.old) statements.now) }
     ensures as_many { OnOk result (length history.new.held.items ≡ length history.old.held.items) }

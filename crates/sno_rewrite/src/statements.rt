@@ -20,7 +20,12 @@ use std::sync::Arc;
 const MAX_STATEMENTS: usize = 1_000_000;
 
 /// The object of statement number `number`, where it has one.
-fn object(alloc: Global, names: &Names, number: usize, text: Option<&str>) -> Result<Option<Object>, RunFault>
+fn object(
+    alloc: Global,
+    names: &Names,
+    number: usize,
+    text: Option<&str>,
+) -> Result<Option<Object>, RunFault>
     ensures { Gives (λ o. o) result (object_row names.now number (option_map (λ s. s.now) text.entry)) }
 {
     let Some(text) = text else {
@@ -59,7 +64,13 @@ fn text_name(alloc: Global, number: usize, name: &str) -> Result<TextName, RunFa
 
 /// Statement number `number`.
 #[tactic(auto, unfolding(crate::specs::Document::statement_row))]
-fn statement(alloc: Global, rules: &Arc<Rules>, anchor: bool, number: usize, row: &StatementRow<'_>) -> Result<Statement, RunFault>
+fn statement(
+    alloc: Global,
+    rules: &Arc<Rules>,
+    anchor: bool,
+    number: usize,
+    row: &StatementRow<'_>,
+) -> Result<Statement, RunFault>
     requires { number ≤ 1000000 }
     ensures { Gives (λ s. s) result (statement_row (arc_value rules.now) anchor number (statement_seen row.now)) }
 {
@@ -67,12 +78,24 @@ fn statement(alloc: Global, rules: &Arc<Rules>, anchor: bool, number: usize, row
     let pattern = pattern(alloc, rules.names(), number, row.pattern)?;
     let object = object(alloc, rules.names(), number, row.object)?;
     let rules = Arc::try_clone(rules)?;
-    Ok(Statement::new(number as u32, rules, pattern, object, name, row.anchored.unwrap_or(anchor)))
+    Ok(Statement::new(
+        number as u32,
+        rules,
+        pattern,
+        object,
+        name,
+        row.anchored.unwrap_or(anchor),
+    ))
 }
 
 /// The statements of the document; `anchor` is for those that don't say whether they are anchored.
 #[tactic(auto, unfolding(crate::specs::Document::statements_of))]
-pub(crate) fn statements(alloc: Global, rules: &Arc<Rules>, anchor: bool, rows: &[StatementRow<'_>]) -> Result<Vec<Statement>, RunFault>
+pub(crate) fn statements(
+    alloc: Global,
+    rules: &Arc<Rules>,
+    anchor: bool,
+    rows: &[StatementRow<'_>],
+) -> Result<Vec<Statement>, RunFault>
     ensures { Gives (λ v. v.items) result (statements_of (arc_value rules.now) anchor (map statement_seen rows.now)) }
 {
     if rows.len() > MAX_STATEMENTS {

@@ -52,7 +52,10 @@ fn text_row(alloc: Global, number: usize, row: &PairRow<'_>) -> Result<NamedText
         Err(NameFault::Memory) => return Err(RunFault::Memory),
     };
     match Text::new(Vec::from_slice(alloc, row.1.as_bytes())?) {
-        Ok(text) => Ok(NamedText { name, text: Arc::new(alloc, text)? }),
+        Ok(text) => Ok(NamedText {
+            name,
+            text: Arc::new(alloc, text)?,
+        }),
         Err(TextFault::TooLong) => Err(RunFault::TextTooLong(number)),
         Err(TextFault::NonAscii(_)) => Err(RunFault::TextNonAscii(number)),
     }

@@ -20,7 +20,7 @@ pub index-requires : goal.index-requires
 index-requires c =
     let circle = rw c.in-Err-Unguarded.field-0-is at c.in-Err-Unguarded.ensures in
     let parts = circle_parts (trees c.args.drafted.bodies.items) c.in-Err-Unguarded.cycle.items c.in-Some.first.now circle.1
-      (c.in-Some.ensures.value ∙ ap (λ (l : List ℕ). slice_get l 0) c.deref.ensures.value) in
+    (c.in-Some.ensures.value ∙ ap (λ (l : List ℕ). slice_get l 0) c.deref.ensures.value) in
     let inside = parts.2 in
     let long = c.args.drafted.written.ok.0 in
     omega (arith, length-map c.args.drafted.bodies.items tree_of, c.requires.as_many, ap length c.requires.written)
@@ -29,9 +29,9 @@ pub returns-in-Some : goal.returns-in-Some
 returns-in-Some c = λ _.
     let circle = rw c.in-Err-Unguarded.field-0-is at c.in-Err-Unguarded.ensures in
     let parts = circle_parts (trees c.args.drafted.bodies.items) c.in-Err-Unguarded.cycle.items c.in-Some.first.now circle.1
-      (c.in-Some.ensures.value ∙ ap (λ (l : List ℕ). slice_get l 0) c.deref.ensures.value) in
+    (c.in-Some.ensures.value ∙ ap (λ (l : List ℕ). slice_get l 0) c.deref.ensures.value) in
     let inside = parts.2 in
     let short : c.in-Some.first.now < length c.args.drafted.names = omega (arith, length-map c.args.drafted.bodies.items tree_of, c.requires.as_many) in
     IsAdmitted.circle c.in-Some.first.now parts.0 parts.1
-      (slice_get_read c.args.drafted.names (length c.args.drafted.names) c.in-Some.first.now c.index.result.now refl short
-        (c.index.ensures ∙ ap (λ (l : List (List ℕ)). get_or l c.in-Some.first.now c.index.result.now) c.requires.written))
+    (slice_get_read c.args.drafted.names (length c.args.drafted.names) c.in-Some.first.now c.index.result.now refl short
+    (c.index.ensures ∙ ap (λ (l : List (List ℕ)). get_or l c.in-Some.first.now c.index.result.now) c.requires.written))
