@@ -1,8 +1,10 @@
 -- Worked examples of reading: each holds by computation alone.
-use Rattle.std.specs.Prelude.{◌≡◌, [], ◌∷◌, Ok, Err, codes, refl}
+use Rattle.std.specs.Prelude.{◌≡◌, [], ◌∷◌, Ok, Err, replicate, codes, refl}
 use Rattle.sno_pattern.specs.Identifiers.{is_letter, is_name_char, is_reserved}
 use Rattle.sno_pattern.specs.Tree.{Lit, Len, Ref, Seq, Alt, Cond, Imm}
 use Rattle.sno_read.specs.declared.faults.ReadFault.TheVariants as fault
+use Rattle.sno_read.specs.declared.objects.Part.TheVariants.{Quoted, Var}
+use Rattle.sno_read.specs.Objects.{object_of, parts_of, part_at, gap_at}
 use Rattle.sno_read.specs.Depth.{depth}
 use Rattle.sno_read.specs.Keywords.{keyword_of, call_of}
 use Rattle.sno_read.specs.Characters.{number_from, start_of, sign_of, what_follows}
@@ -92,3 +94,43 @@ word_with_argument = refl
 number_too_large : pattern_of [] 0 (codes "LEN(65537)") ≡ Err (fault.BadNumber 4)
 unfolding pattern_of whole_of shallow ended inside alternation_at concatenation_at parts_at items_at item_at targets_at signed element_at quoted_at named_at repeated_at group_at chosen_at counted_at plain_of starred_at cursor_at parted closed opened variable_at name_at number_at set_at literal_at depth keyword_of call_of number_from start_of sign_of what_follows is_letter is_name_char is_reserved
 number_too_large = refl
+
+-- 4,097 blanks
+too_long : pattern_of [] 0 (replicate 4097 32) ≡ Err (fault.TooLong 4096)
+unfolding pattern_of whole_of shallow ended inside alternation_at concatenation_at parts_at items_at item_at targets_at signed element_at quoted_at named_at repeated_at group_at chosen_at counted_at plain_of starred_at cursor_at parted closed opened variable_at name_at number_at set_at literal_at depth keyword_of call_of number_from start_of sign_of what_follows is_letter is_name_char is_reserved
+too_long = refl
+
+-- a quote, the bytes 195 and 169, a quote
+not_ascii : pattern_of [] 0 (39 ∷ 195 ∷ 169 ∷ 39 ∷ []) ≡ Err (fault.NonAscii 1)
+unfolding pattern_of whole_of shallow ended inside alternation_at concatenation_at parts_at items_at item_at targets_at signed element_at quoted_at named_at repeated_at group_at chosen_at counted_at plain_of starred_at cursor_at parted closed opened variable_at name_at number_at set_at literal_at depth keyword_of call_of number_from start_of sign_of what_follows is_letter is_name_char is_reserved
+not_ascii = refl
+
+-- 101 opening parentheses
+too_many_open : pattern_of [] 0 (replicate 101 40) ≡ Err (fault.TooDeep 100)
+unfolding pattern_of whole_of shallow ended inside alternation_at concatenation_at parts_at items_at item_at targets_at signed element_at quoted_at named_at repeated_at group_at chosen_at counted_at plain_of starred_at cursor_at parted closed opened variable_at name_at number_at set_at literal_at depth keyword_of call_of number_from start_of sign_of what_follows is_letter is_name_char is_reserved
+too_many_open = refl
+
+-- the object of the empty text
+null_object : object_of [] [] ≡ Ok []
+unfolding object_of parts_of part_at gap_at whole_of shallow ended inside alternation_at concatenation_at parts_at items_at item_at targets_at signed element_at quoted_at named_at repeated_at group_at chosen_at counted_at plain_of starred_at cursor_at parted closed opened variable_at name_at number_at set_at literal_at depth keyword_of call_of number_from start_of sign_of what_follows is_letter is_name_char is_reserved
+null_object = refl
+
+-- the object ARB
+reserved_variable : object_of [] (codes "ARB") ≡ Err (fault.ReservedTarget 0)
+unfolding object_of parts_of part_at gap_at whole_of shallow ended inside alternation_at concatenation_at parts_at items_at item_at targets_at signed element_at quoted_at named_at repeated_at group_at chosen_at counted_at plain_of starred_at cursor_at parted closed opened variable_at name_at number_at set_at literal_at depth keyword_of call_of number_from start_of sign_of what_follows is_letter is_name_char is_reserved
+reserved_variable = refl
+
+-- the object 'a''b'
+literals_without_blank : object_of [] (codes "'a''b'") ≡ Err (fault.Unexpected 3)
+unfolding object_of parts_of part_at gap_at whole_of shallow ended inside alternation_at concatenation_at parts_at items_at item_at targets_at signed element_at quoted_at named_at repeated_at group_at chosen_at counted_at plain_of starred_at cursor_at parted closed opened variable_at name_at number_at set_at literal_at depth keyword_of call_of number_from start_of sign_of what_follows is_letter is_name_char is_reserved
+literals_without_blank = refl
+
+-- the object (
+object_parenthesis : object_of [] (codes "(") ≡ Err (fault.Unexpected 0)
+unfolding object_of parts_of part_at gap_at whole_of shallow ended inside alternation_at concatenation_at parts_at items_at item_at targets_at signed element_at quoted_at named_at repeated_at group_at chosen_at counted_at plain_of starred_at cursor_at parted closed opened variable_at name_at number_at set_at literal_at depth keyword_of call_of number_from start_of sign_of what_follows is_letter is_name_char is_reserved
+object_parenthesis = refl
+
+-- the object V '=' K
+three_parts : object_of [] (codes "V '=' K") ≡ Ok (Var (codes "V") ∷ Quoted (codes "=") ∷ Var (codes "K") ∷ [])
+unfolding object_of parts_of part_at gap_at whole_of shallow ended inside alternation_at concatenation_at parts_at items_at item_at targets_at signed element_at quoted_at named_at repeated_at group_at chosen_at counted_at plain_of starred_at cursor_at parted closed opened variable_at name_at number_at set_at literal_at depth keyword_of call_of number_from start_of sign_of what_follows is_letter is_name_char is_reserved
+three_parts = refl
