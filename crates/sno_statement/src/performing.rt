@@ -31,7 +31,12 @@ fn datum(alloc: Global, subject: &Text, what: What) -> Result<Datum, AllocError>
 }
 
 /// The assignments that were done at once bound behind what is bound.
-fn bind_at_once(alloc: Global, subject: &Text, bindings: &mut Bindings, sets: &[Assign]) -> Result<(), AllocError>
+fn bind_at_once(
+    alloc: Global,
+    subject: &Text,
+    bindings: &mut Bindings,
+    sets: &[Assign],
+) -> Result<(), AllocError>
     requires { SetsLie subject.now sets.now }
     ensures { OnOk result (bindings.new ≡ bind_sets subject.now bindings.old sets.now) }
 {
@@ -43,7 +48,12 @@ fn bind_at_once(alloc: Global, subject: &Text, bindings: &mut Bindings, sets: &[
 }
 
 /// The conditional assignments bound behind what is bound.
-fn bind_later(alloc: Global, subject: &Text, bindings: &mut Bindings, conds: &[(Name, usize, usize)]) -> Result<(), AllocError>
+fn bind_later(
+    alloc: Global,
+    subject: &Text,
+    bindings: &mut Bindings,
+    conds: &[(Name, usize, usize)],
+) -> Result<(), AllocError>
     ensures { OnOk result (bindings.new ≡ bind_conds subject.now bindings.old conds.now) }
 {
     for (name, from, to) in conds {
@@ -54,7 +64,13 @@ fn bind_later(alloc: Global, subject: &Text, bindings: &mut Bindings, conds: &[(
 }
 
 /// What a success does: its bindings, and the new text where there is an object.
-fn succeed(alloc: Global, object: Option<&Object>, subject: &Text, hit: &Hit, bindings: Bindings) -> Result<Outcome, StatementFault>
+fn succeed(
+    alloc: Global,
+    object: Option<&Object>,
+    subject: &Text,
+    hit: &Hit,
+    bindings: Bindings,
+) -> Result<Outcome, StatementFault>
     ensures { Gives result (finish (option_copied object.entry) subject.now bindings (Some hit.now)) }
 {
     let after = match object {
@@ -71,7 +87,13 @@ fn succeed(alloc: Global, object: Option<&Object>, subject: &Text, hit: &Hit, bi
 
 /// The text that the replacement leaves.
 #[tactic(auto, using(crate::proofs::Ascii::refused_is_long))]
-fn new_text(alloc: Global, parts: &[Part], subject: &Text, hit: &Hit, bindings: &Bindings) -> Result<Arc<Text>, StatementFault>
+fn new_text(
+    alloc: Global,
+    parts: &[Part],
+    subject: &Text,
+    hit: &Hit,
+    bindings: &Bindings,
+) -> Result<Arc<Text>, StatementFault>
     ensures { GivesText result (replaced subject.now hit.now.start hit.now.end (value_of bindings.now parts.now)) }
 {
     let characters = replaced(alloc, subject, hit.start, hit.end, parts, bindings)?;
@@ -82,7 +104,12 @@ fn new_text(alloc: Global, parts: &[Part], subject: &Text, hit: &Hit, bindings: 
 }
 
 /// What a match that came out so does to the text.
-fn finished(alloc: Global, object: Option<&Object>, subject: &Text, found: &Found) -> Result<Outcome, StatementFault>
+fn finished(
+    alloc: Global,
+    object: Option<&Object>,
+    subject: &Text,
+    found: &Found,
+) -> Result<Outcome, StatementFault>
     requires { SetsLie subject.now found.now.sets }
     ensures { Gives result (finish_found (option_copied object.entry) subject.now found.now) }
 {
@@ -107,10 +134,20 @@ fn finished(alloc: Global, object: Option<&Object>, subject: &Text, found: &Foun
 ///
 /// Refused with `TextTooLong` exactly where the new text would have more than 65,536 characters, and with `Memory` where
 /// memory is, at the growth that was refused and so in place of any refusal that would have come later.
-pub fn perform(alloc: Global, statement: &Statement, subject: &Text) -> Result<Outcome, StatementFault>
+pub fn perform(
+    alloc: Global,
+    statement: &Statement,
+    subject: &Text,
+) -> Result<Outcome, StatementFault>
     ensures { Gives result (perform statement.now subject.now) }
 {
-    let found = sno_eval::first(alloc, statement.rules(), statement.pattern(), subject, statement.anchored())?;
+    let found = sno_eval::first(
+        alloc,
+        statement.rules(),
+        statement.pattern(),
+        subject,
+        statement.anchored(),
+    )?;
     cursors_lie_within_the_text();
     let outcome = finished(alloc, statement.object(), subject, &found)?;
     Ok(outcome)

@@ -47,10 +47,23 @@ impl Statement {
     /// A statement on the text with this name, of exactly these parts. The rules have to cover the pattern (`Rules::covers`), as they
     /// do where the pattern was read with their names. With no object it only matches; anchored, a match begins at cursor 0 alone.
     /// The number is the caller's own: nothing here depends on it. It takes no memory and is never refused.
-    pub fn new(number: u32, rules: Arc<Rules>, pattern: Pattern, object: Option<Object>, text: TextName, anchored: bool) -> Statement
+    pub fn new(
+        number: u32,
+        rules: Arc<Rules>,
+        pattern: Pattern,
+        object: Option<Object>,
+        text: TextName,
+        anchored: bool,
+    ) -> Statement
         requires { IsTrue (refs_below (length (arc_value rules).bodies) (tree_of pattern)) }
         ensures { result ≡ record {
-            number = number; rules = arc_value rules; pattern = tree_of pattern; object = object; text = text; anchored = anchored } }
+          number = number;
+          rules = arc_value rules;
+          pattern = tree_of pattern;
+          object = object;
+          text = text;
+          anchored = anchored;
+        } }
     {
         Statement {
             number,

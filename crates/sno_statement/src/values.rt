@@ -35,7 +35,12 @@ fn back(characters: &[u8], count: usize) -> &[u8]
 
 #[tactic(auto, using(crate::proofs::Ascii::part_is_text))]
 /// A text of the characters between two cursors.
-pub(crate) fn part(alloc: Global, subject: &Text, from: usize, to: usize) -> Result<Text, AllocError>
+pub(crate) fn part(
+    alloc: Global,
+    subject: &Text,
+    from: usize,
+    to: usize,
+) -> Result<Text, AllocError>
     ensures { IfOk result (λ s. s ≡ part subject.now from to) }
 {
     let characters = front(back(subject.bytes(), from), to.saturating_sub(from));
@@ -56,7 +61,12 @@ fn put_number(alloc: Global, number: u32, out: &mut Vec<u8>) -> Result<(), Alloc
 }
 
 /// Puts a part's value behind what is there.
-fn put_part(alloc: Global, part: &Part, bindings: &Bindings, out: &mut Vec<u8>) -> Result<(), AllocError>
+fn put_part(
+    alloc: Global,
+    part: &Part,
+    bindings: &Bindings,
+    out: &mut Vec<u8>,
+) -> Result<(), AllocError>
     ensures value { OnOk result (out.new.items ≡ out.old.items ++ part_value bindings.now part.now) }
     ensures ascii { IsTrue (list_all is_ascii (part_value bindings.now part.now)) }
 {
@@ -72,7 +82,14 @@ fn put_part(alloc: Global, part: &Part, bindings: &Bindings, out: &mut Vec<u8>) 
 
 /// The characters in which the part between two cursors is replaced by the object's value.
 #[tactic(auto, using(crate::proofs::Ascii::ascii_append, crate::proofs::Ascii::ascii_take, crate::proofs::Ascii::ascii_drop))]
-pub(crate) fn replaced(alloc: Global, subject: &Text, start: usize, end: usize, parts: &[Part], bindings: &Bindings) -> Result<Vec<u8>, AllocError>
+pub(crate) fn replaced(
+    alloc: Global,
+    subject: &Text,
+    start: usize,
+    end: usize,
+    parts: &[Part],
+    bindings: &Bindings,
+) -> Result<Vec<u8>, AllocError>
     ensures value { IfOk result (λ v. v.items ≡ replaced subject.now start end (value_of bindings.now parts.now)) }
     ensures ascii { IfOk result (λ v. IsTrue (list_all is_ascii v.items)) }
 {
