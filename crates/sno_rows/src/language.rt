@@ -1,0 +1,506 @@
+//! The examples of `docs/LANGUAGE.md`, in its order. An example that is changed here is changed there.
+use crate::row::Task::{Match, MatchAnchored, Replace};
+use crate::row::{Row, Written, check};
+use std::test::Fail;
+
+static EXAMPLES: [(Written, Row); 70] = [
+    (
+        &[],
+        Row("examples", "banana", Match("'nan'"), "matched 2 5"),
+    ),
+    (
+        &[],
+        Row(
+            "texts and cursors",
+            "banana",
+            MatchAnchored("'nan'"),
+            "failed",
+        ),
+    ),
+    (
+        &[],
+        Row(
+            "texts and cursors",
+            "banana",
+            MatchAnchored("'ban'"),
+            "matched 0 3",
+        ),
+    ),
+    (
+        &[],
+        Row("literals", "don't", Match("\"n't\""), "matched 2 5"),
+    ),
+    (&[], Row("literals", "banana", Match("''"), "matched 0 0")),
+    (
+        &[],
+        Row(
+            "joining patterns",
+            "catalog",
+            Match("'cat' 'alog'"),
+            "matched 0 7",
+        ),
+    ),
+    (
+        &[],
+        Row(
+            "joining patterns",
+            "abc",
+            Match("('a' | 'ab') 'c'"),
+            "matched 0 3",
+        ),
+    ),
+    (
+        &[],
+        Row(
+            "joining patterns",
+            "abc",
+            Match("'a' | 'ab' 'c'"),
+            "matched 0 1",
+        ),
+    ),
+    (
+        &[],
+        Row(
+            "joining patterns",
+            "hotdog",
+            Match("'dog' | 'hot'"),
+            "matched 0 3",
+        ),
+    ),
+    (
+        &[],
+        Row(
+            "counting and places",
+            "abcdef",
+            Match("LEN(3)"),
+            "matched 0 3",
+        ),
+    ),
+    (
+        &[],
+        Row(
+            "counting and places",
+            "abcabc",
+            Match("POS(3) 'abc'"),
+            "matched 3 6",
+        ),
+    ),
+    (
+        &[],
+        Row(
+            "counting and places",
+            "abcabc",
+            Match("'c' RPOS(0)"),
+            "matched 5 6",
+        ),
+    ),
+    (
+        &[],
+        Row(
+            "counting and places",
+            "abcdef",
+            Match("'b' TAB(5)"),
+            "matched 1 5",
+        ),
+    ),
+    (
+        &[],
+        Row(
+            "counting and places",
+            "abcdef",
+            Match("'b' RTAB(1)"),
+            "matched 1 5",
+        ),
+    ),
+    (
+        &[],
+        Row(
+            "counting and places",
+            "abcdef",
+            Match("'d' REM"),
+            "matched 3 6",
+        ),
+    ),
+    (
+        &[],
+        Row(
+            "counting and places",
+            "abcdef",
+            Match("'d' TAB(2)"),
+            "failed",
+        ),
+    ),
+    (
+        &[],
+        Row(
+            "sets of characters",
+            "recipe",
+            Match("ANY('aeiou')"),
+            "matched 1 2",
+        ),
+    ),
+    (
+        &[],
+        Row(
+            "sets of characters",
+            "aeb",
+            Match("NOTANY('aeiou')"),
+            "matched 2 3",
+        ),
+    ),
+    (
+        &[],
+        Row(
+            "sets of characters",
+            "room 101",
+            Match("SPAN('0123456789')"),
+            "matched 5 8",
+        ),
+    ),
+    (
+        &[],
+        Row(
+            "sets of characters",
+            "key=value",
+            Match("BREAK('=')"),
+            "matched 0 3",
+        ),
+    ),
+    (
+        &[],
+        Row(
+            "sets of characters",
+            "=value",
+            Match("BREAK('=')"),
+            "matched 0 0",
+        ),
+    ),
+    (
+        &[],
+        Row("sets of characters", "key", Match("BREAK('=')"), "failed"),
+    ),
+    (
+        &[],
+        Row(
+            "sets of characters",
+            "1001",
+            Match("SPAN('01') '1'"),
+            "failed",
+        ),
+    ),
+    (
+        &[],
+        Row(
+            "patterns that grow",
+            "<b>bold</b>",
+            Match("'<' ARB '>'"),
+            "matched 0 3",
+        ),
+    ),
+    (
+        &[],
+        Row(
+            "patterns that grow",
+            "<b>bold</b>",
+            Match("'<' ARB '>' RPOS(0)"),
+            "matched 0 11",
+        ),
+    ),
+    (
+        &[],
+        Row(
+            "patterns that grow",
+            "(a+b)*c",
+            MatchAnchored("BAL"),
+            "matched 0 5",
+        ),
+    ),
+    (
+        &[],
+        Row(
+            "patterns that grow",
+            "(a+b)*c",
+            MatchAnchored("BAL RPOS(0)"),
+            "matched 0 7",
+        ),
+    ),
+    (&[], Row("patterns that grow", ")(", Match("BAL"), "failed")),
+    (
+        &[],
+        Row(
+            "patterns that grow",
+            "ababac",
+            Match("ARBNO('ab') 'ac'"),
+            "matched 0 6",
+        ),
+    ),
+    (
+        &[],
+        Row(
+            "patterns that grow",
+            "ab",
+            MatchAnchored("ARBNO('') RPOS(0)"),
+            "failed",
+        ),
+    ),
+    (
+        &[],
+        Row(
+            "patterns that end a match",
+            "12,34.5",
+            Match("SPAN('0123456789') '.'"),
+            "matched 3 6",
+        ),
+    ),
+    (
+        &[],
+        Row(
+            "patterns that end a match",
+            "12,34.5",
+            Match("SPAN('0123456789') FENCE '.'"),
+            "failed",
+        ),
+    ),
+    (
+        &[],
+        Row(
+            "patterns that end a match",
+            "abcd#",
+            Match("'#' ABORT | 'c'"),
+            "matched 2 3",
+        ),
+    ),
+    (
+        &[],
+        Row(
+            "patterns that end a match",
+            "ab#cd",
+            Match("'#' ABORT | 'c'"),
+            "failed",
+        ),
+    ),
+    (
+        &[],
+        Row(
+            "patterns that end a match",
+            "abc",
+            Match("LEN(1) $ C FAIL"),
+            "failed C=|c|",
+        ),
+    ),
+    (
+        &[],
+        Row(
+            "variables",
+            "k=v",
+            Match("BREAK('=') . K '=' REM . V"),
+            "matched 0 3 K=|k| V=|v|",
+        ),
+    ),
+    (
+        &[],
+        Row("variables", "k=v", Match("BREAK('=') . K '#'"), "failed"),
+    ),
+    (
+        &[],
+        Row(
+            "variables",
+            "abc",
+            Match("LEN(1) $ C 'c'"),
+            "matched 1 3 C=|b|",
+        ),
+    ),
+    (
+        &[],
+        Row("variables", "abc", Match("LEN(1) $ C 'z'"), "failed C=|c|"),
+    ),
+    (
+        &[],
+        Row("variables", "abc", Match("@P 'c'"), "matched 2 3 P=2"),
+    ),
+    (&[], Row("variables", "abc", Match("@P 'z'"), "failed P=3")),
+    (
+        &[],
+        Row(
+            "variables",
+            "abc",
+            Match("'a' LEN(1) . X"),
+            "matched 0 2 X=|b|",
+        ),
+    ),
+    (
+        &[],
+        Row(
+            "variables",
+            "abc",
+            Match("('a' LEN(1)) . X"),
+            "matched 0 2 X=|ab|",
+        ),
+    ),
+    (
+        &[],
+        Row(
+            "variables",
+            "abc",
+            Match("LEN(2) . A $ B"),
+            "matched 0 2 B=|ab| A=|ab|",
+        ),
+    ),
+    (
+        &[],
+        Row(
+            "variables",
+            "ab",
+            Match("LEN(1) . A LEN(1) $ B"),
+            "matched 0 2 B=|b| A=|a|",
+        ),
+    ),
+    (
+        &[],
+        Row(
+            "variables",
+            "AB",
+            Match("LEN(1) . X LEN(1) . X"),
+            "matched 0 2 X=|B|",
+        ),
+    ),
+    (
+        &[],
+        Row(
+            "variables",
+            "AB",
+            Match("(LEN(1) LEN(1) . A) . A"),
+            "matched 0 2 A=|AB|",
+        ),
+    ),
+    (
+        &[],
+        Row(
+            "variables",
+            "ab",
+            Match("@N LEN(1) . N"),
+            "matched 0 1 N=|a|",
+        ),
+    ),
+    (
+        &[],
+        Row(
+            "objects",
+            "k=v",
+            Replace("BREAK('=') . K '=' REM . V", "V '=' K"),
+            "matched 0 3 K=|k| V=|v| -> |v=k|",
+        ),
+    ),
+    (
+        &[],
+        Row(
+            "objects",
+            "abc",
+            Replace("LEN(1) . C", "C C"),
+            "matched 0 1 C=|a| -> |aabc|",
+        ),
+    ),
+    (
+        &[],
+        Row(
+            "objects",
+            "abc",
+            Replace("@P 'c'", "P"),
+            "matched 2 3 P=2 -> |ab2|",
+        ),
+    ),
+    (
+        &[],
+        Row("objects", "abc", Replace("'b'", "Q"), "matched 1 2 -> |ac|"),
+    ),
+    (
+        &[],
+        Row("objects", "abc", Replace("'b'", ""), "matched 1 2 -> |ac|"),
+    ),
+    (&[], Row("objects", "abc", Replace("'z'", "'X'"), "failed")),
+    (
+        &[
+            ("DIGITS", "SPAN('0123456789')"),
+            ("NUMBER", "DIGITS '.' DIGITS"),
+        ],
+        Row("definitions", "pi is 3.14", Match("NUMBER"), "matched 6 10"),
+    ),
+    (
+        &[("NEST", "'(' *NEST ')' | 'x'")],
+        Row("definitions", "f((x))", Match("*NEST"), "matched 1 6"),
+    ),
+    (
+        &[("ITEM", "SPAN('abc')"), ("LIST", "ITEM ',' *LIST | ITEM")],
+        Row(
+            "definitions",
+            "ab,ca;b",
+            MatchAnchored("*LIST . L"),
+            "matched 0 5 L=|ab,ca|",
+        ),
+    ),
+    (
+        &[("S", "'a' *S | ''")],
+        Row(
+            "definitions",
+            "aaab",
+            MatchAnchored("*S . A 'a' *S . B 'b'"),
+            "matched 0 4 A=|aa| B=||",
+        ),
+    ),
+    (
+        &[("E", "*E 'a' | 'a'")],
+        Row("definitions", "a", Match("*E"), "unguarded 0"),
+    ),
+    (
+        &[("A", "'x' | *B"), ("B", "*B 'y' | 'z'")],
+        Row("definitions", "z", Match("*A"), "unguarded 1"),
+    ),
+    (
+        &[("A", "*B"), ("B", "*A")],
+        Row("definitions", "a", Match("*A"), "unguarded 0 1"),
+    ),
+    (
+        &[("A", "BREAK(',') *A | ','")],
+        Row("definitions", "a,", Match("*A"), "unguarded 0"),
+    ),
+    (
+        &[("A", "*B *A | 'x'"), ("B", "'y'")],
+        Row("definitions", "yyx", Match("*A"), "matched 0 3"),
+    ),
+    (
+        &[],
+        Row("the grammar", "a", Match("'a''b'"), "unexpected at 3"),
+    ),
+    (
+        &[],
+        Row("the grammar", "a", Match("'a' |'b'"), "unexpected at 5"),
+    ),
+    (
+        &[],
+        Row("the grammar", "a", Match("ANY('')"), "empty set at 4"),
+    ),
+    (
+        &[],
+        Row("the grammar", "a", Match("LEN(65537)"), "bad number at 4"),
+    ),
+    (
+        &[],
+        Row("the grammar", "a", Match("'a' . ARB"), "reserved name at 6"),
+    ),
+    (
+        &[],
+        Row("the grammar", "a", Match("X"), "unknown name at 0"),
+    ),
+    (
+        &[],
+        Row("the grammar", "a", Match("'abc"), "open quote at 0"),
+    ),
+];
+
+#[test]
+fn examples(rt: HostRuntime) -> Result<(), Fail> {
+    for (definitions, row) in &EXAMPLES {
+        check(&rt, definitions, row)?;
+    }
+    Ok(())
+}

@@ -1,0 +1,27 @@
+//! Worked rows: what comes of statements, and which texts and definitions are refused, as tests that cross the crates.
+//!
+//! The crate has no function to call. Its tests are what the contracts of the crates below can't say: that those contracts mean
+//! what the language means. Each row was worked out by hand from the language, and never taken from what the program answers.
+//! A row is a text, a pattern and, where it has them, definitions and an object, all as they are written; it is read, admitted and
+//! performed by the public calls, and what comes of it is compared with one line.
+//!
+//! - `src/matching.rt`: matches, bindings and replacements.
+//! - `src/recursion.rt`: which definitions are admitted, and matches with them.
+//! - `src/limits.rt`: the longest text, the most definitions, the longest names.
+//! - `src/reading.rt`: texts that are not read.
+//! - `src/language.rt`: the examples of `docs/LANGUAGE.md`, in the order of that document.
+//! - `src/row.rt`: how a row is written, performed and told.
+#![tactic(auto)]
+
+#[cfg(test)]
+mod language;
+#[cfg(test)]
+mod limits;
+#[cfg(test)]
+mod matching;
+#[cfg(test)]
+mod reading;
+#[cfg(test)]
+mod recursion;
+#[cfg(test)]
+mod row;

@@ -1,0 +1,201 @@
+//! How a row is written, performed and told.
+use sno_pattern::{Name, Names, Rules, RulesFault, Text, TextName};
+use sno_read::{Object, ReadFault, read_object, read_pattern};
+use sno_statement::{Bindings, Datum, Outcome, Statement, perform};
+use std::alloc::Global;
+use std::process::Abort;
+use std::sync::Arc;
+use std::test::Fail;
+
+/// Definitions as they are written: of each its name and its pattern.
+pub type Written = &'static [(&'static str, &'static str)];
+
+/// What is done to the text of a row: each has a pattern, and a replacement an object.
+#[derive(Clone, Copy)]
+pub enum Task {
+    /// A match that floats.
+    Match(&'static str),
+    /// A match that begins at cursor 0 alone.
+    MatchAnchored(&'static str),
+    /// A match that floats, and a replacement.
+    Replace(&'static str, &'static str),
+}
+
+/// What the row shows, its text, what is done to it, and what comes of that, in the words of `told`.
+#[derive(Clone, Copy)]
+pub struct Row(
+    pub &'static str,
+    pub &'static str,
+    pub Task,
+    pub &'static str,
+);
+
+impl Task {
+    fn pattern(self) -> &'static str {
+        match self {
+            Task::Match(pattern) | Task::MatchAnchored(pattern) | Task::Replace(pattern, _) =>
+                pattern,
+        }
+    }
+
+    fn object(self) -> Option<&'static str> {
+        match self {
+            Task::Match(_) | Task::MatchAnchored(_) => None,
+            Task::Replace(_, object) => Some(object),
+        }
+    }
+
+    fn is_anchored(self) -> bool {
+        matches!(self, Task::MatchAnchored(_))
+    }
+}
+
+/// Checks the row.
+pub fn check(rt: &(impl Abort + AllocGlobal), definitions: Written, row: &Row) -> Result<(), Fail> {
+    let Row(shows, text, task, expected) = *row;
+    let line = told(rt, definitions, text, task)?;
+    assert_eq!(rt; line.as_str(), expected, "{shows}: {}", task.pattern());
+    Ok(())
+}
+
+/// Definitions that are admitted, or why they are refused.
+pub fn admit(
+    rt: &(impl Abort + AllocGlobal),
+    written: Written,
+) -> Result<Result<Rules, RulesFault>, Fail> {
+    let alloc = rt.alloc();
+    let names = names_of(alloc, written)?;
+    let mut bodies = Vec::new(alloc);
+    for (earlier, definition) in written.iter().enumerate() {
+        bodies.push(read_pattern(alloc, &names, earlier, definition.1.as_bytes())?)?;
+    }
+    assert_eq!(rt; names.len(), bodies.len());
+    Ok(Rules::admit(alloc, names, bodies))
+}
+
+fn names_of(alloc: Global, written: Written) -> Result<Names, Fail> {
+    let mut names = Vec::new(alloc);
+    for definition in written {
+        names.push(Name::read(definition.0.as_bytes()).ok_or("no name")?)?;
+    }
+    Ok(Names::new(alloc, names.as_slice())?)
+}
+
+// The statement that does the task, if its pattern and its object are read.
+fn statement(
+    rt: &(impl Abort + AllocGlobal),
+    rules: Rules,
+    task: Task,
+) -> Result<Result<Statement, ReadFault>, Fail> {
+    let alloc = rt.alloc();
+    let pattern = match read_pattern(alloc, rules.names(), rules.len(), task.pattern().as_bytes()) {
+        Ok(pattern) => pattern,
+        Err(fault) => return Ok(Err(fault)),
+    };
+    let object = match object_of(alloc, rules.names(), task.object()) {
+        Ok(object) => object,
+        Err(fault) => return Ok(Err(fault)),
+    };
+    assert!(rt; rules.covers(&pattern));
+    let rules = Arc::new(alloc, rules)?;
+    let name = TextName::new(alloc, b"T")?;
+    Ok(Ok(Statement::new(1, rules, pattern, object, name, task.is_anchored())))
+}
+
+fn object_of(
+    alloc: Global,
+    names: &Names,
+    object: Option<&'static str>,
+) -> Result<Option<Object>, ReadFault> {
+    match object {
+        None => Ok(None),
+        Some(object) => Ok(Some(read_object(alloc, names, object.as_bytes())?)),
+    }
+}
+
+/// Why definitions are refused: of a circle the numbers of its definitions.
+pub fn refusal_told(alloc: Global, refused: &RulesFault) -> Result<String, Fail> {
+    let mut line = refused.to_string(alloc)?;
+    if let RulesFault::Unguarded(circle) = refused {
+        for definition in circle {
+            line.push_str(" ")?;
+            line.push_str(definition.to_string(alloc)?.as_str())?;
+        }
+    }
+    Ok(line)
+}
+
+// What comes of the task on the text, in one line: `matched`, the two cursors and the bindings, and behind `->` the new text where
+// there is one; `failed` and the bindings; or why the definitions, the pattern, the object or the new text are refused.
+fn told(
+    rt: &(impl Abort + AllocGlobal),
+    definitions: Written,
+    text: &str,
+    task: Task,
+) -> Result<String, Fail> {
+    let alloc = rt.alloc();
+    match admit(rt, definitions)? {
+        Err(refused) => refusal_told(alloc, &refused),
+        Ok(rules) => match statement(rt, rules, task)? {
+            Err(fault) => Ok(fault.to_string(alloc)?),
+            Ok(statement) => performed_told(alloc, &statement, text),
+        },
+    }
+}
+
+fn performed_told(alloc: Global, statement: &Statement, text: &str) -> Result<String, Fail> {
+    let text = Text::new(Vec::from_slice(alloc, text.as_bytes())?)?;
+    match perform(alloc, statement, &text) {
+        Err(fault) => Ok(fault.to_string(alloc)?),
+        Ok(outcome) => outcome_told(alloc, &outcome),
+    }
+}
+
+fn outcome_told(alloc: Global, outcome: &Outcome) -> Result<String, Fail> {
+    match outcome {
+        Outcome::Failed { bindings } => {
+            let mut line = String::from_str(alloc, "failed")?;
+            tell_bindings(alloc, bindings, &mut line)?;
+            Ok(line)
+        }
+        Outcome::Matched {
+            start,
+            end,
+            bindings,
+            after,
+        } => {
+            let mut line = format!(in alloc; "matched {start} {end}")?;
+            tell_bindings(alloc, bindings, &mut line)?;
+            if let Some(text) = after {
+                line.push_str(" -> ")?;
+                tell_text(text, &mut line)?;
+            }
+            Ok(line)
+        }
+    }
+}
+
+fn tell_bindings(alloc: Global, bindings: &Bindings, line: &mut String) -> Result<(), Fail> {
+    for place in 0..bindings.len() {
+        if let Some((name, value)) = bindings.get(place) {
+            line.push_str(" ")?;
+            line.push_str(str::from_utf8(name.bytes())?)?;
+            line.push_str("=")?;
+            tell_value(alloc, value, line)?;
+        }
+    }
+    Ok(())
+}
+
+fn tell_value(alloc: Global, value: &Datum, line: &mut String) -> Result<(), Fail> {
+    match value {
+        Datum::Str(text) => tell_text(text, line),
+        Datum::Int(number) => Ok(line.push_str(number.to_string(alloc)?.as_str())?),
+    }
+}
+
+fn tell_text(text: &Text, line: &mut String) -> Result<(), Fail> {
+    line.push_str("|")?;
+    line.push_str(str::from_utf8(text.bytes())?)?;
+    Ok(line.push_str("|")?)
+}
