@@ -3,7 +3,7 @@ use Rattle.std.specs.Prelude.{◌≡◌, ℕ, suc, ◌⊎◌, List, ◌∷◌, S
 use Rattle.sno_pattern.specs.Tree as tree
 use Rattle.sno_pattern.specs.Tree.{Tree}
 
--- A part that takes a character wherever it matches, by the least such rule: a literal that is not null, `LEN` of at least one,
+-- A part that takes a character wherever it ends, by the least such rule: a literal that is not null, `LEN` of at least one,
 -- ANY, NOTANY, SPAN, BAL, FAIL and ABORT; a concatenation of which either part takes; an alternation of which both parts do;
 -- an assignment whose part takes; and a reference to a definition whose body takes. Nothing else does.
 pub data Takes (bodies : List Tree) : Tree → Type 0 where

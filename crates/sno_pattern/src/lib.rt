@@ -1,4 +1,20 @@
 //! Patterns, names, texts and definitions, and what it means to match.
+//!
+//! The definitions on which everything stands are in `specs/`, in this order: `Tree` (patterns by value), `Ends` (where the
+//! primitives end), `Events` (lists of what happens), `Results` (what a pattern does from a cursor), `Outcome` (what comes of
+//! a match), `Guard` and `Admission` (which definitions are admitted). `Rows` has examples that are computed from them.
+//!
+//! | File | What it holds, and what its functions promise |
+//! |---|---|
+//! | `identifiers` | `Name`: read exactly where bytes are a name; the sixteen reserved words |
+//! | `text_names` | `TextName`: made exactly of 1 to 255 characters from `!` to `~` |
+//! | `texts` | `Text`: made exactly of at most 65,536 ASCII characters, with the first fault otherwise |
+//! | `classes` | `Class`: made exactly of a non-empty list of ASCII characters; membership |
+//! | `tree` | `Pattern`: the tree, with 23 variants |
+//! | `name_list` | `Names`: at most 64, none reserved, none twice; the place of a name |
+//! | `definitions`, `admission` | `Rules`: definitions are admitted exactly where their references are to definitions and each circle of them takes a character |
+//! | `events`, `found` | what happens while a pattern is matched, and what came of it |
+//! | `laws`, `cursor_laws` | laws of the definitions, each the contract of a function that does nothing |
 #![tactic(auto)]
 
 mod admission;

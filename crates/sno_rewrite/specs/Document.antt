@@ -1,5 +1,5 @@
--- Documents: what JSON stands for, and the first fault of what stands for none. The checks come in the order of this file; numbers
--- in faults count from 1.
+-- Documents: what JSON stands for, and the first fault of what stands for none. `IsDocument`, at the end, says in which order the
+-- checks come; numbers in faults count from 1.
 use Rattle.std.specs.Prelude.{◌≡◌, ℕ, ◌+◌, Bool, List, [], ◌∷◌, ◌++◌, length, map, nat_lt, Option, Some, None, Result, Ok, Err, unwrap_or, slice_get, if◌then◌else◌}
 use Rattle.serde_json.specs.Data.{Data}
 use Rattle.sno_pattern.specs.Tree.{Tree}

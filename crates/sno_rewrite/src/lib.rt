@@ -1,4 +1,18 @@
 //! Documents, their listings, and the run of a program over them.
+//!
+//! `run_serial` takes the bytes of a document to its listing; `run` does so between a reader and a writer. What bytes stand for,
+//! and which fault of them is the first, is said by `IsDocument` of `specs/Document.antt`; what the statements do, by `serial` of
+//! `specs/Serial.antt`; the lines, by `listing` of `specs/Listing.antt`.
+//!
+//! | File | What it does |
+//! |---|---|
+//! | `faults` | `RunFault`, with the line of each, and `status_of` |
+//! | `options` | `Options` |
+//! | `json`, `rows` | members of the JSON value; the document as it is written, borrowed from it |
+//! | `definitions`, `texts`, `statements`, `documents` | the checks, in the order of the document |
+//! | `serial` | the statements performed in order: versions, the journal, refusals |
+//! | `listing` | the lines |
+//! | `streams`, `running` | bytes in and out; `Report`, `run_serial` and `run` |
 #![tactic(auto)]
 
 mod definitions;

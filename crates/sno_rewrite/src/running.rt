@@ -22,7 +22,8 @@ pub struct Report {
     pub refused: usize,
 }
 
-/// Performs the statements of a document in order on its texts, and lists what they did. The listing as JSON is not to be had yet.
+/// Performs the statements of a document in order on its texts, and lists what they did. It pays no heed to `workers` and `tries`.
+/// The listing as JSON is not to be had yet.
 ///
 /// Refused with the first fault of the bytes, in this order: `DocumentTooLong`, `NotJson`, `Shape`; then the definitions, the texts
 /// and the statements, each as `specs/Document.antt` checks them; and with `Memory` where that was refused.
