@@ -1,0 +1,192 @@
+-- What a proposal that nothing refuses does to a book.
+use Rattle.std.proofs.Common.{◌≡◌, ◌≢◌, ℕ, zero, suc, ◌+◌, ◌<◌, ◌≤◌, ◌^◌, Bool, true, false, cond, nat_eq, List, [], ◌∷◌, ◌++◌, length, map, Option, Some, None, Ok, slice_get, refl, ap, sym, subst, ◌∙◌, arith}
+use Rattle.std.proofs.lemmas.Bool.{eqb-true, eqb-false, eq-eqb}
+use Rattle.std.proofs.lemmas.List.{length-append}
+use Rattle.std.proofs.Math.ListN.{length-map}
+use Rattle.std.specs.Arc.{arc_value}
+use Rattle.sno_pattern.specs.Identifiers.{same}
+use Rattle.sno_statement.specs.Perform.{perform}
+use Rattle.sno_book.specs.States.{Held, State, find, raised, renew, renew_by}
+use Rattle.sno_book.specs.Entries.{Entry, after_of}
+use Rattle.sno_book.specs.Journals.{HasStep, step, replay, Legal}
+use Rattle.sno_book.specs.Openings.{Opening, IsOpening, names_in, start}
+use Rattle.sno_book.specs.Views.{View, IsLawful, state_of, and_then}
+use Rattle.sno_book.specs.Proposals.{Proposed, entry_of}
+use Rattle.sno_book.specs.Commits.{place_in, full, beside, at_place, refusal}
+use Rattle.sno_book.specs.Shelves.{Keeps, held_of}
+use Rattle.sno_book.specs.Beginnings.{stood, stood_at_first}
+use Rattle.sno_book.specs.declared.faults.CommitFault.{CommitFault}
+use Rattle.sno_book.specs.declared.faults.CommitFault.TheVariants.{NoText}
+use Rattle.sno_book.specs.declared.shelves.Standing.{Standing}
+use Rattle.sno_book.proofs.Places.{same_is, stands_at, stands_inside, find_held, get_at, held_small}
+use Rattle.sno_book.proofs.Steps.{replay_snoc, legal_snoc, below_replayed, below_started, VersionsBelow}
+
+-- what holds where nothing refuses the proposal
+pub record IsFree (v : View) (p : Proposed) : Type 0 where
+  pub held : Held
+  pub placed : place_in v p.statement.text ≡ Some p.place
+  pub there : slice_get (state_of v) p.place ≡ Some held
+  pub version : p.version ≡ held.version
+  pub text : p.text ≡ held.text
+  pub room : length v.journal ≢ v.opening.room
+
+some_never : {A : Type 0} (b : Bool) (x : A) → cond b (Some x) None ≡ None → b ≡ false
+some_never true x h = cc
+some_never false x h = refl
+
+room_free : (v : View) → full v ≡ None → length v.journal ≢ v.opening.room
+room_free v h = eqb-false (length v.journal) v.opening.room (some_never (nat_eq (length v.journal) v.opening.room) _ h)
+
+beside_if : (v : View) (a b : Bool) (e g : CommitFault) → cond a (cond b (full v) (Some e)) (Some g) ≡ None → (a ≡ true) × (b ≡ true) × (full v ≡ None)
+beside_if v true true e g h = (refl, refl, h)
+beside_if v true false e g h = cc
+beside_if v false b e g h = cc
+
+beside_free : (v : View) (p : Proposed) (o : Option Held) → place_in v p.statement.text ≡ Some p.place → slice_get (state_of v) p.place ≡ o → beside v p o ≡ None → IsFree v p
+beside_free v p None placed there h = cc
+beside_free v p (Some held) placed there h =
+    let bs = beside_if v (nat_eq p.version held.version) (same p.text held.text) _ _ h in
+    record {
+      held = held;
+      placed = placed;
+      there = there;
+      version = eqb-true p.version held.version bs.0;
+      text = same_is p.text held.text bs.1;
+      room = room_free v bs.2;
+    }
+
+place_if : (v : View) (p : Proposed) (place : ℕ) (b : Bool) → nat_eq place p.place ≡ b → place_in v p.statement.text ≡ Some place
+    → cond b (beside v p (slice_get (state_of v) place)) (Some NoText) ≡ None → IsFree v p
+place_if v p place true is placed h =
+    let same : place ≡ p.place = eqb-true place p.place is in
+    beside_free v p (slice_get (state_of v) p.place) (placed ∙ ap (λ (x : ℕ). Some x) same) refl
+    (subst (λ x. beside v p (slice_get (state_of v) x) ≡ None) same h)
+place_if v p place false is placed h = cc
+
+place_free : (v : View) (p : Proposed) (o : Option ℕ) → place_in v p.statement.text ≡ o → at_place v p o ≡ None → IsFree v p
+place_free v p None placed h = cc
+place_free v p (Some place) placed h = place_if v p place (nat_eq place p.place) refl placed h
+
+pub free : (v : View) (p : Proposed) → refusal v p ≡ None → IsFree v p
+free v p h = place_free v p (place_in v p.statement.text) refl h
+
+-- the entry has a step from the book's texts
+pub free_step : (v : View) (p : Proposed) (standings : List Standing) → Keeps v standings → perform p.statement p.text ≡ Ok p.done → IsFree v p → HasStep (state_of v) (entry_of p)
+free_step v p standings keeps performed is_free =
+    let names = names_in v.opening.texts in
+    let at = stands_at p.statement.text p.place names is_free.placed in
+    let there : slice_get (held_of names standings) p.place ≡ Some is_free.held = ap (λ (s : State). slice_get s p.place) keeps.texts ∙ is_free.there in
+    let found : find p.statement.text (held_of names standings) ≡ Some is_free.held = find_held p.statement.text p.place names standings is_free.held at there in
+    record {
+      held = is_free.held;
+      found = ap (λ (s : State). find p.statement.text s) (sym keeps.texts) ∙ found;
+      at_version = sym is_free.version;
+      performed = ap (λ (t : List ℕ). perform p.statement t) (sym is_free.text) ∙ performed;
+    }
+
+-- the book with one more entry
+pub keeps_more : (v : View) (p : Proposed) (old new : List Standing) → Keeps v old → perform p.statement p.text ≡ Ok p.done → refusal v p ≡ None
+    → held_of (names_in v.opening.texts) new ≡ renew_by p.statement.text (after_of p.done) (held_of (names_in v.opening.texts) old) → length new ≡ length old
+    → Keeps (and_then v (entry_of p)) new
+keeps_more v p old new keeps performed h put as_many =
+    let f = free v p h in
+    let step = free_step v p old keeps performed f in
+    record {
+      lawful = record {
+        opening = keeps.lawful.opening;
+        legal = legal_snoc (start v.opening) v.journal (entry_of p) keeps.lawful.legal step;
+        within = omega (arith, length-append v.journal (entry_of p ∷ []), keeps.lawful.within, f.room);
+      };
+      texts = put ∙ ap (λ (s : State). renew_by p.statement.text (after_of p.done) s) keeps.texts ∙ sym (replay_snoc (start v.opening) v.journal (entry_of p));
+      as_many = as_many ∙ keeps.as_many;
+    }
+
+-- the place of a name lies among the texts
+pub place_inside : (v : View) (standings : List Standing) (name : List ℕ) (k : ℕ) → Keeps v standings → place_in v name ≡ Some k → k < length standings
+place_inside v standings name k keeps placed =
+    let inside = stands_inside name k (names_in v.opening.texts) (stands_at name k (names_in v.opening.texts) placed) in
+    omega (arith, inside, keeps.as_many, length-map v.opening.texts (λ (t : List ℕ × List ℕ). t.0))
+
+-- what stands there is the text of that name
+pub stands_there : (v : View) (standings : List Standing) (name : List ℕ) (k : ℕ) (s : Standing) → Keeps v standings → place_in v name ≡ Some k
+    → slice_get standings k ≡ Some s → slice_get (state_of v) k ≡ Some (record { name = name; text = arc_value s.text; version = s.version })
+stands_there v standings name k s keeps placed there =
+    ap (λ (l : State). slice_get l k) (sym keeps.texts) ∙ get_at name k (names_in v.opening.texts) standings s (stands_at name k (names_in v.opening.texts) placed) there
+
+-- no version of a lawful book is higher than there are entries
+pub version_small : (v : View) (standings : List Standing) (k : ℕ) (s : Standing) → Keeps v standings → slice_get standings k ≡ Some s → s.version ≤ length v.journal
+version_small v standings k s keeps there =
+    let start_below : VersionsBelow 0 (start v.opening) = below_started v.opening.texts v.opening.room in
+    let below = below_replayed 0 (start v.opening) v.journal start_below in
+    let held : VersionsBelow (0 + length v.journal) (held_of (names_in v.opening.texts) standings) = subst (λ l. VersionsBelow (0 + length v.journal) l) (sym keeps.texts) below in
+    let few : length standings ≤ length (names_in v.opening.texts) = omega (arith, keeps.as_many, length-map v.opening.texts (λ (t : List ℕ × List ℕ). t.0)) in
+    let small = held_small (0 + length v.journal) k (names_in v.opening.texts) standings s there few held in omega (arith, small)
+
+-- the version of what stands may be raised
+pub version_rises : (v : View) (standings : List Standing) (k : ℕ) (s : Standing) → Keeps v standings → slice_get standings k ≡ Some s → s.version + 1 < 2 ^ 64
+version_rises v standings k s keeps there =
+    let small = version_small v standings k s keeps there in omega (arith, small, keeps.lawful.within, keeps.lawful.opening.room)
+
+place_is : (v : View) (p : Proposed) (place : ℕ) (b : Bool) → b ≡ true → cond b (beside v p (slice_get (state_of v) place)) (Some NoText) ≡ beside v p (slice_get (state_of v) place)
+place_is v p place true h = refl
+place_is v p place false h = cc
+
+-- why a proposal is refused whose text stands at its place
+pub refusal_there : (v : View) (p : Proposed) (place : ℕ) (held : Held) → place_in v p.statement.text ≡ Some place → place ≡ p.place
+    → slice_get (state_of v) place ≡ Some held → refusal v p ≡ beside v p (Some held)
+refusal_there v p place held placed same there =
+    ap (λ (o : Option ℕ). at_place v p o) placed ∙ place_is v p place (nat_eq place p.place) (eq-eqb place p.place same) ∙ ap (λ (o : Option Held). beside v p o) there
+
+-- ---- a book with no entry
+held_first : (texts : List (List ℕ × List ℕ)) (room : ℕ) (standings : List Standing) → stood standings ≡ stood_at_first texts
+    → held_of (names_in texts) standings ≡ start (record { texts = texts; room = room })
+held_first [] room [] h = refl
+held_first [] room (s ∷ standings) h = cc
+held_first (t ∷ texts) room [] h = cc
+held_first (t ∷ texts) room (s ∷ standings) h =
+    let head : ◌≡◌ {A = List ℕ × ℕ} (arc_value s.text, s.version) (t.1, 0) = cc in
+    let rest : stood standings ≡ stood_at_first texts = cc in
+    let tail = held_first texts room standings rest in
+    λ i. record { name = t.0; text = (head i).0; version = (head i).1 } ∷ tail i
+
+first_many : (texts : List (List ℕ × List ℕ)) (standings : List Standing) → stood standings ≡ stood_at_first texts → length standings ≡ length texts
+first_many texts standings h =
+    sym (length-map {B = List ℕ × ℕ} standings (λ (s : Standing). (arc_value s.text, s.version))) ∙ ap (λ (l : List (List ℕ × ℕ)). length l) h
+    ∙ length-map {B = List ℕ × ℕ} texts (λ (t : List ℕ × List ℕ). (t.1, 0))
+
+pub keeps_first : (opening : Opening) (standings : List Standing) → IsOpening opening → stood standings ≡ stood_at_first opening.texts
+    → Keeps (record { opening = opening; journal = [] }) standings
+keeps_first opening standings is_opening h = record {
+  lawful = record { opening = is_opening; legal = tt; within = omega arith };
+  texts = held_first opening.texts opening.room standings h;
+  as_many = first_many opening.texts standings h;
+}
+
+-- ---- a text by its place
+row_held : (k : ℕ) (texts : List (List ℕ × List ℕ)) (standings : List Standing) (t : List ℕ × List ℕ) (s : Standing) → slice_get texts k ≡ Some t → slice_get standings k ≡ Some s
+    → slice_get (held_of (names_in texts) standings) k ≡ Some (record { name = t.0; text = arc_value s.text; version = s.version })
+row_held k [] standings t s row there = cc
+row_held k (u ∷ texts) [] t s row there = cc
+row_held zero (u ∷ texts) (x ∷ standings) t s row there = let a : u ≡ t = cc in let b : x ≡ s = cc in λ i. Some (record { name = (a i).0; text = arc_value (b i).text; version = (b i).version })
+row_held (suc k) (u ∷ texts) (x ∷ standings) t s row there = row_held k texts standings t s row there
+
+pub row_there : (v : View) (standings : List Standing) (k : ℕ) (t : List ℕ × List ℕ) (s : Standing) → Keeps v standings → slice_get v.opening.texts k ≡ Some t
+    → slice_get standings k ≡ Some s → slice_get (state_of v) k ≡ Some (record { name = t.0; text = arc_value s.text; version = s.version })
+row_there v standings k t s keeps row there = ap (λ (l : State). slice_get l k) (sym keeps.texts) ∙ row_held k v.opening.texts standings t s row there
+
+row_short : (k : ℕ) (texts : List (List ℕ × List ℕ)) (standings : List Standing) → slice_get texts k ≡ None → slice_get (held_of (names_in texts) standings) k ≡ None
+row_short k [] standings row = refl
+row_short k (t ∷ texts) [] row = refl
+row_short zero (t ∷ texts) (s ∷ standings) row = cc
+row_short (suc k) (t ∷ texts) (s ∷ standings) row = row_short k texts standings row
+
+pub row_none : (v : View) (standings : List Standing) (k : ℕ) → Keeps v standings → slice_get v.opening.texts k ≡ None → slice_get (state_of v) k ≡ None
+row_none v standings k keeps row = ap (λ (l : State). slice_get l k) (sym keeps.texts) ∙ row_short k v.opening.texts standings row
+
+inside_row : (k : ℕ) (texts : List (List ℕ × List ℕ)) (t : List ℕ × List ℕ) → slice_get texts k ≡ Some t → k < length texts
+inside_row k [] t row = cc
+inside_row zero (u ∷ texts) t row = omega arith
+inside_row (suc k) (u ∷ texts) t row = let h = inside_row k texts t row in omega (arith, h)
+
+pub row_inside : (v : View) (standings : List Standing) (k : ℕ) (t : List ℕ × List ℕ) → Keeps v standings → slice_get v.opening.texts k ≡ Some t → k < length standings
+row_inside v standings k t keeps row = let h = inside_row k v.opening.texts t row in omega (arith, h, keeps.as_many)

@@ -1,0 +1,4 @@
+pub mod Steps
+pub mod Places
+pub mod TextRows
+pub mod BookLaws

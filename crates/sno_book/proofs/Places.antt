@@ -1,0 +1,116 @@
+-- Texts at the places of their names.
+use Rattle.std.proofs.Common.{◌≡◌, ℕ, zero, suc, ◌+◌, ◌<◌, ◌≤◌, Bool, true, false, cond, ◌&&◌, nat_eq, List, [], ◌∷◌, length, set, map, Option, Some, None, slice_get, refl, ap, sym, subst, ◌∙◌, arith}
+use Rattle.std.specs.List.{position_from}
+use Rattle.std.specs.Arc.{arc_value}
+use Rattle.std.specs.declared.sync.Arc.{Arc}
+use Rattle.std.proofs.Common.{Global}
+use Rattle.std.specs.Option.{option_map}
+use Rattle.std.proofs.lemmas.Bool.{eqb-true}
+use Rattle.sno_pattern.specs.Identifiers.{same}
+use Rattle.sno_pattern.specs.NameList.{place_of}
+use Rattle.sno_book.specs.States.{Held, State, find, raised, renew, renew_by}
+use Rattle.sno_book.specs.Shelves.{held_of}
+use Rattle.sno_book.specs.declared.shelves.Standing.{Standing}
+use Rattle.sno_book.proofs.Steps.{VersionsBelow}
+
+both : (b c : Bool) → b && c ≡ true → (b ≡ true) × (c ≡ true)
+both true c h = (refl, h)
+both false c h = cc
+
+-- names of the same characters are equal
+pub same_is : (a b : List ℕ) → same a b ≡ true → a ≡ b
+same_is [] [] h = refl
+same_is [] (y ∷ b) h = cc
+same_is (x ∷ a) [] h = cc
+same_is (x ∷ a) (y ∷ b) h =
+    let hs = both (nat_eq x y) (same a b) h in
+    let head : x ≡ y = eqb-true x y hs.0 in
+    let tail = same_is a b hs.1 in cc
+
+-- the first of the names that is this one stands at place k
+abbrev pub StandsAt : List ℕ → List (List ℕ) → ℕ → Type 0
+StandsAt name [] k = ⊥
+StandsAt name (n ∷ names) zero = same name n ≡ true
+StandsAt name (n ∷ names) (suc k) = (same name n ≡ false) × StandsAt name names k
+
+past_if : (b : Bool) (i k : ℕ) (later : Option ℕ) → (later ≡ Some k → i + 1 ≤ k) → cond b (Some i) later ≡ Some k → i ≤ k
+past_if true i k later past h = let e : i ≡ k = cc in omega (arith, e)
+past_if false i k later past h = let p = past h in omega (arith, p)
+
+past : (p : List ℕ → Bool) (i k : ℕ) (names : List (List ℕ)) → position_from p i names ≡ Some k → i ≤ k
+past p i k [] h = cc
+past p i k (n ∷ names) h = past_if (p n) i k (position_from p (i + 1) names) (past p (i + 1) k names) h
+
+here_if : (b : Bool) (i : ℕ) (later : Option ℕ) → (later ≡ Some i → i + 1 ≤ i) → cond b (Some i) later ≡ Some i → b ≡ true
+here_if true i later past h = refl
+here_if false i later past h = let p = past h in absurd (omega (arith, p))
+
+later_if : (b : Bool) (i k : ℕ) (later : Option ℕ) → cond b (Some i) later ≡ Some (i + suc k) → (b ≡ false) × (later ≡ Some (i + 1 + k))
+later_if true i k later h = let e : i ≡ i + suc k = cc in absurd (omega (arith, e))
+later_if false i k later h = let e : i + suc k ≡ i + 1 + k = omega arith in (refl, h ∙ ap (λ (x : ℕ). Some x) e)
+
+stands : (name : List ℕ) (i k : ℕ) (names : List (List ℕ)) → position_from (same name) i names ≡ Some (i + k) → StandsAt name names k
+stands name i k [] h = cc
+stands name i zero (n ∷ names) h =
+    let zeros : i + zero ≡ i = omega arith in
+    here_if (same name n) i (position_from (same name) (i + 1) names) (past (same name) (i + 1) i names) (h ∙ ap (λ (x : ℕ). Some x) zeros)
+stands name i (suc k) (n ∷ names) h =
+    let l = later_if (same name n) i k (position_from (same name) (i + 1) names) h in (l.0, stands name (i + 1) k names l.1)
+
+pub stands_at : (name : List ℕ) (k : ℕ) (names : List (List ℕ)) → place_of names name ≡ Some k → StandsAt name names k
+stands_at name k names h = let zeros : k ≡ 0 + k = omega arith in stands name 0 k names (h ∙ ap (λ (x : ℕ). Some x) zeros)
+
+pub stands_inside : (name : List ℕ) (k : ℕ) (names : List (List ℕ)) → StandsAt name names k → k < length names
+stands_inside name k [] h = absurd h
+stands_inside name zero (n ∷ names) h = omega arith
+stands_inside name (suc k) (n ∷ names) h = let i = stands_inside name k names h.1 in omega (arith, i)
+
+abbrev seen : List ℕ → Standing → Held
+seen name s = record { name = name; text = arc_value s.text; version = s.version }
+
+-- what stands at the place of a name is what is found by the name
+pub find_held : (name : List ℕ) (k : ℕ) (names : List (List ℕ)) (standings : List Standing) (held : Held) → StandsAt name names k → slice_get (held_of names standings) k ≡ Some held
+    → find name (held_of names standings) ≡ Some held
+find_held name k [] standings held at there = absurd at
+find_held name k (n ∷ names) [] held at there = cc
+find_held name zero (n ∷ names) (x ∷ standings) held at there = rw at there
+find_held name (suc k) (n ∷ names) (x ∷ standings) held at there = rw at.0 (find_held name k names standings held at.1 there)
+
+pub get_at : (name : List ℕ) (k : ℕ) (names : List (List ℕ)) (standings : List Standing) (s : Standing) → StandsAt name names k → slice_get standings k ≡ Some s
+    → slice_get (held_of names standings) k ≡ Some (record { name = name; text = arc_value s.text; version = s.version })
+get_at name k [] standings s at there = absurd at
+get_at name k (n ∷ names) [] s at there = cc
+get_at name zero (n ∷ names) (x ∷ standings) s at there =
+    let is : x ≡ s = cc in let called = sym (same_is name n at) in (λ i. Some (seen (called i) (is i)))
+get_at name (suc k) (n ∷ names) (x ∷ standings) s at there = get_at name k names standings s at.1 there
+
+-- what is put at the place of a name takes the place of the text of that name
+pub renew_at : (name text : List ℕ) (k : ℕ) (names : List (List ℕ)) (standings : List Standing) (s new : Standing) → StandsAt name names k → slice_get standings k ≡ Some s
+    → arc_value new.text ≡ text → new.version ≡ s.version + 1 → held_of names (set standings k new) ≡ renew name text (held_of names standings)
+renew_at name text k [] standings s new at there is raised = absurd at
+renew_at name text k (n ∷ names) [] s new at there is raised = cc
+renew_at name text zero (n ∷ names) (x ∷ standings) s new at there is raised =
+    let same : s ≡ x = cc in
+    let version : new.version ≡ x.version + 1 = raised ∙ ap (λ (y : Standing). y.version + 1) same in
+    rw at (λ i. record { name = n; text = is i; version = version i } ∷ held_of names standings)
+renew_at name text (suc k) (n ∷ names) (x ∷ standings) s new at there is raised =
+    rw at.0 (ap (λ (l : State). seen n x ∷ l) (renew_at name text k names standings s new at.1 there is raised))
+
+-- the same, of a new text that is there
+pub renewed : (name : List ℕ) (k : ℕ) (names : List (List ℕ)) (standings : List Standing) (s : Standing) (text : Arc (List ℕ) Global) (after : Option (Arc (List ℕ) Global))
+    → place_of names name ≡ Some k → slice_get standings k ≡ Some s → after ≡ Some text
+    → held_of names (set standings k (record { text = text; version = s.version + 1 })) ≡ renew_by name (option_map arc_value after) (held_of names standings)
+renewed name k names standings s text after at there is =
+    rw is (renew_at name (arc_value text) k names standings s (record { text = text; version = s.version + 1 }) (stands_at name k names at) there refl refl)
+
+abbrev version_in : Option Standing → ℕ
+version_in None = 0
+version_in (Some s) = s.version
+
+-- what stands at a place has no version above that of all the texts
+pub held_small : (n k : ℕ) (names : List (List ℕ)) (standings : List Standing) (s : Standing) → slice_get standings k ≡ Some s → length standings ≤ length names
+    → VersionsBelow n (held_of names standings) → s.version ≤ n
+held_small n k names [] s there few h = cc
+held_small n k [] (x ∷ standings) s there few h = absurd (omega (arith, few))
+held_small n zero (name ∷ names) (x ∷ standings) s there few h = let same : x.version ≡ s.version = ap (λ (o : Option Standing). version_in o) there in omega (arith, h.0, same)
+held_small n (suc k) (name ∷ names) (x ∷ standings) s there few h = held_small n k names standings s there (omega (arith, few)) h.1

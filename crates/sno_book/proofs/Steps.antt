@@ -1,0 +1,75 @@
+-- Finding and replacing a text by its name, and by the place of its name.
+use Rattle.std.proofs.Common.{◌≡◌, ℕ, zero, suc, ◌+◌, ◌<◌, ◌≤◌, Bool, true, false, cond, List, [], ◌∷◌, ◌++◌, length, map, Option, Some, None, slice_get, refl, ap, sym, subst, ◌∙◌, arith}
+use Rattle.sno_pattern.specs.Identifiers.{same}
+use Rattle.sno_book.specs.States.{Held, State, find, raised, renew, renew_by}
+use Rattle.sno_book.specs.Entries.{Entry, after_of}
+use Rattle.sno_book.specs.Journals.{HasStep, step, replay, Legal}
+use Rattle.sno_book.specs.Openings.{Opening, names_in, start}
+
+-- the names of the texts
+abbrev pub names : State → List (List ℕ)
+names state = map (λ h. h.name) state
+
+names_kept_if : (b : Bool) (text : List ℕ) (held : Held) (state more : State) → names more ≡ names state
+    → names (cond b (raised held text ∷ state) (held ∷ more)) ≡ held.name ∷ names state
+names_kept_if true text held state more h = refl
+names_kept_if false text held state more h = ap (λ (l : List (List ℕ)). held.name ∷ l) h
+
+names_kept : (name text : List ℕ) (state : State) → names (renew name text state) ≡ names state
+names_kept name text [] = refl
+names_kept name text (held ∷ state) = names_kept_if (same name held.name) text held state (renew name text state) (names_kept name text state)
+
+names_kept_by : (name : List ℕ) (text : Option (List ℕ)) (state : State) → names (renew_by name text state) ≡ names state
+names_kept_by name None state = refl
+names_kept_by name (Some text) state = names_kept name text state
+
+-- a journal changes no name
+pub names_replayed : (state : State) (journal : List Entry) → names (replay state journal) ≡ names state
+names_replayed state [] = refl
+names_replayed state (e ∷ journal) = names_replayed (step state e) journal ∙ names_kept_by e.statement.text (after_of e.done) state
+
+pub names_started : (texts : List (List ℕ × List ℕ)) (room : ℕ) → names (start (record { texts = texts; room = room })) ≡ names_in texts
+names_started [] room = refl
+names_started (t ∷ texts) room = ap (λ (l : List (List ℕ)). t.0 ∷ l) (names_started texts room)
+
+-- no version is above n
+abbrev pub VersionsBelow : ℕ → State → Type 0
+VersionsBelow n [] = Unit {0}
+VersionsBelow n (held ∷ state) = (held.version ≤ n) × VersionsBelow n state
+
+more : (n : ℕ) (state : State) → VersionsBelow n state → VersionsBelow (n + 1) state
+more n [] h = tt
+more n (held ∷ state) h = (omega (arith, h.0), more n state h.1)
+
+below_if : (b : Bool) (n : ℕ) (text : List ℕ) (held : Held) (state new : State) → held.version ≤ n → VersionsBelow n state → VersionsBelow (n + 1) new
+    → VersionsBelow (n + 1) (cond b (raised held text ∷ state) (held ∷ new))
+below_if true n text held state new here h later = (omega (arith, here), more n state h)
+below_if false n text held state new here h later = (omega (arith, here), later)
+
+below_renewed : (n : ℕ) (name text : List ℕ) (state : State) → VersionsBelow n state → VersionsBelow (n + 1) (renew name text state)
+below_renewed n name text [] h = tt
+below_renewed n name text (held ∷ state) h = below_if (same name held.name) n text held state (renew name text state) h.0 h.1 (below_renewed n name text state h.1)
+
+below_by : (n : ℕ) (name : List ℕ) (text : Option (List ℕ)) (state : State) → VersionsBelow n state → VersionsBelow (n + 1) (renew_by name text state)
+below_by n name None state h = more n state h
+below_by n name (Some text) state h = below_renewed n name text state h
+
+-- a version is raised at most once by each entry
+pub below_replayed : (n : ℕ) (state : State) (journal : List Entry) → VersionsBelow n state → VersionsBelow (n + length journal) (replay state journal)
+below_replayed n state [] h = let count : n ≡ n + 0 = omega arith in subst (λ k. VersionsBelow k state) count h
+below_replayed n state (e ∷ journal) h =
+    let r = below_replayed (n + 1) (step state e) journal (below_by n e.statement.text (after_of e.done) state h) in
+    let count : n + 1 + length journal ≡ n + suc (length journal) = omega arith in subst (λ k. VersionsBelow k (replay (step state e) journal)) count r
+
+pub below_started : (texts : List (List ℕ × List ℕ)) (room : ℕ) → VersionsBelow 0 (start (record { texts = texts; room = room }))
+below_started [] room = tt
+below_started (t ∷ texts) room = (omega arith, below_started texts room)
+
+-- one more entry
+pub replay_snoc : (state : State) (journal : List Entry) (e : Entry) → replay state (journal ++ e ∷ []) ≡ step (replay state journal) e
+replay_snoc state [] e = refl
+replay_snoc state (d ∷ journal) e = replay_snoc (step state d) journal e
+
+pub legal_snoc : (state : State) (journal : List Entry) (e : Entry) → Legal state journal → HasStep (replay state journal) e → Legal state (journal ++ e ∷ [])
+legal_snoc state [] e h s = (s, tt)
+legal_snoc state (d ∷ journal) e h s = (h.0, legal_snoc (step state d) journal e h.1 s)

@@ -1,0 +1,61 @@
+-- What becomes of a proposal at a book.
+use Rattle.std.specs.Prelude.{◌≡◌, ◌≢◌, ℕ, Bool, List, length, nat_eq, Option, Some, None, Result, Ok, Err, slice_get, if◌then◌else◌}
+use Rattle.sno_pattern.specs.Identifiers.{same}
+use Rattle.sno_pattern.specs.NameList.{place_of}
+use Rattle.sno_book.specs.States.{Held}
+use Rattle.sno_book.specs.Openings.{names_in}
+use Rattle.sno_book.specs.Views.{View, state_of, and_then}
+use Rattle.sno_book.specs.Proposals.{Proposed, Received, entry_of}
+use Rattle.sno_book.specs.declared.faults.CommitFault.{CommitFault}
+use Rattle.sno_book.specs.declared.faults.CommitFault.TheVariants as fault
+use Rattle.sno_book.specs.declared.faults.SnapshotFault.{SnapshotFault}
+use Rattle.sno_book.specs.declared.faults.SnapshotFault.TheVariants as snapshots
+use Rattle.sno_book.specs.declared.snapshots.Snapshot.{Snapshot}
+use Rattle.std.specs.Arc.{arc_value}
+
+-- the place of the text of this name
+abbrev pub place_in : View → List ℕ → Option ℕ
+place_in v name = place_of (names_in v.opening.texts) name
+
+-- the journal has as many entries as it may hold
+abbrev pub full : View → Option CommitFault
+full v = if nat_eq (length v.journal) v.opening.room then Some fault.Full else None
+
+-- the text has the proposal's version, and then its characters
+abbrev pub beside : View → Proposed → Option Held → Option CommitFault
+beside v p None = Some fault.NoText
+beside v p (Some held) = if nat_eq p.version held.version then (if same p.text held.text then full v else Some fault.Foreign) else Some (fault.Changed p.version held.version)
+
+-- the text of the statement's name stands at the snapshot's place
+abbrev pub at_place : View → Proposed → Option ℕ → Option CommitFault
+at_place v p None = Some fault.NoText
+at_place v p (Some place) = if nat_eq place p.place then beside v p (slice_get (state_of v) place) else Some fault.NoText
+
+-- the first refusal that holds, want of memory aside: no text of that name at that place, another version, other characters, a full
+-- journal
+abbrev pub refusal : View → Proposed → Option CommitFault
+refusal v p = at_place v p (place_in v p.statement.text)
+
+-- no refusal holds; the entry is behind the others, at the index that the receipt names
+pub record IsAccepted (before after : View) (p : Proposed) (given : Received) : Type 0 where
+  pub free : refusal before p ≡ None
+  pub appended : after ≡ and_then before (entry_of p)
+  pub received : given ≡ record { index = length before.journal; entry = entry_of p; text = p.text }
+
+-- the refusal is the first that holds, or where none does want of memory; nothing is changed, and the proposal comes back
+pub record IsRefused (before after : View) (p back : Proposed) (e : CommitFault) : Type 0 where
+  pub cause : e ≢ fault.Memory → refusal before p ≡ Some e
+  pub memory : e ≡ fault.Memory → refusal before p ≡ None
+  pub unchanged : after ≡ before
+  pub handed_back : back ≡ p
+
+-- a snapshot of the text of this name: its place, and its characters and version as they stand
+pub record IsSnapshot (v : View) (name : List ℕ) (snapshot : Snapshot) : Type 0 where
+  pub place : place_in v name ≡ Some snapshot.place
+  pub there : slice_get (state_of v) snapshot.place ≡ Some (record { name = name; text = arc_value snapshot.text; version = snapshot.version })
+
+-- a snapshot exactly where there is a text of that name, want of memory aside
+abbrev pub GivesSnapshot : Result Snapshot SnapshotFault → View → List ℕ → Type 0
+GivesSnapshot (Ok snapshot) v name = IsSnapshot v name snapshot
+GivesSnapshot (Err snapshots.NoText) v name = place_in v name ≡ None
+GivesSnapshot (Err snapshots.Memory) v name = place_in v name ≢ None

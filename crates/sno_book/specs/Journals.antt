@@ -1,0 +1,27 @@
+-- Journals: entries one behind the other, each a step of the texts as those before it leave them.
+use Rattle.std.specs.Prelude.{◌≡◌, List, [], ◌∷◌, Some, Ok}
+use Rattle.sno_statement.specs.Perform.{perform}
+use Rattle.sno_book.specs.States.{Held, State, find, renew_by}
+use Rattle.sno_book.specs.Entries.{Entry, after_of}
+
+-- an entry has a step from texts among which the statement's text has the entry's version, and where the entry's outcome is what the
+-- statement does to that text
+pub record HasStep (state : State) (entry : Entry) : Type 0 where
+  pub held : Held
+  pub found : find entry.statement.text state ≡ Some held
+  pub at_version : held.version ≡ entry.version
+  pub performed : perform entry.statement held.text ≡ Ok entry.done
+
+-- the texts after the step: the new text in place of the statement's text, where the outcome has one
+abbrev pub step : State → Entry → State
+step state entry = renew_by entry.statement.text (after_of entry.done) state
+
+-- the texts after the steps of a journal
+abbrev pub replay : State → List Entry → State
+replay state [] = state
+replay state (entry ∷ journal) = replay (step state entry) journal
+
+-- each entry has a step from the texts after those before it
+abbrev pub Legal : State → List Entry → Type 0
+Legal state [] = Unit {0}
+Legal state (entry ∷ journal) = HasStep state entry × Legal (step state entry) journal

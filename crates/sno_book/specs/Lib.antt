@@ -1,0 +1,11 @@
+pub mod States
+pub mod Entries
+pub mod Journals
+pub mod Openings
+pub mod Views
+pub mod Proposals
+pub mod Commits
+pub mod Audits
+pub mod Beginnings
+pub mod Begun
+pub mod Shelves

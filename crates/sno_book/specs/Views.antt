@@ -1,0 +1,38 @@
+-- Views: an opening with the entries that followed it.
+use Rattle.std.specs.Prelude.{◌≡◌, ◌≤◌, ℕ, List, length, refl, [], ◌∷◌, ◌++◌, Result, Ok, Err}
+use Rattle.std.specs.Coded.{Coded, code_by, coded×, coded_list}
+use Rattle.sno_book.specs.States.{State}
+use Rattle.sno_book.specs.Entries.{Entry, entry_code}
+use Rattle.sno_book.specs.Journals.{Legal, replay}
+use Rattle.sno_book.specs.Openings.{Opening, IsOpening, opening_code, start, opening_of}
+use Rattle.sno_book.specs.declared.faults.BookFault.{BookFault}
+use Rattle.sno_book.specs.declared.faults.BookFault.TheVariants as fault
+
+pub record View : Type 0 where
+  pub opening : Opening
+  pub journal : List Entry
+
+-- a view is stored as the pair of its fields
+abbrev pub view_code : Coded View
+view_code = code_by (Opening × List Entry) (coded× opening_code (coded_list entry_code)) (λ v. (v.opening, v.journal)) (λ p. record { opening = p.0; journal = p.1 }) (λ _. refl)
+
+-- the texts after all entries
+abbrev pub state_of : View → State
+state_of v = replay (start v.opening) v.journal
+
+-- each entry is a step from the texts after those before it, and there is room for all of them
+pub record IsLawful (v : View) : Type 0 where
+  pub opening : IsOpening v.opening
+  pub legal : Legal (start v.opening) v.journal
+  pub within : length v.journal ≤ v.opening.room
+
+-- the entry behind the others
+abbrev pub and_then : View → Entry → View
+and_then v entry = record { opening = v.opening; journal = v.journal ++ entry ∷ [] }
+
+-- a book of these texts has that opening and no entry
+abbrev pub OpensView : Result View BookFault → List (List ℕ × List ℕ) → ℕ → Type 0
+OpensView (Ok v) texts room = (opening_of texts room ≡ Ok v.opening) × (v.journal ≡ [])
+OpensView (Err fault.TooMany) texts room = opening_of texts room ≡ Err fault.TooMany
+OpensView (Err (fault.Duplicate place)) texts room = opening_of texts room ≡ Err (fault.Duplicate place)
+OpensView (Err fault.Memory) texts room = length texts ≤ 1024

@@ -1,0 +1,202 @@
+//! Books.
+ghost use Rattle.std.specs.Prelude.{◌≡◌, ◌≤◌, IfOk, IfErr, IfSome, IfNone, None, Some, [], length, nat_eq, slice_get};
+ghost use Rattle.std.specs.Option.{option_map};
+ghost use Rattle.std.specs.Arc.{arc_value};
+ghost use Rattle.sno_book.specs.Proposals.{entry_of};
+ghost use Rattle.sno_book.specs.Views.{IsLawful, OpensView, state_of};
+ghost use Rattle.sno_book.specs.Commits.{place_in, GivesSnapshot, IsAccepted, IsRefused, beside, refusal};
+
+use crate::beginning::{Begun, begin};
+use crate::ready::Ready;
+use crate::shelves::{Standing, put, standing_at};
+use crate::{BookFault, CommitFault, Entry, Opening, Proposal, Receipt, Snapshot, SnapshotFault};
+use sno_pattern::{Text, TextName};
+use std::alloc::Global;
+use std::marker::Model;
+use std::sync::Arc;
+
+/// Named texts with their versions, and the journal of the statements that were accepted on them. By its type each entry of the journal
+/// is a step from the texts as those before it leave them, and the texts and versions are those that all entries leave.
+#[derive(Drop)]
+pub struct Book {
+    opening: Arc<Opening>,
+    standings: Vec<Standing>,
+    journal: Vec<Entry>,
+}
+
+impl Model for Book {
+    ghost use Rattle.std.specs.Arc.{arc_value};
+    ghost use Rattle.sno_book.specs.Views.{View, view_code};
+    ghost use Rattle.sno_book.specs.Shelves.{Keeps};
+
+    ghost Value = { View };
+
+    ghost coded = { view_code };
+
+    ghost view = { λ s. record { opening = arc_value s.opening; journal = s.journal.items } };
+
+    ghost invariant = { λ s. Keeps (record { opening = arc_value s.opening; journal = s.journal.items }) s.standings.items };
+}
+
+impl Book {
+    /// A book of these texts, each at version 0, with an empty journal that may hold `room` entries.
+    ///
+    /// Refused, in this order: `TooMany` for more than 1,024 texts, `Duplicate` with the first place whose name stands earlier, `Memory`.
+    /// The texts are dropped then.
+    #[tactic(auto, using(crate::proofs::BookLaws::keeps_first))]
+    pub fn new(alloc: Global, texts: Vec<(TextName, Text)>, room: u32) -> Result<Book, BookFault>
+        requires { room ≤ 1000000 }
+        ensures { OpensView result texts.items room }
+    {
+        let Begun { opening, standings } = begin(alloc, texts, room)?;
+        Ok(Book {
+            opening: Arc::new(alloc, opening)?,
+            standings,
+            journal: Vec::new(alloc),
+        })
+    }
+
+    /// The journal, in the order in which its entries were accepted.
+    pub fn journal(&self) -> &[Entry]
+        ensures journal { result.now ≡ self.now.journal }
+        ensures lawful { IsLawful self.now }
+    {
+        self.journal.as_slice()
+    }
+
+    /// What the book began with.
+    pub fn opening(&self) -> &Arc<Opening>
+        ensures { arc_value result.now ≡ self.now.opening }
+    {
+        &self.opening
+    }
+
+    /// How many texts there are, at most 1,024.
+    pub fn len(&self) -> usize
+        ensures { result ≡ length self.now.opening.texts }
+    {
+        self.standings.len()
+    }
+
+    /// Whether there is no text.
+    pub fn is_empty(&self) -> bool
+        ensures { result ≡ nat_eq (length self.now.opening.texts) 0 }
+    {
+        self.standings.is_empty()
+    }
+
+    /// The text at a place, from 0, with its name and its version, as all entries of the journal leave it; none from [`Book::len`] on.
+    #[tactic(auto, using(crate::proofs::BookLaws::row_there, crate::proofs::BookLaws::row_none, crate::proofs::BookLaws::row_inside))]
+    pub fn text(&self, place: usize) -> Option<(&TextName, &Arc<Text>, u64)>
+        ensures found { IfSome result (λ t. slice_get (state_of self.now) place ≡ Some (record { name = t.0.now; text = arc_value t.1.now; version = t.2 })) }
+        ensures none { IfNone result (slice_get (state_of self.now) place ≡ None) }
+    {
+        let (name, _) = self.opening.row(place)?;
+        let standing = standing_at(&self.standings, place);
+        Some((name, &standing.text, standing.version))
+    }
+
+    /// What stands at the place of this name, and the place.
+    #[tactic(auto, using(crate::proofs::BookLaws::place_inside, crate::proofs::BookLaws::stands_there))]
+    fn standing(&self, name: &TextName) -> Option<(usize, &Standing)>
+        ensures found { IfSome result (λ r. (place_in self.now name.now ≡ Some r.0) × (slice_get (state_of self.now) r.0
+            ≡ Some (record { name = name.now; text = arc_value r.1.now.text; version = r.1.now.version }))) }
+        ensures none { IfNone result (place_in self.now name.now ≡ None) }
+    {
+        let place = self.opening.place(name)?;
+        Some((place, standing_at(&self.standings, place)))
+    }
+
+    /// The text of this name as it stands, shared.
+    ///
+    /// Refused, in this order: `NoText` exactly where the book has no text of that name, `Memory`. The book stays as it is.
+    pub fn snapshot(&self, name: &TextName) -> Result<Snapshot, SnapshotFault>
+        ensures { GivesSnapshot result self.now name.now }
+    {
+        let Some((place, standing)) = self.standing(name) else {
+            return Err(SnapshotFault::NoText);
+        };
+        match Arc::try_clone(&standing.text) {
+            Ok(text) => Ok(Snapshot {
+                place,
+                version: standing.version,
+                text,
+            }),
+            Err(_) => Err(SnapshotFault::Memory),
+        }
+    }
+
+    /// Why the text that stands at the proposal's place is not the one that the proposal is for, or why nothing more is accepted.
+    fn refusal_beside(&self, standing: &Standing, proposal: &Proposal) -> Option<CommitFault>
+        ensures { result ≡ beside self.now proposal.now (Some (record { name = []; text = arc_value standing.now.text; version = standing.now.version })) }
+    {
+        if proposal.version() != standing.version {
+            return Some(CommitFault::Changed {
+                seen: proposal.version(),
+                now: standing.version,
+            });
+        }
+        if proposal.text().bytes() != standing.text.bytes() {
+            return Some(CommitFault::Foreign);
+        }
+        if self.journal.len() == self.opening.room() as usize {
+            return Some(CommitFault::Full);
+        }
+        None
+    }
+
+    /// Why the proposal is not accepted, if it is not, want of memory aside.
+    #[tactic(auto, using(crate::proofs::BookLaws::refusal_there))]
+    fn refusal(&self, proposal: &Proposal) -> Option<CommitFault>
+        ensures { result ≡ refusal self.now proposal.now }
+    {
+        let Some((place, standing)) = self.standing(proposal.statement().text()) else {
+            return Some(CommitFault::NoText);
+        };
+        if place != proposal.place() {
+            return Some(CommitFault::NoText);
+        }
+        self.refusal_beside(standing, proposal)
+    }
+
+    /// The entry behind the others, and the new text in place of the old one.
+    fn accept(&mut self, ready: Ready) -> Result<Receipt, (CommitFault, Proposal)>
+        requires { refusal self.old ready.proposal ≡ None }
+        ensures accepted { IfOk result (λ receipt. IsAccepted self.old self.new ready.proposal receipt) }
+        ensures refused { IfErr result (λ r. IsRefused self.old self.new ready.proposal r.1 r.0) }
+    {
+        let Ready {
+            proposal,
+            entry,
+            after,
+        } = ready;
+        let index = self.journal.len();
+        let place = proposal.place();
+        match self.journal.push(entry) {
+            Ok(()) => {}
+            Err(_) => return Err((CommitFault::Memory, proposal)),
+        }
+        put(&mut self.standings, place, after);
+        Ok(proposal.received(index))
+    }
+
+    /// Accepts a proposal: its entry is behind the others in the journal, and its new text, where it has one, is in place, with a version
+    /// one higher, also where the characters are the same.
+    ///
+    /// Refused, in this order: `NoText` where the book has no text of the statement's name, or has it at another place than the
+    /// snapshot's; `Changed` where the text has another version than the snapshot, with both; `Foreign` where it has other characters;
+    /// `Full` where the journal has as many entries as there is room for; `Memory`. After each the book is as it was, and the same proposal
+    /// comes back.
+    pub fn commit(&mut self, proposal: Proposal) -> Result<Receipt, (CommitFault, Proposal)>
+        ensures accepted { IfOk result (λ receipt. IsAccepted self.old self.new proposal receipt) }
+        ensures refused { IfErr result (λ r. IsRefused self.old self.new proposal r.1 r.0) }
+    {
+        if let Some(fault) = self.refusal(&proposal) {
+            return Err((fault, proposal));
+        }
+        match Ready::of(proposal) {
+            Ok(ready) => self.accept(ready),
+            Err(proposal) => Err((CommitFault::Memory, proposal)),
+        }
+    }
+}

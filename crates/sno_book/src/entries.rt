@@ -1,0 +1,68 @@
+//! What a commit leaves.
+ghost use Rattle.std.specs.Prelude.{◌≡◌, Ok};
+ghost use Rattle.std.specs.Arc.{arc_value};
+ghost use Rattle.sno_statement.specs.Perform.{done_of, perform};
+
+use sno_pattern::Text;
+use sno_statement::{Outcome, Statement};
+use std::marker::Model;
+use std::sync::Arc;
+
+/// An accepted statement. Entries are equal where the statements, the versions and the outcomes are, wherever these lie in memory.
+#[derive(Drop)]
+pub struct Entry {
+    /// The statement.
+    pub statement: Arc<Statement>,
+    /// The version of its text that it was performed on.
+    pub version: u64,
+    /// What came of it.
+    pub outcome: Arc<Outcome>,
+}
+
+impl Model for Entry {
+    ghost use Rattle.std.specs.Arc.{arc_value};
+    ghost use Rattle.sno_statement.specs.Perform.{done_of};
+    ghost use Rattle.sno_book.specs.Entries.{Entry, entry_code};
+
+    ghost Value = { Entry };
+
+    ghost coded = { entry_code };
+
+    ghost view = { λ s. record { statement = arc_value s.statement; version = s.version; done = done_of (arc_value s.outcome) } };
+}
+
+/// What comes of an accepted proposal. Its entry's outcome is always that of the entry's statement performed on the text that the
+/// receipt carries.
+#[derive(Drop)]
+pub struct Receipt {
+    /// The index of the entry in the journal, from 0.
+    pub index: usize,
+    /// The entry.
+    pub entry: Entry,
+    /// The text that the statement was performed on.
+    pub text: Arc<Text>,
+}
+
+impl Model for Receipt {
+    ghost use Rattle.std.specs.Prelude.{◌≡◌, Ok};
+    ghost use Rattle.std.specs.Arc.{arc_value};
+    ghost use Rattle.sno_statement.specs.Perform.{perform};
+    ghost use Rattle.sno_book.specs.Proposals.{Received, received_code};
+
+    ghost Value = { Received };
+
+    ghost coded = { received_code };
+
+    ghost view = { λ s. record { index = s.index; entry = s.entry; text = arc_value s.text } };
+
+    ghost invariant = { λ s. perform s.entry.statement (arc_value s.text) ≡ Ok s.entry.done };
+}
+
+impl Receipt {
+    /// That the entry's outcome is what its statement does to the text.
+    pub fn check(&self)
+        ensures { perform self.now.entry.statement self.now.text ≡ Ok self.now.entry.done }
+    {
+        let _ = &self.entry;
+    }
+}

@@ -1,0 +1,75 @@
+//! Why a book refuses.
+use std::alloc::{AllocError, AllocFailed};
+use thiserror::Error;
+
+/// Why there is no book of some texts. They are dropped then.
+#[derive(Clone, Copy, Debug, PartialEq, Eq, Error)]
+pub enum BookFault {
+    /// More than 1,024 texts.
+    #[error("too many")]
+    TooMany,
+    /// The text at this place has the name of an earlier one; no earlier place does.
+    #[error("duplicate at {0}")]
+    Duplicate(usize),
+    /// Memory was refused.
+    #[error("out of memory")]
+    Memory,
+}
+
+impl From<AllocError> for BookFault {
+    ghost use Rattle.std.specs.Prelude.{◌≡◌};
+    ghost use Rattle.sno_book.specs.declared.faults.BookFault.TheVariants.{Memory};
+
+    ghost from_gives = { λ _ e. e ≡ Memory };
+
+    fn from(_refused: AllocError) -> BookFault {
+        BookFault::Memory
+    }
+}
+
+impl<T: Drop> From<AllocFailed<T>> for BookFault {
+    ghost use Rattle.std.specs.Prelude.{◌≡◌};
+    ghost use Rattle.sno_book.specs.declared.faults.BookFault.TheVariants.{Memory};
+
+    ghost from_gives = { λ _ e. e ≡ Memory };
+
+    fn from(_refused: AllocFailed<T>) -> BookFault {
+        BookFault::Memory
+    }
+}
+
+/// Why there is no snapshot. The book is as it was.
+#[derive(Clone, Copy, Debug, PartialEq, Eq, Error)]
+pub enum SnapshotFault {
+    /// The book has no text of that name.
+    #[error("no text")]
+    NoText,
+    /// The text could not be shared.
+    #[error("out of memory")]
+    Memory,
+}
+
+/// Why a proposal is not accepted. The book is as it was.
+#[derive(Clone, Copy, Debug, PartialEq, Eq, Error)]
+pub enum CommitFault {
+    /// The book has no text of the statement's name, or has it at another place than the snapshot's.
+    #[error("no text")]
+    NoText,
+    /// The text has another version than the snapshot.
+    #[error("changed from version {seen} to {now}")]
+    Changed {
+        /// The version of the snapshot.
+        seen: u64,
+        /// The version of the text.
+        now: u64,
+    },
+    /// The text has the snapshot's version, but other characters: the snapshot is of another book.
+    #[error("of another book")]
+    Foreign,
+    /// The journal has as many entries as it may hold.
+    #[error("full")]
+    Full,
+    /// Memory was refused.
+    #[error("out of memory")]
+    Memory,
+}

@@ -1,0 +1,19 @@
+//! The book: named texts with versions, and a journal of the statements that were accepted on them.
+#![tactic(auto)]
+
+mod beginning;
+mod books;
+mod entries;
+mod faults;
+mod openings;
+mod proposals;
+mod ready;
+mod shelves;
+mod snapshots;
+
+pub use books::Book;
+pub use entries::{Entry, Receipt};
+pub use faults::{BookFault, CommitFault, SnapshotFault};
+pub use openings::Opening;
+pub use proposals::{Proposal, propose};
+pub use snapshots::Snapshot;

@@ -1,0 +1,56 @@
+//! What a commit needs, made before it changes anything.
+ghost use Rattle.std.specs.Prelude.{◌≡◌, IfOk, IfErr};
+ghost use Rattle.std.specs.Option.{option_map};
+ghost use Rattle.std.specs.Arc.{arc_value};
+ghost use Rattle.sno_statement.specs.Perform.{done_of};
+ghost use Rattle.sno_book.specs.Entries.{after_of};
+ghost use Rattle.sno_book.specs.Proposals.{entry_of};
+
+use crate::{Entry, Proposal};
+use sno_pattern::Text;
+use sno_statement::Outcome;
+use std::alloc::AllocError;
+use std::sync::Arc;
+
+/// A proposal with its entry for the journal, and its new text for the book, both shared.
+#[derive(Drop)]
+pub(crate) struct Ready {
+    pub(crate) proposal: Proposal,
+    pub(crate) entry: Entry,
+    pub(crate) after: Option<Arc<Text>>,
+    ghost same: { entry ≡ entry_of proposal },
+    ghost renews: { option_map arc_value after ≡ after_of proposal.done },
+}
+
+/// The new text of an outcome, shared.
+fn after(outcome: &Outcome) -> Result<Option<Arc<Text>>, AllocError>
+    ensures { IfOk result (λ o. option_map arc_value o ≡ after_of (done_of outcome.now)) }
+{
+    match outcome {
+        Outcome::Matched {
+            after: Some(text),
+            ..
+        } => Ok(Some(Arc::try_clone(text)?)),
+        Outcome::Matched { after: None, .. } | Outcome::Failed { .. } => Ok(None),
+    }
+}
+
+impl Ready {
+    /// The proposal with all that its commit needs; or the proposal alone, where memory is refused.
+    pub(crate) fn of(proposal: Proposal) -> Result<Ready, Proposal>
+        ensures ready { IfOk result (λ r. r.proposal ≡ proposal) }
+        ensures back { IfErr result (λ p. p ≡ proposal) }
+    {
+        let Ok(entry) = proposal.entry() else {
+            return Err(proposal);
+        };
+        let Ok(after) = after(proposal.outcome()) else {
+            return Err(proposal);
+        };
+        Ok(Ready {
+            proposal,
+            entry,
+            after,
+        })
+    }
+}
