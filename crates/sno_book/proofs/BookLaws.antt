@@ -18,7 +18,7 @@ use Rattle.sno_book.specs.Beginnings.{stood, stood_at_first}
 use Rattle.sno_book.specs.declared.faults.CommitFault.{CommitFault}
 use Rattle.sno_book.specs.declared.faults.CommitFault.TheVariants.{NoText}
 use Rattle.sno_book.specs.declared.shelves.Standing.{Standing}
-use Rattle.sno_book.proofs.Places.{same_is, stands_at, stands_inside, find_held, get_at, held_small}
+use Rattle.sno_book.proofs.Places.{same_is, stands_at, stands_inside, find_held, find_none, get_at, held_small}
 use Rattle.sno_book.proofs.Steps.{replay_snoc, legal_snoc, below_replayed, below_started, VersionsBelow}
 
 -- what holds where nothing refuses the proposal
@@ -112,6 +112,19 @@ pub stands_there : (v : View) (standings : List Standing) (name : List ℕ) (k :
     → slice_get standings k ≡ Some s → slice_get (state_of v) k ≡ Some (record { name = name; text = arc_value s.text; version = s.version })
 stands_there v standings name k s keeps placed there =
     ap (λ (l : State). slice_get l k) (sym keeps.texts) ∙ get_at name k (names_in v.opening.texts) standings s (stands_at name k (names_in v.opening.texts) placed) there
+
+-- and it is what is found by the name
+pub found_there : (v : View) (standings : List Standing) (name : List ℕ) (k : ℕ) (s : Standing) → Keeps v standings → place_in v name ≡ Some k
+    → slice_get standings k ≡ Some s → find name (state_of v) ≡ Some (record { name = name; text = arc_value s.text; version = s.version })
+found_there v standings name k s keeps placed there =
+    let names = names_in v.opening.texts in
+    let at = stands_at name k names placed in
+    ap (λ (l : State). find name l) (sym keeps.texts) ∙ find_held name k names standings _ at (get_at name k names standings s at there)
+
+-- where no text has the name, none is found by it
+pub found_none : (v : View) (standings : List Standing) (name : List ℕ) → Keeps v standings → place_in v name ≡ None → find name (state_of v) ≡ None
+found_none v standings name keeps none =
+    ap (λ (l : State). find name l) (sym keeps.texts) ∙ find_none name 0 (names_in v.opening.texts) standings none
 
 -- no version of a lawful book is higher than there are entries
 pub version_small : (v : View) (standings : List Standing) (k : ℕ) (s : Standing) → Keeps v standings → slice_get standings k ≡ Some s → s.version ≤ length v.journal

@@ -76,6 +76,17 @@ find_held name k (n ∷ names) [] held at there = cc
 find_held name zero (n ∷ names) (x ∷ standings) held at there = rw at there
 find_held name (suc k) (n ∷ names) (x ∷ standings) held at there = rw at.0 (find_held name k names standings held at.1 there)
 
+none_if : (b : Bool) (i : ℕ) (later : Option ℕ) (x : Held) (rest : Option Held) → cond b (Some i) later ≡ None → (later ≡ None → rest ≡ None) → cond b (Some x) rest ≡ None
+none_if true i later x rest h more = cc
+none_if false i later x rest h more = more h
+
+-- where no name is this one, nothing is found by it
+pub find_none : (name : List ℕ) (i : ℕ) (names : List (List ℕ)) (standings : List Standing) → position_from (same name) i names ≡ None → find name (held_of names standings) ≡ None
+find_none name i [] standings h = refl
+find_none name i (n ∷ names) [] h = refl
+find_none name i (n ∷ names) (s ∷ standings) h =
+    none_if (same name n) i (position_from (same name) (i + 1) names) (seen n s) (find name (held_of names standings)) h (find_none name (i + 1) names standings)
+
 pub get_at : (name : List ℕ) (k : ℕ) (names : List (List ℕ)) (standings : List Standing) (s : Standing) → StandsAt name names k → slice_get standings k ≡ Some s
     → slice_get (held_of names standings) k ≡ Some (record { name = name; text = arc_value s.text; version = s.version })
 get_at name k [] standings s at there = absurd at

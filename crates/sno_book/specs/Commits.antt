@@ -2,7 +2,8 @@
 use Rattle.std.specs.Prelude.{◌≡◌, ◌≢◌, ℕ, Bool, List, length, nat_eq, Option, Some, None, Result, Ok, Err, slice_get, if◌then◌else◌}
 use Rattle.sno_pattern.specs.Identifiers.{same}
 use Rattle.sno_pattern.specs.NameList.{place_of}
-use Rattle.sno_book.specs.States.{Held}
+use Rattle.sno_book.specs.States.{Held, find}
+use Rattle.sno_book.specs.Journals.{HasStep, step}
 use Rattle.sno_book.specs.Openings.{names_in}
 use Rattle.sno_book.specs.Views.{View, state_of, and_then}
 use Rattle.sno_book.specs.Proposals.{Proposed, Received, entry_of}
@@ -36,10 +37,13 @@ at_place v p (Some place) = if nat_eq place p.place then beside v p (slice_get (
 abbrev pub refusal : View → Proposed → Option CommitFault
 refusal v p = at_place v p (place_in v p.statement.text)
 
--- no refusal holds; the entry is behind the others, at the index that the receipt names
+-- no refusal holds; the entry is behind the others, at the index that the receipt names, and it is one step: it has a step from the texts
+-- as they were, and they are now what the step makes of them
 pub record IsAccepted (before after : View) (p : Proposed) (given : Received) : Type 0 where
   pub free : refusal before p ≡ None
   pub appended : after ≡ and_then before (entry_of p)
+  pub has_step : HasStep (state_of before) (entry_of p)
+  pub stepped : state_of after ≡ step (state_of before) (entry_of p)
   pub received : given ≡ record { index = length before.journal; entry = entry_of p; text = p.text }
 
 -- the refusal is the first that holds, or where none does want of memory; nothing is changed, and the proposal comes back
@@ -53,9 +57,10 @@ pub record IsRefused (before after : View) (p back : Proposed) (e : CommitFault)
 pub record IsSnapshot (v : View) (name : List ℕ) (snapshot : Snapshot) : Type 0 where
   pub place : place_in v name ≡ Some snapshot.place
   pub there : slice_get (state_of v) snapshot.place ≡ Some (record { name = name; text = arc_value snapshot.text; version = snapshot.version })
+  pub found : find name (state_of v) ≡ Some (record { name = name; text = arc_value snapshot.text; version = snapshot.version })
 
 -- a snapshot exactly where there is a text of that name, want of memory aside
 abbrev pub GivesSnapshot : Result Snapshot SnapshotFault → View → List ℕ → Type 0
 GivesSnapshot (Ok snapshot) v name = IsSnapshot v name snapshot
-GivesSnapshot (Err snapshots.NoText) v name = place_in v name ≡ None
+GivesSnapshot (Err snapshots.NoText) v name = (place_in v name ≡ None) × (find name (state_of v) ≡ None)
 GivesSnapshot (Err snapshots.Memory) v name = place_in v name ≢ None

@@ -2,6 +2,7 @@
 ghost use Rattle.std.specs.Prelude.{◌≡◌, ◌≤◌, IfOk, IfErr, IfSome, IfNone, None, Some, [], length, nat_eq, slice_get};
 ghost use Rattle.std.specs.Option.{option_map};
 ghost use Rattle.std.specs.Arc.{arc_value};
+ghost use Rattle.sno_book.specs.States.{find};
 ghost use Rattle.sno_book.specs.Proposals.{entry_of};
 ghost use Rattle.sno_book.specs.Views.{IsLawful, OpensView, state_of};
 ghost use Rattle.sno_book.specs.Commits.{place_in, GivesSnapshot, IsAccepted, IsRefused, beside, refusal};
@@ -97,11 +98,12 @@ impl Book {
     }
 
     /// What stands at the place of this name, and the place.
-    #[tactic(auto, using(crate::proofs::BookLaws::place_inside, crate::proofs::BookLaws::stands_there))]
+    #[tactic(auto, using(crate::proofs::BookLaws::place_inside, crate::proofs::BookLaws::stands_there, crate::proofs::BookLaws::found_there, crate::proofs::BookLaws::found_none))]
     fn standing(&self, name: &TextName) -> Option<(usize, &Standing)>
         ensures found { IfSome result (λ r. (place_in self.now name.now ≡ Some r.0) × (slice_get (state_of self.now) r.0
-            ≡ Some (record { name = name.now; text = arc_value r.1.now.text; version = r.1.now.version }))) }
-        ensures none { IfNone result (place_in self.now name.now ≡ None) }
+            ≡ Some (record { name = name.now; text = arc_value r.1.now.text; version = r.1.now.version }))
+            × (find name.now (state_of self.now) ≡ Some (record { name = name.now; text = arc_value r.1.now.text; version = r.1.now.version }))) }
+        ensures none { IfNone result ((place_in self.now name.now ≡ None) × (find name.now (state_of self.now) ≡ None)) }
     {
         let place = self.opening.place(name)?;
         Some((place, standing_at(&self.standings, place)))
