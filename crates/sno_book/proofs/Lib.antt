@@ -2,3 +2,4 @@ pub mod Steps
 pub mod Places
 pub mod TextRows
 pub mod BookLaws
+pub mod Rising

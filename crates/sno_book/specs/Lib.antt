@@ -6,6 +6,7 @@ pub mod Views
 pub mod Proposals
 pub mod Commits
 pub mod Audits
+pub mod Laws
 pub mod Beginnings
 pub mod Begun
 pub mod Shelves

@@ -1,0 +1,55 @@
+-- Versions only rise.
+use Rattle.std.proofs.Common.{◌≡◌, ℕ, suc, ◌+◌, ◌<◌, ◌≤◌, ◌⊎◌, inl, inr, Bool, true, false, cond, List, [], ◌∷◌, ◌++◌, Option, Some, None, refl, ap, sym, ◌∙◌, arith}
+use Rattle.sno_pattern.specs.Identifiers.{same}
+use Rattle.sno_book.specs.States.{Held, State, find, raised, renew, renew_by}
+use Rattle.sno_book.specs.Entries.{Entry, after_of}
+use Rattle.sno_book.specs.Journals.{step, replay}
+use Rattle.sno_book.specs.Openings.{Opening, start}
+use Rattle.sno_book.specs.Views.{View, state_of}
+use Rattle.sno_book.specs.Laws.{IsPrefix, OnlyRises, VersionsOnlyRise}
+
+-- what is found after a step: what was found before it, or a text of a version one higher
+record Goes (found : Option Held) (held : Held) : Type 0 where
+  next : Held
+  is : found ≡ Some next
+  rises : (next ≡ held) ⊎ (next.version ≡ held.version + 1)
+
+stays : (found : Option Held) (held : Held) → found ≡ Some held → Goes found held
+stays found held h = record { next = held; is = h; rises = inl refl }
+
+renew_case : (b a : Bool) (name text : List ℕ) (here held : Held) (state rest : State) → same name here.name ≡ a → cond a (Some here) (find name state) ≡ Some held
+    → (find name state ≡ Some held → Goes (find name rest) held) → Goes (find name (cond b (raised here text ∷ state) (here ∷ rest))) held
+renew_case true true name text here held state rest is h later =
+    let same : here ≡ held = cc in record { next = raised here text; is = rw is; rises = inr (ap (λ (x : Held). x.version + 1) same) }
+renew_case true false name text here held state rest is h later = stays _ held (rw is h)
+renew_case false true name text here held state rest is h later = stays _ held (rw is h)
+renew_case false false name text here held state rest is h later = let r = later h in record { next = r.next; is = rw is r.is; rises = r.rises }
+
+renewed : (name n text : List ℕ) (state : State) (held : Held) → find name state ≡ Some held → Goes (find name (renew n text state)) held
+renewed name n text [] held h = cc
+renewed name n text (here ∷ state) held h = renew_case (same n here.name) (same name here.name) name text here held state (renew n text state) refl h (renewed name n text state held)
+
+renewed_by : (name n : List ℕ) (text : Option (List ℕ)) (state : State) (held : Held) → find name state ≡ Some held → Goes (find name (renew_by n text state)) held
+renewed_by name n None state held h = stays _ held h
+renewed_by name n (Some text) state held h = renewed name n text state held h
+
+onward : (before next after : Held) → (next ≡ before) ⊎ (next.version ≡ before.version + 1) → OnlyRises next after → OnlyRises before after
+onward before next after (inl same) r = rw (← same) r
+onward before next after (inr higher) r = record { version = omega (arith, higher, r.version); text = λ equal. absurd (omega (arith, higher, r.version, equal)) }
+
+rises : (name : List ℕ) (state : State) (journal : List Entry) (before after : Held) → find name state ≡ Some before → find name (replay state journal) ≡ Some after → OnlyRises before after
+rises name state [] before after h g =
+    let same : before ≡ after = cc in rw same (record { version = omega arith; text = λ _. refl })
+rises name state (e ∷ journal) before after h g =
+    let s = renewed_by name e.statement.text (after_of e.done) state before h in onward before s.next after s.rises (rises name (step state e) journal s.next after s.is g)
+
+replay_append : (state : State) (journal more : List Entry) → replay state (journal ++ more) ≡ replay (replay state journal) more
+replay_append state [] more = refl
+replay_append state (e ∷ journal) more = replay_append (step state e) journal more
+
+pub versions_only_rise : VersionsOnlyRise
+versions_only_rise earlier later prefix name before after h g =
+    let same : state_of later ≡ replay (state_of earlier) prefix.more =
+    ap (λ (o : Opening). replay (start o) later.journal) prefix.opening ∙ ap (λ (j : List Entry). replay (start earlier.opening) j) prefix.journal
+    ∙ replay_append (start earlier.opening) earlier.journal prefix.more in
+    rises name (state_of earlier) prefix.more before after h (ap (λ (s : State). find name s) (sym same) ∙ g)

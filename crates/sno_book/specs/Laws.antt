@@ -1,0 +1,20 @@
+-- Laws of views, each the contract of a function in `src/laws.rt`.
+use Rattle.std.specs.Prelude.{◌≡◌, ◌≤◌, ℕ, List, ◌++◌, Some}
+use Rattle.sno_book.specs.States.{Held, find}
+use Rattle.sno_book.specs.Entries.{Entry}
+use Rattle.sno_book.specs.Views.{View, state_of}
+
+-- the second view has the first one's opening, and its journal begins with the first one's
+pub record IsPrefix (earlier later : View) : Type 0 where
+  pub opening : later.opening ≡ earlier.opening
+  pub more : List Entry
+  pub journal : later.journal ≡ earlier.journal ++ more
+
+-- a text's version is no higher after the earlier view than after the later one, and with the same version it has the same characters
+pub record OnlyRises (before after : Held) : Type 0 where
+  pub version : before.version ≤ after.version
+  pub text : before.version ≡ after.version → before.text ≡ after.text
+
+abbrev pub VersionsOnlyRise : Type 0
+VersionsOnlyRise = (earlier later : View) → IsPrefix earlier later → (name : List ℕ) (before after : Held) → find name (state_of earlier) ≡ Some before
+    → find name (state_of later) ≡ Some after → OnlyRises before after

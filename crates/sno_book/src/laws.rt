@@ -1,0 +1,9 @@
+//! Laws of the definitions, for whoever builds on a book. The functions do nothing; each contract is the law.
+ghost use Rattle.sno_book.specs.Laws.{VersionsOnlyRise};
+
+/// What one sees of a book later has, for each text, a version that is no lower; and where it is the same, the same characters.
+#[tactic(auto, using(crate::proofs::Rising::versions_only_rise))]
+pub fn versions_only_rise()
+    ensures { VersionsOnlyRise }
+{
+}
