@@ -9,3 +9,4 @@ pub mod ListingLemmas
 pub mod DocumentLaw
 pub mod StreamLemmas
 pub mod ReadLemmas
+pub mod JsonListingLemmas

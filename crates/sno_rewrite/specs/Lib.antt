@@ -9,5 +9,6 @@ pub mod Reads
 pub mod Serial
 pub mod Histories
 pub mod Listing
+pub mod JsonListing
 pub mod Reports
 pub mod Streams

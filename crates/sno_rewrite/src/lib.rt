@@ -19,6 +19,7 @@ mod definitions;
 mod documents;
 mod faults;
 mod json;
+mod json_listing;
 mod listing;
 mod options;
 mod rows;
