@@ -10,3 +10,4 @@ pub mod DocumentLaw
 pub mod StreamLemmas
 pub mod ReadLemmas
 pub mod JsonListingLemmas
+pub mod CommandLineLemmas

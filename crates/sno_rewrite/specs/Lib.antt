@@ -11,4 +11,5 @@ pub mod Histories
 pub mod Listing
 pub mod JsonListing
 pub mod Reports
+pub mod CommandLine
 pub mod Streams
