@@ -9,3 +9,5 @@ pub mod ListingLemmas
 pub mod DocumentLaw
 pub mod StreamLemmas
 pub mod ReadLemmas
+pub mod JsonListingLemmas
+pub mod CommandLineLemmas

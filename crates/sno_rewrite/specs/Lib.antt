@@ -9,5 +9,7 @@ pub mod Reads
 pub mod Serial
 pub mod Histories
 pub mod Listing
+pub mod JsonListing
 pub mod Reports
+pub mod CommandLine
 pub mod Streams

@@ -6,19 +6,20 @@ use Rattle.sno_rewrite.specs.declared.faults.RunFault.TheVariants.{Read, Write}
 use Rattle.sno_rewrite.specs.Document.{Document, IsDocument}
 use Rattle.sno_rewrite.specs.Serial.{serial, names_in}
 use Rattle.sno_rewrite.specs.Listing.{listing}
+use Rattle.sno_rewrite.specs.JsonListing.{json_listing}
 
--- the listing of a document, and how many of its statements are refused
-abbrev pub listing_of : Document → List ℕ
-listing_of d = listing (names_in d) (serial d)
+-- the listing of a document, as JSON or in lines, and how many of its statements are refused
+abbrev pub listing_of : Bool → Document → List ℕ
+listing_of json d = if json then json_listing (names_in d) (serial d) else listing (names_in d) (serial d)
 
 abbrev pub refused_of : Document → ℕ
 refused_of d = length (serial d).refused
 
 -- the bytes are a document, of which this is the listing and so many statements are refused
-pub record IsReport (anchor : Bool) (bytes lines : List ℕ) (refused : ℕ) : Type 0 where
+pub record IsReport (anchor json : Bool) (bytes lines : List ℕ) (refused : ℕ) : Type 0 where
   pub document : Document
   pub is_document : IsDocument anchor bytes (Ok document)
-  pub listed : lines ≡ listing_of document
+  pub listed : lines ≡ listing_of json document
   pub counted : refused ≡ refused_of document
 
 -- a fault of the world outside: a read or a write that failed
@@ -30,8 +31,8 @@ abbrev pub status_of_run : ℕ → ℕ
 status_of_run refused = if nat_eq refused 0 then 0 else 1
 
 -- the bytes are a document, its listing was written behind what the writer held, and this is the status
-pub record IsRun (anchor : Bool) (bytes : List ℕ) (before after : Option (List ℕ)) (status : ℕ) : Type 0 where
+pub record IsRun (anchor json : Bool) (bytes : List ℕ) (before after : Option (List ℕ)) (status : ℕ) : Type 0 where
   pub document : Document
   pub is_document : IsDocument anchor bytes (Ok document)
-  pub written : Appends before after (listing_of document)
+  pub written : Appends before after (listing_of json document)
   pub told : status ≡ status_of_run (refused_of document)

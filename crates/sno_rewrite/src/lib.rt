@@ -2,23 +2,26 @@
 //!
 //! `run_serial` takes the bytes of a document to its listing; `run` does so between a reader and a writer. What bytes stand for,
 //! and which fault of them is the first, is said by `IsDocument` of `specs/Document.antt`; what the statements do, by `serial` of
-//! `specs/Serial.antt`; the lines, by `listing` of `specs/Listing.antt`.
+//! `specs/Serial.antt`; the lines, by `listing` of `specs/Listing.antt`, and the same as JSON, by `json_listing` of
+//! `specs/JsonListing.antt`.
 //!
 //! | File | What it does |
 //! |---|---|
 //! | `faults` | `RunFault`, with the line of each, and `status_of` |
-//! | `options` | `Options` |
+//! | `options`, `command_line` | `Options`; `options_of` the words of a command line |
 //! | `json`, `rows` | members of the JSON value; the document as it is written, borrowed from it |
 //! | `definitions`, `texts`, `statements`, `documents` | the checks, in the order of the document |
 //! | `serial` | the statements performed in order: versions, the journal, refusals |
-//! | `listing` | the lines |
+//! | `listing`, `json_listing` | the lines, and the same as JSON |
 //! | `streams`, `running` | bytes in and out; `Report`, `run_serial` and `run` |
 #![tactic(auto)]
 
+mod command_line;
 mod definitions;
 mod documents;
 mod faults;
 mod json;
+mod json_listing;
 mod listing;
 mod options;
 mod rows;
@@ -28,6 +31,7 @@ mod statements;
 mod streams;
 mod texts;
 
+pub use command_line::{OptionsFault, options_of};
 pub use faults::{RunFault, status_of};
 pub use options::Options;
 pub use running::{Report, run, run_serial};

@@ -144,7 +144,7 @@ fn put_refusal(alloc: Global, out: &mut Vec<u8>, refusal: &Refusal) -> Result<()
     put(out, b"\n")
 }
 
-fn reason_words(reason: Reason) -> &'static [u8]
+pub(crate) fn reason_words(reason: Reason) -> &'static [u8]
     ensures { result.now ≡ reason_words reason }
 {
     match reason {

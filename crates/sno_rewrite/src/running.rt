@@ -1,11 +1,12 @@
 //! Runs over bytes, and over readers and writers.
-ghost use Rattle.std.specs.Prelude.{◌≡◌, ◌≢◌, ◌⊎◌, Err, Ok, None, false, IfOk, IfErr, IfSome, OnOk};
+ghost use Rattle.std.specs.Prelude.{◌≡◌, ◌≢◌, ◌⊎◌, Err, Ok, None, IfOk, IfErr, IfSome, OnOk};
 ghost use Rattle.sno_rewrite.specs.declared.faults.RunFault.TheVariants.{Memory, Write as WriteFailed};
 ghost use Rattle.sno_rewrite.specs.Document.{Document, IsDocument};
 ghost use Rattle.sno_rewrite.specs.Reports.{IsReport, IsRun, IsOutside};
 ghost use Rattle.std.specs.Io.KnownBytes.{IsAtEnd};
 
 use crate::documents::read_document;
+use crate::json_listing::json_listing;
 use crate::listing::listing;
 use crate::serial::serial;
 use crate::streams::{read_all, write_all};
@@ -16,44 +17,47 @@ use std::io::{Read, Write};
 /// What came of a run.
 #[derive(Debug, Drop)]
 pub struct Report {
-    /// The listing.
+    /// The listing, in lines or as JSON.
     pub bytes: Vec<u8>,
     /// How many statements were refused.
     pub refused: usize,
 }
 
-/// Performs the statements of a document in order on its texts, and lists what they did. It pays no heed to `workers` and `tries`.
-/// The listing as JSON is not to be had yet.
+/// Performs the statements of a document in order on its texts, and lists what they did, as JSON where `json` is set. It pays no
+/// heed to `workers` and `tries`.
 ///
 /// Refused with the first fault of the bytes, in this order: `DocumentTooLong`, `NotJson`, `Shape`; then the definitions, the texts
 /// and the statements, each as `specs/Document.antt` checks them; and with `Memory` where that was refused.
 pub fn run_serial(alloc: Global, bytes: &[u8], options: &Options) -> Result<Report, RunFault>
-    requires { options.now.json ≡ false }
     // The bytes are a document, and the report is that of its serial run.
-    ensures found { IfOk result (λ report. IsReport options.now.anchor bytes.now report.bytes.items report.refused) }
+    ensures found { IfOk result (λ report. IsReport options.now.anchor options.now.json bytes.now report.bytes.items report.refused) }
     // A document is refused for want of memory alone.
     ensures only { (d : Document) → IsDocument options.now.anchor bytes.now (Ok d) → IfErr result (λ e. e ≡ Memory) }
     // Any other fault is the first of the bytes.
     ensures fault { IfErr result (λ e. e ≢ Memory → IsDocument options.now.anchor bytes.now (Err e)) }
 {
-    let report = reported(alloc, bytes, options.anchor)?;
+    let report = reported(alloc, bytes, options.anchor, options.json)?;
     Ok(report)
 }
 
-fn reported(alloc: Global, bytes: &[u8], anchor: bool) -> Result<Report, RunFault>
-    ensures found { IfOk result (λ report. IsReport anchor bytes.now report.bytes.items report.refused) }
+fn reported(alloc: Global, bytes: &[u8], anchor: bool, json: bool) -> Result<Report, RunFault>
+    ensures found { IfOk result (λ report. IsReport anchor json bytes.now report.bytes.items report.refused) }
     ensures fault { IfErr result (λ e. e ≢ Memory → IsDocument anchor bytes.now (Err e)) }
 {
     let document = read_document(alloc, bytes, anchor)?;
     let history = serial(alloc, &document)?;
-    let bytes = listing(alloc, &document.texts, &history)?;
+    let bytes = if json {
+        json_listing(alloc, &document.texts, &history)?
+    } else {
+        listing(alloc, &document.texts, &history)?
+    };
     let refused = history.refused.len();
     drop(history);
     Ok(Report { bytes, refused })
 }
 
 /// Reads a document to its end, performs its statements in order, and writes the listing and nothing else. It answers the status of a
-/// run that did so: 0 where no statement was refused, and 1 otherwise. Workers and the listing as JSON are not to be had yet.
+/// run that did so: 0 where no statement was refused, and 1 otherwise. Workers are not to be had yet.
 ///
 /// Refused: `Read` where a read fails, an interrupted one too; a fault of the document as `run_serial` answers it, of which more than
 /// 16,777,216 bytes are one; `Memory`; and `Write` where a write fails, an interrupted one too, or takes no byte. After a fault other
@@ -64,13 +68,12 @@ pub fn run<R: Read, W: Write>(
     writer: &mut W,
     options: &Options,
 ) -> Result<u8, RunFault>
-    requires serial { options.now.workers ≡ None }
-    requires lines { options.now.json ≡ false }
+    requires { options.now.workers ≡ None }
     // The reader was read to its end.
     ensures end { OnOk result (IsAtEnd (R.remaining reader.new)) }
     // What was written is the listing of the document, and the status tells whether a statement was refused.
     ensures done { IfOk result (λ status. IfSome (R.remaining reader.old) (λ bytes.
-        IsRun options.now.anchor bytes (W.contents writer.old) (W.contents writer.new) status)) }
+        IsRun options.now.anchor options.now.json bytes (W.contents writer.old) (W.contents writer.new) status)) }
     // A fault is that of the document, but for memory, a read or a write.
     ensures fault { IfErr result (λ e. IsOutside e ⊎ IfSome (R.remaining reader.old) (λ bytes. e ≢ Memory → IsDocument options.now.anchor bytes (Err e))) }
     // Nothing was written but for what a failed write took before.

@@ -1,7 +1,11 @@
-//! Whole runs, tested: listings, the line of each fault, and readers and writers that give pieces or fail.
+//! Whole runs, tested: listings in lines and as JSON, the line of each fault, command lines, and readers and writers that give pieces or fail.
 #![tactic(auto)]
 
 #[cfg(test)]
+mod command_lines;
+#[cfg(test)]
 mod documents;
+#[cfg(test)]
+mod json_listings;
 #[cfg(test)]
 mod streams;

@@ -1,0 +1,106 @@
+-- The command line: four options, in any order, each at most once.
+use Rattle.std.specs.Prelude.{◌≡◌, ◌≢◌, ◌⊎◌, ℕ, Bool, true, false, ◌&&◌, List, [], ◌∷◌, length, nat_eq, nat_lt, nat_le, Option, Some, None, Result, Ok, Err, unwrap_or, option_and_then, if◌then◌else◌, codes, pos}
+use Rattle.std.specs.List.{list_all}
+use Rattle.std.specs.Option.{option_map, option_map_or}
+use Rattle.std.specs.Char.{digit_value}
+use Rattle.std.specs.Str.{bytes_eq}
+use Rattle.std.specs.Str.Parse.{digits_value, without_leading_plus}
+use Rattle.clap.specs.Words.{App, Row, Rule, Text, fault_of, IsAmong, Kinds, matches_of, new_app, new_rule, one_of, with_rule}
+use Rattle.clap.specs.Simple.{on_top}
+use Rattle.clap.specs.declared.builder.action.ArgAction.TheVariants.{Set, SetTrue}
+use Rattle.clap.specs.declared.builder.value_parser.ValueParser.TheVariants.{Signed}
+use Rattle.clap.specs.declared.error.kind.ErrorKind.{ErrorKind}
+use Rattle.clap.specs.declared.error.kind.ErrorKind.TheVariants.{DisplayHelp, OutOfMemory}
+use Rattle.sno_rewrite.specs.declared.options.Options.{Options}
+use Rattle.sno_rewrite.specs.declared.command_line.OptionsFault.{OptionsFault}
+use Rattle.sno_rewrite.specs.declared.command_line.OptionsFault.TheVariants.{Help, Usage, Memory}
+
+-- `--NAME`
+abbrev pub flag : Text → Rule
+flag name = record (new_rule name) { long = Some name; action = Some SetTrue }
+
+-- `--NAME NUMBER` or `--NAME=NUMBER`, with a number of at most 32 bits
+abbrev pub numeric : Text → Rule
+numeric name = record (new_rule name) { long = Some name; action = Some Set; parser = Some (Signed (pos 0) (pos 4294967295)); value_names = 1 }
+
+-- the same, with what it is where it is not given
+abbrev pub numeric_or : Text → Text → Rule
+numeric_or value name = record (numeric name) { defaults = value ∷ [] }
+
+-- the program with no option; every word is an argument
+abbrev pub bare_program : App
+bare_program = on_top (λ s. record s { no_binary_name = true }) (new_app (codes "sno_rewrite"))
+
+-- the program with its options
+unfoldable pub program : App
+program =
+    with_rule (with_rule (with_rule (with_rule bare_program (numeric (codes "workers"))) (numeric_or (codes "100") (codes "tries"))) (flag (codes "anchor")))
+    (flag (codes "json"))
+
+-- whether a flag is given
+abbrev pub flag_in : Text → List Row → Bool
+flag_in name rows = option_map_or (λ t. bytes_eq t (codes "true")) (one_of name rows) false
+
+-- one decimal digit or more
+abbrev pub is_numeral : Text → Bool
+is_numeral ds = nat_lt 0 (length ds) && list_all (λ d. nat_lt (digit_value d) 10) ds
+
+abbrev pub number_from : Text → Option ℕ
+number_from ds = if is_numeral ds && nat_lt (digits_value 10 ds) 4294967296 then Some (digits_value 10 ds) else None
+
+-- the number that a text writes, with or without a plus before it
+abbrev pub number_in : Text → List Row → Option ℕ
+number_in name rows = option_and_then (λ t. number_from (without_leading_plus t)) (one_of name rows)
+
+-- the options that were given
+abbrev pub options_in : List Row → Options
+options_in rows = record {
+  anchor = flag_in (codes "anchor") rows;
+  workers = number_in (codes "workers") rows;
+  tries = unwrap_or (number_in (codes "tries") rows) 100;
+  json = flag_in (codes "json") rows;
+}
+
+abbrev pub is_up_to : ℕ → ℕ → Bool
+is_up_to most n = nat_le 1 n && nat_le n most
+
+-- workers are 1 to 16, where there are any, and tries 1 to 1,000
+abbrev pub are_lawful : Options → Bool
+are_lawful options = option_map_or (is_up_to 16) options.workers true && is_up_to 1000 options.tries
+
+-- what is wrong with words, or asked for by them, as `clap` reads them; nothing where they are read
+unfoldable pub faults : List Text → Kinds
+faults words = fault_of program words
+
+-- what words give for each option
+unfoldable pub found : List Text → List Row
+found words = matches_of program words
+
+-- Why words give no options: they are not read, for another cause than that they ask for help; or a number is past its limits.
+pub data AreRefused (words : List Text) : Type 0 where
+  unread : (kind : ErrorKind) → IsAmong kind (faults words) → kind ≢ DisplayHelp → AreRefused words
+  unlawful : faults words ≡ [] → are_lawful (options_in (found words)) ≡ false → AreRefused words
+
+-- What is answered for words: the options that they give, help where they ask for it, or that they are refused; or want of memory.
+abbrev pub IsAnswer : List Text → Result Options OptionsFault → Type 0
+IsAnswer words (Ok o) = (faults words ≡ []) × (o ≡ options_in (found words)) × (are_lawful o ≡ true)
+IsAnswer words (Err (Help text)) = IsAmong DisplayHelp (faults words)
+IsAnswer words (Err (Usage text)) = AreRefused words
+IsAnswer words (Err Memory) = Unit {0}
+
+-- a fault of `clap` is answered with its text: help, or another
+abbrev pub Tells : ErrorKind → OptionsFault → Type 0
+Tells kind (Help text) = kind ≡ DisplayHelp
+Tells kind (Usage text) = (kind ≢ DisplayHelp) × (kind ≢ OutOfMemory)
+Tells kind Memory = Unit {0}
+
+-- options within their limits pass as they are, and others are refused
+abbrev pub IsChecked : Options → Result Options OptionsFault → Type 0
+IsChecked options (Ok o) = (o ≡ options) × (are_lawful options ≡ true)
+IsChecked options (Err (Help text)) = ⊥
+IsChecked options (Err (Usage text)) = are_lawful options ≡ false
+IsChecked options (Err Memory) = Unit {0}
+
+-- with no word at all
+abbrev pub plain_options : Options
+plain_options = record { anchor = false; workers = None; tries = 100; json = false }

@@ -1,0 +1,204 @@
+//! The options of the program, from the words of its command line.
+ghost use Rattle.std.specs.Prelude.{◌≡◌, [], map, false, IfOk, string_bytes};
+ghost use Rattle.clap.specs.Words.{app_of, FailsBy, found_of, kind_of, rows_of, rule_of, with_rule};
+ghost use Rattle.sno_rewrite.specs.CommandLine.{are_lawful, bare_program, faults, flag, flag_in, found, IsAnswer, IsChecked, is_up_to, number_in, numeric, numeric_or, options_in, plain_options, program, Tells};
+
+use crate::Options;
+use clap::error::ErrorKind;
+use clap::{Arg, ArgAction, ArgMatches, Command, Error};
+use std::alloc::{AllocError, Global};
+use std::fmt;
+
+const MAX_WORKERS: u32 = 16;
+
+const MAX_TRIES: u32 = 1_000;
+
+const DEFAULT_TRIES: u32 = 100;
+
+const ABOUT: &str =
+    "Reads a document of texts and statements on standard input, performs the statements, and writes the listing of what they did";
+
+const WORKERS_HELP: &str = "Shares the texts between N workers, 1 to 16; none by default";
+
+const TRIES_HELP: &str = "How often a worker tries a statement, 1 to 1000";
+
+const ANCHOR_HELP: &str = "Anchors each statement that does not say whether it is anchored";
+
+const JSON_HELP: &str = "Writes the listing as JSON";
+
+const EXAMPLE: &str = "Example: sno_rewrite --workers 4 --json < document.json";
+
+const PAST_LIMITS: &str =
+    "error: '--workers' takes 1 to 16, and '--tries' takes 1 to 1000\n\nFor more information, try '--help'.\n";
+
+/// Why there are no options.
+#[derive(Debug, Drop)]
+pub enum OptionsFault {
+    /// Help was asked for: its text, with a line feed at the end.
+    Help(String),
+    /// The words are refused: what is wrong and how the program is used, with a line feed at the end.
+    Usage(String),
+    /// Memory was refused.
+    Memory,
+}
+
+impl fmt::Display for OptionsFault {
+    fn fmt<W: fmt::Write>(&self, f: &mut fmt::Formatter<W>) -> fmt::Result {
+        match self {
+            OptionsFault::Help(text) => f.write_str(text.as_str()),
+            OptionsFault::Usage(text) => f.write_str(text.as_str()),
+            OptionsFault::Memory => f.write_str("out of memory\n"),
+        }
+    }
+}
+
+/// An option with a number of at most 32 bits.
+fn numeric<'a>(alloc: Global, name: &'a str, help: &'a str) -> Arg<'a>
+    ensures rule { rule_of result ≡ numeric name.entry.now }
+    ensures local { result.global ≡ false }
+{
+    Arg::new(alloc, name)
+        .long(name)
+        .value_name("N")
+        .value_parser(clap::value_parser!(u32))
+        .action(ArgAction::Set)
+        .help(help)
+}
+
+fn numeric_or<'a>(alloc: Global, default: &'a str, name: &'a str, help: &'a str) -> Arg<'a>
+    ensures rule { rule_of result ≡ numeric_or default.entry.now name.entry.now }
+    ensures local { result.global ≡ false }
+{
+    numeric(alloc, name, help).default_value(default)
+}
+
+fn flag<'a>(alloc: Global, name: &'a str, help: &'a str) -> Arg<'a>
+    ensures rule { rule_of result ≡ flag name.entry.now }
+    ensures local { result.global ≡ false }
+{
+    Arg::new(alloc, name)
+        .long(name)
+        .action(ArgAction::SetTrue)
+        .help(help)
+}
+
+fn bare_program<'a>(alloc: Global) -> Command<'a>
+    ensures { app_of result ≡ bare_program }
+{
+    Command::new(alloc, "sno_rewrite")
+        .no_binary_name(true)
+        .about(ABOUT)
+        .after_help(EXAMPLE)
+}
+
+fn with_option<'a>(program: Command<'a>, option: Arg<'a>) -> Result<Command<'a>, AllocError>
+    requires { option.global ≡ false }
+    ensures { IfOk result (λ c. app_of c ≡ with_rule (app_of program.entry) (rule_of option.entry)) }
+{
+    program.arg(option)
+}
+
+#[tactic(auto, unfolding(crate::specs::CommandLine::program))]
+fn program<'a>(alloc: Global) -> Result<Command<'a>, AllocError>
+    ensures { IfOk result (λ c. app_of c ≡ program) }
+{
+    let workers = numeric(alloc, "workers", WORKERS_HELP);
+    let tries = numeric_or(alloc, "100", "tries", TRIES_HELP);
+    let anchor = flag(alloc, "anchor", ANCHOR_HELP);
+    let json = flag(alloc, "json", JSON_HELP);
+    let program = with_option(bare_program(alloc), workers)?;
+    let program = with_option(program, tries)?;
+    let program = with_option(program, anchor)?;
+    with_option(program, json)
+}
+
+fn matches<'a>(alloc: Global, words: &'a [String]) -> Result<ArgMatches<'a>, Error>
+    ensures found { IfOk result (λ m. rows_of (found_of m) ≡ found (map string_bytes words.entry.now)) }
+    ensures fault { FailsBy (faults (map string_bytes words.entry.now)) result }
+{
+    let program = program(alloc)?;
+    program.try_get_matches_from(words)
+}
+
+fn flag_in(matches: &ArgMatches<'_>, name: &str) -> bool
+    ensures { result ≡ flag_in name.now (rows_of (found_of matches.now)) }
+{
+    matches.get_one::<bool>(name).unwrap_or(false)
+}
+
+fn number_in(matches: &ArgMatches<'_>, name: &str) -> Option<u32>
+    ensures { result ≡ number_in name.now (rows_of (found_of matches.now)) }
+{
+    matches.get_one::<u32>(name)
+}
+
+fn options_in(matches: &ArgMatches<'_>) -> Options
+    ensures { result ≡ options_in (rows_of (found_of matches.now)) }
+{
+    Options {
+        anchor: flag_in(matches, "anchor"),
+        workers: number_in(matches, "workers"),
+        tries: number_in(matches, "tries").unwrap_or(DEFAULT_TRIES),
+        json: flag_in(matches, "json"),
+    }
+}
+
+fn is_up_to(most: u32, number: u32) -> bool
+    ensures { result ≡ is_up_to most number }
+{
+    1 <= number && number <= most
+}
+
+fn are_lawful(options: &Options) -> bool
+    ensures { result ≡ are_lawful options.now }
+{
+    let workers = match options.workers {
+        Some(workers) => is_up_to(MAX_WORKERS, workers),
+        None => true,
+    };
+    workers && is_up_to(MAX_TRIES, options.tries)
+}
+
+/// `clap`'s own text on a fault.
+fn told(alloc: Global, error: &Error) -> OptionsFault
+    ensures { Tells (kind_of error.now) result }
+{
+    let Ok(text) = format!(in alloc; "{error}") else {
+        return OptionsFault::Memory;
+    };
+    match error.kind() {
+        ErrorKind::OutOfMemory => OptionsFault::Memory,
+        ErrorKind::DisplayHelp => OptionsFault::Help(text),
+        _ => OptionsFault::Usage(text),
+    }
+}
+
+/// The options, where they are within their limits.
+fn checked(alloc: Global, options: Options) -> Result<Options, OptionsFault>
+    ensures { IsChecked options result }
+{
+    if are_lawful(&options) {
+        return Ok(options);
+    }
+    match String::from_str(alloc, PAST_LIMITS) {
+        Ok(text) => Err(OptionsFault::Usage(text)),
+        Err(_) => Err(OptionsFault::Memory),
+    }
+}
+
+/// The options that words give; the words are those after the program's name. `--anchor` and `--json` are flags; `--workers` has a
+/// number of 1 to 16, and there are none without it; `--tries` has one of 1 to 1,000, and 100 without it.
+///
+/// Refused: `Help` where `--help` or `-h` stands before any fault; `Usage` for a word that is no option, an option twice, a missing
+/// value, or one that is no number or past its limits; `Memory`.
+pub fn options_of(alloc: Global, words: &[String]) -> Result<Options, OptionsFault>
+    // The options are those of the words, within their limits; or what is refused is so for its cause.
+    ensures answer { IsAnswer (map string_bytes words.now) result }
+    // With no words these are the options.
+    ensures plain { words.now ≡ [] → IfOk result (λ o. o ≡ plain_options) }
+{
+    match matches(alloc, words) {
+        Ok(matches) => checked(alloc, options_in(&matches)),
+        Err(error) => Err(told(alloc, &error)),
+    }
+}

@@ -1,0 +1,142 @@
+//! Command lines and the options that they give.
+use sno_rewrite::{Options, OptionsFault, options_of};
+use std::alloc::Global;
+use std::test::Fail;
+
+const PLAIN: Options = Options {
+    anchor: false,
+    workers: None,
+    tries: 100,
+    json: false,
+};
+
+// The words between blanks.
+fn words_of(alloc: Global, line: &str) -> Result<Vec<String>, Fail> {
+    let mut words = Vec::new(alloc);
+    for word in line.split_whitespace() {
+        words.push(String::from_str(alloc, word)?)?;
+    }
+    Ok(words)
+}
+
+// Each option alone, at its limits, and all together in any order.
+#[test]
+fn lines_give_options(rt: HostRuntime) -> Result<(), Fail> {
+    let rows = [
+        ("", PLAIN),
+        (
+            "--anchor",
+            Options {
+                anchor: true,
+                ..PLAIN
+            },
+        ),
+        (
+            "--json",
+            Options {
+                json: true,
+                ..PLAIN
+            },
+        ),
+        (
+            "--workers 1",
+            Options {
+                workers: Some(1),
+                ..PLAIN
+            },
+        ),
+        (
+            "--workers=16",
+            Options {
+                workers: Some(16),
+                ..PLAIN
+            },
+        ),
+        ("--tries 1", Options { tries: 1, ..PLAIN }),
+        (
+            "--tries 1000",
+            Options {
+                tries: 1_000,
+                ..PLAIN
+            },
+        ),
+        (
+            "--json --tries=7 --anchor --workers 3",
+            Options {
+                anchor: true,
+                workers: Some(3),
+                tries: 7,
+                json: true,
+            },
+        ),
+    ];
+    for (line, options) in rows {
+        let words = words_of(rt.alloc(), line)?;
+        let given = options_of(rt.alloc(), &words)?;
+        assert_eq!(rt; given, options, "for {line}");
+    }
+    Ok(())
+}
+
+// What is past a limit, no number, no option, twice or without its value is refused, with a line that says how to get help.
+#[test]
+fn lines_are_refused(rt: HostRuntime) -> Result<(), Fail> {
+    let rows = [
+        "--workers 0",
+        "--workers 17",
+        "--workers x",
+        "--workers",
+        "--workers=",
+        "--workers 1 --workers 2",
+        "--workers 4294967296",
+        "--tries 0",
+        "--tries 1001",
+        "--tries x",
+        "--tries -1",
+        "--tries",
+        "--json=yes",
+        "--quick",
+        "-q",
+        "document.json",
+    ];
+    for line in rows {
+        let words = words_of(rt.alloc(), line)?;
+        match options_of(rt.alloc(), &words) {
+            Err(OptionsFault::Usage(text)) => {
+                let begins = text.as_str().starts_with("error: ");
+                let helps = text.as_str().contains("try '--help'.");
+                assert!(rt; begins && helps, "for {line}: {text}");
+            }
+            _ => assert!(rt; false, "not refused: {line}"),
+        }
+    }
+    Ok(())
+}
+
+// Help names the program and each option.
+#[test]
+fn help_names_each_option(rt: HostRuntime) -> Result<(), Fail> {
+    for line in ["--help", "-h", "--json --help"] {
+        let words = words_of(rt.alloc(), line)?;
+        match options_of(rt.alloc(), &words) {
+            Err(OptionsFault::Help(text)) => {
+                for part in [
+                    "sno_rewrite",
+                    "--workers <N>",
+                    "1 to 16",
+                    "--tries <N>",
+                    "1 to 1000",
+                    "[default: 100]",
+                    "--anchor",
+                    "--json",
+                    "--help",
+                ] {
+                    let holds = text.as_str().contains(part);
+                    assert!(rt; holds, "{part} is not in {text}");
+                }
+            }
+            _ => assert!(rt; false, "no help for {line}"),
+        }
+    }
+    Ok(())
+}

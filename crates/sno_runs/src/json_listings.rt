@@ -1,0 +1,56 @@
+//! Listings as JSON.
+use sno_rewrite::{Options, run, run_serial};
+use std::test::Fail;
+
+const JSON: Options = Options {
+    anchor: false,
+    workers: None,
+    tries: 100,
+    json: true,
+};
+
+// What a document lists, and how many statements are refused.
+#[test]
+fn documents_are_listed_as_json(rt: HostRuntime) -> Result<(), Fail> {
+    let rows = [
+        (
+            r#"{"texts":[{"name":"T","text":"abc"}],"statements":[{"text":"T","pattern":"'b'","object":"'X'"}]}"#,
+            r#"{"entries":[{"after":"aXc","bindings":[],"end":2,"entry":0,"matched":true,"start":1,"statement":1,"text":"T","version":0}],"refused":[],"texts":[{"name":"T","text":"aXc","version":1}]}"#,
+            0,
+        ),
+        ("{}", r#"{"entries":[],"refused":[],"texts":[]}"#, 0),
+        (
+            r#"{"texts":[{"name":"A","text":"k=v"},{"name":"B","text":"aaab"}],"statements":[{"text":"A","pattern":"BREAK('=') . K '=' REM . V","object":"V '=' K"},{"text":"B","pattern":"SPAN('a') 'a'"},{"text":"C","pattern":"'x'"}]}"#,
+            r#"{"entries":[{"after":"v=k","bindings":[["K","k"],["V","v"]],"end":3,"entry":0,"matched":true,"start":0,"statement":1,"text":"A","version":0},{"bindings":[],"entry":1,"matched":false,"statement":2,"text":"B","version":0}],"refused":[{"reason":"no text","statement":3}],"texts":[{"name":"A","text":"v=k","version":1},{"name":"B","text":"aaab","version":0}]}"#,
+            1,
+        ),
+        (
+            r#"{"texts":[{"name":"T","text":"a\tb\"\\"}],"statements":[{"text":"T","pattern":"@P 'b'"}]}"#,
+            r#"{"entries":[{"bindings":[["P",2]],"end":3,"entry":0,"matched":true,"start":2,"statement":1,"text":"T","version":0}],"refused":[],"texts":[{"name":"T","text":"a\tb\"\\","version":0}]}"#,
+            0,
+        ),
+    ];
+    for (document, listing, refused) in rows {
+        let report = run_serial(rt.alloc(), document.as_bytes(), &JSON)?;
+        let line = format!(in rt.alloc(); "{listing}\n")?;
+        assert_eq!(rt; report.bytes.as_slice(), line.as_bytes(), "for {document}");
+        assert_eq!(rt; report.refused, refused, "for {document}");
+    }
+    Ok(())
+}
+
+// A run writes the same line, and its status tells of a refused statement.
+#[test]
+fn runs_write_json(rt: HostRuntime) -> Result<(), Fail> {
+    let document =
+        r#"{"texts":[{"name":"T","text":"aa"}],"statements":[{"text":"U","pattern":"'a'"}]}"#;
+    let mut reader = document.as_bytes();
+    let mut written = Vec::new(rt.alloc());
+    let status = run(rt.alloc(), &mut reader, &mut written, &JSON)?;
+    assert_eq!(rt; status, 1);
+    assert_eq!(rt;
+        written.as_slice(),
+        "{\"entries\":[],\"refused\":[{\"reason\":\"no text\",\"statement\":1}],\"texts\":[{\"name\":\"T\",\"text\":\"aa\",\"version\":0}]}\n".as_bytes()
+    );
+    Ok(())
+}
