@@ -203,3 +203,15 @@ inside_row (suc k) (u ∷ texts) t row = let h = inside_row k texts t row in ome
 
 pub row_inside : (v : View) (standings : List Standing) (k : ℕ) (t : List ℕ × List ℕ) → Keeps v standings → slice_get v.opening.texts k ≡ Some t → k < length standings
 row_inside v standings k t keeps row = let h = inside_row k v.opening.texts t row in omega (arith, h, keeps.as_many)
+
+held_many : (names : List (List ℕ)) (standings : List Standing) → length standings ≡ length names → length standings ≡ length (held_of names standings)
+held_many [] [] h = refl
+held_many [] (s ∷ standings) h = absurd (omega (arith, h))
+held_many (n ∷ names) [] h = refl
+held_many (n ∷ names) (s ∷ standings) h = let rest = held_many names standings (omega (arith, h)) in omega (arith, rest)
+
+-- as many texts stand as there are
+pub state_many : (v : View) (standings : List Standing) → Keeps v standings → length standings ≡ length (state_of v)
+state_many v standings keeps =
+    held_many (names_in v.opening.texts) standings (keeps.as_many ∙ sym (length-map {B = List ℕ} v.opening.texts (λ (t : List ℕ × List ℕ). t.0)))
+    ∙ ap (λ (l : State). length l) keeps.texts

@@ -3,3 +3,4 @@ pub mod Places
 pub mod TextRows
 pub mod BookLaws
 pub mod Rising
+pub mod Fresh

@@ -1,5 +1,9 @@
 -- Laws of views, each the contract of a function in `src/laws.rt`.
-use Rattle.std.specs.Prelude.{◌≡◌, ◌≤◌, ℕ, List, ◌++◌, Some}
+use Rattle.std.specs.Prelude.{◌≡◌, ◌≢◌, ◌≤◌, ℕ, List, length, ◌++◌, Some, None}
+use Rattle.sno_statement.specs.Task.{Task}
+use Rattle.sno_book.specs.Proposals.{Proposed, Proposes}
+use Rattle.sno_book.specs.Commits.{IsSnapshot, refusal}
+use Rattle.sno_book.specs.declared.snapshots.Snapshot.{Snapshot}
 use Rattle.sno_book.specs.States.{Held, find}
 use Rattle.sno_book.specs.Entries.{Entry}
 use Rattle.sno_book.specs.Views.{View, state_of}
@@ -18,3 +22,8 @@ pub record OnlyRises (before after : Held) : Type 0 where
 abbrev pub VersionsOnlyRise : Type 0
 VersionsOnlyRise = (earlier later : View) → IsPrefix earlier later → (name : List ℕ) (before after : Held) → find name (state_of earlier) ≡ Some before
     → find name (state_of later) ≡ Some after → OnlyRises before after
+
+-- a proposal on a snapshot of the book as it stands is refused for nothing but a full journal
+abbrev pub FreshIsFree : Type 0
+FreshIsFree = (v : View) (snapshot : Snapshot) (s : Task) (p : Proposed) → IsSnapshot v s.text snapshot → Proposes p s snapshot → length v.journal ≢ v.opening.room
+    → refusal v p ≡ None

@@ -73,8 +73,10 @@ impl Book {
     }
 
     /// How many texts there are, at most 1,024.
+    #[tactic(auto, using(crate::proofs::BookLaws::state_many))]
     pub fn len(&self) -> usize
-        ensures { result ≡ length self.now.opening.texts }
+        ensures opening { result ≡ length self.now.opening.texts }
+        ensures state { result ≡ length (state_of self.now) }
     {
         self.standings.len()
     }

@@ -15,7 +15,7 @@ mod snapshots;
 pub use books::Book;
 pub use entries::{Entry, Receipt};
 pub use faults::{BookFault, CommitFault, SnapshotFault};
-pub use laws::versions_only_rise;
+pub use laws::{fresh_is_free, versions_only_rise};
 pub use openings::Opening;
 pub use proposals::{Proposal, propose};
 pub use snapshots::Snapshot;
