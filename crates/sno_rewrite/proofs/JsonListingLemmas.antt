@@ -1,6 +1,6 @@
 -- What is listed as JSON is ASCII and has no float.
 use Rattle.std.proofs.Common.{◌≡◌, ℕ, suc, ◌+◌, ◌<◌, Bool, true, false, ◌&&◌, ◌||◌, List, [], ◌∷◌, ◌++◌, length, get_or, drop, map, Option, Some, None, slice_get, IsTrue, refl, sym, ap, ◌∙◌, arith, add-one, drop-cons, append_assoc}
-use Rattle.std.specs.List.{list_all, zip}
+use Rattle.std.specs.List.{list_all}
 use Rattle.std.specs.Char.{is_ascii, is_ascii_graphic}
 use Rattle.std.specs.Str.{IsAscii, IsUtf8}
 use Rattle.std.proofs.lemmas.Bool.{and_parts, ltb-true}
@@ -19,12 +19,10 @@ use Rattle.sno_statement.specs.Bindings.{Bound}
 use Rattle.sno_statement.specs.Perform.{Done, Matched, Failed}
 use Rattle.sno_statement.specs.declared.binding.Datum.{Datum}
 use Rattle.sno_statement.specs.declared.binding.Datum.TheVariants.{Str, Int}
-use Rattle.sno_rewrite.specs.Serial.{Held, Entry, History}
+use Rattle.sno_book.specs.States.{Held}
+use Rattle.sno_book.specs.Entries.{Entry}
+use Rattle.sno_rewrite.specs.Serial.{History}
 use Rattle.sno_rewrite.specs.declared.serial.Refusal.{Refusal}
-use Rattle.sno_rewrite.specs.Texts.{named_all}
-use Rattle.sno_rewrite.specs.Histories.{held_seen}
-use Rattle.sno_rewrite.specs.declared.texts.NamedText.{NamedText}
-use Rattle.sno_rewrite.specs.declared.serial.Held as program
 use Rattle.sno_rewrite.specs.JsonListing.{text_data, value_data, binding_data, subject_members, matched_members, failed_members, done_members, entry_data, entries_data, refused_data, json_listing_data}
 
 both : (a b : Bool) → a ≡ true → b ≡ true → (a && b) ≡ true
@@ -80,7 +78,7 @@ binding_float : (b : List ℕ × Datum) → has_float (binding_data b) ≡ false
 unfolding binding_data
 binding_float b = neither (has_float (value_data b.1)) false (value_float b.1) refl
 
-text_float : (t : List ℕ × Held) → has_float (text_data t) ≡ false
+text_float : (t : Held) → has_float (text_data t) ≡ false
 unfolding text_data
 text_float t = refl
 
@@ -99,11 +97,11 @@ entries_float index [] = refl
 entries_float index (e ∷ entries) = neither _ _ (entry_float index e e.done) (entries_float (index + 1) entries)
 
 -- the listing has no float
-pub no_float : (names : List (List ℕ)) (h : History) → has_float (json_listing_data names h) ≡ false
+pub no_float : (h : History) → has_float (json_listing_data h) ≡ false
 unfolding json_listing_data
-no_float names h =
+no_float h =
     neither _ _ (entries_float 0 h.journal)
-    (neither _ _ (items_float refused_data refused_float h.refused) (neither _ false (items_float text_data text_float (zip names h.held)) refl))
+    (neither _ _ (items_float refused_data refused_float h.refused) (neither _ false (items_float text_data text_float h.state) refl))
 
 -- the values from a place on are the value there and those behind it
 binding_data_next : (bound : Bound) (i : ℕ) (b : List ℕ × Datum) → slice_get bound i ≡ Some b
@@ -124,15 +122,3 @@ binding_step values new v all bound i b is pushed seen so_far =
     ∙ append_assoc (map view values) (view v ∷ []) (map binding_data (drop (i + 1) bound))
     ∙ ap (λ (d : Data). map view values ++ (d ∷ map binding_data (drop (i + 1) bound))) seen
     ∙ ap (λ (l : List Data). map view values ++ l) (sym (binding_data_next bound i b is)) ∙ so_far
-
--- each name beside its text
-abbrev pub texts_data : List NamedText → List program.Held → List Data
-texts_data texts held = map text_data (zip (map (λ t. t.0) (named_all texts)) (map held_seen held))
-
-pub text_data_next : (texts : List NamedText) (held : List program.Held) (i : ℕ) (t : NamedText) (h : program.Held) → i < length texts → i < length held
-    → t ≡ get_or texts i t → h ≡ get_or held i h
-    → texts_data (drop i texts) (drop i held) ≡ text_data (t.name, held_seen h) ∷ texts_data (drop (i + 1) texts) (drop (i + 1) held)
-text_data_next texts held i t h in_texts in_held is_t is_h =
-    let ts : drop i texts ≡ t ∷ drop (i + 1) texts = rw (add-one) (drop-cons texts i t in_texts ∙ ap (λ (x : NamedText). x ∷ drop (suc i) texts) (sym is_t)) in
-    let hs : drop i held ≡ h ∷ drop (i + 1) held = rw (add-one) (drop-cons held i h in_held ∙ ap (λ (x : program.Held). x ∷ drop (suc i) held) (sym is_h)) in
-    λ k. texts_data (ts k) (hs k)

@@ -1,10 +1,10 @@
 pub mod JsonLemmas
 pub mod FaultLemmas
 pub mod PlaceLemmas
-pub mod IndexLemmas
 pub mod References
 pub mod CircleLemmas
-pub mod HistoryLemmas
+pub mod BookLemmas
+pub mod SerialLemmas
 pub mod ListingLemmas
 pub mod DocumentLaw
 pub mod StreamLemmas

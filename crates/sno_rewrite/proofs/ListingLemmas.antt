@@ -1,27 +1,10 @@
 -- Steps of the listing's loops.
 use Rattle.std.proofs.Common.{◌≡◌, ℕ, zero, suc, ◌+◌, ◌<◌, List, [], ◌∷◌, ◌++◌, length, get_or, drop, map, Option, Some, None, slice_get, refl, sym, ap, ◌∙◌, arith, add-one, drop-cons, append_assoc}
-use Rattle.std.specs.List.{flat_map, zip}
+use Rattle.std.specs.List.{flat_map}
 use Rattle.std.proofs.lemmas.Option.{slice_get-get_or, slice_get_within}
-use Rattle.sno_rewrite.specs.Listing.{binding_line, text_line}
-use Rattle.sno_rewrite.specs.Texts.{named, named_all}
-use Rattle.sno_rewrite.specs.Histories.{held_seen}
-use Rattle.sno_rewrite.specs.declared.texts.NamedText.{NamedText}
-use Rattle.sno_rewrite.specs.declared.serial.Held.{Held}
+use Rattle.sno_rewrite.specs.Listing.{binding_line}
 use Rattle.sno_statement.specs.Bindings.{Bound}
 use Rattle.sno_statement.specs.declared.binding.Datum.{Datum}
-
--- the lines of texts, each name beside its text
-abbrev pub text_lines : List NamedText → List Held → List ℕ
-text_lines texts held = flat_map text_line (zip (map (λ t. t.0) (named_all texts)) (map held_seen held))
-
--- the lines from a place on are the line there and those behind it
-pub text_next : (texts : List NamedText) (held : List Held) (i : ℕ) (t : NamedText) (h : Held) → i < length texts → i < length held
-    → t ≡ get_or texts i t → h ≡ get_or held i h
-    → text_lines (drop i texts) (drop i held) ≡ text_line (t.name, held_seen h) ++ text_lines (drop (i + 1) texts) (drop (i + 1) held)
-text_next texts held i t h in_texts in_held is_t is_h =
-    let ts : drop i texts ≡ t ∷ drop (i + 1) texts = rw (add-one) (drop-cons texts i t in_texts ∙ ap (λ (x : NamedText). x ∷ drop (suc i) texts) (sym is_t)) in
-    let hs : drop i held ≡ h ∷ drop (i + 1) held = rw (add-one) (drop-cons held i h in_held ∙ ap (λ (x : Held). x ∷ drop (suc i) held) (sym is_h)) in
-    λ k. text_lines (ts k) (hs k)
 
 -- a binding that is there
 pub binding_next : (bound : Bound) (i : ℕ) (b : List ℕ × Datum) → slice_get bound i ≡ Some b

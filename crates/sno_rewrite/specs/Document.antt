@@ -90,16 +90,16 @@ texts_from t done [] = Ok done
 texts_from t done (row ∷ rows) = text_row t row >>= λ text. texts_from (t + 1) (done ++ text ∷ []) rows
 
 -- no name twice
-abbrev pub unless_repeated : Option ℕ → List (List ℕ) → Result (List (List ℕ)) RunFault
+abbrev pub unless_repeated : Option ℕ → NamedTexts → Result NamedTexts RunFault
 unless_repeated None done = Ok done
 unless_repeated (Some place) done = Err (fault.TextDuplicate (place + 1))
 
-abbrev pub distinct : List (List ℕ) → Result (List (List ℕ)) RunFault
-distinct done = unless_repeated (first_repeat done) done
+abbrev pub distinct : NamedTexts → Result NamedTexts RunFault
+distinct done = unless_repeated (first_repeat (map (λ t. t.0) done)) done
 
 -- the texts
 unfoldable pub texts_of : List (List ℕ × List ℕ) → Result NamedTexts RunFault
-texts_of rows = at_most 1024 fault.TooManyTexts rows >>= λ rows. texts_from 1 [] rows >>= λ done. distinct (map (λ t. t.0) done) >>= λ apart. Ok done
+texts_of rows = at_most 1024 fault.TooManyTexts rows >>= λ rows. texts_from 1 [] rows >>= λ done. distinct done
 
 -- the object of statement number s, where it has one
 abbrev pub object_row : List (List ℕ) → ℕ → Option (List ℕ) → Result (Option (List Part)) RunFault

@@ -1,7 +1,6 @@
 -- The listing of a run as JSON: an object with the entries, the refused statements and the texts. The members of each object stand
 -- in the order of their names.
 use Rattle.std.specs.Prelude.{ℕ, ◌+◌, Bool, true, false, List, [], ◌∷◌, ◌++◌, map, Option, Some, None, codes}
-use Rattle.std.specs.List.{zip}
 use Rattle.serde_json.specs.Data.{Data, boolean, number, string, array, object, unsigned, Members, no_members, member}
 use Rattle.serde_json.specs.View.{items_of}
 use Rattle.serde_json.specs.Written.{compact_text}
@@ -9,7 +8,9 @@ use Rattle.sno_statement.specs.Bindings.{Bound}
 use Rattle.sno_statement.specs.Perform.{Done, Matched, Failed}
 use Rattle.sno_statement.specs.declared.binding.Datum.{Datum}
 use Rattle.sno_statement.specs.declared.binding.Datum.TheVariants.{Str, Int}
-use Rattle.sno_rewrite.specs.Serial.{Held, Entry, History}
+use Rattle.sno_book.specs.States.{Held}
+use Rattle.sno_book.specs.Entries.{Entry}
+use Rattle.sno_rewrite.specs.Serial.{History}
 use Rattle.sno_rewrite.specs.Listing.{reason_words}
 use Rattle.sno_rewrite.specs.declared.serial.Refusal.{Refusal}
 
@@ -22,9 +23,9 @@ abbrev pub array_of : List Data → Data
 array_of ds = array (items_of ds)
 
 -- a text: its name, its characters and its version
-unfoldable pub text_data : List ℕ × Held → Data
-text_data (name, held) =
-    object (member (codes "name") (string name) (member (codes "text") (string held.text) (member (codes "version") (count held.version) no_members)))
+unfoldable pub text_data : Held → Data
+text_data held =
+    object (member (codes "name") (string held.name) (member (codes "text") (string held.text) (member (codes "version") (count held.version) no_members)))
 
 -- the value of a variable: a string, or a number
 abbrev pub value_data : Datum → Data
@@ -77,11 +78,11 @@ unfoldable pub refused_data : Refusal → Data
 refused_data r = object (member (codes "reason") (string (reason_words r.reason)) (member (codes "statement") (count r.number) no_members))
 
 -- the entries in the journal's order, the refused statements by rising number, and the texts in the document's order
-unfoldable pub json_listing_data : List (List ℕ) → History → Data
-json_listing_data names h =
+unfoldable pub json_listing_data : History → Data
+json_listing_data h =
     object (member (codes "entries") (array_of (entries_data 0 h.journal)) (member (codes "refused") (array_of (map refused_data h.refused))
-    (member (codes "texts") (array_of (map text_data (zip names h.held))) no_members)))
+    (member (codes "texts") (array_of (map text_data h.state)) no_members)))
 
 -- the compact text of it, and a line feed
-abbrev pub json_listing : List (List ℕ) → History → List ℕ
-json_listing names h = compact_text (json_listing_data names h) ++ 10 ∷ []
+abbrev pub json_listing : History → List ℕ
+json_listing h = compact_text (json_listing_data h) ++ 10 ∷ []

@@ -3,9 +3,9 @@ pub mod Json
 pub mod Shape
 pub mod Rows
 pub mod Document
-pub mod Texts
 pub mod Drafts
 pub mod Reads
+pub mod ShownTexts
 pub mod Serial
 pub mod Histories
 pub mod Listing

@@ -1,12 +1,14 @@
 -- The listing of a run: lines of ASCII, each ended by a line feed.
 use Rattle.std.specs.Prelude.{ℕ, ◌+◌, ◌/◌, ◌%◌, Bool, not, ◌&&◌, List, [], ◌∷◌, ◌++◌, length, nat_eq, nat_lt, nat_le, Option, Some, None, if◌then◌else◌, codes}
-use Rattle.std.specs.List.{flat_map, zip}
+use Rattle.std.specs.List.{flat_map}
 use Rattle.std.specs.Fmt.{decimal}
 use Rattle.sno_statement.specs.Bindings.{Bound}
 use Rattle.sno_statement.specs.Perform.{Done, Matched, Failed}
 use Rattle.sno_statement.specs.declared.binding.Datum.{Datum}
 use Rattle.sno_statement.specs.declared.binding.Datum.TheVariants.{Str, Int}
-use Rattle.sno_rewrite.specs.Serial.{Held, Entry, History}
+use Rattle.sno_book.specs.States.{Held}
+use Rattle.sno_book.specs.Entries.{Entry}
+use Rattle.sno_rewrite.specs.Serial.{History}
 use Rattle.sno_rewrite.specs.declared.serial.Reason.{Reason}
 use Rattle.sno_rewrite.specs.declared.serial.Reason.TheVariants.{NoText, TextTooLong}
 use Rattle.sno_rewrite.specs.declared.serial.Refusal.{Refusal}
@@ -27,8 +29,8 @@ abbrev pub escaped : List ℕ → List ℕ
 escaped t = flat_map escaped_character t
 
 -- a text: its name, its version, and its characters between bars
-unfoldable pub text_line : List ℕ × Held → List ℕ
-text_line (name, held) = escaped name ++ (32 ∷ [] ++ (decimal held.version ++ (codes " |" ++ (escaped held.text ++ (124 ∷ 10 ∷ [])))))
+unfoldable pub text_line : Held → List ℕ
+text_line held = escaped held.name ++ (32 ∷ [] ++ (decimal held.version ++ (codes " |" ++ (escaped held.text ++ (124 ∷ 10 ∷ [])))))
 
 -- the value of a variable: a string between bars, or a number
 abbrev pub value_words : Datum → List ℕ
@@ -80,8 +82,8 @@ abbrev pub count_line : List ℕ → ℕ → List ℕ
 count_line word n = word ++ (decimal n ++ (10 ∷ []))
 
 -- the texts in the document's order, the entries in the journal's, the refused statements by rising number
-unfoldable pub listing : List (List ℕ) → History → List ℕ
-listing names h =
-    count_line (codes "texts ") (length h.held) ++ (flat_map text_line (zip names h.held)
+unfoldable pub listing : History → List ℕ
+listing h =
+    count_line (codes "texts ") (length h.state) ++ (flat_map text_line h.state
     ++ (count_line (codes "entries ") (length h.journal) ++ (entries_from 0 h.journal
     ++ (count_line (codes "refused ") (length h.refused) ++ flat_map refused_line h.refused))))

@@ -1,15 +1,20 @@
 -- Documents of the program by value.
-use Rattle.std.specs.Prelude.{◌≢◌, ℕ, Bool, List, Result, Ok, Err}
+use Rattle.std.specs.Prelude.{◌≡◌, ◌≢◌, ◌≤◌, ℕ, Bool, List, [], length, map, Result, Ok, Err}
 use Rattle.std.specs.Arc.{arc_value}
 use Rattle.sno_rewrite.specs.Document as document
 use Rattle.sno_rewrite.specs.Document.{IsDocument}
-use Rattle.sno_rewrite.specs.Texts.{named_all}
 use Rattle.sno_rewrite.specs.declared.documents.Document.{Document}
 use Rattle.sno_rewrite.specs.declared.faults.RunFault.{RunFault}
 use Rattle.sno_rewrite.specs.declared.faults.RunFault.TheVariants.{Memory}
 
 abbrev pub document_seen : Document → document.Document
-document_seen d = record { rules = arc_value d.rules; texts = named_all d.texts.items; statements = d.statements.items }
+document_seen d = record { rules = arc_value d.rules; texts = d.book.opening.texts; statements = map arc_value d.statements.items }
+
+-- the book is as it was made, with room for an entry for each statement
+pub record IsReady (d : Document) : Type 0 where
+  pub empty : d.book.journal ≡ []
+  pub room : d.book.opening.room ≡ 1000000
+  pub few : length d.statements.items ≤ 1000000
 
 -- the answer is what the bytes stand for, or want of memory
 abbrev pub Reads : Bool → List ℕ → Result Document RunFault → Type 0

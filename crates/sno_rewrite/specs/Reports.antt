@@ -4,13 +4,17 @@ use Rattle.std.specs.Io.KnownBytes.{Appends}
 use Rattle.sno_rewrite.specs.declared.faults.RunFault.{RunFault}
 use Rattle.sno_rewrite.specs.declared.faults.RunFault.TheVariants.{Read, Write}
 use Rattle.sno_rewrite.specs.Document.{Document, IsDocument}
-use Rattle.sno_rewrite.specs.Serial.{serial, names_in}
+use Rattle.sno_rewrite.specs.Serial.{History, serial}
 use Rattle.sno_rewrite.specs.Listing.{listing}
 use Rattle.sno_rewrite.specs.JsonListing.{json_listing}
 
--- the listing of a document, as JSON or in lines, and how many of its statements are refused
+-- a listing as JSON or in lines
+abbrev pub listing_by : Bool → History → List ℕ
+listing_by json h = if json then json_listing h else listing h
+
+-- the listing of a document, and how many of its statements are refused
 abbrev pub listing_of : Bool → Document → List ℕ
-listing_of json d = if json then json_listing (names_in d) (serial d) else listing (names_in d) (serial d)
+listing_of json d = listing_by json (serial d)
 
 abbrev pub refused_of : Document → ℕ
 refused_of d = length (serial d).refused

@@ -1,20 +1,19 @@
 //! Documents.
-ghost use Rattle.std.specs.Prelude.{◌≡◌, ◌≤◌, map, length, None, IfOk};
-ghost use Rattle.sno_pattern.specs.NameList.{first_repeat};
+ghost use Rattle.std.specs.Prelude.{map, IfOk};
 ghost use Rattle.serde_json.specs.View.{view};
 ghost use Rattle.sno_rewrite.specs.Faults.{Gives};
 ghost use Rattle.sno_rewrite.specs.Json.{json_of};
 ghost use Rattle.sno_rewrite.specs.Rows.{rows_seen};
 ghost use Rattle.sno_rewrite.specs.Document.{value_or, value_in, document_with};
-ghost use Rattle.sno_rewrite.specs.Reads.{document_seen, Reads};
-ghost use Rattle.sno_rewrite.specs.Texts.{named_all};
+ghost use Rattle.sno_rewrite.specs.Reads.{document_seen, Reads, IsReady};
 
 use crate::RunFault;
 use crate::definitions::{admitted, definitions};
 use crate::rows::{Rows, rows_of};
 use crate::statements::statements;
-use crate::texts::{NamedText, texts};
+use crate::texts::texts;
 use serde_json::Value;
+use sno_book::Book;
 use sno_pattern::Rules;
 use sno_statement::Statement;
 use std::alloc::Global;
@@ -23,12 +22,12 @@ use std::sync::Arc;
 /// The most bytes that a document has.
 pub const MAX_DOCUMENT: usize = 16_777_216;
 
-/// What a document stands for.
+/// What a document stands for, with its texts in a book.
 #[derive(Drop)]
 pub(crate) struct Document {
     pub(crate) rules: Arc<Rules>,
-    pub(crate) texts: Vec<NamedText>,
-    pub(crate) statements: Vec<Statement>,
+    pub(crate) book: Book,
+    pub(crate) statements: Vec<Arc<Statement>>,
 }
 
 /// The value that JSON in UTF-8 stands for.
@@ -65,15 +64,14 @@ fn document_with(
     rows: &Rows<'_>,
 ) -> Result<Document, RunFault>
     ensures document { Gives document_seen result (document_with rules anchor (rows_seen rows.now)) }
-    ensures few { IfOk result (λ d. length d.texts.items ≤ 1024) }
-    ensures apart { IfOk result (λ d. first_repeat (map (λ t. t.0) (named_all d.texts.items)) ≡ None) }
+    ensures ready { IfOk result (λ d. IsReady d) }
 {
     let rules = Arc::new(alloc, rules)?;
-    let texts = texts(alloc, &rows.texts)?;
+    let book = texts(alloc, &rows.texts)?;
     let statements = statements(alloc, &rules, anchor, &rows.statements)?;
     Ok(Document {
         rules,
-        texts,
+        book,
         statements,
     })
 }
@@ -81,8 +79,7 @@ fn document_with(
 /// The document that the bytes are; `anchor` is for statements that don't say whether they are anchored.
 pub(crate) fn read_document(alloc: Global, bytes: &[u8], anchor: bool) -> Result<Document, RunFault>
     ensures document { Reads anchor bytes.now result }
-    ensures few { IfOk result (λ d. length d.texts.items ≤ 1024) }
-    ensures apart { IfOk result (λ d. first_repeat (map (λ t. t.0) (named_all d.texts.items)) ≡ None) }
+    ensures ready { IfOk result (λ d. IsReady d) }
 {
     let value = value_of(alloc, bytes)?;
     let rows = rows_of(alloc, &value)?;

@@ -2,20 +2,20 @@
 ghost use Rattle.std.specs.Prelude.{◌≡◌, ◌++◌, ◌∷◌, [], map, length, false, IfOk, IsTrue};
 ghost use Rattle.std.specs.Option.{option_map};
 ghost use Rattle.std.specs.Arc.{arc_value};
-ghost use Rattle.std.specs.List.{list_all, zip};
+ghost use Rattle.std.specs.List.{list_all};
 ghost use Rattle.std.specs.Char.{is_ascii};
 ghost use Rattle.serde_json.specs.Data.{string};
 ghost use Rattle.serde_json.specs.View.{view, members_view};
 ghost use Rattle.serde_json.specs.Written.{compact_text};
 ghost use Rattle.sno_statement.specs.Perform.{done_of};
-ghost use Rattle.sno_rewrite.specs.Texts.{named_all};
-ghost use Rattle.sno_rewrite.specs.Histories.{held_seen, entry_seen, history_seen};
+ghost use Rattle.sno_rewrite.specs.ShownTexts.{shown};
 ghost use Rattle.sno_rewrite.specs.JsonListing.{array_of, text_data, value_data, binding_data, bindings_data, subject_members, matched_members, failed_members, done_members, entry_data, entries_data, refused_data, json_listing_data, json_listing};
 
 use crate::listing::reason_words;
-use crate::serial::{Entry, Held, History, Refusal};
-use crate::texts::NamedText;
+use crate::serial::Refusal;
+use crate::shown_texts::ShownText;
 use serde_json::{Map, Value, json, put};
+use sno_book::Entry;
 use sno_pattern::{Name, TextName};
 use sno_statement::{Bindings, Datum, Outcome};
 use std::alloc::{AllocError, Global};
@@ -47,12 +47,12 @@ fn text_name_value(alloc: Global, name: &TextName) -> Result<Value, AllocError>
 }
 
 #[tactic(auto, unfolding(crate::specs::JsonListing::text_data))]
-fn text_value(alloc: Global, name: &TextName, held: &Held) -> Result<Value, AllocError>
-    ensures { IfOk result (λ v. view v ≡ text_data (name.now, held_seen held.now)) }
+fn text_value(alloc: Global, text: &ShownText<'_>) -> Result<Value, AllocError>
+    ensures { IfOk result (λ v. view v ≡ text_data (shown text.now)) }
 {
-    let name = text_name_value(alloc, name)?;
-    let characters = ascii_value(alloc, held.text.bytes())?;
-    json!(in alloc; {"name": name, "text": characters, "version": held.version})
+    let name = text_name_value(alloc, text.name)?;
+    let characters = ascii_value(alloc, text.text.bytes())?;
+    json!(in alloc; {"name": name, "text": characters, "version": text.version})
 }
 
 fn datum_value(alloc: Global, datum: &Datum) -> Result<Value, AllocError>
@@ -95,8 +95,8 @@ fn bindings_value(alloc: Global, bindings: &Bindings) -> Result<Value, AllocErro
 
 /// The members that tell of an entry's statement. Members are put from the last to the first.
 #[tactic(auto, unfolding(crate::specs::JsonListing::subject_members))]
-fn subject_members(alloc: Global, entry: &Entry<'_>) -> Result<Map<String, Value>, AllocError>
-    ensures { IfOk result (λ m. members_view m.entries ≡ subject_members (entry_seen entry.now)) }
+fn subject_members(alloc: Global, entry: &Entry) -> Result<Map<String, Value>, AllocError>
+    ensures { IfOk result (λ m. members_view m.entries ≡ subject_members entry.now) }
 {
     let name = text_name_value(alloc, entry.statement.text())?;
     let mut members = Map::new(alloc);
@@ -115,12 +115,12 @@ fn subject_members(alloc: Global, entry: &Entry<'_>) -> Result<Map<String, Value
 fn matched_members(
     alloc: Global,
     index: usize,
-    entry: &Entry<'_>,
+    entry: &Entry,
     start: usize,
     end: usize,
     bindings: &Bindings,
 ) -> Result<Map<String, Value>, AllocError>
-    ensures { IfOk result (λ m. members_view m.entries ≡ matched_members index (entry_seen entry.now) start end bindings.now) }
+    ensures { IfOk result (λ m. members_view m.entries ≡ matched_members index entry.now start end bindings.now) }
 {
     let bound = bindings_value(alloc, bindings)?;
     let mut members = subject_members(alloc, entry)?;
@@ -136,10 +136,10 @@ fn matched_members(
 fn failed_members(
     alloc: Global,
     index: usize,
-    entry: &Entry<'_>,
+    entry: &Entry,
     bindings: &Bindings,
 ) -> Result<Map<String, Value>, AllocError>
-    ensures { IfOk result (λ m. members_view m.entries ≡ failed_members index (entry_seen entry.now) bindings.now) }
+    ensures { IfOk result (λ m. members_view m.entries ≡ failed_members index entry.now bindings.now) }
 {
     let bound = bindings_value(alloc, bindings)?;
     let mut members = subject_members(alloc, entry)?;
@@ -153,11 +153,11 @@ fn failed_members(
 fn done_members(
     alloc: Global,
     index: usize,
-    entry: &Entry<'_>,
+    entry: &Entry,
 ) -> Result<Map<String, Value>, AllocError>
-    ensures { IfOk result (λ m. members_view m.entries ≡ done_members index (entry_seen entry.now) (done_of entry.now.outcome)) }
+    ensures { IfOk result (λ m. members_view m.entries ≡ done_members index entry.now entry.now.done) }
 {
-    match &entry.outcome {
+    match &*entry.outcome {
         Outcome::Matched {
             start,
             end,
@@ -179,14 +179,14 @@ fn done_members(
     }
 }
 
-fn entry_value(alloc: Global, index: usize, entry: &Entry<'_>) -> Result<Value, AllocError>
-    ensures { IfOk result (λ v. view v ≡ entry_data index (entry_seen entry.now)) }
+fn entry_value(alloc: Global, index: usize, entry: &Entry) -> Result<Value, AllocError>
+    ensures { IfOk result (λ v. view v ≡ entry_data index entry.now) }
 {
     Ok(Value::Object(done_members(alloc, index, entry)?))
 }
 
-fn entry_values(alloc: Global, journal: &[Entry<'_>]) -> Result<Vec<Value>, AllocError>
-    ensures { IfOk result (λ v. map view v.items ≡ entries_data 0 (map entry_seen journal.now)) }
+fn entry_values(alloc: Global, journal: &[Entry]) -> Result<Vec<Value>, AllocError>
+    ensures { IfOk result (λ v. map view v.items ≡ entries_data 0 journal.now) }
 {
     let mut values = Vec::with_capacity(alloc, journal.len())?;
     for (index, entry) in journal.iter().enumerate() {
@@ -213,14 +213,12 @@ fn refusal_values(alloc: Global, refused: &[Refusal]) -> Result<Vec<Value>, Allo
     Ok(values)
 }
 
-#[tactic(auto, using(crate::proofs::JsonListingLemmas::text_data_next))]
-fn text_values(alloc: Global, texts: &[NamedText], held: &[Held]) -> Result<Vec<Value>, AllocError>
-    requires { length texts.now ≡ length held.now }
-    ensures { IfOk result (λ v. map view v.items ≡ map text_data (zip (map (λ t. t.0) (named_all texts.now)) (map held_seen held.now))) }
+fn text_values(alloc: Global, texts: &[ShownText<'_>]) -> Result<Vec<Value>, AllocError>
+    ensures { IfOk result (λ v. map view v.items ≡ map text_data (map shown texts.now)) }
 {
-    let mut values = Vec::with_capacity(alloc, held.len())?;
-    for (place, held) in held.iter().enumerate() {
-        values.push(text_value(alloc, &texts[place].name, held)?)?;
+    let mut values = Vec::with_capacity(alloc, texts.len())?;
+    for text in texts {
+        values.push(text_value(alloc, text)?)?;
     }
     Ok(values)
 }
@@ -228,29 +226,29 @@ fn text_values(alloc: Global, texts: &[NamedText], held: &[Held]) -> Result<Vec<
 #[tactic(auto, unfolding(crate::specs::JsonListing::json_listing_data))]
 fn listing_value(
     alloc: Global,
-    texts: &[NamedText],
-    history: &History<'_>,
+    texts: &[ShownText<'_>],
+    journal: &[Entry],
+    refused: &[Refusal],
 ) -> Result<Value, AllocError>
-    requires { length texts.now ≡ length history.now.held.items }
-    ensures { IfOk result (λ v. view v ≡ json_listing_data (map (λ t. t.0) (named_all texts.now)) (history_seen history.now)) }
+    ensures { IfOk result (λ v. view v ≡ json_listing_data (record { state = map shown texts.now; journal = journal.now; refused = refused.now })) }
 {
-    let entries = Value::Array(entry_values(alloc, &history.journal)?);
-    let refused = Value::Array(refusal_values(alloc, &history.refused)?);
-    let texts = Value::Array(text_values(alloc, texts, &history.held)?);
+    let entries = Value::Array(entry_values(alloc, journal)?);
+    let refused = Value::Array(refusal_values(alloc, refused)?);
+    let texts = Value::Array(text_values(alloc, texts)?);
     json!(in alloc; {"entries": entries, "refused": refused, "texts": texts})
 }
 
-/// The listing of what a run did to texts, as one compact JSON text and a line feed.
+/// The listing of texts as they are left, of the journal and of the refused statements, as one compact JSON text and a line feed.
 #[tactic(auto, using(crate::proofs::JsonListingLemmas::no_float))]
 pub(crate) fn json_listing(
     alloc: Global,
-    texts: &[NamedText],
-    history: &History<'_>,
+    texts: &[ShownText<'_>],
+    journal: &[Entry],
+    refused: &[Refusal],
 ) -> Result<Vec<u8>, AllocError>
-    requires { length texts.now ≡ length history.now.held.items }
-    ensures { IfOk result (λ v. v.items ≡ json_listing (map (λ t. t.0) (named_all texts.now)) (history_seen history.now)) }
+    ensures { IfOk result (λ v. v.items ≡ json_listing (record { state = map shown texts.now; journal = journal.now; refused = refused.now })) }
 {
-    let value = listing_value(alloc, texts, history)?;
+    let value = listing_value(alloc, texts, journal, refused)?;
     let mut line = value.to_vec(alloc)?;
     line.push(b'\n')?;
     Ok(line)

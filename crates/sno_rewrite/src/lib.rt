@@ -11,8 +11,8 @@
 //! | `options`, `command_line` | `Options`; `options_of` the words of a command line |
 //! | `json`, `rows` | members of the JSON value; the document as it is written, borrowed from it |
 //! | `definitions`, `texts`, `statements`, `documents` | the checks, in the order of the document |
-//! | `serial` | the statements performed in order: versions, the journal, refusals |
-//! | `listing`, `json_listing` | the lines, and the same as JSON |
+//! | `serial` | the statements performed in order on a book, each by snapshot, proposal and commit |
+//! | `shown_texts`, `listing`, `json_listing` | the texts of a book; the lines, and the same as JSON |
 //! | `streams`, `running` | bytes in and out; `Report`, `run_serial` and `run` |
 #![tactic(auto)]
 
@@ -27,6 +27,7 @@ mod options;
 mod rows;
 mod running;
 mod serial;
+mod shown_texts;
 mod statements;
 mod streams;
 mod texts;

@@ -2,15 +2,15 @@
 ghost use Rattle.std.specs.Prelude.{◌≡◌, ◌++◌, ◌<◌, [], ◌∷◌, map, length, OnOk, IfOk, Some, None, codes};
 ghost use Rattle.std.specs.Option.{option_map};
 ghost use Rattle.std.specs.Arc.{arc_value};
-ghost use Rattle.std.specs.List.{flat_map, zip};
+ghost use Rattle.std.specs.List.{flat_map};
 ghost use Rattle.std.specs.Fmt.{decimal};
 ghost use Rattle.sno_statement.specs.Perform.{done_of};
-ghost use Rattle.sno_rewrite.specs.Texts.{named_all};
-ghost use Rattle.sno_rewrite.specs.Histories.{held_seen, entry_seen, history_seen};
+ghost use Rattle.sno_rewrite.specs.ShownTexts.{shown};
 ghost use Rattle.sno_rewrite.specs.Listing.{hex_digit, is_plain, escaped_character, escaped, text_line, value_words, binding_line, after_line, done_lines, entry_label, entry_subject, entry_lines, entries_from, reason_words, refused_line, count_line, listing};
 
-use crate::serial::{Entry, Held, History, Reason, Refusal};
-use crate::texts::NamedText;
+use crate::serial::{Reason, Refusal};
+use crate::shown_texts::ShownText;
+use sno_book::Entry;
 use sno_pattern::{Name, Text};
 use sno_statement::{Bindings, Datum, Outcome};
 use std::alloc::{AllocError, Global};
@@ -82,14 +82,14 @@ fn put_count(alloc: Global, out: &mut Vec<u8>, word: &str, count: usize) -> Resu
 }
 
 #[tactic(auto, unfolding(crate::specs::Listing::text_line))]
-fn put_text(alloc: Global, out: &mut Vec<u8>, name: &[u8], held: &Held) -> Result<(), AllocError>
-    ensures { OnOk result (out.new.items ≡ out.old.items ++ text_line (name.now, held_seen held.now)) }
+fn put_text(alloc: Global, out: &mut Vec<u8>, text: &ShownText<'_>) -> Result<(), AllocError>
+    ensures { OnOk result (out.new.items ≡ out.old.items ++ text_line (shown text.now)) }
 {
-    put_escaped(out, name)?;
+    put_escaped(out, text.name.bytes())?;
     put(out, b" ")?;
-    put_number(alloc, out, held.version)?;
+    put_number(alloc, out, text.version)?;
     put(out, b" |")?;
-    put_escaped(out, held.text.bytes())?;
+    put_escaped(out, text.text.bytes())?;
     put(out, b"|\n")
 }
 
@@ -227,17 +227,17 @@ fn put_entry(
     alloc: Global,
     out: &mut Vec<u8>,
     index: usize,
-    entry: &Entry<'_>,
+    entry: &Entry,
 ) -> Result<(), AllocError>
-    ensures { OnOk result (out.new.items ≡ out.old.items ++ entry_lines index (entry_seen entry.now)) }
+    ensures { OnOk result (out.new.items ≡ out.old.items ++ entry_lines index entry.now) }
 {
     put_label(alloc, out, index, entry.statement.number())?;
     put_subject(alloc, out, entry.statement.text().bytes(), entry.version)?;
     put_done(alloc, out, &entry.outcome)
 }
 
-fn put_entries(alloc: Global, out: &mut Vec<u8>, journal: &[Entry<'_>]) -> Result<(), AllocError>
-    ensures { OnOk result (out.new.items ≡ out.old.items ++ entries_from 0 (map entry_seen journal.now)) }
+fn put_entries(alloc: Global, out: &mut Vec<u8>, journal: &[Entry]) -> Result<(), AllocError>
+    ensures { OnOk result (out.new.items ≡ out.old.items ++ entries_from 0 journal.now) }
 {
     for (index, entry) in journal.iter().enumerate() {
         put_entry(alloc, out, index, entry)?;
@@ -254,38 +254,31 @@ fn put_refusals(alloc: Global, out: &mut Vec<u8>, refused: &[Refusal]) -> Result
     Ok(())
 }
 
-#[tactic(auto, using(crate::proofs::ListingLemmas::text_next))]
-fn put_texts(
-    alloc: Global,
-    out: &mut Vec<u8>,
-    texts: &[NamedText],
-    held: &[Held],
-) -> Result<(), AllocError>
-    requires { length texts.now ≡ length held.now }
-    ensures { OnOk result (out.new.items ≡ out.old.items ++ flat_map text_line (zip (map (λ t. t.0) (named_all texts.now)) (map held_seen held.now))) }
+fn put_texts(alloc: Global, out: &mut Vec<u8>, texts: &[ShownText<'_>]) -> Result<(), AllocError>
+    ensures { OnOk result (out.new.items ≡ out.old.items ++ flat_map text_line (map shown texts.now)) }
 {
-    for (place, held) in held.iter().enumerate() {
-        put_text(alloc, out, texts[place].name.bytes(), held)?;
+    for text in texts {
+        put_text(alloc, out, text)?;
     }
     Ok(())
 }
 
-/// The listing of what a run did to texts.
+/// The listing of texts as they are left, of the journal and of the refused statements.
 #[tactic(auto, unfolding(crate::specs::Listing::listing))]
 pub(crate) fn listing(
     alloc: Global,
-    texts: &[NamedText],
-    history: &History<'_>,
+    texts: &[ShownText<'_>],
+    journal: &[Entry],
+    refused: &[Refusal],
 ) -> Result<Vec<u8>, AllocError>
-    requires { length texts.now ≡ length history.now.held.items }
-    ensures { IfOk result (λ v. v.items ≡ listing (map (λ t. t.0) (named_all texts.now)) (history_seen history.now)) }
+    ensures { IfOk result (λ v. v.items ≡ listing (record { state = map shown texts.now; journal = journal.now; refused = refused.now })) }
 {
     let mut out = Vec::new(alloc);
-    put_count(alloc, &mut out, "texts ", history.held.len())?;
-    put_texts(alloc, &mut out, texts, &history.held)?;
-    put_count(alloc, &mut out, "entries ", history.journal.len())?;
-    put_entries(alloc, &mut out, &history.journal)?;
-    put_count(alloc, &mut out, "refused ", history.refused.len())?;
-    put_refusals(alloc, &mut out, &history.refused)?;
+    put_count(alloc, &mut out, "texts ", texts.len())?;
+    put_texts(alloc, &mut out, texts)?;
+    put_count(alloc, &mut out, "entries ", journal.len())?;
+    put_entries(alloc, &mut out, journal)?;
+    put_count(alloc, &mut out, "refused ", refused.len())?;
+    put_refusals(alloc, &mut out, refused)?;
     Ok(out)
 }

@@ -2,13 +2,15 @@
 ghost use Rattle.std.specs.Prelude.{◌≡◌, ◌≢◌, ◌⊎◌, Err, Ok, None, IfOk, IfErr, IfSome, OnOk};
 ghost use Rattle.sno_rewrite.specs.declared.faults.RunFault.TheVariants.{Memory, Write as WriteFailed};
 ghost use Rattle.sno_rewrite.specs.Document.{Document, IsDocument};
-ghost use Rattle.sno_rewrite.specs.Reports.{IsReport, IsRun, IsOutside};
+ghost use Rattle.sno_rewrite.specs.Reports.{listing_by, IsReport, IsRun, IsOutside};
+ghost use Rattle.sno_rewrite.specs.Histories.{performed_seen};
 ghost use Rattle.std.specs.Io.KnownBytes.{IsAtEnd};
 
 use crate::documents::read_document;
 use crate::json_listing::json_listing;
 use crate::listing::listing;
-use crate::serial::serial;
+use crate::serial::{Performed, serial};
+use crate::shown_texts::shown_texts;
 use crate::streams::{read_all, write_all};
 use crate::{Options, RunFault};
 use std::alloc::Global;
@@ -40,19 +42,28 @@ pub fn run_serial(alloc: Global, bytes: &[u8], options: &Options) -> Result<Repo
     Ok(report)
 }
 
+/// The listing of what was performed, as JSON or in lines.
+fn listed(alloc: Global, performed: &Performed, json: bool) -> Result<Vec<u8>, RunFault>
+    ensures listed { IfOk result (λ v. v.items ≡ listing_by json (performed_seen performed.now)) }
+    ensures memory { IfErr result (λ e. e ≡ Memory) }
+{
+    let texts = shown_texts(alloc, &performed.book)?;
+    let journal = performed.book.journal();
+    if json {
+        Ok(json_listing(alloc, &texts, journal, &performed.refused)?)
+    } else {
+        Ok(listing(alloc, &texts, journal, &performed.refused)?)
+    }
+}
+
 fn reported(alloc: Global, bytes: &[u8], anchor: bool, json: bool) -> Result<Report, RunFault>
     ensures found { IfOk result (λ report. IsReport anchor json bytes.now report.bytes.items report.refused) }
     ensures fault { IfErr result (λ e. e ≢ Memory → IsDocument anchor bytes.now (Err e)) }
 {
     let document = read_document(alloc, bytes, anchor)?;
-    let history = serial(alloc, &document)?;
-    let bytes = if json {
-        json_listing(alloc, &document.texts, &history)?
-    } else {
-        listing(alloc, &document.texts, &history)?
-    };
-    let refused = history.refused.len();
-    drop(history);
+    let performed = serial(alloc, document)?;
+    let bytes = listed(alloc, &performed, json)?;
+    let refused = performed.refused.len();
     Ok(Report { bytes, refused })
 }
 

@@ -95,15 +95,17 @@ pub(crate) fn statements(
     rules: &Arc<Rules>,
     anchor: bool,
     rows: &[StatementRow<'_>],
-) -> Result<Vec<Statement>, RunFault>
-    ensures { Gives (λ v. v.items) result (statements_of (arc_value rules.now) anchor (map statement_seen rows.now)) }
+) -> Result<Vec<Arc<Statement>>, RunFault>
+    ensures statements { Gives (λ v. map arc_value v.items) result (statements_of (arc_value rules.now) anchor (map statement_seen rows.now)) }
+    ensures few { IfOk result (λ v. length v.items ≤ 1000000) }
 {
     if rows.len() > MAX_STATEMENTS {
         return Err(RunFault::TooManyStatements);
     }
     let mut statements = Vec::new(alloc);
     for (place, row) in rows.iter().enumerate() {
-        statements.push(statement(alloc, rules, anchor, place + 1, row)?)?;
+        let statement = statement(alloc, rules, anchor, place + 1, row)?;
+        statements.push(Arc::new(alloc, statement)?)?;
     }
     Ok(statements)
 }

@@ -1,9 +1,9 @@
 -- What is put so far, with what is left.
 use Rattle.std.proofs.Common.{◌≡◌, ◌++◌, drop, map}
-use Rattle.sno_rewrite.specs.Texts.{named_all}
-use Rattle.sno_rewrite.specs.Histories.{held_seen}
-use Rattle.sno_rewrite.proofs.ListingLemmas.{text_lines}
+use Rattle.std.specs.List.{flat_map}
+use Rattle.sno_rewrite.specs.ShownTexts.{shown}
+use Rattle.sno_rewrite.specs.Listing.{text_line}
 use Rattle.sno_rewrite.proofs.listing.put_texts.Given as goal
 
-abbrev pub invariant-loop-place : goal.invariant-loop-place
-invariant-loop-place l = l.out.items ++ text_lines (drop l.place l.texts) (drop l.place l.held) ≡ l.fn.out.items ++ text_lines l.texts l.held
+abbrev pub invariant-loop-text : goal.invariant-loop-text
+invariant-loop-text l = l.out.items ++ flat_map text_line (map shown (drop l.text-index l.texts)) ≡ l.fn.out.items ++ flat_map text_line (map shown l.texts)

@@ -2,11 +2,10 @@
 use Rattle.std.proofs.Common.{◌≡◌, ◌+◌, [], drop, map, length}
 use Rattle.sno_rewrite.specs.Document.{texts_from}
 use Rattle.sno_rewrite.specs.Rows.{pair_seen}
-use Rattle.sno_rewrite.specs.Texts.{named_all}
 use Rattle.sno_rewrite.proofs.texts.text_rows.Given as goal
 
 abbrev pub invariant-loop-place : goal.invariant-loop-place
 invariant-loop-place l = record {
-  rest : texts_from (l.place + 1) (named_all l.texts.items) (map pair_seen (drop l.place l.rows)) ≡ texts_from 1 [] (map pair_seen l.rows);
+  rest : texts_from (l.place + 1) l.texts.items (map pair_seen (drop l.place l.rows)) ≡ texts_from 1 [] (map pair_seen l.rows);
   count : length l.texts.items ≡ l.place;
 }
