@@ -18,8 +18,6 @@
 #![tactic(auto)]
 
 mod admission;
-#[cfg(test)]
-mod admission_tests;
 mod classes;
 mod cursor_laws;
 mod definitions;

@@ -1,5 +1,5 @@
-//! Which definitions are admitted.
-use crate::{Class, Name, Names, Pattern, Rules, RulesFault, Text};
+//! Definitions made by hand: which are admitted, and what is answered for the others.
+use sno_pattern::{Class, Name, Names, Pattern, Rules, RulesFault, Text};
 use std::alloc::Global;
 use std::process::Abort;
 use std::test::Fail;
