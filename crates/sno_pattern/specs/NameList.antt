@@ -1,5 +1,5 @@
 -- The names of definitions, in order.
-use Rattle.std.specs.Prelude.{◌≡◌, ℕ, ◌+◌, Bool, List, [], ◌∷◌, ◌++◌, length, nat_lt, Option, Some, None, Result, Ok, Err, if◌then◌else◌}
+use Rattle.std.specs.Prelude.{◌≡◌, ℕ, ◌+◌, ◌≤◌, Bool, List, [], ◌∷◌, ◌++◌, length, nat_lt, Option, Some, None, Result, Ok, Err, if◌then◌else◌}
 use Rattle.std.specs.List.{list_any, position_from}
 use Rattle.sno_pattern.specs.Identifiers.{same, is_reserved}
 use Rattle.sno_pattern.specs.declared.name_list.NamesFault.{NamesFault}
@@ -17,6 +17,12 @@ first_repeat names = repeat_from [] 0 names
 -- the place of the first reserved word
 abbrev pub first_reserved : List (List ℕ) → Option ℕ
 first_reserved names = position_from is_reserved 0 names
+
+-- names of definitions: at most 64, none of them a reserved word, none twice
+pub record AreNames (names : List (List ℕ)) : Type 0 where
+  pub few : length names ≤ 64
+  pub unreserved : first_reserved names ≡ None
+  pub apart : first_repeat names ≡ None
 
 -- the number of the definition with this name
 abbrev pub place_of : List (List ℕ) → List ℕ → Option ℕ
