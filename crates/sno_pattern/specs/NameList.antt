@@ -40,10 +40,17 @@ unless_reserved (Some place) names = Err (fault.Reserved place)
 abbrev pub names_of : List (List ℕ) → Result (List (List ℕ)) NamesFault
 names_of names = if nat_lt 64 (length names) then Err fault.TooMany else unless_reserved (first_reserved names) names
 
--- the answer is that of `names_of`, or want of memory
+-- Memory is asked for once the length and the reserved words were looked at, so want of it may come in place of names
+-- or of a name that stands twice, and of nothing else.
+abbrev pub MayWantMemory : Result (List (List ℕ)) NamesFault → Type 0
+MayWantMemory (Ok names) = Unit {0}
+MayWantMemory (Err (fault.Duplicate place)) = Unit {0}
+MayWantMemory (Err _) = ⊥
+
+-- the answer is that of `names_of`, or want of memory where that may be
 abbrev pub GivesNames : Result (List (List ℕ)) NamesFault → Result (List (List ℕ)) NamesFault → Type 0
 GivesNames (Ok names) wanted = wanted ≡ Ok names
-GivesNames (Err fault.Memory) wanted = Unit {0}
+GivesNames (Err fault.Memory) wanted = MayWantMemory wanted
 GivesNames (Err fault.TooMany) wanted = wanted ≡ Err fault.TooMany
 GivesNames (Err (fault.Reserved place)) wanted = wanted ≡ Err (fault.Reserved place)
 GivesNames (Err (fault.Duplicate place)) wanted = wanted ≡ Err (fault.Duplicate place)

@@ -61,7 +61,7 @@ impl Names {
     /// These names, as names of definitions in this order.
     ///
     /// Refused, in this order: `TooMany` for more than 64, `Reserved` with the place of the first reserved word, `Duplicate`
-    /// with the first place that repeats an earlier one, `Memory`.
+    /// with the first place that repeats an earlier one. `Memory` may come in place of the names or of `Duplicate`.
     pub fn new(alloc: Global, names: &[Name]) -> Result<Names, NamesFault>
         ensures { GivesNames result (names_of names.now) }
     {
