@@ -1,5 +1,5 @@
 -- A cursor that is assigned at once lies within the text.
-use Rattle.std.proofs.Common.{◌≡◌, ℕ, zero, suc, ◌+◌, ◌-◌, ◌≤◌, Bool, true, false, cond, List, [], ◌∷◌, ◌++◌, length, Option, Some, None, slice_get, nat_lt, map, arith}
+use Rattle.std.proofs.Common.{ℕ, zero, suc, ◌+◌, ◌-◌, ◌≤◌, Bool, true, false, cond, List, [], ◌∷◌, ◌++◌, length, Option, Some, None, slice_get, nat_lt, map, arith}
 use Rattle.std.specs.List.{flat_map, range_with_len}
 use Rattle.sno_pattern.specs.Tree as tree
 use Rattle.sno_pattern.specs.Tree.{Tree}
@@ -10,11 +10,10 @@ use Rattle.sno_pattern.specs.Laws.{AllEnds, Within}
 use Rattle.sno_pattern.specs.CursorLaws.{CursorLies, ToldLies, SetsLie}
 use Rattle.sno_pattern.specs.Outcome.{Tried, starts, tried_from, cut_scan, scan, found_in, outcome_at}
 use Rattle.sno_pattern.specs.declared.events.Assign.{Assign}
-use Rattle.sno_pattern.specs.declared.events.What.TheVariants.{Part, Cursor}
 use Rattle.sno_pattern.specs.declared.events.Event.{Event}
 use Rattle.sno_pattern.specs.declared.events.Event.TheVariants.{Told, End, Halt}
 use Rattle.sno_pattern.proofs.EachEnd.{AllEnds-map}
-use Rattle.sno_pattern.proofs.Within.{IsWithin, within_of, within_named, within_rounds}
+use Rattle.sno_pattern.proofs.Within.{IsWithin, within_of, within_named}
 
 module _ (t : List ℕ) where
   lies_cut : (l : List Event) → ToldLies t l → ToldLies t (cut l)

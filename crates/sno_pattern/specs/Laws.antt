@@ -1,10 +1,10 @@
 -- Laws of matching, each of them proved by a function of `laws` that has it as its contract.
-use Rattle.std.specs.Prelude.{◌≡◌, ℕ, ◌≤◌, Bool, List, [], ◌∷◌, length, nat_lt, if◌then◌else◌}
+use Rattle.std.specs.Prelude.{◌≡◌, ℕ, ◌<◌, ◌≤◌, Bool, List, [], ◌∷◌, length, nat_lt, if◌then◌else◌}
 use Rattle.sno_pattern.specs.Tree.{Tree, Arbno}
 use Rattle.sno_pattern.specs.Events.{go_on}
 use Rattle.sno_pattern.specs.Results.{results, depth}
 use Rattle.sno_pattern.specs.Outcome.{outcome, outcome_at}
-use Rattle.sno_pattern.specs.Guard.{Guarded}
+use Rattle.sno_pattern.specs.Guard.{Takes, Guarded}
 use Rattle.sno_pattern.specs.Admission.{IsFirstCycle}
 use Rattle.sno_pattern.specs.declared.events.Event.{Event}
 use Rattle.sno_pattern.specs.declared.events.Event.TheVariants.{Told, End, Halt}
@@ -23,6 +23,10 @@ Within t c e = (c ≤ e) × (e ≤ length t)
 -- A match ends nowhere before the cursor at which it begins, and nowhere past the end of the text.
 abbrev pub EndsLieBehind : Type 0
 EndsLieBehind = (t : List ℕ) (bodies : List Tree) (k : ℕ) (p : Tree) (c : ℕ) → c ≤ length t → AllEnds (Within t c) (results t bodies k p c)
+
+-- A part that takes a character ends past the cursor at which it begins.
+abbrev pub TakingMovesOn : Type 0
+TakingMovesOn = (t : List ℕ) (bodies : List Tree) (p : Tree) → Takes bodies p → (k c : ℕ) → c ≤ length t → AllEnds (λ e. c < e) (results t bodies k p c)
 
 -- ARBNO(P) is '' | P ARBNO(P), where a round that takes no character is dropped.
 abbrev pub Repetition : Type 0

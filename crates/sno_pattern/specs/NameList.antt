@@ -1,5 +1,5 @@
 -- The names of definitions, in order.
-use Rattle.std.specs.Prelude.{◌≡◌, ℕ, ◌+◌, Bool, List, [], ◌∷◌, ◌++◌, length, nat_lt, Option, Some, None, Result, Ok, Err, if◌then◌else◌}
+use Rattle.std.specs.Prelude.{◌≡◌, ℕ, ◌+◌, ◌≤◌, List, [], ◌∷◌, ◌++◌, length, nat_lt, Option, Some, None, Result, Ok, Err, if◌then◌else◌}
 use Rattle.std.specs.List.{list_any, position_from}
 use Rattle.sno_pattern.specs.Identifiers.{same, is_reserved}
 use Rattle.sno_pattern.specs.declared.name_list.NamesFault.{NamesFault}
@@ -18,6 +18,12 @@ first_repeat names = repeat_from [] 0 names
 abbrev pub first_reserved : List (List ℕ) → Option ℕ
 first_reserved names = position_from is_reserved 0 names
 
+-- names of definitions: at most 64, none of them a reserved word, none twice
+pub record AreNames (names : List (List ℕ)) : Type 0 where
+  pub few : length names ≤ 64
+  pub unreserved : first_reserved names ≡ None
+  pub apart : first_repeat names ≡ None
+
 -- the number of the definition with this name
 abbrev pub place_of : List (List ℕ) → List ℕ → Option ℕ
 place_of names name = position_from (same name) 0 names
@@ -34,10 +40,17 @@ unless_reserved (Some place) names = Err (fault.Reserved place)
 abbrev pub names_of : List (List ℕ) → Result (List (List ℕ)) NamesFault
 names_of names = if nat_lt 64 (length names) then Err fault.TooMany else unless_reserved (first_reserved names) names
 
--- the answer is that of `names_of`, or want of memory
+-- Memory is asked for once the length and the reserved words were looked at, so want of it may come in place of names
+-- or of a name that stands twice, and of nothing else.
+abbrev pub MayWantMemory : Result (List (List ℕ)) NamesFault → Type 0
+MayWantMemory (Ok names) = Unit {0}
+MayWantMemory (Err (fault.Duplicate place)) = Unit {0}
+MayWantMemory (Err _) = ⊥
+
+-- the answer is that of `names_of`, or want of memory where that may be
 abbrev pub GivesNames : Result (List (List ℕ)) NamesFault → Result (List (List ℕ)) NamesFault → Type 0
 GivesNames (Ok names) wanted = wanted ≡ Ok names
-GivesNames (Err fault.Memory) wanted = Unit {0}
+GivesNames (Err fault.Memory) wanted = MayWantMemory wanted
 GivesNames (Err fault.TooMany) wanted = wanted ≡ Err fault.TooMany
 GivesNames (Err (fault.Reserved place)) wanted = wanted ≡ Err (fault.Reserved place)
 GivesNames (Err (fault.Duplicate place)) wanted = wanted ≡ Err (fault.Duplicate place)

@@ -1,14 +1,13 @@
 -- Worked examples, computed from the definitions: each holds by computation alone. Texts and patterns are written out, so that
 -- a reader can compare them with the book.
-use Rattle.std.specs.Prelude.{◌≡◌, ℕ, Bool, true, false, List, [], ◌∷◌, Option, Some, None, codes, refl}
-use Rattle.sno_pattern.specs.Tree.{Tree, Lit, Len, Pos, Rpos, Tab, Rtab, AnyOf, NoneOf, Span, Break, Arb, Arbno, Bal, Rem, Fence, Abort, Fail, At, Ref, Seq, Alt, Cond, Imm}
+use Rattle.std.specs.Prelude.{◌≡◌, ℕ, true, false, List, [], ◌∷◌, Some, None, codes, refl}
+use Rattle.sno_pattern.specs.Tree.{Lit, Len, Pos, Rpos, Tab, Rtab, AnyOf, NoneOf, Span, Break, Arb, Arbno, Bal, Rem, Fence, Abort, Fail, At, Ref, Seq, Alt, Cond, Imm}
 use Rattle.sno_pattern.specs.Events.{CondList}
 use Rattle.sno_pattern.specs.Results.{results_of, named_at}
 use Rattle.sno_pattern.specs.Outcome.{outcome, outcome_at}
 use Rattle.sno_pattern.specs.declared.events.What.TheVariants.{Part, Cursor}
 use Rattle.sno_pattern.specs.declared.events.Assign.{Assign}
 use Rattle.sno_pattern.specs.declared.found.Found.{Found}
-use Rattle.sno_pattern.specs.declared.found.Hit.{Hit}
 
 -- assignments done at once, then failure, or a success from s to e
 abbrev failed : List Assign → Found

@@ -1,5 +1,5 @@
 -- Texts: ASCII characters, at most 65,536 of them.
-use Rattle.std.specs.Prelude.{ℕ, Bool, not, List, length, nat_lt, Option, Some, None, Result, Ok, Err, if◌then◌else◌, ◌≤◌, IsTrue}
+use Rattle.std.specs.Prelude.{ℕ, not, List, length, nat_lt, Option, Some, None, Result, Ok, Err, if◌then◌else◌}
 use Rattle.std.specs.List.{position_from}
 use Rattle.std.specs.Char.{is_ascii}
 use Rattle.sno_pattern.specs.declared.texts.TextFault.{TextFault}

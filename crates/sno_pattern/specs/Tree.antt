@@ -1,5 +1,5 @@
 -- Patterns by value: the trees of `Pattern` without where their parts lie in memory.
-use Rattle.std.specs.Prelude.{◌≡◌, ℕ, Bool, true, ◌&&◌, List, [], ◌∷◌, map, nat_lt, refl}
+use Rattle.std.specs.Prelude.{◌≡◌, ℕ, Bool, true, ◌&&◌, List, map, nat_lt, refl}
 use Rattle.std.proofs.Common.{Box, Global}
 use denote.RawPtr.{null_ptr}
 use Rattle.sno_pattern.specs.declared.tree.Pattern.{Pattern}

@@ -1,5 +1,5 @@
 //! Admitted definitions.
-ghost use Rattle.std.specs.Prelude.{◌≡◌, ◌↔◌, [], length, slice_get, not, IsTrue};
+ghost use Rattle.std.specs.Prelude.{◌≡◌, ◌≤◌, ◌↔◌, [], length, slice_get, not, IsTrue};
 ghost use Rattle.std.specs.Option.{option_copied, option_map};
 ghost use Rattle.std.specs.List.{list_all, position_from};
 ghost use Rattle.sno_pattern.specs.Tree.{tree_of, trees, refs_below};
@@ -107,11 +107,12 @@ impl Rules {
         &self.names
     }
 
-    /// How many definitions there are.
+    /// How many definitions there are, at most 64.
     pub fn len(&self) -> usize
-        ensures { result ≡ length self.now.bodies }
+        ensures value { result ≡ length self.now.bodies }
+        ensures few { result ≤ 64 }
     {
-        self.bodies.len()
+        self.names.len()
     }
 
     /// Whether there is none.

@@ -49,14 +49,14 @@ impl Assigns {
     pub fn as_slice(&self) -> &[Assign]
         ensures { result.now ≡ self.now }
     {
-        self.list.as_slice()
+        &self.list
     }
 }
 
 /// Conditional assignments: of each a variable and the two cursors of its part, in the order in which the parts ended.
 #[derive(Debug, Drop)]
 pub struct Conds {
-    list: Vec<(Name, usize, usize)>,
+    parts: Vec<(Name, usize, usize)>,
 }
 
 impl Model for Conds {
@@ -64,29 +64,29 @@ impl Model for Conds {
 
     ghost Value = { List (List ℕ × ℕ × ℕ) };
 
-    ghost view = { λ s. s.list.items };
+    ghost view = { λ s. s.parts.items };
 }
 
 impl Conds {
-    /// The list. It takes no memory.
-    pub fn of(list: Vec<(Name, usize, usize)>) -> Conds
-        ensures { result ≡ list.items }
+    /// These assignments. It takes no memory.
+    pub fn of(parts: Vec<(Name, usize, usize)>) -> Conds
+        ensures { result ≡ parts.items }
     {
-        Conds { list }
+        Conds { parts }
     }
 
     /// The assignments, in their order.
     pub fn as_slice(&self) -> &[(Name, usize, usize)]
         ensures { result.now ≡ self.now }
     {
-        self.list.as_slice()
+        &self.parts
     }
 
-    /// The list given back. It takes no memory.
+    /// The assignments, given back. It takes no memory.
     pub fn into_vec(self) -> Vec<(Name, usize, usize)>
         ensures { result.items ≡ self }
     {
-        self.list
+        self.parts
     }
 }
 

@@ -166,10 +166,15 @@ impl fmt::Debug for Name {
 }
 
 impl fmt::Display for Name {
+    ghost use Rattle.std.specs.Prelude.{Some};
+
+    ghost output = { λ name. Some name };
+
+    // A name is ASCII, so it is always read.
     fn fmt<W: fmt::Write>(&self, f: &mut fmt::Formatter<W>) -> fmt::Result {
-        for c in self.bytes() {
-            write!(f, "{}", char::from(*c))?;
+        match str::from_utf8(self.bytes()) {
+            Ok(letters) => f.write_str(letters),
+            Err(_) => Err(fmt::Error),
         }
-        Ok(())
     }
 }

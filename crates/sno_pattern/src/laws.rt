@@ -1,9 +1,14 @@
 //! Laws of matching. Each function does nothing: its contract is the law.
-ghost use Rattle.sno_pattern.specs.Laws.{CyclesAreUnguarded, DepthIsEnough, EndsLieBehind, OutcomeIsSettled, Repetition};
+ghost use Rattle.sno_pattern.specs.Laws.{CyclesAreUnguarded, DepthIsEnough, EndsLieBehind, OutcomeIsSettled, Repetition, TakingMovesOn};
 
 /// Every end of a match lies at the cursor where it begins or behind it, and within the text.
 pub fn ends_lie_behind_the_cursor()
     ensures { EndsLieBehind }
+{}
+
+/// Every end of a part that takes a character, by the rule of admission, lies past the cursor where the part begins.
+pub fn a_part_that_takes_ends_past_its_cursor()
+    ensures { TakingMovesOn }
 {}
 
 /// `ARBNO(P)` is `'' | P ARBNO(P)`, where a round that takes no character is dropped.

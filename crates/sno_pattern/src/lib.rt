@@ -18,8 +18,6 @@
 #![tactic(auto)]
 
 mod admission;
-#[cfg(test)]
-mod admission_tests;
 mod classes;
 mod cursor_laws;
 mod definitions;
@@ -40,8 +38,8 @@ pub use found::{Found, Hit};
 pub use identifiers::Name;
 pub use laws::{
     a_greater_depth_changes_no_outcome, a_greater_depth_gives_nothing_more,
-    a_repetition_is_null_or_goes_on, definitions_with_a_cycle_are_not_guarded,
-    ends_lie_behind_the_cursor,
+    a_part_that_takes_ends_past_its_cursor, a_repetition_is_null_or_goes_on,
+    definitions_with_a_cycle_are_not_guarded, ends_lie_behind_the_cursor,
 };
 pub use name_list::{Names, NamesFault};
 pub use text_names::{NameFault, TextName};

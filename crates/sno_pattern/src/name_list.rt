@@ -1,7 +1,7 @@
 //! The names of definitions, in order.
 ghost use Rattle.std.specs.Prelude.{◌≡◌, ◌↔◌, [], length, slice_get, IsTrue};
 ghost use Rattle.std.specs.Option.{option_copied};
-ghost use Rattle.sno_pattern.specs.NameList.{names_of, GivesNames, place_of, first_reserved};
+ghost use Rattle.sno_pattern.specs.NameList.{names_of, AreNames, GivesNames, place_of, first_reserved};
 
 use crate::Name;
 use indexmap::IndexSet;
@@ -20,10 +20,13 @@ pub struct Names {
 
 impl Model for Names {
     ghost use Rattle.std.specs.Prelude.{ℕ, List};
+    ghost use Rattle.sno_pattern.specs.NameList.{AreNames};
 
     ghost Value = { List (List ℕ) };
 
     ghost view = { λ s. s.set.keys };
+
+    ghost invariant = { λ s. AreNames s.set.keys };
 }
 
 /// Why names are no names of definitions.
@@ -58,7 +61,7 @@ impl Names {
     /// These names, as names of definitions in this order.
     ///
     /// Refused, in this order: `TooMany` for more than 64, `Reserved` with the place of the first reserved word, `Duplicate`
-    /// with the first place that repeats an earlier one, `Memory`.
+    /// with the first place that repeats an earlier one. `Memory` may come in place of the names or of `Duplicate`.
     pub fn new(alloc: Global, names: &[Name]) -> Result<Names, NamesFault>
         ensures { GivesNames result (names_of names.now) }
     {
@@ -92,9 +95,10 @@ impl Names {
         self.set.get_index(number)
     }
 
-    /// How many there are.
+    /// How many there are, at most 64.
     pub fn len(&self) -> usize
-        ensures { result ≡ length self.now }
+        ensures value { result ≡ length self.now }
+        ensures names { AreNames self.now }
     {
         self.set.len()
     }

@@ -7,12 +7,15 @@
 //!
 //! - `src/matching.rt`: matches, bindings and replacements.
 //! - `src/recursion.rt`: which definitions are admitted, and matches with them.
+//! - `src/admission.rt`: definitions made by hand: how a name is printed, and which definitions are admitted.
 //! - `src/limits.rt`: the longest text, the most definitions, the longest names.
 //! - `src/reading.rt`: texts that are not read.
 //! - `src/language.rt`: the examples of `docs/LANGUAGE.md`, in the order of that document.
 //! - `src/row.rt`: how a row is written, performed and told.
 #![tactic(auto)]
 
+#[cfg(test)]
+mod admission;
 #[cfg(test)]
 mod language;
 #[cfg(test)]

@@ -1,5 +1,5 @@
-//! Which definitions are admitted.
-use crate::{Class, Name, Names, Pattern, Rules, RulesFault, Text};
+//! Definitions made by hand: how their names are printed, which are admitted, and what is answered for the others.
+use sno_pattern::{Class, Name, Names, Pattern, Rules, RulesFault, Text};
 use std::alloc::Global;
 use std::process::Abort;
 use std::test::Fail;
@@ -47,6 +47,13 @@ fn is_unguarded(answer: Result<Rules, RulesFault>, cycle: &[usize]) -> bool {
         Err(RulesFault::Unguarded(found)) => found.as_slice() == cycle,
         _ => false,
     }
+}
+
+#[test]
+fn a_name_is_printed_as_it_is_written(rt: HostRuntime) -> Result<(), Fail> {
+    let printed = name(b"Item_1.b")?.to_string(rt.alloc())?;
+    assert_eq!(rt; printed.as_str(), "Item_1.b");
+    Ok(())
 }
 
 // E is `*E 'a' | 'a'`.
