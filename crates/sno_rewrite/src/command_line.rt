@@ -1,5 +1,5 @@
 //! The options of the program, from the words of its command line.
-ghost use Rattle.std.specs.Prelude.{◌≡◌, [], map, false, IfOk, string_bytes};
+ghost use Rattle.std.specs.Prelude.{◌≡◌, [], map, false, Some, IfOk, string_bytes};
 ghost use Rattle.clap.specs.Words.{app_of, FailsBy, found_of, kind_of, rows_of, rule_of, with_rule};
 ghost use Rattle.sno_rewrite.specs.CommandLine.{are_lawful, bare_program, faults, flag, flag_in, found, IsAnswer, IsChecked, is_up_to, number_in, numeric, numeric_or, options_in, plain_options, program, Tells};
 
@@ -7,7 +7,6 @@ use crate::Options;
 use clap::error::ErrorKind;
 use clap::{Arg, ArgAction, ArgMatches, Command, Error};
 use std::alloc::{AllocError, Global};
-use std::fmt;
 
 const MAX_WORKERS: u32 = 16;
 
@@ -42,20 +41,11 @@ pub enum OptionsFault {
     Memory,
 }
 
-impl fmt::Display for OptionsFault {
-    fn fmt<W: fmt::Write>(&self, f: &mut fmt::Formatter<W>) -> fmt::Result {
-        match self {
-            OptionsFault::Help(text) => f.write_str(text.as_str()),
-            OptionsFault::Usage(text) => f.write_str(text.as_str()),
-            OptionsFault::Memory => f.write_str("out of memory\n"),
-        }
-    }
-}
-
 /// An option with a number of at most 32 bits.
 fn numeric<'a>(alloc: Global, name: &'a str, help: &'a str) -> Arg<'a>
     ensures rule { rule_of result ≡ numeric name.entry.now }
     ensures local { result.global ≡ false }
+    ensures help { result.help ≡ Some help.entry }
 {
     Arg::new(alloc, name)
         .long(name)
@@ -68,6 +58,7 @@ fn numeric<'a>(alloc: Global, name: &'a str, help: &'a str) -> Arg<'a>
 fn numeric_or<'a>(alloc: Global, default: &'a str, name: &'a str, help: &'a str) -> Arg<'a>
     ensures rule { rule_of result ≡ numeric_or default.entry.now name.entry.now }
     ensures local { result.global ≡ false }
+    ensures help { result.help ≡ Some help.entry }
 {
     numeric(alloc, name, help).default_value(default)
 }
@@ -75,6 +66,7 @@ fn numeric_or<'a>(alloc: Global, default: &'a str, name: &'a str, help: &'a str)
 fn flag<'a>(alloc: Global, name: &'a str, help: &'a str) -> Arg<'a>
     ensures rule { rule_of result ≡ flag name.entry.now }
     ensures local { result.global ≡ false }
+    ensures help { result.help ≡ Some help.entry }
 {
     Arg::new(alloc, name)
         .long(name)
