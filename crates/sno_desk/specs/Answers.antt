@@ -1,0 +1,37 @@
+-- What a submit answers.
+use Rattle.std.specs.Prelude.{◌≡◌, ◌≢◌, ◌≤◌, ℕ, List, Result, Ok, Err}
+use Rattle.sno_statement.specs.Task.{Task}
+use Rattle.sno_statement.specs.Perform.{perform}
+use Rattle.sno_statement.specs.declared.outcomes.StatementFault.TheVariants as statement
+use Rattle.sno_book.specs.Proposals.{Received}
+use Rattle.sno_desk.specs.declared.faults.SubmitFault.{SubmitFault}
+use Rattle.sno_desk.specs.declared.faults.SubmitFault.TheVariants as submit
+
+-- a gate may be shut for the statement with this number at one of its attempts, which count from 1 to `tries`
+pub record MayShut (shuts : ℕ → ℕ → Type 0) (number tries : ℕ) : Type 0 where
+  pub attempt : ℕ
+  pub first : 1 ≤ attempt
+  pub last : attempt ≤ tries
+  pub shut : shuts number attempt
+
+-- there is a text that the statement would make too long
+pub record Lengthens (s : Task) : Type 0 where
+  pub text : List ℕ
+  pub performed : perform s text ≡ Err statement.TextTooLong
+
+-- the receipt's entry has the statement; the gate was shut only where it may be; some text would be too long; the tries were spent
+-- between two versions that differ
+abbrev pub Answers : (ℕ → ℕ → Type 0) → ℕ → Task → Result Received SubmitFault → Type 0
+Answers shuts tries s (Ok receipt) = receipt.entry.statement ≡ s
+Answers shuts tries s (Err submit.NoText) = Unit {0}
+Answers shuts tries s (Err submit.GateShut) = MayShut shuts s.number tries
+Answers shuts tries s (Err submit.TextTooLong) = Lengthens s
+Answers shuts tries s (Err submit.Foreign) = Unit {0}
+Answers shuts tries s (Err submit.Full) = Unit {0}
+Answers shuts tries s (Err submit.Memory) = Unit {0}
+Answers shuts tries s (Err (submit.TriesSpent seen now)) = now ≢ seen
+
+-- an answer adds one to what its seat has accepted exactly where it is a receipt
+abbrev pub added_by : Result Received SubmitFault → ℕ
+added_by (Ok receipt) = 1
+added_by (Err fault) = 0

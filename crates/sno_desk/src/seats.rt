@@ -1,0 +1,66 @@
+//! Seats.
+ghost use Rattle.std.specs.Prelude.{◌≡◌, ◌+◌, ◌<◌, ◌^◌};
+
+use crate::SubmitFault;
+use sno_book::Receipt;
+use std::collections::VecDeque;
+use std::sync::ledger::{self, Ledger, Share};
+
+/// What a submit answers.
+pub type Reply = Result<Receipt, SubmitFault>;
+
+/// A place at a desk. It counts the proposals that were accepted through it, and holds that count as its share of the desk's ledger.
+#[derive(Drop)]
+pub struct Seat<L: Ledger> {
+    pub(crate) accepted: u64,
+    pub(crate) share: Share<L>,
+    pub(crate) replies: Option<VecDeque<Reply>>,
+    ghost one_part: { share.parts ≡ 1 },
+    ghost backed: { share.amount ≡ accepted },
+}
+
+impl<L: Ledger> Seat<L> {
+    /// How many proposals were accepted through this seat. It begins as 0.
+    pub fn accepted(&self) -> u64
+        ensures { result ≡ self.now.accepted }
+    {
+        self.accepted
+    }
+
+    /// A seat with a part of the ledger and nothing accepted.
+    pub(crate) fn new(share: Share<L>) -> Seat<L>
+        requires part { share.parts ≡ 1 }
+        requires amount { share.amount ≡ 0 }
+        ensures { result.accepted ≡ 0 }
+    {
+        Seat {
+            accepted: 0,
+            share,
+            replies: None,
+        }
+    }
+
+    /// One more was accepted, of the book's total too.
+    pub(crate) fn count(&mut self, total: &mut ledger::Book<L>)
+        requires { total.old.total + 1 < 2 ^ 64 }
+        ensures accepted { self.new.accepted ≡ self.old.accepted + 1 }
+        ensures total { total.new.total ≡ total.old.total + 1 }
+    {
+        total.audit(&mut self.share);
+        total.add(&mut self.share, 1);
+        self.accepted += 1;
+    }
+
+    /// The share alone.
+    pub(crate) fn into_share(self) -> Share<L>
+        ensures parts { result.parts ≡ 1 }
+        ensures amount { result.amount ≡ self.accepted }
+    {
+        let Seat {
+            accepted: _,
+            share,
+            replies: _,
+        } = self;
+        share
+    }
+}

@@ -1,0 +1,106 @@
+//! Submits: snapshot, gate, matching and commit, again and again.
+ghost use Rattle.std.specs.Prelude.{◌≡◌, ◌+◌, ◌≤◌, true};
+ghost use Rattle.std.specs.Arc.{arc_value};
+ghost use Rattle.sno_desk.specs.Answers.{Answers, added_by};
+
+use crate::{Desk, Gate, Seat, SubmitFault};
+use sno_book::{Receipt, propose};
+use sno_statement::Statement;
+use std::alloc::Global;
+use std::sync::ledger::Ledger;
+use std::sync::{Arc, Wait};
+
+/// Whether the text changed under the try.
+fn is_lost(answer: &Result<Receipt, SubmitFault>) -> bool
+    ensures { result ≡ true → added_by answer.now ≡ 0 }
+{
+    matches!(answer, Err(SubmitFault::TriesSpent { .. }))
+}
+
+impl<L: Ledger> Desk<L> {
+    /// One attempt of several.
+    fn attempt<R: Wait, G: Gate>(
+        &self,
+        rt: &R,
+        alloc: Global,
+        seat: &mut Seat<L>,
+        statement: &Arc<Statement>,
+        attempt: u32,
+        tries: u32,
+        gate: &G,
+    ) -> Result<Receipt, SubmitFault>
+        requires in_turn { (1 ≤ attempt) × (attempt ≤ tries) }
+        ensures answer { Answers (G.shuts gate.now) tries (arc_value statement.now) result }
+        ensures counted { seat.new.accepted ≡ seat.old.accepted + added_by result }
+    {
+        let snapshot = self.snapshot(rt, seat, statement.text())?;
+        if !gate.pass(rt, statement.number(), attempt) {
+            return Err(SubmitFault::GateShut);
+        }
+        let shared = Arc::try_clone(statement)?;
+        let proposal = propose(alloc, shared, snapshot)?;
+        match self.commit(rt, seat, proposal) {
+            Ok(receipt) => Ok(receipt),
+            Err((fault, _)) => Err(SubmitFault::from(fault)),
+        }
+    }
+
+    /// All attempts, up to the first that does not fail for a changed text.
+    fn attempts<R: Wait, G: Gate>(
+        &self,
+        rt: &R,
+        alloc: Global,
+        seat: &mut Seat<L>,
+        statement: &Arc<Statement>,
+        tries: u32,
+        gate: &G,
+    ) -> Result<Receipt, SubmitFault>
+        requires { 1 ≤ tries }
+        ensures answer { Answers (G.shuts gate.now) tries (arc_value statement.now) result }
+        ensures counted { seat.new.accepted ≡ seat.old.accepted + added_by result }
+    {
+        for attempt in 1..tries {
+            let answer = self.attempt(rt, alloc, seat, statement, attempt, tries, gate);
+            if !is_lost(&answer) {
+                return answer;
+            }
+        }
+        self.attempt(rt, alloc, seat, statement, tries, tries, gate)
+    }
+
+    /// Submits a statement that its owner keeps.
+    pub(crate) fn submit_shared<R: Wait, G: Gate>(
+        &self,
+        rt: &R,
+        alloc: Global,
+        seat: &mut Seat<L>,
+        statement: &Arc<Statement>,
+        tries: u32,
+        gate: &G,
+    ) -> Result<Receipt, SubmitFault>
+        requires { (1 ≤ tries) × (tries ≤ 1000) }
+        ensures answer { Answers (G.shuts gate.now) tries (arc_value statement.now) result }
+        ensures counted { seat.new.accepted ≡ seat.old.accepted + added_by result }
+    {
+        let answer = self.attempts(rt, alloc, seat, statement, tries, gate);
+        gate.done(rt, statement.number(), answer.is_ok());
+        answer
+    }
+
+    /// Submits.
+    pub fn submit<R: Wait, G: Gate>(
+        &self,
+        rt: &R,
+        alloc: Global,
+        seat: &mut Seat<L>,
+        statement: Arc<Statement>,
+        tries: u32,
+        gate: &G,
+    ) -> Result<Receipt, SubmitFault>
+        requires { (1 ≤ tries) × (tries ≤ 1000) }
+        ensures answer { Answers (G.shuts gate.now) tries (arc_value statement) result }
+        ensures counted { seat.new.accepted ≡ seat.old.accepted + added_by result }
+    {
+        self.submit_shared(rt, alloc, seat, &statement, tries, gate)
+    }
+}
