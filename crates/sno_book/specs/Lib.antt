@@ -9,3 +9,5 @@ pub mod Audits
 pub mod Beginnings
 pub mod Begun
 pub mod Shelves
+pub mod SamePatterns
+pub mod SameEntries
