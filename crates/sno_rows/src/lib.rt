@@ -8,6 +8,7 @@
 //! - `src/matching.rt`: matches, bindings and replacements.
 //! - `src/recursion.rt`: which definitions are admitted, and matches with them.
 //! - `src/admission.rt`: definitions made by hand: how a name is printed, and which definitions are admitted.
+//! - `src/books.rt`: what a book accepts and refuses, and what stands after each.
 //! - `src/limits.rt`: the longest text, the most definitions, the longest names.
 //! - `src/reading.rt`: texts that are not read.
 //! - `src/language.rt`: the examples of `docs/LANGUAGE.md`, in the order of that document.
@@ -16,6 +17,8 @@
 
 #[cfg(test)]
 mod admission;
+#[cfg(test)]
+mod books;
 #[cfg(test)]
 mod language;
 #[cfg(test)]
