@@ -1,5 +1,5 @@
 -- What is listed as JSON is ASCII and has no float.
-use Rattle.std.proofs.Common.{◌≡◌, ℕ, suc, ◌+◌, ◌<◌, Bool, true, false, ◌&&◌, ◌||◌, List, [], ◌∷◌, ◌++◌, length, get_or, drop, map, Option, Some, None, slice_get, IsTrue, refl, sym, ap, ◌∙◌, arith, add-one, drop-cons, append_assoc}
+use Rattle.std.proofs.Common.{◌≡◌, ℕ, suc, ◌+◌, ◌<◌, Bool, true, false, ◌&&◌, ◌||◌, List, [], ◌∷◌, ◌++◌, length, get_or, drop, map, Some, None, slice_get, IsTrue, refl, sym, ap, ◌∙◌, arith, add-one, drop-cons, append_assoc}
 use Rattle.std.specs.List.{list_all, zip}
 use Rattle.std.specs.Char.{is_ascii, is_ascii_graphic}
 use Rattle.std.specs.Str.{IsAscii, IsUtf8}
@@ -9,7 +9,7 @@ use Rattle.std.proofs.lemmas.List.{map-append}
 use Rattle.std.proofs.lemmas.Option.{slice_get-get_or, slice_get_within}
 use Rattle.std.proofs.lemmas.Str.{IsUtf8-from_ascii}
 use Rattle.std.proofs.lemmas.Str.Ascii.{IsAscii-nil, IsAscii-cons}
-use Rattle.serde_json.specs.Data.{Data, Items}
+use Rattle.serde_json.specs.Data.{Data}
 use Rattle.serde_json.specs.View.{view, items_of}
 use Rattle.serde_json.specs.declared.value.Value.{Value}
 use Rattle.serde_json.specs.Written.{has_float, items_have_float}
@@ -25,7 +25,7 @@ use Rattle.sno_rewrite.specs.Texts.{named_all}
 use Rattle.sno_rewrite.specs.Histories.{held_seen}
 use Rattle.sno_rewrite.specs.declared.texts.NamedText.{NamedText}
 use Rattle.sno_rewrite.specs.declared.serial.Held as program
-use Rattle.sno_rewrite.specs.JsonListing.{text_data, value_data, binding_data, subject_members, matched_members, failed_members, done_members, entry_data, entries_data, refused_data, json_listing_data}
+use Rattle.sno_rewrite.specs.JsonListing.{text_data, value_data, binding_data, subject_members, matched_members, failed_members, done_members, entries_data, refused_data, json_listing_data}
 
 both : (a b : Bool) → a ≡ true → b ≡ true → (a && b) ≡ true
 both a b h g = λ i. h i && g i

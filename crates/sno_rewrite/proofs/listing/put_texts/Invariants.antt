@@ -1,7 +1,5 @@
 -- What is put so far, with what is left.
-use Rattle.std.proofs.Common.{◌≡◌, ◌++◌, drop, map}
-use Rattle.sno_rewrite.specs.Texts.{named_all}
-use Rattle.sno_rewrite.specs.Histories.{held_seen}
+use Rattle.std.proofs.Common.{◌≡◌, ◌++◌, drop}
 use Rattle.sno_rewrite.proofs.ListingLemmas.{text_lines}
 use Rattle.sno_rewrite.proofs.listing.put_texts.Given as goal
 

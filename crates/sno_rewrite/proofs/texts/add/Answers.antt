@@ -1,8 +1,7 @@
 -- What the set does, seen by the names behind the references.
-use Rattle.std.proofs.Common.{ap, ◌∙◌, not, cond, Bool, refl}
+use Rattle.std.proofs.Common.{ap, ◌∙◌, not, refl}
 use Rattle.sno_pattern.specs.Identifiers.{same}
 use Rattle.sno_rewrite.proofs.IndexLemmas.{any_seen, insert_seen}
-use Rattle.sno_rewrite.specs.Texts.{names_seen}
 use Rattle.sno_rewrite.proofs.texts.add.Goals as goal
 
 pub returns-clause-names : goal.returns-clause-names

@@ -1,5 +1,5 @@
 -- A name that was added was not there; one that wasn't is the first that repeats another.
-use Rattle.std.proofs.Common.{sym, ◌∙◌, ap, ◌+◌, Err, Result, ℕ}
+use Rattle.std.proofs.Common.{sym, ◌∙◌}
 use Rattle.sno_pattern.proofs.NameListLemmas.{more_is_front, rest_is_same, false_of_not}
 use Rattle.sno_rewrite.proofs.IndexLemmas.{name_inside, name_is, repeat_found, true_of_not}
 use Rattle.sno_rewrite.proofs.texts.Index.of.Goals as goal
