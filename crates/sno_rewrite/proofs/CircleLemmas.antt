@@ -1,9 +1,8 @@
 -- Definitions that refer to definitions alone, and the first of a circle of them.
-use Rattle.std.proofs.Common.{◌≡◌, ℕ, zero, suc, ◌+◌, ◌<◌, Bool, true, false, not, ◌&&◌, cond, List, [], ◌∷◌, length, Option, Some, None, slice_get, refl, sym, ap, subst, ◌∙◌, IsTrue, arith}
+use Rattle.std.proofs.Common.{◌≡◌, ℕ, ◌+◌, ◌<◌, Bool, true, false, not, ◌&&◌, cond, List, [], ◌∷◌, length, Option, Some, None, slice_get, refl, sym, subst, ◌∙◌, IsTrue}
 use Rattle.std.specs.List.{list_all, position_from}
 use Rattle.std.proofs.lemmas.Option.{slice_get_within}
 use Rattle.sno_pattern.specs.Tree.{Tree, refs_below}
-use Rattle.sno_pattern.specs.Guard.{Leads}
 use Rattle.sno_pattern.specs.Admission.{IsFirstCycle, IsWay, first_bad_ref}
 
 none_later : (v : Bool) (i : ℕ) (later : Option ℕ) (rest : Bool) → (rest ≡ true → later ≡ None) → (v && rest) ≡ true → cond (not v) (Some i) later ≡ None

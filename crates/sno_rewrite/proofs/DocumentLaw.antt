@@ -1,10 +1,10 @@
 -- Bytes have one answer.
-use Rattle.std.proofs.Common.{◌≡◌, ℕ, ◌<◌, ◌≤◌, Bool, List, [], ◌∷◌, Result, Ok, Err, Option, Some, slice_get, refl, sym, ap, subst, ◌∙◌, ◌⊎◌, inl, inr, arith}
+use Rattle.std.proofs.Common.{◌≡◌, ℕ, Bool, List, [], ◌∷◌, Result, Ok, Err, refl, sym, ap, subst, ◌∙◌, inl, inr, arith}
 use Rattle.std.proofs.lemmas.Bool.{cases_lt}
 use Rattle.serde_json.specs.Data.{Data}
 use Rattle.sno_pattern.specs.Tree.{Tree}
 use Rattle.sno_pattern.specs.Definitions.{Definitions}
-use Rattle.sno_pattern.specs.Guard.{Leads, Chain, Guarded}
+use Rattle.sno_pattern.specs.Guard.{Chain}
 use Rattle.sno_pattern.specs.Admission.{IsWay, IsFirstCycle}
 use Rattle.sno_pattern.proofs.Cycles.{not_guarded}
 use Rattle.sno_rewrite.specs.Shape.{Rows, rows_of}

@@ -1,5 +1,5 @@
 -- A place that is answered for a list lies in it.
-use Rattle.std.proofs.Common.{◌≡◌, ℕ, suc, ◌+◌, ◌<◌, ◌≤◌, ◌^◌, Bool, true, false, cond, List, [], ◌∷◌, ◌++◌, length, Option, Some, None, Result, Ok, Err, nat_lt, arith}
+use Rattle.std.proofs.Common.{◌≡◌, ℕ, suc, ◌+◌, ◌<◌, ◌≤◌, ◌^◌, Bool, true, false, cond, List, [], ◌∷◌, ◌++◌, length, Option, Some, None, Result, Err, nat_lt, arith}
 use Rattle.std.specs.List.{list_any, position_from}
 use Rattle.sno_pattern.specs.Identifiers.{same, is_reserved}
 use Rattle.sno_pattern.specs.NameList.{repeat_from, first_repeat, first_reserved, unless_repeated, unless_reserved, names_of}

@@ -19,6 +19,28 @@ fn words_of(alloc: Global, line: &str) -> Result<Vec<String>, Fail> {
     Ok(words)
 }
 
+// The text that refuses a line; none where it is not refused.
+fn refusal_of(alloc: Global, line: &str) -> Result<Option<String>, Fail> {
+    let words = words_of(alloc, line)?;
+    match options_of(alloc, &words) {
+        Ok(_options) => Ok(None),
+        Err(OptionsFault::Usage(text)) => Ok(Some(text)),
+        Err(OptionsFault::Help(_text)) => Ok(None),
+        Err(OptionsFault::Memory) => Ok(None),
+    }
+}
+
+// The help that a line asks for; none where it asks for none.
+fn help_of(alloc: Global, line: &str) -> Result<Option<String>, Fail> {
+    let words = words_of(alloc, line)?;
+    match options_of(alloc, &words) {
+        Ok(_options) => Ok(None),
+        Err(OptionsFault::Help(text)) => Ok(Some(text)),
+        Err(OptionsFault::Usage(_text)) => Ok(None),
+        Err(OptionsFault::Memory) => Ok(None),
+    }
+}
+
 // Each option alone, at its limits, and all together in any order.
 #[test]
 fn lines_give_options(rt: HostRuntime) -> Result<(), Fail> {
@@ -100,15 +122,10 @@ fn lines_are_refused(rt: HostRuntime) -> Result<(), Fail> {
         "document.json",
     ];
     for line in rows {
-        let words = words_of(rt.alloc(), line)?;
-        match options_of(rt.alloc(), &words) {
-            Err(OptionsFault::Usage(text)) => {
-                let begins = text.as_str().starts_with("error: ");
-                let helps = text.as_str().contains("try '--help'.");
-                assert!(rt; begins && helps, "for {line}: {text}");
-            }
-            _ => assert!(rt; false, "not refused: {line}"),
-        }
+        let text = refusal_of(rt.alloc(), line)?.ok_or("not refused")?;
+        let begins = text.as_str().starts_with("error: ");
+        let helps = text.as_str().contains("try '--help'.");
+        assert!(rt; begins && helps, "for {line}: {text}");
     }
     Ok(())
 }
@@ -116,26 +133,22 @@ fn lines_are_refused(rt: HostRuntime) -> Result<(), Fail> {
 // Help names the program and each option.
 #[test]
 fn help_names_each_option(rt: HostRuntime) -> Result<(), Fail> {
+    let parts = [
+        "sno_rewrite",
+        "--workers <N>",
+        "1 to 16",
+        "--tries <N>",
+        "1 to 1000",
+        "[default: 100]",
+        "--anchor",
+        "--json",
+        "--help",
+    ];
     for line in ["--help", "-h", "--json --help"] {
-        let words = words_of(rt.alloc(), line)?;
-        match options_of(rt.alloc(), &words) {
-            Err(OptionsFault::Help(text)) => {
-                for part in [
-                    "sno_rewrite",
-                    "--workers <N>",
-                    "1 to 16",
-                    "--tries <N>",
-                    "1 to 1000",
-                    "[default: 100]",
-                    "--anchor",
-                    "--json",
-                    "--help",
-                ] {
-                    let holds = text.as_str().contains(part);
-                    assert!(rt; holds, "{part} is not in {text}");
-                }
-            }
-            _ => assert!(rt; false, "no help for {line}"),
+        let text = help_of(rt.alloc(), line)?.ok_or("no help")?;
+        for part in parts {
+            let holds = text.as_str().contains(part);
+            assert!(rt; holds, "{part} is not in {text}");
         }
     }
     Ok(())

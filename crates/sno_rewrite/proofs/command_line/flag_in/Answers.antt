@@ -1,5 +1,5 @@
 -- `clap` reads a flag's text as it stands in its row.
-use Rattle.std.proofs.Common.{sym, ◌∙◌}
+use Rattle.std.proofs.Common.{◌∙◌}
 use Rattle.clap.specs.Words.{found_of}
 use Rattle.clap.proofs.WalkLemmas.{one_text-rows}
 use Rattle.sno_rewrite.proofs.CommandLineLemmas.{flag_read}

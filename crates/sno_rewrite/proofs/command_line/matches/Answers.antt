@@ -1,5 +1,5 @@
 -- The matches and the faults of the program are known.
-use Rattle.std.proofs.Common.{ap, subst, sym, ◌∙◌, ◌≡◌, List, map, string_bytes}
+use Rattle.std.proofs.Common.{ap, subst, ◌∙◌, map, string_bytes}
 use Rattle.std.proofs.lemmas.Result.{IfOk-weaker}
 use Rattle.clap.specs.Words.{FailsBy, Kinds, is_simple, is_simple_and_free}
 use Rattle.sno_rewrite.proofs.CommandLineLemmas.{faults_are, found_are, program_free, program_simple}

@@ -1,9 +1,8 @@
 -- Admission answers for the definitions that were drafted.
-use Rattle.std.proofs.Common.{◌≡◌, ◌<◌, ◌∙◌, ℕ, List, ◌∷◌, length, sym, ap, subst, slice_get, get_or, refl, arith}
+use Rattle.std.proofs.Common.{◌<◌, ◌∙◌, ℕ, List, length, sym, ap, slice_get, get_or, refl, arith}
 use Rattle.std.proofs.Math.ListN.{length-map}
 use Rattle.std.proofs.lemmas.Option.{slice_get_read}
 use Rattle.sno_pattern.specs.Tree.{tree_of, trees}
-use Rattle.sno_pattern.specs.Admission.{IsFirstCycle}
 use Rattle.sno_rewrite.specs.Document.{IsAdmitted}
 use Rattle.sno_rewrite.proofs.CircleLemmas.{no_bad_ref, circle_parts}
 use Rattle.sno_rewrite.proofs.definitions.admitted.Goals as goal

@@ -1,5 +1,4 @@
 -- A document has no other answer than itself.
-use Rattle.std.proofs.Common.{Ok, Err}
 use Rattle.sno_rewrite.proofs.FaultLemmas.{memory_only, memory_err}
 use Rattle.sno_rewrite.proofs.DocumentLaw.{one_answer}
 use Rattle.sno_rewrite.proofs.running.run_serial.Goals as goal
