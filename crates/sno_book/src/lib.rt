@@ -1,4 +1,36 @@
 //! The book: named texts with versions, and a journal of the statements that were accepted on them.
+//!
+//! A [`Book`] begins with texts at version 0 and an empty journal. A [`Snapshot`] shares a text as it stands. [`propose`] performs a
+//! statement on a snapshot and makes a [`Proposal`]; it takes no lock and the book needn't be at hand. [`Book::commit`] accepts the
+//! proposal only where the text still stands as the snapshot has it. It then puts one [`Entry`] behind the others, puts the new text in
+//! place, where the statement replaced something, and raises that text's version by one. A [`Receipt`] says where the entry stands.
+//!
+//! # What is promised, and where
+//!
+//! - **Each entry is a step.** By its type a book's journal is `Legal` from its opening (`specs/Journals.antt`): the text of each
+//!   entry's statement has the entry's version among the texts that the entries before it leave, and the entry's outcome is what the
+//!   statement does to that text. The texts and versions are the `replay` of the journal. [`Book::journal`] and [`Book::text`] say so.
+//! - **A commit is one step, a refusal none** (`Book::commit`, `specs/Commits.antt`). `accepted`: the proposal's entry is appended, it
+//!   has a step from the texts as they were, and the texts are what the step leaves. `refused`: which refusal comes is exact, the book is
+//!   what it was, and the same proposal comes back. Want of memory comes only where no other refusal holds.
+//! - **Nothing is made up.** A [`Proposal`] keeps by its type that its outcome is what its statement does to its text, and a
+//!   [`Receipt`] that its entry's outcome is.
+//! - **Receipts can be audited.** [`Book::audit`] compares entries by value, wherever they lie in memory.
+//! - **Laws**: [`versions_only_rise`], [`fresh_is_free`] (`specs/Laws.antt`).
+//!
+//! What each file has:
+//!
+//! - `src/books.rt`: [`Book`] and its calls. `src/beginning.rt`: how it begins. `src/audits.rt`: the audit.
+//! - `src/openings.rt`: [`Opening`], the texts and the room that a book was given.
+//! - `src/snapshots.rt`, `src/proposals.rt`, `src/entries.rt`: [`Snapshot`], [`Proposal`], [`Entry`] and [`Receipt`].
+//! - `src/ready.rt`: what a commit needs, made before it changes anything. `src/shelves.rt`: the texts at their places.
+//! - `src/same_patterns.rt`, `src/same_statements.rt`, `src/same_outcomes.rt`: equality by value.
+//! - `src/faults.rt`: the refusals. `src/laws.rt`: the laws.
+//!
+//! # What is not promised
+//!
+//! That memory is there. A commit costs a look-up of one name, a comparison of one text and a push: neither the number of texts nor the
+//! journal's length counts, which the benchmark shows and no clause says. Nothing is shared between threads here.
 #![tactic(auto)]
 
 mod audits;

@@ -20,8 +20,12 @@ fn words(rt: &HostRuntime) -> io::Result<Vec<String>> {
 }
 
 /// The run of these options, and the status that it ends with.
-fn performed(rt: &HostRuntime, options: &Options) -> io::Result<u8> {
-    match run(rt.alloc(), &mut rt.stdin(), &mut rt.stdout(), options) {
+fn performed(rt: &HostRuntime, options: Options) -> io::Result<u8> {
+    let serial = Options {
+        workers: None,
+        ..options
+    };
+    match run(rt.alloc(), &mut rt.stdin(), &mut rt.stdout(), &serial) {
         Ok(status) => Ok(status),
         Err(fault) => {
             eprintln!(rt; "{fault}")?;
@@ -32,7 +36,7 @@ fn performed(rt: &HostRuntime, options: &Options) -> io::Result<u8> {
 
 fn main(rt: HostRuntime) -> io::Result<ExitCode> {
     let status = match options_of(rt.alloc(), &words(&rt)?) {
-        Ok(options) => performed(&rt, &Options { workers: None, ..options })?,
+        Ok(options) => performed(&rt, options)?,
         Err(OptionsFault::Help(text)) => {
             print!(rt; "{text}")?;
             0
