@@ -1,5 +1,5 @@
 -- Receipts that agree with a journal.
-use Rattle.std.specs.Prelude.{◌≡◌, ℕ, ◌<◌, List, take, Option, Some, Result, Ok, Err, slice_get}
+use Rattle.std.specs.Prelude.{◌≡◌, ℕ, List, take, Some, Result, Ok, Err, slice_get}
 use Rattle.std.specs.List.{All}
 use Rattle.sno_book.specs.Entries.{Entry}
 use Rattle.sno_book.specs.Proposals.{Received}

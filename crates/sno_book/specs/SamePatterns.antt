@@ -1,5 +1,5 @@
 -- Whether two patterns are the same. That the same trees are the equal ones is proved.
-use Rattle.std.specs.Prelude.{ℕ, Bool, true, false, ◌&&◌, List, nat_eq}
+use Rattle.std.specs.Prelude.{Bool, true, false, ◌&&◌, nat_eq}
 use Rattle.sno_pattern.specs.Identifiers.{same}
 use Rattle.sno_pattern.specs.Tree.{Tree, Lit, Len, Pos, Rpos, Tab, Rtab, AnyOf, NoneOf, Span, Break, Arb, Arbno, Bal, Rem, Fence, Abort, Fail, At, Ref, Seq, Alt, Cond, Imm}
 
