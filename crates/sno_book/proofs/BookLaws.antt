@@ -1,16 +1,16 @@
 -- What a proposal that nothing refuses does to a book.
-use Rattle.std.proofs.Common.{◌≡◌, ◌≢◌, ℕ, zero, suc, ◌+◌, ◌<◌, ◌≤◌, ◌^◌, Bool, true, false, cond, nat_eq, List, [], ◌∷◌, ◌++◌, length, map, Option, Some, None, Ok, slice_get, refl, ap, sym, subst, ◌∙◌, arith}
+use Rattle.std.proofs.Common.{◌≡◌, ◌≢◌, ℕ, zero, suc, ◌+◌, ◌<◌, ◌≤◌, ◌^◌, Bool, true, false, cond, nat_eq, List, [], ◌∷◌, length, Option, Some, None, Ok, slice_get, refl, ap, sym, subst, ◌∙◌, arith}
 use Rattle.std.proofs.lemmas.Bool.{eqb-true, eqb-false, eq-eqb}
 use Rattle.std.proofs.lemmas.List.{length-append}
 use Rattle.std.proofs.Math.ListN.{length-map}
 use Rattle.std.specs.Arc.{arc_value}
 use Rattle.sno_pattern.specs.Identifiers.{same}
 use Rattle.sno_statement.specs.Perform.{perform}
-use Rattle.sno_book.specs.States.{Held, State, find, raised, renew, renew_by}
-use Rattle.sno_book.specs.Entries.{Entry, after_of}
-use Rattle.sno_book.specs.Journals.{HasStep, step, replay, Legal}
+use Rattle.sno_book.specs.States.{Held, State, find, renew_by}
+use Rattle.sno_book.specs.Entries.{after_of}
+use Rattle.sno_book.specs.Journals.{HasStep}
 use Rattle.sno_book.specs.Openings.{Opening, IsOpening, names_in, start}
-use Rattle.sno_book.specs.Views.{View, IsLawful, state_of, and_then}
+use Rattle.sno_book.specs.Views.{View, state_of, and_then}
 use Rattle.sno_book.specs.Proposals.{Proposed, entry_of}
 use Rattle.sno_book.specs.Commits.{place_in, full, beside, at_place, refusal}
 use Rattle.sno_book.specs.Shelves.{Keeps, held_of}

@@ -5,13 +5,10 @@ use Rattle.std.proofs.lemmas.Bool.{eq-eqb, eqb-true}
 use Rattle.sno_pattern.specs.Identifiers.{same}
 use Rattle.sno_statement.specs.Task.{Task}
 use Rattle.sno_book.specs.States.{Held}
-use Rattle.sno_book.specs.Views.{View}
-use Rattle.sno_book.specs.Proposals.{Proposed, Proposes}
-use Rattle.sno_book.specs.Commits.{place_in, full, beside, IsSnapshot, refusal}
+use Rattle.sno_book.specs.Commits.{place_in, full}
 use Rattle.sno_book.specs.Laws.{FreshIsFree}
 use Rattle.sno_book.specs.declared.faults.CommitFault.{CommitFault}
 use Rattle.sno_book.specs.declared.faults.CommitFault.TheVariants.{Changed, Foreign, Full}
-use Rattle.sno_book.specs.declared.snapshots.Snapshot.{Snapshot}
 use Rattle.sno_book.proofs.BookLaws.{refusal_there}
 
 both_true : (b c : Bool) → b ≡ true → c ≡ true → b && c ≡ true

@@ -1,12 +1,12 @@
 -- Versions only rise.
-use Rattle.std.proofs.Common.{◌≡◌, ℕ, suc, ◌+◌, ◌<◌, ◌≤◌, ◌⊎◌, inl, inr, Bool, true, false, cond, List, [], ◌∷◌, ◌++◌, Option, Some, None, refl, ap, sym, ◌∙◌, arith}
+use Rattle.std.proofs.Common.{◌≡◌, ℕ, ◌+◌, ◌⊎◌, inl, inr, Bool, true, false, cond, List, [], ◌∷◌, ◌++◌, Option, Some, None, refl, ap, sym, ◌∙◌, arith}
 use Rattle.sno_pattern.specs.Identifiers.{same}
 use Rattle.sno_book.specs.States.{Held, State, find, raised, renew, renew_by}
 use Rattle.sno_book.specs.Entries.{Entry, after_of}
 use Rattle.sno_book.specs.Journals.{step, replay}
 use Rattle.sno_book.specs.Openings.{Opening, start}
-use Rattle.sno_book.specs.Views.{View, state_of}
-use Rattle.sno_book.specs.Laws.{IsPrefix, OnlyRises, VersionsOnlyRise}
+use Rattle.sno_book.specs.Views.{state_of}
+use Rattle.sno_book.specs.Laws.{OnlyRises, VersionsOnlyRise}
 
 -- what is found after a step: what was found before it, or a text of a version one higher
 record Goes (found : Option Held) (held : Held) : Type 0 where

@@ -1,10 +1,10 @@
 -- Finding and replacing a text by its name, and by the place of its name.
-use Rattle.std.proofs.Common.{◌≡◌, ℕ, zero, suc, ◌+◌, ◌<◌, ◌≤◌, Bool, true, false, cond, List, [], ◌∷◌, ◌++◌, length, map, Option, Some, None, slice_get, refl, ap, sym, subst, ◌∙◌, arith}
+use Rattle.std.proofs.Common.{◌≡◌, ℕ, suc, ◌+◌, ◌≤◌, Bool, true, false, cond, List, [], ◌∷◌, ◌++◌, length, map, Option, Some, None, refl, ap, subst, ◌∙◌, arith}
 use Rattle.sno_pattern.specs.Identifiers.{same}
-use Rattle.sno_book.specs.States.{Held, State, find, raised, renew, renew_by}
+use Rattle.sno_book.specs.States.{Held, State, raised, renew, renew_by}
 use Rattle.sno_book.specs.Entries.{Entry, after_of}
 use Rattle.sno_book.specs.Journals.{HasStep, step, replay, Legal}
-use Rattle.sno_book.specs.Openings.{Opening, names_in, start}
+use Rattle.sno_book.specs.Openings.{names_in, start}
 
 -- the names of the texts
 abbrev pub names : State → List (List ℕ)

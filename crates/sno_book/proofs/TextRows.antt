@@ -1,5 +1,5 @@
 -- Texts behind one another, no two of one name.
-use Rattle.std.proofs.Common.{◌≡◌, ℕ, suc, ◌+◌, ◌<◌, ◌≤◌, Bool, true, false, cond, not, List, [], ◌∷◌, ◌++◌, length, map, Option, Some, None, Ok, Err, refl, ap, sym, ◌∙◌, arith, append_assoc, append-nil, ◌||◌, nat_lt}
+use Rattle.std.proofs.Common.{◌≡◌, ℕ, ◌+◌, ◌≤◌, Bool, true, false, cond, not, List, [], ◌∷◌, ◌++◌, length, Option, Some, None, Ok, Err, refl, ap, sym, ◌∙◌, arith, append_assoc, append-nil, ◌||◌, nat_lt}
 use Rattle.std.proofs.Common.{Global}
 use Rattle.std.specs.Option.{is_some}
 use Rattle.std.specs.List.{list_any}
@@ -11,10 +11,9 @@ use Rattle.std.proofs.Math.ListN.{length-map}
 use Rattle.indexmap.specs.IndexMap.{insert_entry}
 use Rattle.sno_pattern.specs.Identifiers.{same}
 use Rattle.sno_pattern.specs.NameList.{repeat_from, first_repeat}
-use Rattle.sno_book.specs.Openings.{Opening, IsOpening, names_in, texts_seen, opening_of, unless_repeated}
+use Rattle.sno_book.specs.Openings.{IsOpening, names_in, texts_seen, opening_of, unless_repeated}
 use Rattle.sno_book.specs.declared.faults.BookFault.TheVariants as fault
-use Rattle.sno_book.specs.Beginnings.{stood, stood_at_first}
-use Rattle.sno_book.specs.declared.shelves.Standing.{Standing}
+use Rattle.sno_book.specs.Beginnings.{stood_at_first}
 
 abbrev pub Shared : Type 0
 Shared = List (List ℕ × Arc (List ℕ) Global)

@@ -1,11 +1,10 @@
 -- Entries of the journal by value.
-use Rattle.std.specs.Prelude.{◌≡◌, ◌⊎◌, ℕ, List, Option, Some, None, refl}
+use Rattle.std.specs.Prelude.{◌≡◌, ◌⊎◌, ℕ, List, Option, None, refl}
 use Rattle.std.specs.Coded.{Coded, code_by, coded×, coded⊎, coded_list, coded_ℕ, coded_option}
 use mathlib.Core.Logic.{inl, inr}
 use Rattle.sno_statement.specs.Task.{Task, task_code}
 use Rattle.sno_statement.specs.Bindings.{Bound}
 use Rattle.sno_statement.specs.Perform.{Done, Matched, Failed}
-use Rattle.sno_statement.specs.declared.binding.Datum.{Datum}
 use Rattle.sno_statement.specs.contracts.binding.Datum as stored
 
 -- an accepted statement: the version of its text that it was performed on, and what came of it

@@ -1,11 +1,11 @@
 -- Openings: the texts as they were given, and how many entries the journal may hold.
-use Rattle.std.specs.Prelude.{◌≡◌, ◌<◌, ◌≤◌, ℕ, List, map, length, nat_lt, Option, Some, None, Result, Ok, Err, refl, if◌then◌else◌}
+use Rattle.std.specs.Prelude.{◌≡◌, ◌≤◌, ℕ, List, map, length, nat_lt, Option, Some, None, Result, Ok, Err, refl, if◌then◌else◌}
 use Rattle.std.specs.Coded.{Coded, code_by, coded×, coded_list, coded_ℕ}
 use Rattle.sno_pattern.specs.NameList.{first_repeat}
 use Rattle.std.specs.Arc.{arc_value}
 use Rattle.std.specs.declared.sync.Arc.{Arc}
 use Rattle.std.proofs.Common.{Global}
-use Rattle.sno_book.specs.States.{Held, State}
+use Rattle.sno_book.specs.States.{State}
 use Rattle.sno_book.specs.declared.faults.BookFault.{BookFault}
 use Rattle.sno_book.specs.declared.faults.BookFault.TheVariants as fault
 

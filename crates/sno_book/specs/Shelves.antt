@@ -1,9 +1,8 @@
 -- How a book keeps its texts: each with its version, at the place of its name.
 use Rattle.std.specs.Prelude.{◌≡◌, ℕ, List, [], ◌∷◌, length}
 use Rattle.std.specs.Arc.{arc_value}
-use Rattle.sno_book.specs.States.{Held, State}
-use Rattle.sno_book.specs.Entries.{Entry}
-use Rattle.sno_book.specs.Openings.{Opening, names_in, start}
+use Rattle.sno_book.specs.States.{State}
+use Rattle.sno_book.specs.Openings.{names_in}
 use Rattle.sno_book.specs.Views.{View, IsLawful, state_of}
 use Rattle.sno_book.specs.declared.shelves.Standing.{Standing}
 

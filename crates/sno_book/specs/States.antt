@@ -1,5 +1,5 @@
 -- The texts of the collection at one moment.
-use Rattle.std.specs.Prelude.{ℕ, ◌+◌, List, [], ◌∷◌, map, Option, Some, None, if◌then◌else◌}
+use Rattle.std.specs.Prelude.{ℕ, ◌+◌, List, [], ◌∷◌, Option, Some, None, if◌then◌else◌}
 use Rattle.sno_pattern.specs.Identifiers.{same}
 
 -- a text with its name and its version

@@ -1,5 +1,5 @@
 -- The texts so far, with those that are left, come to the same.
-use Rattle.std.proofs.Common.{◌≡◌, ◌≤◌, ◌++◌, length}
+use Rattle.std.proofs.Common.{◌≡◌, ◌++◌, length}
 use Rattle.std.specs.Vec.Iter.{into_iter_items, into_iter_len}
 use Rattle.sno_pattern.specs.NameList.{repeat_from, first_repeat}
 use Rattle.sno_book.specs.Openings.{texts_seen, names_in}

@@ -1,13 +1,11 @@
 -- One more entry.
 use Rattle.std.proofs.Common.{◌≡◌, ap, ◌∙◌, sym, None, Some, ℕ, List, [], ◌∷◌, ◌++◌}
-use Rattle.sno_book.specs.States.{renew_by, State}
 use Rattle.sno_book.specs.Openings.{names_in, start}
-use Rattle.sno_book.specs.Shelves.{held_of}
 use Rattle.sno_book.specs.Entries.{Entry}
 use Rattle.sno_book.specs.Proposals.{entry_of}
 use Rattle.sno_book.specs.Views.{View, state_of, and_then}
 use Rattle.sno_book.proofs.Steps.{replay_snoc}
-use Rattle.sno_book.specs.Commits.{refusal, place_in}
+use Rattle.sno_book.specs.Commits.{refusal}
 use Rattle.sno_book.specs.contracts.books.Book.{the_view}
 use Rattle.sno_book.proofs.BookLaws.{free, free_step, place_inside, version_rises, keeps_more}
 use Rattle.sno_book.proofs.books.Book.accept.Goals as goal
