@@ -1,8 +1,9 @@
 -- Dealing out in turn.
 use Rattle.std.proofs.Common.{◌≡◌, ◌<◌, ◌≤◌, ◌⊎◌, inl, inr, ℕ, zero, suc, ◌+◌, ◌-◌, Bool, true, false, List, [], ◌∷◌, ◌++◌, ◌∙◌, length, get_or, map, refl, sym, ap, subst, append_assoc, length-append, arith}
-use Rattle.std.specs.Prelude.{Option, Some, None, sum_by}
+use Rattle.std.specs.Prelude.{sum, Option, Some, None, sum_by}
 use Rattle.std.proofs.Math.Dec.{leb}
 use Rattle.std.proofs.lemmas.Bool.Decides.{leb_tells}
+use Rattle.std.proofs.lemmas.List.Sums.{sum-map, sum_by-cons}
 use Rattle.std.proofs.lemmas.List.{append-nil, get_or-map, length-map, map-append}
 use Rattle.sno_statement.specs.Task.{Task}
 use Rattle.sno_desk.specs.Answers.{Answer, added_by}
@@ -207,3 +208,60 @@ taken_in_turn {X} items before mids after queue rest r replies was one is d =
 pub deals_none : {X : Type 0} (count first : ℕ) (queues : List (List X)) → Deals count first queues []
 deals_none count first [] = tt
 deals_none count first (queue ∷ queues) = (record { left = queue; joined = refl }, deals_none count (suc first) queues)
+
+-- ---- all shares together
+-- the receipts among the turns of so many seats, from one on
+abbrev turns_total : ℕ → ℕ → ℕ → List Answer → ℕ
+turns_total count first zero replies = 0
+turns_total count first (suc seats) replies = sum_by added_by (every count first replies) + turns_total count (suc first) seats replies
+
+turns_of_none : (count first seats : ℕ) → turns_total count first seats [] ≡ 0
+turns_of_none count first zero = refl
+turns_of_none count first (suc seats) = let rest = turns_of_none count (suc first) seats in omega (arith, rest)
+
+turns_later : (count first seats : ℕ) (r : Answer) (replies : List Answer) → turns_total count (suc first) seats (r ∷ replies) ≡ turns_total count first seats replies
+turns_later count first zero r replies = refl
+turns_later count first (suc seats) r replies = ap (λ n. sum_by added_by (every count first replies) + n) (turns_later count (suc first) seats r replies)
+
+turns_last : (count first seats place : ℕ) (replies : List Answer) → place ≡ first + seats
+    → turns_total count first (suc seats) replies ≡ turns_total count first seats replies + sum_by added_by (every count place replies)
+turns_last count first zero place replies e =
+    let same : first ≡ place = omega arith in
+    let P : ℕ → Type 0 = λ p. sum_by added_by (every count first replies) + 0 ≡ 0 + sum_by added_by (every count p replies) in
+    subst P same (omega arith)
+turns_last count first (suc seats) place replies e =
+    let rest = turns_last count (suc first) seats place replies (omega arith) in omega (arith, rest)
+
+turns_whole : (seats : ℕ) (replies : List Answer) → turns_total (suc seats) 0 (suc seats) replies ≡ sum_by added_by replies
+turns_whole seats [] = turns_of_none (suc seats) 0 (suc seats)
+turns_whole seats (r ∷ replies) =
+    let rest = turns_whole seats replies in
+    let last = turns_last (suc seats) 0 seats (suc seats - 1) replies (omega arith) in
+    let later = turns_later (suc seats) 0 seats r replies in
+    let front = sum_by-cons added_by r (every (suc seats) (suc seats - 1) replies) in
+    let all = sum_by-cons added_by r replies in
+    omega (arith, rest, last, later, front, all)
+
+raised_total : (count first : ℕ) (shares : List ℕ) (replies : List Answer)
+    → sum (raised_by count first shares replies) ≡ sum shares + turns_total count first (length shares) replies
+raised_total count first [] replies = refl
+raised_total count first (share ∷ shares) replies =
+    let rest = raised_total count (suc first) shares replies in
+    let a = sum_by-cons (λ n. n) (share + sum_by added_by (every count first replies)) (raised_by count (suc first) shares replies) in
+    let b = sum_by-cons (λ n. n) share shares in
+    omega (arith, rest, a, b)
+
+-- all shares have risen by all receipts
+pub shares_total : {X : Type 0} (share : X → ℕ) (before after : List X) (replies : List Answer) → 1 ≤ length before
+    → map share after ≡ raised_by (length before) 0 (map share before) replies → sum_by share after ≡ sum_by share before + sum_by added_by replies
+shares_total share [] after replies some e = absurd (omega arith)
+shares_total share (x ∷ xs) after replies some e =
+    let raised = ap sum e in
+    let total = raised_total (suc (length xs)) 0 (map share (x ∷ xs)) replies in
+    let whole = turns_whole (length xs) replies in
+    let many : length (map share (x ∷ xs)) ≡ suc (length xs) = length-map (x ∷ xs) share in
+    let P : ℕ → Type 0 = λ n. sum (raised_by (suc (length xs)) 0 (map share (x ∷ xs)) replies) ≡ sum (map share (x ∷ xs)) + turns_total (suc (length xs)) 0 n replies in
+    let at : sum (raised_by (suc (length xs)) 0 (map share (x ∷ xs)) replies) ≡ sum (map share (x ∷ xs)) + turns_total (suc (length xs)) 0 (suc (length xs)) replies = subst P many total in
+    let b = sum-map share (x ∷ xs) in
+    let a = sum-map share after in
+    omega (arith, raised, at, whole, a, b)

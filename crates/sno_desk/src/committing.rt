@@ -1,6 +1,6 @@
 //! Snapshots and commits through a seat.
 ghost use Rattle.std.specs.Prelude.{◌≡◌, ◌+◌, IfOk, IfErr, OnOk, OnErr};
-ghost use Rattle.sno_book.specs.Proposals.{entry_of};
+ghost use Rattle.sno_book.specs.Commits.{GivesSnapshot, IsAccepted, IsRefused};
 ghost use Rattle.sno_desk.specs.Receipts.{IsFor, IsCause};
 
 use crate::locked::Locked;
@@ -11,17 +11,22 @@ use std::sync::Wait;
 use std::sync::ledger::Ledger;
 
 impl<L: Ledger> Locked<L> {
-    /// Commits the proposal to the book, and counts it where it was accepted.
-    #[tactic(auto, using(crate::proofs::Causes::changed))]
+    /// The text of this name as it stands in the book.
+    fn snapshot(&self, name: &TextName) -> Result<Snapshot, SnapshotFault>
+        ensures { GivesSnapshot result self.now.book name.now }
+    {
+        self.book.snapshot(name)
+    }
+
+    /// Commits the proposal to the book, and counts it where it was accepted: of the seat and of the total alike.
     fn commit(
         &mut self,
         seat: &mut Seat<L>,
         proposal: Proposal,
     ) -> Result<Receipt, (CommitFault, Proposal)>
-        ensures receipt { IfOk result (λ r. IsFor r proposal) }
+        ensures accepted { IfOk result (λ r. IsAccepted self.old.book self.new.book proposal r) }
         ensures counted { OnOk result (seat.new.accepted ≡ seat.old.accepted + 1) }
-        ensures back { IfErr result (λ r. r.1 ≡ proposal) }
-        ensures cause { IfErr result (λ r. IsCause r.0 proposal) }
+        ensures refused { IfErr result (λ r. IsRefused self.old.book self.new.book proposal r.1 r.0) }
         ensures same { OnErr result (seat.new.accepted ≡ seat.old.accepted) }
     {
         let _ = self.book.journal();
@@ -32,20 +37,27 @@ impl<L: Ledger> Locked<L> {
 }
 
 impl<L: Ledger> Desk<L> {
-    /// The text of this name as it stands when the lock is taken.
+    /// The text of this name as it stands when the lock is taken, shared. It waits for the lock alone; the seat's share stays as it is.
+    ///
+    /// Refused, in this order: `NoText`, where the book has no text of that name; `Memory`. Nothing is changed.
     pub fn snapshot<R: Wait>(
         &self,
         rt: &R,
-        seat: &mut Seat<L>,
+        _seat: &mut Seat<L>,
         name: &TextName,
     ) -> Result<Snapshot, SnapshotFault>
-        ensures { seat.new.accepted ≡ seat.old.accepted }
+        ensures { _seat.new.accepted ≡ _seat.old.accepted }
     {
-        let _ = seat.accepted();
-        self.lock.lock(rt).book.snapshot(name)
+        self.lock.lock(rt).snapshot(name)
     }
 
-    /// Commits.
+    /// Commits a proposal to the book under the lock, and counts it for the seat where it was accepted. It waits for the lock alone.
+    ///
+    /// On `Ok` the receipt's entry is the proposal's and its text the one that the proposal is for; the seat's share is one higher.
+    ///
+    /// Refused as `Book::commit` refuses, in this order: `NoText`, `Changed` with the proposal's version and the text's, which is another,
+    /// `Foreign`, `Full`, `Memory`. After each the share is the same, no entry is added, and the same proposal comes back.
+    #[tactic(auto, using(crate::proofs::Causes::changed))]
     pub fn commit<R: Wait>(
         &self,
         rt: &R,

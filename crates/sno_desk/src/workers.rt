@@ -194,6 +194,7 @@ pub fn run_workers<L: Ledger + Send + Sync, G: Gate + Sync, R: Threads + Wait + 
     requires few { (1 ≤ length seats.old) × (length seats.old ≤ 16) }
     requires lawful { (1 ≤ tries) × (tries ≤ 1000) }
     ensures answers { IfOk result (λ replies. AllAnswer (Answers (G.shuts gate.now) tries) (map arc_value jobs.now) replies.items) }
+    ensures total { IfOk result (λ replies. sum_by (λ s. s.accepted) seats.new ≡ sum_by (λ s. s.accepted) seats.old + sum_by added_by replies.items) }
     ensures shares { IfOk result (λ replies. map (λ s. s.accepted) seats.new ≡ raised_by (length seats.old) 0 (map (λ s. s.accepted) seats.old) replies.items) }
 {
     work_all(rt, alloc, desk, seats, jobs, tries, gate);

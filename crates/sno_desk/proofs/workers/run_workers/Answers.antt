@@ -4,7 +4,7 @@ use Rattle.std.specs.Arc.{arc_value}
 use Rattle.std.proofs.lemmas.List.{length-map}
 use Rattle.sno_desk.specs.Answers.{Answers}
 use Rattle.sno_desk.specs.Turns.{Deals}
-use Rattle.sno_desk.proofs.Turns.{Settles, settled_answers, settled_shares}
+use Rattle.sno_desk.proofs.Turns.{Settles, settled_answers, settled_shares, shares_total}
 use Rattle.sno_desk.proofs.workers.run_workers.Goals as goal
 use Rattle.sno_desk.proofs.workers.run_workers.Goals.{After-drop-queues-2}
 
@@ -31,3 +31,8 @@ returns-clause-answers g c = settled_answers _ _ _ _ _ _ _ _ _ _ (settles g c)
 
 pub returns-clause-shares : goal.returns-clause-shares
 returns-clause-shares g c = settled_shares _ _ _ _ _ _ _ _ _ _ (settles g c)
+
+pub returns-clause-total : goal.returns-clause-total
+returns-clause-total g c =
+    let risen = settled_shares _ _ _ _ _ _ _ _ _ _ (settles g c) in
+    shares_total (λ s. s.accepted) c.args.seats.now c.collect.new.seats c.in_ok-replies.replies.items (omega arith) risen
