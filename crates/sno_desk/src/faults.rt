@@ -125,3 +125,14 @@ impl<T: Drop> From<AllocFailed<T>> for WorkersFault {
         WorkersFault::Memory
     }
 }
+
+impl From<AllocError> for WorkersFault {
+    ghost use Rattle.std.specs.Prelude.{◌≡◌};
+    ghost use Rattle.sno_desk.specs.declared.faults.WorkersFault.TheVariants.{Memory};
+
+    ghost from_gives = { λ _ e. e ≡ Memory };
+
+    fn from(_refused: AllocError) -> WorkersFault {
+        WorkersFault::Memory
+    }
+}

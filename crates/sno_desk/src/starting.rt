@@ -30,9 +30,9 @@ fn seats_of<L: Ledger>(
 }
 
 impl<L: Ledger> Desk<L> {
-    /// A desk over this book, and its seats, through which nothing was accepted yet.
+    /// A desk over this book, with whose opening it begins, and its seats, each with a share of 0.
     ///
-    /// From 1 to 16 seats; the blank is of as many parts, and is the one that `L` stands for; the book's journal is empty.
+    /// From 1 to 16 seats; the blank has as many parts, and is the one that `L` stands for; the book's journal is empty.
     ///
     /// Refused: `Memory`. The book comes back as it was, and the blank is spent.
     pub fn new(

@@ -1,4 +1,4 @@
-//! Submits: snapshot, gate, matching and commit, again and again.
+//! Submits: snapshot, gate, matching and commit, until the text stays as it was under one of them.
 ghost use Rattle.std.specs.Prelude.{◌≡◌, ◌+◌, ◌≤◌, true};
 ghost use Rattle.std.specs.Arc.{arc_value};
 ghost use Rattle.sno_desk.specs.Answers.{Answers, added_by};
@@ -18,7 +18,7 @@ fn is_lost(answer: &Result<Receipt, SubmitFault>) -> bool
 }
 
 impl<L: Ledger> Desk<L> {
-    /// One attempt of several.
+    /// Attempt number `attempt` of `tries`. That the text changed under it is told as all tries spent.
     fn attempt<R: Wait, G: Gate>(
         &self,
         rt: &R,
@@ -87,7 +87,18 @@ impl<L: Ledger> Desk<L> {
         answer
     }
 
-    /// Submits.
+    /// Submits a statement: up to `tries` times a snapshot is taken, the gate passed, the statement performed on the snapshot and the proposal
+    /// committed. Attempts count from 1. A text that changed under one leads to the next; any other answer is the answer of the submit. The
+    /// gate is told once, by `done`, when there is one. It waits for the lock and at the gate; no lock is held at the gate or while matching.
+    ///
+    /// From 1 to 1,000 tries.
+    ///
+    /// On `Ok` the receipt's entry has this statement, and the seat's share is one higher. On `Err` the share is the same, and no entry was
+    /// added.
+    ///
+    /// Refused, as it is met: `NoText` where the book has no text of the statement's name; `GateShut`, only where the gate may be shut for the
+    /// statement's number at an attempt from 1 to `tries`; `TextTooLong`, only where the statement would make some text too long; `Foreign`;
+    /// `Full`; `Memory`; `TriesSpent` with the two versions of the last try, which differ.
     pub fn submit<R: Wait, G: Gate>(
         &self,
         rt: &R,

@@ -1,14 +1,15 @@
-//! Workers: each seat submits its part of a list of jobs.
-ghost use Rattle.std.specs.Prelude.{◌≡◌, ◌+◌, ◌<◌, ◌≤◌, ℕ, ◌∷◌, IfOk, OnOk, IfSome, Some, List, length, map, slice_index_or, sum_by};
+//! Workers: each seat submits its part of a list of jobs, in threads.
+ghost use Rattle.std.specs.Prelude.{◌≡◌, ◌+◌, ◌<◌, ◌≤◌, ℕ, ◌∷◌, IfOk, OnOk, List, length, map, slice_index_or, sum_by};
 ghost use Rattle.std.specs.Option.{option_map};
 ghost use Rattle.std.specs.Thread.{IsSend, IsSync};
 ghost use Rattle.std.specs.Arc.{arc_value};
 ghost use Rattle.sno_statement.specs.Task.{Task};
-ghost use Rattle.sno_desk.specs.Answers.{Answer, Answers, added_by};
-ghost use Rattle.sno_desk.specs.Turns.{AllAnswer, Deals, Goes, HasWorked, every, raised_by};
+ghost use Rattle.sno_desk.specs.Answers.{Answers, added_by};
+ghost use Rattle.sno_desk.specs.Turns.{AllAnswer, Goes, HasWorked, every, raised_by};
 
+use crate::gathering::{collect, in_order};
 use crate::{Desk, Gate, Reply, Seat, WorkersFault};
-use sno_book::{Book, Opening, Receipt};
+use sno_book::{Book, Receipt};
 use sno_statement::Statement;
 use std::alloc::{AllocError, Global};
 use std::collections::VecDeque;
@@ -30,7 +31,8 @@ struct Shift<'a, L: Ledger, G: Gate> {
 }
 
 impl<L: Ledger, G: Gate> Shift<'_, L, G> {
-    /// Submits this job where no other is waited for, and answers how many are other seats' before the next.
+    /// Submits this job where it is the seat's turn, which is when no other seat's job comes before; keeps the reply behind the others,
+    /// and answers how many jobs of other seats come before the next.
     #[tactic(auto, using(crate::proofs::Turns::goes_one, crate::proofs::Turns::goes_by))]
     fn turn<R: Wait>(
         &self,
@@ -67,7 +69,7 @@ impl<L: Ledger, G: Gate> Shift<'_, L, G> {
         ensures answers { IfOk result (λ replies. AllAnswer (Answers (G.shuts self.now.gate.now) self.now.tries) (every self.now.workers first (map arc_value self.now.jobs.now)) replies.items) }
         ensures counted { IfOk result (λ replies. seat.new.accepted ≡ seat.old.accepted + sum_by added_by replies.items) }
     {
-        let mut replies = VecDeque::new(alloc);
+        let mut replies = VecDeque::with_capacity(alloc, self.jobs.len().div_ceil(self.workers))?;
         let mut wait = first;
         for job in self.jobs {
             wait = self.turn(rt, alloc, seat, job, wait, &mut replies)?;
@@ -108,7 +110,6 @@ fn work_all<L: Ledger + Send + Sync, G: Gate + Sync, R: Threads + Wait + Sync>(
         (slice_index_or seats.old k d).accepted (slice_index_or seats.new k d).accepted (option_map (λ q. q.items) (slice_index_or seats.new k d).replies) }
 {
     may_cross::<Book>();
-    may_cross::<Opening>();
     may_cross::<Statement>();
     may_cross::<Receipt>();
     let workers = seats.len();
@@ -128,60 +129,16 @@ fn work_all<L: Ledger + Send + Sync, G: Gate + Sync, R: Threads + Wait + Sync>(
     thread::for_each_mut(rt, seats, workers, &worker);
 }
 
-/// The replies that the seats have kept.
-fn collect<L: Ledger>(
-    alloc: Global,
-    seats: &mut [Seat<L>],
-) -> Result<VecDeque<VecDeque<Reply>>, WorkersFault>
-    ensures as_many { IfOk result (λ queues. length queues.items ≡ length seats.old) }
-    ensures taken { IfOk result (λ queues. (k : ℕ) (d : Seat L) (e : _) → k < length seats.old → option_map (λ q. q.items) (slice_index_or seats.old k d).replies ≡ Some (slice_index_or queues.items k e).items) }
-    ensures same { OnOk result ((k : ℕ) (d : Seat L) → k < length seats.old → (slice_index_or seats.new k d).accepted ≡ (slice_index_or seats.old k d).accepted) }
-{
-    let mut queues = VecDeque::new(alloc);
-    for seat in seats.iter_mut() {
-        let Some(replies) = seat.take_replies() else {
-            return Err(WorkersFault::Memory);
-        };
-        queues.push_back(replies)?;
-    }
-    Ok(queues)
-}
-
-/// The first reply of the first queue, which goes behind the others.
-#[tactic(auto, using(crate::proofs::Turns::taken_in_turn))]
-fn next_reply(queues: &mut VecDeque<VecDeque<Reply>>) -> Result<Reply, WorkersFault>
-    ensures order { IfOk result (λ r. (replies : List Answer) → Deals (length queues.old.items) 0 (map (λ q. q.items) queues.new.items) replies
-        → Deals (length queues.old.items) 0 (map (λ q. q.items) queues.old.items) (r ∷ replies)) }
-    ensures as_many { OnOk result (length queues.new.items ≡ length queues.old.items) }
-{
-    let Some(mut first) = queues.pop_front() else {
-        return Err(WorkersFault::Memory);
-    };
-    let Some(reply) = first.pop_front() else {
-        return Err(WorkersFault::Memory);
-    };
-    queues.push_back(first)?;
-    Ok(reply)
-}
-
-/// The replies of all queues in the order of the jobs.
-#[tactic(auto, using(crate::proofs::Turns::deals_none))]
-fn in_order(
-    alloc: Global,
-    queues: &mut VecDeque<VecDeque<Reply>>,
-    count: usize,
-) -> Result<Vec<Reply>, WorkersFault>
-    ensures dealt { IfOk result (λ replies. Deals (length queues.old.items) 0 (map (λ q. q.items) queues.old.items) replies.items) }
-    ensures in_all { IfOk result (λ replies. length replies.items ≡ count) }
-{
-    let mut replies = Vec::new(alloc);
-    for _place in 0..count {
-        replies.push(next_reply(queues)?)?;
-    }
-    Ok(replies)
-}
-
-/// Workers.
+/// Submits the jobs through the seats, each of which has a worker of its own: job `i` goes to the seat `i` modulo their number, and each
+/// worker submits its jobs in order, with so many tries for each. The workers run in threads, or in turn where no thread can be made.
+///
+/// From 1 to 16 seats of this desk, and 1 to 1,000 tries.
+///
+/// On `Ok` there are as many replies as jobs, in their order, and each is an answer of [`Desk::submit`] to the job at its place. Each share is
+/// higher by the number of receipts among its seat's replies, and all together by the number of all receipts.
+///
+/// Refused: `Memory`. Some jobs may have been accepted then and their replies lost; each share counts what was accepted through its seat, and
+/// the desk goes on and can be closed.
 pub fn run_workers<L: Ledger + Send + Sync, G: Gate + Sync, R: Threads + Wait + Sync>(
     rt: &R,
     alloc: Global,

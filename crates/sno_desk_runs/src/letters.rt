@@ -43,13 +43,13 @@ fn jobs_are_replied_to_in_order(rt: HostRuntime) -> Result<(), Fail> {
     let jobs = jobs(&rt, alloc)?;
     let book = book(alloc, &[("A", "a"), ("B", "b"), ("C", "c")])?;
     let day = run_day(&rt, alloc, book, 2, jobs.as_slice(), 1, &OpenGate)?;
-    let mut number = 1;
+    let mut number = 1u32;
     for reply in day.replies.iter() {
         match reply {
             Ok(receipt) => assert_eq!(rt; receipt.entry.statement.number(), number),
             Err(fault) => assert!(rt; false, "{fault}"),
         }
-        number = (number + 1) % 100;
+        number = number.wrapping_add(1);
     }
     assert_eq!(rt; day.replies.len(), 3);
     assert_eq!(rt; day.shares.as_slice(), [2u64, 1].as_slice());

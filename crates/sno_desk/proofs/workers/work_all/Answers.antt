@@ -20,17 +20,17 @@ use Rattle.sno_desk.proofs.workers.work_all.Goals as goal
 
 pub for_each_mut-requires-send-T : goal.for_each_mut-requires-send-T
 for_each_mut-requires-send-T g c κs within =
-    let receipt : IsSend Receipt.the_row = record { owned = c.may_cross-4.ensures.sends.owned; leaving = λ k d w. tt } in
+    let receipt : IsSend Receipt.the_row = record { owned = c.may_cross-3.ensures.sends.owned; leaving = λ k d w. tt } in
     let seat = seat_send (param 0 g.row.L) g.L.Ledger receipt in
-    param_send 1 (Lts.arg-4-1 g.row.L g.row.G g.row.R g.L.laws g.G.laws g.R.laws g.L.Ledger g.L.Ledger-dict g.G.Gate g.G.Gate-dict g.R.Threads g.R.Threads-dict g.R.Wait g.R.Wait-dict κs)
+    param_send 1 (Lts.arg-3-1 g.row.L g.row.G g.row.R g.L.laws g.G.laws g.R.laws g.L.Ledger g.L.Ledger-dict g.G.Gate g.G.Gate-dict g.R.Threads g.R.Threads-dict g.R.Wait g.R.Wait-dict κs)
     (arg_send _ yes _ seat)
 
 pub for_each_mut-requires-sync-F : goal.for_each_mut-requires-sync-F
 for_each_mut-requires-sync-F g c κs within =
     let book : IsSend Book.the_row = record { owned = c.may_cross.ensures.sends.owned; leaving = λ k d w. tt } in
     let desk = desk_sync (param 0 g.row.L) g.L.Ledger book in
-    let sent : IsSend Statement.the_row = record { owned = c.may_cross-3.ensures.sends.owned; leaving = λ k d w. tt } in
-    let shared : IsSync Statement.the_row = record { shared = c.may_cross-3.ensures.shares.shared } in
+    let sent : IsSend Statement.the_row = record { owned = c.may_cross-2.ensures.sends.owned; leaving = λ k d w. tt } in
+    let shared : IsSync Statement.the_row = record { shared = c.may_cross-2.ensures.shares.shared } in
     let job = Arc-sync Statement.the_row sent shared in
     let closure = closure_sync [] (
     ShrRef (named 6) κs.1.1.1.1.1.1.0 (Desk.the_row (param 0 g.row.L) g.L.Ledger)

@@ -1,7 +1,7 @@
 use Rattle.std.proofs.Common.{◌≡◌, ◌<◌, ◌≤◌, ℕ, length, get_or}
 use Rattle.std.specs.Prelude.{Some}
 use Rattle.std.specs.Option.{option_map}
-use Rattle.sno_desk.proofs.workers.collect.Given as goal
+use Rattle.sno_desk.proofs.gathering.collect.Given as goal
 
 -- the seats so far have given their replies away, and nothing else has changed
 abbrev pub invariant-loop-seat : goal.invariant-loop-seat

@@ -1,7 +1,7 @@
 use Rattle.std.proofs.Common.{[], length, map}
 use Rattle.std.proofs.lemmas.List.{append-nil}
 use Rattle.sno_desk.proofs.Turns.{deals_none}
-use Rattle.sno_desk.proofs.workers.in_order.Goals as goal
+use Rattle.sno_desk.proofs.gathering.in_order.Goals as goal
 
 pub returns-clause-dealt : goal.returns-clause-dealt
 returns-clause-dealt c =

@@ -1,7 +1,7 @@
 use Rattle.std.proofs.Common.{◌≡◌, List, ◌++◌, length, map}
 use Rattle.sno_desk.specs.Answers.{Answer}
 use Rattle.sno_desk.specs.Turns.{Deals}
-use Rattle.sno_desk.proofs.workers.in_order.Given as goal
+use Rattle.sno_desk.proofs.gathering.in_order.Given as goal
 
 -- the replies so far, with those that the queues still have, are those of all queues
 abbrev pub invariant-loop-place : goal.invariant-loop-place
