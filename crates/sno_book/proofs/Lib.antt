@@ -4,3 +4,6 @@ pub mod TextRows
 pub mod BookLaws
 pub mod Rising
 pub mod Fresh
+pub mod Pairs
+pub mod SameTrees
+pub mod SameEntries

@@ -10,3 +10,5 @@ pub mod Laws
 pub mod Beginnings
 pub mod Begun
 pub mod Shelves
+pub mod SamePatterns
+pub mod SameEntries

@@ -1,6 +1,7 @@
 //! The book: named texts with versions, and a journal of the statements that were accepted on them.
 #![tactic(auto)]
 
+mod audits;
 mod beginning;
 mod books;
 mod entries;
@@ -9,6 +10,9 @@ mod laws;
 mod openings;
 mod proposals;
 mod ready;
+mod same_outcomes;
+mod same_patterns;
+mod same_statements;
 mod shelves;
 mod snapshots;
 

@@ -1,0 +1,56 @@
+-- Whether two statements, two outcomes and two entries are the same. That the same ones are the equal ones is proved.
+use Rattle.std.specs.Prelude.{ℕ, Bool, false, ◌&&◌, List, Option, nat_eq}
+use Rattle.std.specs.Option.{option_eq}
+use Rattle.std.specs.Cmp.Lexicographic.{pointwise}
+use Rattle.std.proofs.Math.Bool.{beq}
+use Rattle.sno_pattern.specs.Identifiers.{same}
+use Rattle.sno_pattern.specs.Definitions.{Definitions}
+use Rattle.sno_read.specs.declared.objects.Part.{Part}
+use Rattle.sno_read.specs.declared.objects.Part.TheVariants.{Quoted, Var}
+use Rattle.sno_statement.specs.Task.{Task}
+use Rattle.sno_statement.specs.Bindings.{Bound}
+use Rattle.sno_statement.specs.Perform.{Done, Matched, Failed}
+use Rattle.sno_statement.specs.declared.binding.Datum.{Datum}
+use Rattle.sno_statement.specs.declared.binding.Datum.TheVariants.{Str, Int}
+use Rattle.sno_book.specs.Entries.{Entry}
+use Rattle.sno_book.specs.SamePatterns.{same_tree}
+
+-- parts of objects
+abbrev pub same_part : Part → Part → Bool
+same_part (Quoted s) (Quoted t) = same s t
+same_part (Var v) (Var w) = same v w
+same_part _ _ = false
+
+abbrev pub same_object : Option (List Part) → Option (List Part) → Bool
+same_object = option_eq (pointwise same_part)
+
+-- names and bodies, in their order
+abbrev pub same_definitions : Definitions → Definitions → Bool
+same_definitions d e = pointwise same d.names e.names && pointwise same_tree d.bodies e.bodies
+
+abbrev pub same_task : Task → Task → Bool
+same_task s t =
+    nat_eq s.number t.number
+    && (beq s.anchored t.anchored
+    && (same s.text t.text && (same_object s.object t.object && (same_tree s.pattern t.pattern && same_definitions s.rules t.rules))))
+
+-- values of variables
+abbrev pub same_datum : Datum → Datum → Bool
+same_datum (Str s) (Str t) = same s t
+same_datum (Int m) (Int n) = nat_eq m n
+same_datum _ _ = false
+
+abbrev pub same_binding : List ℕ × Datum → List ℕ × Datum → Bool
+same_binding b c = same b.0 c.0 && same_datum b.1 c.1
+
+-- variables with their values, in their order
+abbrev pub same_bound : Bound → Bound → Bool
+same_bound = pointwise same_binding
+
+abbrev pub same_done : Done → Done → Bool
+same_done (Matched s e b after) (Matched t f c more) = nat_eq s t && (nat_eq e f && (same_bound b c && option_eq same after more))
+same_done (Failed b) (Failed c) = same_bound b c
+same_done _ _ = false
+
+abbrev pub same_entry : Entry → Entry → Bool
+same_entry e f = nat_eq e.version f.version && (same_task e.statement f.statement && same_done e.done f.done)

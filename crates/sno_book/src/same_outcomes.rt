@@ -1,0 +1,94 @@
+//! Equality of outcomes, wherever they lie in memory.
+ghost use Rattle.std.specs.Prelude.{◌≡◌};
+ghost use Rattle.std.specs.Option.{option_eq, option_map};
+ghost use Rattle.std.specs.Arc.{arc_value};
+ghost use Rattle.sno_pattern.specs.Identifiers.{same};
+ghost use Rattle.sno_statement.specs.Perform.{done_of};
+ghost use Rattle.sno_book.specs.SameEntries.{same_datum, same_binding, same_bound, same_done};
+
+use sno_pattern::{Name, Text};
+use sno_statement::{Bindings, Datum, Outcome};
+use std::sync::Arc;
+
+fn same_datum(one: &Datum, other: &Datum) -> bool
+    ensures { result ≡ same_datum one.now other.now }
+{
+    match (one, other) {
+        (Datum::Str(s), Datum::Str(t)) => s == t,
+        (Datum::Int(m), Datum::Int(n)) => m == n,
+        _ => false,
+    }
+}
+
+/// Whether two bindings are the same, or neither is there.
+fn same_binding(one: Option<(&Name, &Datum)>, other: Option<(&Name, &Datum)>) -> bool
+    ensures { result ≡ option_eq same_binding (option_map (λ b. (b.0.now, b.1.now)) one.entry) (option_map (λ b. (b.0.now, b.1.now)) other.entry) }
+{
+    match (one, other) {
+        (Some((name, datum)), Some((other_name, other_datum))) => {
+            name == other_name && same_datum(datum, other_datum)
+        }
+        (None, None) => true,
+        _ => false,
+    }
+}
+
+#[tactic(auto, using(crate::proofs::Pairs::apart, crate::proofs::Pairs::past_place, crate::proofs::Pairs::stop_place, crate::proofs::Pairs::no_place))]
+fn same_bindings(one: &Bindings, other: &Bindings) -> bool
+    ensures { result ≡ same_bound one.now other.now }
+{
+    if one.len() != other.len() {
+        return false;
+    }
+    for place in 0..one.len() {
+        if !same_binding(one.get(place), other.get(place)) {
+            return false;
+        }
+    }
+    true
+}
+
+/// Whether two new texts are the same, or neither is there.
+fn same_after(one: &Option<Arc<Text>>, other: &Option<Arc<Text>>) -> bool
+    ensures { result ≡ option_eq same (option_map arc_value one.now) (option_map arc_value other.now) }
+{
+    match (one, other) {
+        (Some(text), Some(other_text)) => text.bytes() == other_text.bytes(),
+        (None, None) => true,
+        _ => false,
+    }
+}
+
+/// Whether two outcomes are the same: the cursors, the bindings and the new text, or the failure with its bindings.
+pub(crate) fn same_outcome(one: &Outcome, other: &Outcome) -> bool
+    ensures { result ≡ same_done (done_of one.now) (done_of other.now) }
+{
+    match (one, other) {
+        (
+            Outcome::Matched {
+                start,
+                end,
+                bindings,
+                after,
+            },
+            Outcome::Matched {
+                start: other_start,
+                end: other_end,
+                bindings: other_bindings,
+                after: other_after,
+            },
+        ) => {
+            start == other_start
+                && end == other_end
+                && same_bindings(bindings, other_bindings)
+                && same_after(after, other_after)
+        }
+        (
+            Outcome::Failed { bindings: kept },
+            Outcome::Failed {
+                bindings: other_kept,
+            },
+        ) => { same_bindings(kept, other_kept) }
+        _ => false,
+    }
+}
