@@ -6,6 +6,7 @@ pub mod CircleLemmas
 pub mod BookLemmas
 pub mod SerialLemmas
 pub mod ListingLemmas
+pub mod OwnerLemmas
 pub mod DocumentLaw
 pub mod StreamLemmas
 pub mod ReadLemmas

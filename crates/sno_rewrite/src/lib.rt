@@ -24,6 +24,7 @@ mod json;
 mod json_listing;
 mod listing;
 mod options;
+mod owners;
 mod rows;
 mod running;
 mod serial;

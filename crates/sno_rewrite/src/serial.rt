@@ -20,6 +20,13 @@ pub enum Reason {
     NoText,
     /// The new text would have more than 65,536 characters.
     TextTooLong,
+    /// The text changed under each of its tries. A serial run never meets this.
+    TriesSpent {
+        /// The version that the last try was made on.
+        seen: u64,
+        /// The version of the text when that try was to be accepted.
+        now: u64,
+    },
 }
 
 /// A statement that is refused.
