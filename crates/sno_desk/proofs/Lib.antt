@@ -1,2 +1,4 @@
 pub mod Causes
+pub mod Crossings
 pub mod Openings
+pub mod Turns

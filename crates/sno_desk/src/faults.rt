@@ -51,6 +51,14 @@ pub enum CloseFault {
     Opening,
 }
 
+/// Why there are no replies of workers. Some jobs may have been accepted; desk and seats are lawful.
+#[derive(Clone, Copy, Debug, PartialEq, Eq, Error)]
+pub enum WorkersFault {
+    /// Memory was refused.
+    #[error("out of memory")]
+    Memory,
+}
+
 impl From<SnapshotFault> for SubmitFault {
     ghost use Rattle.std.specs.Prelude.{◌≡◌};
     ghost use Rattle.sno_desk.specs.Faults.{of_snapshot};

@@ -10,10 +10,11 @@ mod locked;
 mod seats;
 mod starting;
 mod submitting;
+mod workers;
 
 pub use closing::close;
 pub use desk::Desk;
-pub use faults::{CloseFault, DeskFault, SubmitFault};
+pub use faults::{CloseFault, DeskFault, SubmitFault, WorkersFault};
 pub use gates::{Gate, OpenGate};
 pub use seats::{Reply, Seat};
 pub use sno_book::{
