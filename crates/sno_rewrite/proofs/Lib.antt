@@ -7,6 +7,7 @@ pub mod BookLemmas
 pub mod SerialLemmas
 pub mod ListingLemmas
 pub mod OwnerLemmas
+pub mod SettlingLemmas
 pub mod DocumentLaw
 pub mod StreamLemmas
 pub mod ReadLemmas

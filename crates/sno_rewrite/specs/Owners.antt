@@ -1,6 +1,8 @@
 -- How replies to the statements of a document are checked against a journal.
-use Rattle.std.specs.Prelude.{◌≡◌, ◌⊎◌, ◌<◌, ℕ, List, length, slice_get, Option, Some, None, Result, Ok, Err}
+use Rattle.std.specs.Prelude.{◌≡◌, ◌⊎◌, ◌<◌, ◌++◌, ℕ, List, drop, length, slice_get, Option, Some, None, Result, Ok, Err}
+use Rattle.sno_statement.specs.Task.{Task}
 use Rattle.sno_book.specs.Entries.{Entry}
+use Rattle.sno_book.specs.States.{State}
 use Rattle.sno_book.specs.Proposals.{Received}
 use Rattle.sno_desk.specs.declared.faults.SubmitFault.{SubmitFault}
 use Rattle.sno_desk.specs.declared.faults.SubmitFault.TheVariants as submit
@@ -8,6 +10,8 @@ use Rattle.sno_rewrite.specs.declared.faults.RunFault.{RunFault}
 use Rattle.sno_rewrite.specs.declared.faults.RunFault.TheVariants as fault
 use Rattle.sno_rewrite.specs.declared.serial.Reason.{Reason}
 use Rattle.sno_rewrite.specs.declared.serial.Reason.TheVariants.{NoText, TextTooLong, TriesSpent}
+use Rattle.sno_rewrite.specs.declared.serial.Refusal.{Refusal}
+use Rattle.sno_rewrite.specs.Shared.{AreAnswers, refusals}
 
 -- the reply at the place is a receipt of the journal's entry at the index
 pub record IsReceipt (journal : List Entry) (replies : List (Result Received SubmitFault)) (index place : ℕ) : Type 0 where
@@ -36,3 +40,8 @@ answer_in (Err submit.Memory) = Some NoText
 -- replies and journal do not agree, or memory was refused
 abbrev pub IsAuditOrMemory : RunFault → Type 0
 IsAuditOrMemory e = (e ≡ fault.Audit) ⊎ (e ≡ fault.Memory)
+
+-- of the answers before a place: their refusals are listed, and with those behind it each is one that may be
+pub record Lists (tries : ℕ) (state : State) (statements : List Task) (answers : List (Option Reason)) (before : ℕ) (refused : List Refusal) : Type 0 where
+  pub listed : refused ++ refusals (drop before statements) (drop before answers) ≡ refusals statements answers
+  pub may : AreAnswers tries state (drop before statements) (drop before answers) → AreAnswers tries state statements answers

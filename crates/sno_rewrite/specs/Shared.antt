@@ -26,7 +26,7 @@ pub record HasReached (state : State) (name : List ℕ) (version : ℕ) : Type 0
 abbrev pub MayRefuse : ℕ → State → Task → Reason → Type 0
 MayRefuse tries state s NoText = find s.text state ≡ None
 MayRefuse tries state s TextTooLong = Lengthens s
-MayRefuse tries state s (TriesSpent seen now) = (seen ≢ now) × (tries ≤ now) × HasReached state s.text now
+MayRefuse tries state s (TriesSpent seen now) = (now ≢ seen) × (tries ≤ now) × HasReached state s.text now
 
 -- a statement without a reason is accepted
 abbrev pub MayAnswer : ℕ → State → Task → Option Reason → Type 0

@@ -28,6 +28,7 @@ mod owners;
 mod rows;
 mod running;
 mod serial;
+mod settling;
 mod shown_texts;
 mod statements;
 mod streams;
