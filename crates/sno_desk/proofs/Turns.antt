@@ -1,34 +1,209 @@
 -- Dealing out in turn.
-use Rattle.std.proofs.Common.{◌≡◌, ◌<◌, ℕ, zero, suc, ◌+◌, ◌-◌, List, [], ◌∷◌, ◌++◌, length, get_or, map, drop, refl, sym, ap, subst, append_assoc, arith}
-use Rattle.std.specs.Prelude.{Result, sum_by}
-use Rattle.std.proofs.lemmas.List.{append-nil, drop_more}
+use Rattle.std.proofs.Common.{◌≡◌, ◌<◌, ◌≤◌, ◌⊎◌, inl, inr, ℕ, zero, suc, ◌+◌, ◌-◌, Bool, true, false, List, [], ◌∷◌, ◌++◌, ◌∙◌, length, get_or, map, refl, sym, ap, subst, append_assoc, length-append, arith}
+use Rattle.std.specs.Prelude.{Option, Some, None, sum_by}
+use Rattle.std.proofs.Math.Dec.{leb}
+use Rattle.std.proofs.lemmas.Bool.Decides.{leb_tells}
+use Rattle.std.proofs.lemmas.List.{append-nil, get_or-map, length-map, map-append}
 use Rattle.sno_statement.specs.Task.{Task}
-use Rattle.sno_book.specs.Proposals.{Received}
-use Rattle.sno_desk.specs.declared.faults.SubmitFault.{SubmitFault}
-use Rattle.sno_desk.specs.Turns.{AllAnswer, Goes, every}
+use Rattle.sno_desk.specs.Answers.{Answer, added_by}
+use Rattle.sno_desk.specs.Turns.{AllAnswer, Begins, Deals, Goes, HasWorked, every, raised_by}
 
-pub goes_none : (A : Task → Result Received SubmitFault → Type 0) (all : List Task) → Goes A all all []
+pub goes_none : (A : Task → Answer → Type 0) (all : List Task) → Goes A all all []
 goes_none A all = record { on = λ more h. h }
 
 -- the job whose turn it is has its reply
-pub goes_one : (A : Task → Result Received SubmitFault → Type 0) (all : List Task) (count wait : ℕ) (s : Task) (jobs : List Task)
-    (replies : List (Result Received SubmitFault)) (r : Result Received SubmitFault)
+pub goes_one : (A : Task → Answer → Type 0) (all : List Task) (count wait : ℕ) (s : Task) (jobs : List Task)
+    (replies : List Answer) (r : Answer)
     → wait ≡ 0 → A s r → Goes A all (every count wait (s ∷ jobs)) replies → Goes A all (every count (count - 1) jobs) (replies ++ r ∷ [])
 goes_one A all count zero s jobs replies r e a g = record { on = λ more h. rw append_assoc (g.on (r ∷ more) (a, h)) }
 goes_one A all count (suc wait) s jobs replies r e a g = absurd (omega arith)
 
 -- a job that is another seat's is passed over
-pub goes_by : (A : Task → Result Received SubmitFault → Type 0) (all : List Task) (count wait next : ℕ) (s : Task) (jobs : List Task)
-    (replies : List (Result Received SubmitFault))
+pub goes_by : (A : Task → Answer → Type 0) (all : List Task) (count wait next : ℕ) (s : Task) (jobs : List Task)
+    (replies : List Answer)
     → next + 1 ≡ wait → Goes A all (every count wait (s ∷ jobs)) replies → Goes A all (every count next jobs) replies
 goes_by A all count zero next s jobs replies e g = absurd (omega arith)
 goes_by A all count (suc wait) next s jobs replies e g =
     let q : wait ≡ next = omega arith in
     let P : ℕ → Type 0 = λ w. Goes A all (every count w jobs) replies in subst P q g
 
-pub goes_end : (A : Task → Result Received SubmitFault → Type 0) (all : List Task) (count wait : ℕ) (left : List Task)
-    (replies : List (Result Received SubmitFault)) → left ≡ [] → Goes A all (every count wait left) replies → AllAnswer A all replies
+pub goes_end : (A : Task → Answer → Type 0) (all : List Task) (count wait : ℕ) (left : List Task)
+    (replies : List Answer) → left ≡ [] → Goes A all (every count wait left) replies → AllAnswer A all replies
 goes_end A all count wait left replies none g =
     let P : List Task → Type 0 = λ l. Goes A all (every count wait l) replies in
     let h = subst P none g in
     rw append-nil at (h.on [] tt)
+
+-- ---- the replies of all seats
+
+-- the place at which two lists of one length are as long in each seat's turns
+turns_alike : {X Y : Type 0} (count first : ℕ) (xs : List X) (ys : List Y) → length xs ≡ length ys → length (every count first xs) ≡ length (every count first ys)
+turns_alike count first [] [] e = refl
+turns_alike count first [] (y ∷ ys) e = absurd (omega arith)
+turns_alike count first (x ∷ xs) [] e = absurd (omega arith)
+turns_alike count zero (x ∷ xs) (y ∷ ys) e = ap (λ n. suc n) (turns_alike count (count - 1) xs ys (omega arith))
+turns_alike count (suc first) (x ∷ xs) (y ∷ ys) e = turns_alike count first xs ys (omega arith)
+
+as_many : (A : Task → Answer → Type 0) (jobs : List Task) (replies : List Answer) → AllAnswer A jobs replies → length replies ≡ length jobs
+as_many A [] [] a = refl
+as_many A [] (r ∷ replies) a = absurd a
+as_many A (s ∷ jobs) [] a = absurd a
+as_many A (s ∷ jobs) (r ∷ replies) a = ap (λ n. suc n) (as_many A jobs replies a.1)
+
+none_left : {X : Type 0} (xs : List X) → length xs ≡ 0 → xs ≡ []
+none_left [] e = refl
+none_left (x ∷ xs) e = absurd (omega arith)
+
+begins_whole : {X : Type 0} (xs front : List X) → Begins xs front → length front ≡ length xs → xs ≡ front
+begins_whole {X} xs front b e =
+    let joined = b.joined in
+    let sizes = ap length joined in
+    let more = length-append front b.left in
+    let left = none_left b.left (omega arith) in
+    let whole : xs ≡ front ++ [] = joined ∙ ap (λ l. front ++ l) left in
+    whole ∙ append-nil front
+
+deals_at : {X : Type 0} (count first : ℕ) (queues : List (List X)) (replies : List X) → Deals count first queues replies
+    → (k place : ℕ) → place ≡ first + k → k < length queues → Begins (get_or queues k []) (every count place replies)
+deals_at count first [] replies d k place e h = absurd (omega arith)
+deals_at {X} count first (queue ∷ queues) replies d zero place e h =
+    let same : first ≡ place = omega arith in
+    let P : ℕ → Type 0 = λ p. Begins queue (every count p replies) in subst P same d.0
+deals_at count first (queue ∷ queues) replies d (suc k) place e h = deals_at count (suc first) queues replies d.1 k place (omega arith) (omega arith)
+
+-- the replies in the order of the jobs answer them, where those of each seat do
+answer_all : (A : Task → Answer → Type 0) (count : ℕ) → 1 ≤ count → (jobs : List Task) (replies : List Answer)
+    → length replies ≡ length jobs → ((k : ℕ) → k < count → AllAnswer A (every count k jobs) (every count k replies)) → AllAnswer A jobs replies
+answer_all A count some [] [] e each = tt
+answer_all A count some [] (r ∷ replies) e each = absurd (omega arith)
+answer_all A count some (s ∷ jobs) [] e each = absurd (omega arith)
+answer_all A count some (s ∷ jobs) (r ∷ replies) e each =
+    let front = each 0 (omega arith) in
+    (front.0, answer_all A count some jobs replies (omega arith) (λ k h. later A count jobs replies k front.1 (λ inside. each (suc k) inside) (leb_tells (suc (suc k)) count) h))
+  where
+    later : (A : Task → Answer → Type 0) (count : ℕ) (jobs : List Task) (replies : List Answer) (k : ℕ)
+        → AllAnswer A (every count (count - 1) jobs) (every count (count - 1) replies)
+        → (suc k < count → AllAnswer A (every count k jobs) (every count k replies))
+        → ((leb (suc (suc k)) count ≡ true) × (suc (suc k) ≤ count)) ⊎ ((leb (suc (suc k)) count ≡ false) × (count < suc (suc k))) → k < count → AllAnswer A (every count k jobs) (every count k replies)
+    later A count jobs replies k last inside (inl p) h = inside (omega arith)
+    later A count jobs replies k last inside (inr p) h =
+        let same : count - 1 ≡ k = omega arith in
+        let P : ℕ → Type 0 = λ m. AllAnswer A (every count m jobs) (every count m replies) in subst P same last
+
+-- the shares, from what each seat's is
+raised_all : (count first : ℕ) (before after : List ℕ) (replies : List Answer) → length after ≡ length before
+    → ((k place : ℕ) → place ≡ first + k → k < length before → get_or after k 0 ≡ get_or before k 0 + sum_by added_by (every count place replies))
+    → after ≡ raised_by count first before replies
+raised_all count first [] [] replies e each = refl
+raised_all count first [] (y ∷ after) replies e each = absurd (omega arith)
+raised_all count first (x ∷ before) [] replies e each = absurd (omega arith)
+raised_all count first (x ∷ before) (y ∷ after) replies e each =
+    let front : y ≡ x + sum_by added_by (every count first replies) = each 0 first (omega arith) (omega arith) in
+    let rest = raised_all count (suc first) before after replies (omega arith) (λ k place q h. each (suc k) place (omega arith) (omega arith)) in
+    cc
+
+first_of : {X : Type 0} (xs : List X) (k : ℕ) → k < length xs → X
+first_of [] k h = absurd (omega arith)
+first_of (x ∷ xs) k h = x
+
+-- what one seat's replies are, by what it kept
+seat_settled : (A : Task → Answer → Type 0) (jobs : List Task) (mine : List Answer) (before after : ℕ)
+    (kept : Option (List Answer)) (queue : List Answer)
+    → HasWorked A jobs before after kept → kept ≡ Some queue → Begins queue mine → length mine ≡ length jobs
+    → AllAnswer A jobs mine × (after ≡ before + sum_by added_by mine)
+seat_settled A jobs mine before after None queue worked kept b e = absurd cc
+seat_settled A jobs mine before after (Some replies) queue worked kept b e =
+    let same : replies ≡ queue = cc in
+    let counts = as_many A jobs replies worked.0 in
+    let counted : length mine ≡ length queue = e ∙ sym counts ∙ ap length same in
+    let whole : replies ≡ mine = same ∙ begins_whole queue mine b counted in
+    let P : List Answer → Type 0 = λ l. AllAnswer A jobs l × (after ≡ before + sum_by added_by l) in
+    subst P whole worked
+
+module _ {X Q : Type 0} (share : X → ℕ) (kept : X → Option (List Answer)) (items : Q → List Answer) (A : Task → Answer → Type 0) where
+  -- the seats at work, then their replies taken and put in order: each job has its answer, and each share has risen by its seat's receipts
+  pub record Settles (jobs : List Task) (before worked after : List X) (queues : List Q) (replies : List Answer) : Type 0 where
+    pub some : 1 ≤ length before
+    pub worked_as_many : length worked ≡ length before
+    pub after_as_many : length after ≡ length before
+    pub queues_as_many : length queues ≡ length before
+    pub at_work : (k : ℕ) (d : X) → k < length before → HasWorked A (every (length before) k jobs) (share (get_or before k d)) (share (get_or worked k d)) (kept (get_or worked k d))
+    pub taken : (k : ℕ) (d : X) (e : Q) → k < length before → kept (get_or worked k d) ≡ Some (items (get_or queues k e))
+    pub same : (k : ℕ) (d : X) → k < length before → share (get_or after k d) ≡ share (get_or worked k d)
+    pub dealt : Deals (length before) 0 (map items queues) replies
+    pub in_all : length replies ≡ length jobs
+
+  at_seat : (jobs : List Task) (before worked after : List X) (queues : List Q) (replies : List Answer)
+      → Settles jobs before worked after queues replies → (k : ℕ) (d : X) (e : Q) → k < length before
+      → AllAnswer A (every (length before) k jobs) (every (length before) k replies) × (share (get_or after k d) ≡ share (get_or before k d) + sum_by added_by (every (length before) k replies))
+  at_seat jobs before worked after queues replies s k d e h =
+      let inside : k < length (map items queues) = rw length-map (rw s.queues_as_many h) in
+      let begins = deals_at (length before) 0 (map items queues) replies s.dealt k k (omega arith) inside in
+      let there = get_or-map items queues k e [] (rw s.queues_as_many h) in
+      let P : List Answer → Type 0 = λ q. Begins q (every (length before) k replies) in
+      let mine = seat_settled A (every (length before) k jobs) (every (length before) k replies) (share (get_or before k d)) (share (get_or worked k d)) (kept (get_or worked k d))
+      (items (get_or queues k e)) (s.at_work k d h) (s.taken k d e h) (subst P there begins) (turns_alike (length before) k replies jobs s.in_all) in
+      (mine.0, s.same k d h ∙ mine.1)
+
+  pub settled_answers : (jobs : List Task) (before worked after : List X) (queues : List Q) (replies : List Answer)
+      → Settles jobs before worked after queues replies → AllAnswer A jobs replies
+  settled_answers jobs before worked after queues replies s =
+      answer_all A (length before) s.some jobs replies s.in_all
+      (λ k h. (at_seat jobs before worked after queues replies s k (first_of before k h) (first_of queues k (rw s.queues_as_many h)) h).0)
+
+  pub settled_shares : (jobs : List Task) (before worked after : List X) (queues : List Q) (replies : List Answer)
+      → Settles jobs before worked after queues replies → map share after ≡ raised_by (length before) 0 (map share before) replies
+  settled_shares jobs before worked after queues replies s =
+      raised_all (length before) 0 (map share before) (map share after) replies (simp length-map s.after_as_many)
+      (λ k place q h.
+      let inside : k < length before = rw length-map at h in
+      let d = first_of before k inside in
+      let same : k ≡ place = omega arith in
+      let mine = (at_seat jobs before worked after queues replies s k d (first_of queues k (rw s.queues_as_many inside)) inside).1 in
+      let was = get_or-map share before k d 0 inside in
+      let is = get_or-map share after k d 0 (rw s.after_as_many inside) in
+      let P : ℕ → Type 0 = λ m. get_or (map share after) k 0 ≡ get_or (map share before) k 0 + sum_by added_by (every (length before) m replies) in
+      subst P same (omega (arith, mine, was, is)))
+
+-- ---- the queues in turn
+deals_front : {X : Type 0} (count first : ℕ) (queues : List (List X)) (last : List X) (replies : List X) → Deals count first (queues ++ last ∷ []) replies → Deals count first queues replies
+deals_front count first [] last replies d = tt
+deals_front count first (queue ∷ queues) last replies d = (d.0, deals_front count (suc first) queues last replies d.1)
+
+deals_last : {X : Type 0} (count first place : ℕ) (queues : List (List X)) (last : List X) (replies : List X) → place ≡ first + length queues
+    → Deals count first (queues ++ last ∷ []) replies → Begins last (every count place replies)
+deals_last count first place [] last replies e d =
+    let same : first ≡ place = omega arith in
+    let P : ℕ → Type 0 = λ p. Begins last (every count p replies) in subst P same d.0
+deals_last count first place (queue ∷ queues) last replies e d = deals_last count (suc first) place queues last replies (omega arith) d.1
+
+deals_later : {X : Type 0} (count first : ℕ) (queues : List (List X)) (r : X) (replies : List X) → Deals count first queues replies → Deals count (suc first) queues (r ∷ replies)
+deals_later count first [] r replies d = tt
+deals_later count first (queue ∷ queues) r replies d = (d.0, deals_later count (suc first) queues r replies d.1)
+
+begins_one : {X : Type 0} (queue rest front : List X) (r : X) → queue ≡ r ∷ rest → Begins rest front → Begins queue (r ∷ front)
+begins_one queue rest front r e b = record { left = b.left; joined = e ∙ ap (λ l. r ∷ l) b.joined }
+
+turned : {X : Type 0} (count : ℕ) (queue rest : List X) (queues : List (List X)) (r : X) (replies : List X) → count ≡ suc (length queues) → queue ≡ r ∷ rest
+    → Deals count 0 (queues ++ rest ∷ []) replies → Deals count 0 (queue ∷ queues) (r ∷ replies)
+turned count queue rest queues r replies many e d = (
+  begins_one queue rest (every count (count - 1) replies) r e (deals_last count 0 (count - 1) queues rest replies (omega arith) d),
+  deals_later count 0 queues r replies (deals_front count 0 queues rest replies d),
+)
+
+-- the first queue's first reply, and that queue behind the others
+pub taken_in_turn : {X Q : Type 0} (items : Q → List X) (before mids after : List Q) (queue rest : Q) (r : X) (replies : List X)
+    → before ≡ queue ∷ mids → items queue ≡ r ∷ items rest → after ≡ mids ++ rest ∷ []
+    → Deals (length before) 0 (map items after) replies → Deals (length before) 0 (map items before) (r ∷ replies)
+taken_in_turn {X} items before mids after queue rest r replies was one is d =
+    let count = length before in
+    let many : count ≡ suc (length (map items mids)) = rw length-map (ap length was) in
+    let rows : map items after ≡ map items mids ++ items rest ∷ [] = ap (map items) is ∙ map-append items mids (rest ∷ []) in
+    let P : List (List X) → Type 0 = λ l. Deals count 0 l replies in
+    let Q' : List (List X) → Type 0 = λ l. Deals count 0 l (r ∷ replies) in
+    let now = turned count (items queue) (items rest) (map items mids) r replies many one (subst P rows d) in
+    subst Q' (sym (ap (map items) was)) now
+
+pub deals_none : {X : Type 0} (count first : ℕ) (queues : List (List X)) → Deals count first queues []
+deals_none count first [] = tt
+deals_none count first (queue ∷ queues) = (record { left = queue; joined = refl }, deals_none count (suc first) queues)

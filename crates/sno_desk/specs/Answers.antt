@@ -7,6 +7,10 @@ use Rattle.sno_book.specs.Proposals.{Received}
 use Rattle.sno_desk.specs.declared.faults.SubmitFault.{SubmitFault}
 use Rattle.sno_desk.specs.declared.faults.SubmitFault.TheVariants as submit
 
+-- a receipt, or why there is none
+abbrev pub Answer : Type 0
+Answer = Result Received SubmitFault
+
 -- a gate may be shut for the statement with this number at one of its attempts, which count from 1 to `tries`
 pub record MayShut (shuts : ℕ → ℕ → Type 0) (number tries : ℕ) : Type 0 where
   pub attempt : ℕ
@@ -21,7 +25,7 @@ pub record Lengthens (s : Task) : Type 0 where
 
 -- the receipt's entry has the statement; the gate was shut only where it may be; some text would be too long; the tries were spent
 -- between two versions that differ
-abbrev pub Answers : (ℕ → ℕ → Type 0) → ℕ → Task → Result Received SubmitFault → Type 0
+abbrev pub Answers : (ℕ → ℕ → Type 0) → ℕ → Task → Answer → Type 0
 Answers shuts tries s (Ok receipt) = receipt.entry.statement ≡ s
 Answers shuts tries s (Err submit.NoText) = Unit {0}
 Answers shuts tries s (Err submit.GateShut) = MayShut shuts s.number tries
@@ -32,6 +36,6 @@ Answers shuts tries s (Err submit.Memory) = Unit {0}
 Answers shuts tries s (Err (submit.TriesSpent seen now)) = now ≢ seen
 
 -- an answer adds one to what its seat has accepted exactly where it is a receipt
-abbrev pub added_by : Result Received SubmitFault → ℕ
+abbrev pub added_by : Answer → ℕ
 added_by (Ok receipt) = 1
 added_by (Err fault) = 0

@@ -1,7 +1,7 @@
 //! Why a desk refuses.
 use sno_book::{CommitFault, SnapshotFault};
 use sno_statement::StatementFault;
-use std::alloc::AllocError;
+use std::alloc::{AllocError, AllocFailed};
 use thiserror::Error;
 
 /// Why there is no desk. The book comes back as it was.
@@ -112,5 +112,16 @@ impl From<AllocError> for SubmitFault {
 
     fn from(_refused: AllocError) -> SubmitFault {
         SubmitFault::Memory
+    }
+}
+
+impl<T: Drop> From<AllocFailed<T>> for WorkersFault {
+    ghost use Rattle.std.specs.Prelude.{◌≡◌};
+    ghost use Rattle.sno_desk.specs.declared.faults.WorkersFault.TheVariants.{Memory};
+
+    ghost from_gives = { λ _ e. e ≡ Memory };
+
+    fn from(_refused: AllocFailed<T>) -> WorkersFault {
+        WorkersFault::Memory
     }
 }

@@ -22,3 +22,4 @@ pub use sno_book::{
 };
 pub use sno_pattern::{Text, TextName};
 pub use sno_statement::Statement;
+pub use workers::run_workers;

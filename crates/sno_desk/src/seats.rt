@@ -51,6 +51,14 @@ impl<L: Ledger> Seat<L> {
         self.accepted += 1;
     }
 
+    /// The replies that the seat has kept, which are its no more.
+    pub(crate) fn take_replies(&mut self) -> Option<VecDeque<Reply>>
+        ensures taken { result ≡ self.old.replies }
+        ensures same { self.new.accepted ≡ self.old.accepted }
+    {
+        self.replies.take()
+    }
+
     /// The share alone.
     pub(crate) fn into_share(self) -> Share<L>
         ensures parts { result.parts ≡ 1 }

@@ -4,7 +4,7 @@ ghost use Rattle.std.specs.Option.{option_map};
 ghost use Rattle.std.specs.Thread.{IsSend, IsSync};
 ghost use Rattle.std.specs.Arc.{arc_value};
 ghost use Rattle.sno_statement.specs.Task.{Task};
-ghost use Rattle.sno_desk.specs.Answers.{Answers, added_by};
+ghost use Rattle.sno_desk.specs.Answers.{Answer, Answers, added_by};
 ghost use Rattle.sno_desk.specs.Turns.{AllAnswer, Deals, Goes, HasWorked, every, raised_by};
 
 use crate::{Desk, Gate, Reply, Seat, WorkersFault};
@@ -126,4 +126,78 @@ fn work_all<L: Ledger + Send + Sync, G: Gate + Sync, R: Threads + Wait + Sync>(
         shift.work(rt, alloc, seat, first);
     };
     thread::for_each_mut(rt, seats, workers, &worker);
+}
+
+/// The replies that the seats have kept.
+fn collect<L: Ledger>(
+    alloc: Global,
+    seats: &mut [Seat<L>],
+) -> Result<VecDeque<VecDeque<Reply>>, WorkersFault>
+    ensures as_many { IfOk result (λ queues. length queues.items ≡ length seats.old) }
+    ensures taken { IfOk result (λ queues. (k : ℕ) (d : Seat L) (e : _) → k < length seats.old → option_map (λ q. q.items) (slice_index_or seats.old k d).replies ≡ Some (slice_index_or queues.items k e).items) }
+    ensures same { OnOk result ((k : ℕ) (d : Seat L) → k < length seats.old → (slice_index_or seats.new k d).accepted ≡ (slice_index_or seats.old k d).accepted) }
+{
+    let mut queues = VecDeque::new(alloc);
+    for seat in seats.iter_mut() {
+        let Some(replies) = seat.take_replies() else {
+            return Err(WorkersFault::Memory);
+        };
+        queues.push_back(replies)?;
+    }
+    Ok(queues)
+}
+
+/// The first reply of the first queue, which goes behind the others.
+#[tactic(auto, using(crate::proofs::Turns::taken_in_turn))]
+fn next_reply(queues: &mut VecDeque<VecDeque<Reply>>) -> Result<Reply, WorkersFault>
+    ensures order { IfOk result (λ r. (replies : List Answer) → Deals (length queues.old.items) 0 (map (λ q. q.items) queues.new.items) replies
+        → Deals (length queues.old.items) 0 (map (λ q. q.items) queues.old.items) (r ∷ replies)) }
+    ensures as_many { OnOk result (length queues.new.items ≡ length queues.old.items) }
+{
+    let Some(mut first) = queues.pop_front() else {
+        return Err(WorkersFault::Memory);
+    };
+    let Some(reply) = first.pop_front() else {
+        return Err(WorkersFault::Memory);
+    };
+    queues.push_back(first)?;
+    Ok(reply)
+}
+
+/// The replies of all queues in the order of the jobs.
+#[tactic(auto, using(crate::proofs::Turns::deals_none))]
+fn in_order(
+    alloc: Global,
+    queues: &mut VecDeque<VecDeque<Reply>>,
+    count: usize,
+) -> Result<Vec<Reply>, WorkersFault>
+    ensures dealt { IfOk result (λ replies. Deals (length queues.old.items) 0 (map (λ q. q.items) queues.old.items) replies.items) }
+    ensures in_all { IfOk result (λ replies. length replies.items ≡ count) }
+{
+    let mut replies = Vec::new(alloc);
+    for _place in 0..count {
+        replies.push(next_reply(queues)?)?;
+    }
+    Ok(replies)
+}
+
+/// Workers.
+pub fn run_workers<L: Ledger + Send + Sync, G: Gate + Sync, R: Threads + Wait + Sync>(
+    rt: &R,
+    alloc: Global,
+    desk: &Desk<L>,
+    seats: &mut [Seat<L>],
+    jobs: &[Arc<Statement>],
+    tries: u32,
+    gate: &G,
+) -> Result<Vec<Reply>, WorkersFault>
+    requires few { (1 ≤ length seats.old) × (length seats.old ≤ 16) }
+    requires lawful { (1 ≤ tries) × (tries ≤ 1000) }
+    ensures answers { IfOk result (λ replies. AllAnswer (Answers (G.shuts gate.now) tries) (map arc_value jobs.now) replies.items) }
+    ensures shares { IfOk result (λ replies. map (λ s. s.accepted) seats.new ≡ raised_by (length seats.old) 0 (map (λ s. s.accepted) seats.old) replies.items) }
+{
+    work_all(rt, alloc, desk, seats, jobs, tries, gate);
+    let mut queues = collect(alloc, seats)?;
+    let replies = in_order(alloc, &mut queues, jobs.len())?;
+    Ok(replies)
 }

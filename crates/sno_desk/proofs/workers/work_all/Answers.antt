@@ -33,14 +33,14 @@ for_each_mut-requires-sync-F g c κs within =
     let shared : IsSync Statement.the_row = record { shared = c.may_cross-3.ensures.shares.shared } in
     let job = Arc-sync Statement.the_row sent shared in
     let closure = closure_sync [] (
-        ShrRef (named 6) κs.1.1.1.1.1.1.0 (Desk.the_row (param 0 g.row.L) g.L.Ledger)
-        ∷ ShrSlice (named 7) κs.1.1.1.1.1.1.1.0 (Arc.the_row Statement.the_row Global.the_row ghosts)
-        ∷ ShrRef (named 8) κs.1.1.1.1.1.1.1.1.0 (UInt w64)
-        ∷ ShrRef (named 9) κs.1.1.1.1.1.1.1.1.1.0 (UInt w32)
-        ∷ ShrRef (named 10) κs.1.1.1.1.1.1.1.1.1.1.0 (param 1 g.row.G)
-        ∷ ShrRef (named 11) κs.1.1.1.1.1.1.1.1.1.1.1.0 (param 2 g.row.R)
-        ∷ ShrRef (named 12) κs.1.1.1.1.1.1.1.1.1.1.1.1.0 Global.the_row
-        ∷ [])
-        (shr_sync _ _ _ desk, (shr_slice_sync _ _ _ job, (search sendable, (search sendable, (shr_sync _ _ _ c.type_bounds.sync-G, (shr_sync _ _ _ c.type_bounds.sync-R, (shr_sync _ _ _ sync, tt)))))))
+    ShrRef (named 6) κs.1.1.1.1.1.1.0 (Desk.the_row (param 0 g.row.L) g.L.Ledger)
+    ∷ ShrSlice (named 7) κs.1.1.1.1.1.1.1.0 (Arc.the_row Statement.the_row Global.the_row ghosts)
+    ∷ ShrRef (named 8) κs.1.1.1.1.1.1.1.1.0 (UInt w64)
+    ∷ ShrRef (named 9) κs.1.1.1.1.1.1.1.1.1.0 (UInt w32)
+    ∷ ShrRef (named 10) κs.1.1.1.1.1.1.1.1.1.1.0 (param 1 g.row.G)
+    ∷ ShrRef (named 11) κs.1.1.1.1.1.1.1.1.1.1.1.0 (param 2 g.row.R)
+    ∷ ShrRef (named 12) κs.1.1.1.1.1.1.1.1.1.1.1.1.0 Global.the_row
+    ∷ [])
+    (shr_sync _ _ _ desk, (shr_slice_sync _ _ _ job, (search sendable, (search sendable, (shr_sync _ _ _ c.type_bounds.sync-G, (shr_sync _ _ _ c.type_bounds.sync-R, (shr_sync _ _ _ sync, tt)))))))
     in
     record { shared = closure.shared }

@@ -1,0 +1,13 @@
+use Rattle.std.proofs.Common.{◌≡◌, ◌<◌, ◌≤◌, ℕ, length, get_or}
+use Rattle.std.specs.Prelude.{Some}
+use Rattle.std.specs.Option.{option_map}
+use Rattle.sno_desk.proofs.workers.collect.Given as goal
+
+-- the seats so far have given their replies away, and nothing else has changed
+abbrev pub invariant-loop-seat : goal.invariant-loop-seat
+invariant-loop-seat g l = record {
+  as_many : length l.queues.items ≡ l.seat-index;
+  taken : (k : ℕ) (d : _) (e : _) → k < l.seat-index → option_map (λ q. q.items) (get_or l.fn.seats k d).replies ≡ Some (get_or l.queues.items k e).items;
+  same : (k : ℕ) (d : _) → k < l.seat-index → (get_or l.seats k d).accepted ≡ (get_or l.fn.seats k d).accepted;
+  rest : (k : ℕ) (d : _) → l.seat-index ≤ k → get_or l.seats k d ≡ get_or l.fn.seats k d;
+}

@@ -1,0 +1,33 @@
+use Rattle.std.proofs.Common.{◌≡◌, ℕ, length, map, subst, arith}
+use Rattle.std.specs.Option.{option_map}
+use Rattle.std.specs.Arc.{arc_value}
+use Rattle.std.proofs.lemmas.List.{length-map}
+use Rattle.sno_desk.specs.Answers.{Answers}
+use Rattle.sno_desk.specs.Turns.{Deals}
+use Rattle.sno_desk.proofs.Turns.{Settles, settled_answers, settled_shares}
+use Rattle.sno_desk.proofs.workers.run_workers.Goals as goal
+use Rattle.sno_desk.proofs.workers.run_workers.Goals.{After-drop-queues-2}
+
+settles : (g : _) (c : After-drop-queues-2 g) → Settles (λ s. s.accepted) (λ s. option_map (λ q. q.items) s.replies) (λ q. q.items) (Answers (g.G.Gate.shuts c.args.gate.now) c.args.tries)
+    (map arc_value c.args.jobs.now) c.args.seats.now c.work_all.new.seats c.collect.new.seats c.in_ok-queues.queues.items c.in_ok-replies.replies.items
+settles g c =
+    let kept = c.in_ok-queues.ensures in
+    let many : length c.in_ok-queues.queues.items ≡ length c.args.seats.now = omega (arith, kept.as_many) in
+    let P : ℕ → Type 0 = λ n. Deals n 0 (map (λ q. q.items) c.in_ok-queues.queues.items) c.in_ok-replies.replies.items in
+    record {
+      some = omega arith;
+      worked_as_many = omega arith;
+      after_as_many = omega arith;
+      queues_as_many = many;
+      at_work = c.work_all.ensures;
+      taken = λ k d e h. kept.taken k d e (omega arith);
+      same = λ k d h. kept.same k d (omega arith);
+      dealt = subst P many c.in_ok-replies.ensures.dealt;
+      in_all = rw length-map c.in_ok-replies.ensures.in_all;
+    }
+
+pub returns-clause-answers : goal.returns-clause-answers
+returns-clause-answers g c = settled_answers _ _ _ _ _ _ _ _ _ _ (settles g c)
+
+pub returns-clause-shares : goal.returns-clause-shares
+returns-clause-shares g c = settled_shares _ _ _ _ _ _ _ _ _ _ (settles g c)
