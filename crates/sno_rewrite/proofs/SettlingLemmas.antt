@@ -10,13 +10,17 @@ use Rattle.sno_statement.specs.Task.{Task}
 use Rattle.sno_book.specs.Entries.{Entry}
 use Rattle.sno_book.specs.Proposals.{Received}
 use Rattle.sno_book.specs.States.{State}
-use Rattle.sno_book.specs.Views.{View, state_of}
+use Rattle.sno_book.specs.Views.{IsLawful, View, state_of}
+use Rattle.sno_book.specs.Journals.{Legal, replay}
+use Rattle.sno_book.specs.Openings.{Opening, start}
 use Rattle.sno_desk.specs.Answers.{Answers}
 use Rattle.sno_desk.specs.Turns.{AllAnswer}
 use Rattle.sno_desk.specs.declared.faults.SubmitFault.{SubmitFault}
 use Rattle.sno_rewrite.specs.Histories.{history_of}
 use Rattle.sno_rewrite.specs.Owners.{Lists, Owns, answer_in}
-use Rattle.sno_rewrite.specs.Shared.{AreAnswers, MayAnswer, Settles, refusal_of, refusals}
+use Rattle.sno_rewrite.specs.Document.{Document}
+use Rattle.sno_rewrite.specs.Serial.{room}
+use Rattle.sno_rewrite.specs.Shared.{AreAnswers, IsShared, MayAnswer, Settles, refusal_of, refusals}
 use Rattle.sno_rewrite.specs.declared.serial.Reason.{Reason}
 use Rattle.sno_rewrite.specs.declared.serial.Refusal.{Refusal}
 use Rattle.sno_rewrite.proofs.OwnerLemmas.{fill, in_order}
@@ -96,4 +100,15 @@ settles shuts tries book statements replies owners refused answered owns all lis
       refused = listed;
       order = filled.order;
       ordered = in_order shuts tries statements replies book.journal owners answered owns filled;
+    }
+
+-- what is settled beside a lawful book that began with the document's texts
+pub shares : (tries : ℕ) (d : Document) (book : View) (before : Opening) (refused : List Refusal) → book.opening ≡ before → before.texts ≡ d.texts
+    → IsLawful book → Settles tries d.statements (history_of book refused) → IsShared tries d (history_of book refused)
+shares tries d book before refused began texts lawful settled =
+    let same : book.opening.texts ≡ d.texts = ap (λ (o : Opening). o.texts) began ∙ texts in
+    record {
+      legal = subst (λ t. Legal (start (record { texts = t; room = room })) book.journal) same lawful.legal;
+      replayed = ap (λ (t : List (List ℕ × List ℕ)). replay (start (record { texts = t; room = room })) book.journal) same;
+      settled = settled;
     }

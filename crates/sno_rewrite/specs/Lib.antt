@@ -14,4 +14,5 @@ pub mod Reports
 pub mod CommandLine
 pub mod Shared
 pub mod Owners
+pub mod Runs
 pub mod Streams

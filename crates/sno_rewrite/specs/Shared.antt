@@ -1,7 +1,6 @@
 -- Shared runs: workers perform the statements of a document on its texts, in an order that nobody fixed.
 use Rattle.std.specs.Prelude.{◌≡◌, ◌≢◌, ◌≤◌, ◌↔◌, ℕ, Bool, List, [], ◌∷◌, ◌++◌, length, slice_get, Option, Some, None, Ok}
 use Rattle.std.specs.Option.{option_map}
-use Rattle.std.specs.Io.KnownBytes.{Appends}
 use Rattle.sno_statement.specs.Task.{Task}
 use Rattle.sno_book.specs.States.{Held, State, find}
 use Rattle.sno_book.specs.Entries.{Entry}
@@ -10,7 +9,7 @@ use Rattle.sno_book.specs.Openings.{start}
 use Rattle.sno_desk.specs.Answers.{Lengthens}
 use Rattle.sno_rewrite.specs.Document.{Document, IsDocument}
 use Rattle.sno_rewrite.specs.Serial.{History, room}
-use Rattle.sno_rewrite.specs.Reports.{listing_by, status_of_run}
+use Rattle.sno_rewrite.specs.Reports.{listing_by}
 use Rattle.sno_rewrite.specs.declared.serial.Reason.{Reason}
 use Rattle.sno_rewrite.specs.declared.serial.Reason.TheVariants.{NoText, TextTooLong, TriesSpent}
 use Rattle.sno_rewrite.specs.declared.serial.Refusal.{Refusal}
