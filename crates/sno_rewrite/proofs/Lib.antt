@@ -13,3 +13,4 @@ pub mod StreamLemmas
 pub mod ReadLemmas
 pub mod JsonListingLemmas
 pub mod CommandLineLemmas
+pub mod LimitLemmas

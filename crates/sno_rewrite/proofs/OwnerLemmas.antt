@@ -38,12 +38,12 @@ module _ (journal : List Entry) (replies : List (Result Received SubmitFault)) w
   owns_none owners made = record {
     as_many = ap length made ∙ length-replicate (length journal) None;
     backed = λ k p h.
-      let inside : k < length owners = slice_get_within owners k (Some p) h in
-      let few : length owners ≡ length journal = ap length made ∙ length-replicate (length journal) None in
-      let within : k < length journal = omega (arith, inside, few) in
-      let read : slice_get owners k ≡ Some (get_or owners k None) = slice_get-get_or owners k None inside in
-      let e : get_or owners k None ≡ None = ap (λ (l : List (Option ℕ)). get_or l k None) made ∙ get_or-replicate (length journal) k None None within in
-      absurd (cc);
+        let inside : k < length owners = slice_get_within owners k (Some p) h in
+        let few : length owners ≡ length journal = ap length made ∙ length-replicate (length journal) None in
+        let within : k < length journal = omega (arith, inside, few) in
+        let read : slice_get owners k ≡ Some (get_or owners k None) = slice_get-get_or owners k None inside in
+        let e : get_or owners k None ≡ None = ap (λ (l : List (Option ℕ)). get_or l k None) made ∙ get_or-replicate (length journal) k None None within in
+        absurd (cc);
     noted = λ p r below h. absurd (omega (arith, below));
   }
 
@@ -59,13 +59,15 @@ module _ (journal : List Entry) (replies : List (Result Received SubmitFault)) w
     backed_by : (k p : ℕ) → slice_get new k ≡ Some (Some p) → (k ≡ r.index) ⊎ (k ≢ r.index) → (p < i + 1) × IsReceipt journal replies k p
     backed_by k p h (inl same) =
         let at : slice_get new k ≡ Some (Some i) = ap (slice_get new) same ∙ mine in
-        let e : p ≡ i = cc in
-        (omega (arith, e), record {
-          receipt = r;
-          there = ap (slice_get replies) e ∙ there;
-          indexed = sym same;
-          entry = ap (slice_get journal) same ∙ agrees;
-        })
+        let e : p ≡ i = cc in (
+          omega (arith, e),
+          record {
+            receipt = r;
+            there = ap (slice_get replies) e ∙ there;
+            indexed = sym same;
+            entry = ap (slice_get journal) same ∙ agrees;
+          },
+        )
     backed_by k p h (inr other) = let b = before.backed k p (sym (others k other) ∙ h) in (omega (arith, b.0), b.1)
 
     noted_by : (p : ℕ) (s : Received) → p < i + 1 → slice_get replies p ≡ Some (Ok s) → (p ≡ i) ⊎ (p ≢ i) → slice_get new s.index ≡ Some (Some p)
@@ -90,8 +92,9 @@ module _ (journal : List Entry) (replies : List (Result Received SubmitFault)) w
     as_many = before.as_many;
     backed = λ k p h. let b = before.backed k p h in (omega (arith, b.0), b.1);
     noted = λ p r below h. (elim (cases_eq p i) [
-      inl same ↦ absurd (let at : slice_get replies p ≡ Some (Err e) = ap (slice_get replies) same ∙ there in cc)
-      | inr other ↦ before.noted p r (omega (arith, below, other)) h ]);
+      | inl same ↦ absurd (let at : slice_get replies p ≡ Some (Err e) = ap (slice_get replies) same ∙ there in cc)
+      | inr other ↦ before.noted p r (omega (arith, below, other)) h
+    ]);
   }
 
 -- the list of those that own, where each entry is owned
@@ -157,19 +160,19 @@ module _ (shuts : ℕ → ℕ → Type 0) (tries : ℕ) (statements : List Task)
   in_order = record {
     as_many = sym (length-map filled.order Some) ∙ sym (ap length filled.filled) ∙ owns.as_many;
     once = λ j k p h g.
-      let one = its j p h in
-      let other = its k p g in
-      let same : one.receipt ≡ other.receipt = (let a = one.there in let b = other.there in cc) in
-      sym one.indexed ∙ ap (λ (r : Received). r.index) same ∙ other.indexed;
+        let one = its j p h in
+        let other = its k p g in
+        let same : one.receipt ≡ other.receipt = (let a = one.there in let b = other.there in cc) in
+        sym one.indexed ∙ ap (λ (r : Received). r.index) same ∙ other.indexed;
     statement = λ k p h.
-      let one = its k p h in
-      ap (option_map (λ (e : Entry). e.statement)) one.entry ∙ sym (receipt_for shuts tries statements replies answered p one.receipt one.there);
+        let one = its k p h in
+        ap (option_map (λ (e : Entry). e.statement)) one.entry ∙ sym (receipt_for shuts tries statements replies answered p one.receipt one.there);
     accepted = λ k p h.
-      let one = its k p h in
-      slice_get-map answer_in replies p ∙ ap (option_map answer_in) one.there;
+        let one = its k p h in
+        slice_get-map answer_in replies p ∙ ap (option_map answer_in) one.there;
     all = λ p h.
-      let a = accepted_at replies p h in
-      let inside = slice_get_within replies p (Ok a.0) a.1 in
-      let had = owns.noted p a.0 inside a.1 in
-      (a.0.index, order_at filled.order a.0.index p (sym (ap (λ (l : List (Option ℕ)). slice_get l a.0.index) filled.filled) ∙ had));
+        let a = accepted_at replies p h in
+        let inside = slice_get_within replies p (Ok a.0) a.1 in
+        let had = owns.noted p a.0 inside a.1 in
+        (a.0.index, order_at filled.order a.0.index p (sym (ap (λ (l : List (Option ℕ)). slice_get l a.0.index) filled.filled) ∙ had));
   }

@@ -64,28 +64,29 @@ module _ (tries : ℕ) (state : State) (statements : List Task) (answers : List 
       → slice_get statements i ≡ Some s → slice_get answers i ≡ Some a → new ≡ old ++ refusal_of s a → MayAnswer tries state s a
       → Lists tries state statements answers (suc i) new
   lists_more i s a old new before there given grown may =
-    let more : refusals (drop i statements) (drop i answers) ≡ refusal_of s a ++ refusals (drop (suc i) statements) (drop (suc i) answers)
-        = (λ j. refusals (drop_at statements i s there j) (drop_at answers i a given j)) in
-    record {
-      listed = ap (λ (l : List Refusal). l ++ refusals (drop (suc i) statements) (drop (suc i) answers)) grown
-          ∙ append_assoc old (refusal_of s a) (refusals (drop (suc i) statements) (drop (suc i) answers))
-          ∙ ap (λ (l : List Refusal). old ++ l) (sym more) ∙ before.listed;
-      may = λ h.
-        let both : AreAnswers tries state (s ∷ drop (suc i) statements) (a ∷ drop (suc i) answers) = (may, h) in
-        let one : AreAnswers tries state (s ∷ drop (suc i) statements) (drop i answers)
+      let more : refusals (drop i statements) (drop i answers) ≡ refusal_of s a ++ refusals (drop (suc i) statements) (drop (suc i) answers)
+      = (λ j. refusals (drop_at statements i s there j) (drop_at answers i a given j)) in
+      record {
+        listed = ap (λ (l : List Refusal). l ++ refusals (drop (suc i) statements) (drop (suc i) answers)) grown
+            ∙ append_assoc old (refusal_of s a) (refusals (drop (suc i) statements) (drop (suc i) answers))
+            ∙ ap (λ (l : List Refusal). old ++ l) (sym more) ∙ before.listed;
+        may = λ h.
+            let both : AreAnswers tries state (s ∷ drop (suc i) statements) (a ∷ drop (suc i) answers) = (may, h) in
+            let one : AreAnswers tries state (s ∷ drop (suc i) statements) (drop i answers)
             = subst (λ l. AreAnswers tries state (s ∷ drop (suc i) statements) l) (sym (drop_at answers i a given)) both in
-        before.may (subst (λ l. AreAnswers tries state l (drop i answers)) (sym (drop_at statements i s there)) one);
-    }
+            before.may (subst (λ l. AreAnswers tries state l (drop i answers)) (sym (drop_at statements i s there)) one);
+      }
 
   -- behind the last answer all are listed
   pub lists_all : (i : ℕ) (refused : List Refusal) → length statements ≡ length answers → length statements ≤ i → Lists tries state statements answers i refused
       → (refused ≡ refusals statements answers) × AreAnswers tries state statements answers
   lists_all i refused even past h =
-    let first : drop i statements ≡ [] = drop_all i statements past in
-    let second : drop i answers ≡ [] = drop_all i answers (omega (arith, even, past)) in
-    (sym (append-nil refused) ∙ ap (λ (l : List Task). refused ++ refusals l (drop i answers)) (sym first) ∙ h.listed,
-     h.may (subst (λ l. AreAnswers tries state l (drop i answers)) (sym first)
-       (subst (λ l. AreAnswers tries state [] l) (sym second) tt)))
+      let first : drop i statements ≡ [] = drop_all i statements past in
+      let second : drop i answers ≡ [] = drop_all i answers (omega (arith, even, past)) in (
+        sym (append-nil refused) ∙ ap (λ (l : List Task). refused ++ refusals l (drop i answers)) (sym first) ∙ h.listed,
+        h.may (subst (λ l. AreAnswers tries state l (drop i answers)) (sym first)
+            (subst (λ l. AreAnswers tries state [] l) (sym second) tt)),
+      )
 
 -- what is listed beside a book whose entries are all owned
 pub settles : (shuts : ℕ → ℕ → Type 0) (tries : ℕ) (book : View) (statements : List Task) (replies : List (Result Received SubmitFault))

@@ -63,7 +63,11 @@ fn take_up(
 ///
 /// Refused: `Audit` where a receipt's entry is not the journal's, where two are for one entry, or where an entry has none; `Memory`.
 #[tactic(auto, using(crate::proofs::OwnerLemmas::owns_none))]
-pub(crate) fn owners(alloc: Global, book: &Book, replies: &[Reply]) -> Result<Vec<Option<usize>>, RunFault>
+pub(crate) fn owners(
+    alloc: Global,
+    book: &Book,
+    replies: &[Reply],
+) -> Result<Vec<Option<usize>>, RunFault>
     ensures owns { IfOk result (λ v. Owns book.now.journal replies.now (length replies.now) v.items) }
     ensures all { IfOk result (λ v. All (λ o. IsSome o) v.items) }
     ensures fault { IfErr result IsAuditOrMemory }

@@ -46,7 +46,11 @@ pub(crate) struct Performed {
 }
 
 /// The statement is refused, behind those that are.
-pub(crate) fn refuse(refused: &mut Vec<Refusal>, statement: &Statement, reason: Reason) -> Result<(), RunFault>
+pub(crate) fn refuse(
+    refused: &mut Vec<Refusal>,
+    statement: &Statement,
+    reason: Reason,
+) -> Result<(), RunFault>
     ensures refused { OnOk result (refused.new.items ≡ refused.old.items ++ record { number = statement.now.number; reason = reason } ∷ []) }
     ensures memory { IfErr result (λ e. e ≡ Memory) }
 {

@@ -17,8 +17,8 @@ list-requires c =
 pub returns-clause-lists : goal.returns-clause-lists
 returns-clause-lists c =
     let more = lists_more c.args.tries (state_of c.args.book.now) (map arc_value c.args.statements.now) (map answer_in c.args.replies.now) c.args.place
-        c.deref.result.now (answer_in c.index-replies-place.result) c.args.refused.now.items c.list.new.refused.items c.requires.before
-        (seen_at arc_value c.args.statements.now c.args.place c.index-statements-place.result c.deref.result.now c.requires.inside c.index-statements-place.is c.deref.ensures)
-        (seen_at answer_in c.args.replies.now c.args.place c.index-replies-place.result (answer_in c.index-replies-place.result) c.requires.replied c.index-replies-place.is refl)
-        c.in_ok-list.ensures.listed c.in_ok-list.ensures.may in
+    c.deref.result.now (answer_in c.index-replies-place.result) c.args.refused.now.items c.list.new.refused.items c.requires.before
+    (seen_at arc_value c.args.statements.now c.args.place c.index-statements-place.result c.deref.result.now c.requires.inside c.index-statements-place.is c.deref.ensures)
+    (seen_at answer_in c.args.replies.now c.args.place c.index-replies-place.result (answer_in c.index-replies-place.result) c.requires.replied c.index-replies-place.is refl)
+    c.in_ok-list.ensures.listed c.in_ok-list.ensures.may in
     rw add-one more

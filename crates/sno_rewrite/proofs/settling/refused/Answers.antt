@@ -18,7 +18,7 @@ returns-clause-refused c =
     let even = as_many (Answers (λ _ _. ⊥) c.args.tries) (map arc_value c.args.statements.now) c.args.replies.now c.requires in
     let seen = length-map c.args.statements.now arc_value in
     let all = lists_all c.args.tries (state_of c.args.book.now) (map arc_value c.args.statements.now) (map answer_in c.args.replies.now) c.loop-place.place
-        c.loop-place.refused.items (even ∙ sym (length-map c.args.replies.now answer_in)) (omega (arith, seen)) c.loop-place.invariant in
+    c.loop-place.refused.items (even ∙ sym (length-map c.args.replies.now answer_in)) (omega (arith, seen)) c.loop-place.invariant in
     all.0
 
 pub returns-clause-may : goal.returns-clause-may
@@ -26,5 +26,5 @@ returns-clause-may c =
     let even = as_many (Answers (λ _ _. ⊥) c.args.tries) (map arc_value c.args.statements.now) c.args.replies.now c.requires in
     let seen = length-map c.args.statements.now arc_value in
     let all = lists_all c.args.tries (state_of c.args.book.now) (map arc_value c.args.statements.now) (map answer_in c.args.replies.now) c.loop-place.place
-        c.loop-place.refused.items (even ∙ sym (length-map c.args.replies.now answer_in)) (omega (arith, seen)) c.loop-place.invariant in
+    c.loop-place.refused.items (even ∙ sym (length-map c.args.replies.now answer_in)) (omega (arith, seen)) c.loop-place.invariant in
     all.1
