@@ -6,8 +6,11 @@ pub mod CircleLemmas
 pub mod BookLemmas
 pub mod SerialLemmas
 pub mod ListingLemmas
+pub mod OwnerLemmas
+pub mod SettlingLemmas
 pub mod DocumentLaw
 pub mod StreamLemmas
 pub mod ReadLemmas
 pub mod JsonListingLemmas
 pub mod CommandLineLemmas
+pub mod LimitLemmas

@@ -12,4 +12,7 @@ pub mod Listing
 pub mod JsonListing
 pub mod Reports
 pub mod CommandLine
+pub mod Shared
+pub mod Owners
+pub mod Runs
 pub mod Streams

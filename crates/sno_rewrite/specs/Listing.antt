@@ -9,7 +9,7 @@ use Rattle.sno_book.specs.States.{Held}
 use Rattle.sno_book.specs.Entries.{Entry}
 use Rattle.sno_rewrite.specs.Serial.{History}
 use Rattle.sno_rewrite.specs.declared.serial.Reason.{Reason}
-use Rattle.sno_rewrite.specs.declared.serial.Reason.TheVariants.{NoText, TextTooLong}
+use Rattle.sno_rewrite.specs.declared.serial.Reason.TheVariants.{NoText, TextTooLong, TriesSpent}
 use Rattle.sno_rewrite.specs.declared.serial.Refusal.{Refusal}
 
 -- a hexadecimal digit, in lower case
@@ -68,9 +68,14 @@ abbrev pub entries_from : ℕ → List Entry → List ℕ
 entries_from index [] = []
 entries_from index (e ∷ entries) = entry_lines index e ++ entries_from (index + 1) entries
 
+-- the version that the last try was made on, and the one that stood there instead
+unfoldable pub tries_words : ℕ → ℕ → List ℕ
+tries_words seen now = codes "tries spent " ++ (decimal seen ++ (32 ∷ [] ++ decimal now))
+
 abbrev pub reason_words : Reason → List ℕ
 reason_words NoText = codes "no text"
 reason_words TextTooLong = codes "text too long"
+reason_words (TriesSpent seen now) = tries_words seen now
 
 -- a refused statement: its number and the reason
 unfoldable pub refused_line : Refusal → List ℕ

@@ -1,6 +1,5 @@
 -- Reports: what a run answers for a document.
-use Rattle.std.specs.Prelude.{◌≡◌, ◌⊎◌, ℕ, Bool, List, Option, length, nat_eq, Ok, if◌then◌else◌}
-use Rattle.std.specs.Io.KnownBytes.{Appends}
+use Rattle.std.specs.Prelude.{◌≡◌, ◌⊎◌, ℕ, Bool, List, length, nat_eq, Ok, if◌then◌else◌}
 use Rattle.sno_rewrite.specs.declared.faults.RunFault.{RunFault}
 use Rattle.sno_rewrite.specs.declared.faults.RunFault.TheVariants.{Read, Write}
 use Rattle.sno_rewrite.specs.Document.{Document, IsDocument}
@@ -33,10 +32,3 @@ IsOutside e = (e ≡ Read) ⊎ (e ≡ Write)
 -- the status of a run: whether a statement was refused
 abbrev pub status_of_run : ℕ → ℕ
 status_of_run refused = if nat_eq refused 0 then 0 else 1
-
--- the bytes are a document, its listing was written behind what the writer held, and this is the status
-pub record IsRun (anchor json : Bool) (bytes : List ℕ) (before after : Option (List ℕ)) (status : ℕ) : Type 0 where
-  pub document : Document
-  pub is_document : IsDocument anchor bytes (Ok document)
-  pub written : Appends before after (listing_of json document)
-  pub told : status ≡ status_of_run (refused_of document)

@@ -2,6 +2,7 @@
 ghost use Rattle.std.specs.Prelude.{◌≡◌, [], map, false, Some, IfOk, string_bytes};
 ghost use Rattle.clap.specs.Words.{app_of, FailsBy, found_of, kind_of, rows_of, rule_of, with_rule};
 ghost use Rattle.sno_rewrite.specs.CommandLine.{are_lawful, bare_program, faults, flag, flag_in, found, IsAnswer, IsChecked, is_up_to, number_in, numeric, numeric_or, options_in, plain_options, program, Tells};
+ghost use Rattle.sno_rewrite.specs.Runs.{AreInLimits};
 
 use crate::Options;
 use clap::error::ErrorKind;
@@ -166,8 +167,10 @@ fn told(alloc: Global, error: &Error) -> OptionsFault
 }
 
 /// The options, where they are within their limits.
+#[tactic(auto, using(crate::proofs::LimitLemmas::in_limits))]
 fn checked(alloc: Global, options: Options) -> Result<Options, OptionsFault>
-    ensures { IsChecked options result }
+    ensures checked { IsChecked options result }
+    ensures limits { IfOk result (λ o. AreInLimits o) }
 {
     if are_lawful(&options) {
         return Ok(options);
@@ -186,6 +189,8 @@ fn checked(alloc: Global, options: Options) -> Result<Options, OptionsFault>
 pub fn options_of(alloc: Global, words: &[String]) -> Result<Options, OptionsFault>
     // The options are those of the words, within their limits; or what is refused is so for its cause.
     ensures answer { IsAnswer (map string_bytes words.now) result }
+    // Workers and tries are within their limits.
+    ensures limits { IfOk result (λ o. AreInLimits o) }
     // With no words these are the options.
     ensures plain { words.now ≡ [] → IfOk result (λ o. o ≡ plain_options) }
 {

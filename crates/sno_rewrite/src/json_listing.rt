@@ -8,11 +8,12 @@ ghost use Rattle.serde_json.specs.Data.{string};
 ghost use Rattle.serde_json.specs.View.{view, members_view};
 ghost use Rattle.serde_json.specs.Written.{compact_text};
 ghost use Rattle.sno_statement.specs.Perform.{done_of};
+ghost use Rattle.sno_rewrite.specs.Listing.{reason_words};
 ghost use Rattle.sno_rewrite.specs.ShownTexts.{shown};
 ghost use Rattle.sno_rewrite.specs.JsonListing.{array_of, text_data, value_data, binding_data, bindings_data, subject_members, matched_members, failed_members, done_members, entry_data, entries_data, refused_data, json_listing_data, json_listing};
 
-use crate::listing::reason_words;
-use crate::serial::Refusal;
+use crate::listing::put_reason;
+use crate::serial::{Reason, Refusal};
 use crate::shown_texts::ShownText;
 use serde_json::{Map, Value, json, put};
 use sno_book::Entry;
@@ -195,11 +196,20 @@ fn entry_values(alloc: Global, journal: &[Entry]) -> Result<Vec<Value>, AllocErr
     Ok(values)
 }
 
+/// The words of a reason.
+fn reason_value(alloc: Global, reason: Reason) -> Result<Value, AllocError>
+    ensures { IfOk result (λ v. view v ≡ string (reason_words reason)) }
+{
+    let mut words = Vec::new(alloc);
+    put_reason(alloc, &mut words, reason)?;
+    ascii_value(alloc, &words)
+}
+
 #[tactic(auto, unfolding(crate::specs::JsonListing::refused_data))]
 fn refusal_value(alloc: Global, refusal: &Refusal) -> Result<Value, AllocError>
     ensures { IfOk result (λ v. view v ≡ refused_data refusal.now) }
 {
-    let reason = ascii_value(alloc, reason_words(refusal.reason))?;
+    let reason = reason_value(alloc, refusal.reason)?;
     json!(in alloc; {"reason": reason, "statement": refusal.number})
 }
 

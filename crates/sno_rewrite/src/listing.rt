@@ -1,12 +1,13 @@
 //! The listing of a run.
-ghost use Rattle.std.specs.Prelude.{◌≡◌, ◌++◌, ◌<◌, [], ◌∷◌, map, length, OnOk, IfOk, Some, None, codes};
+ghost use Rattle.std.specs.Prelude.{◌≡◌, ◌++◌, ◌<◌, [], ◌∷◌, map, length, OnOk, IfOk, IsTrue, Some, None, codes};
 ghost use Rattle.std.specs.Option.{option_map};
 ghost use Rattle.std.specs.Arc.{arc_value};
-ghost use Rattle.std.specs.List.{flat_map};
+ghost use Rattle.std.specs.Char.{is_ascii};
+ghost use Rattle.std.specs.List.{flat_map, list_all};
 ghost use Rattle.std.specs.Fmt.{decimal};
 ghost use Rattle.sno_statement.specs.Perform.{done_of};
 ghost use Rattle.sno_rewrite.specs.ShownTexts.{shown};
-ghost use Rattle.sno_rewrite.specs.Listing.{hex_digit, is_plain, escaped_character, escaped, text_line, value_words, binding_line, after_line, done_lines, entry_label, entry_subject, entry_lines, entries_from, reason_words, refused_line, count_line, listing};
+ghost use Rattle.sno_rewrite.specs.Listing.{hex_digit, is_plain, escaped_character, escaped, text_line, value_words, binding_line, after_line, done_lines, entry_label, entry_subject, entry_lines, entries_from, tries_words, reason_words, refused_line, count_line, listing};
 
 use crate::serial::{Reason, Refusal};
 use crate::shown_texts::ShownText;
@@ -140,16 +141,30 @@ fn put_refusal(alloc: Global, out: &mut Vec<u8>, refusal: &Refusal) -> Result<()
     put(out, b"statement ")?;
     put_number(alloc, out, u64::from(refusal.number))?;
     put(out, b" ")?;
-    put(out, reason_words(refusal.reason))?;
+    put_reason(alloc, out, refusal.reason)?;
     put(out, b"\n")
 }
 
-pub(crate) fn reason_words(reason: Reason) -> &'static [u8]
-    ensures { result.now ≡ reason_words reason }
+#[tactic(auto, using(crate::proofs::ListingLemmas::tries_ascii), unfolding(crate::specs::Listing::tries_words))]
+fn put_tries(alloc: Global, out: &mut Vec<u8>, seen: u64, now: u64) -> Result<(), AllocError>
+    ensures words { OnOk result (out.new.items ≡ out.old.items ++ tries_words seen now) }
+    ensures ascii { IsTrue (list_all is_ascii (tries_words seen now)) }
+{
+    put(out, b"tries spent ")?;
+    put_number(alloc, out, seen)?;
+    put(out, b" ")?;
+    put_number(alloc, out, now)
+}
+
+/// The words of a reason, which are ASCII.
+pub(crate) fn put_reason(alloc: Global, out: &mut Vec<u8>, reason: Reason) -> Result<(), AllocError>
+    ensures words { OnOk result (out.new.items ≡ out.old.items ++ reason_words reason) }
+    ensures ascii { IsTrue (list_all is_ascii (reason_words reason)) }
 {
     match reason {
-        Reason::NoText => b"no text",
-        Reason::TextTooLong => b"text too long",
+        Reason::NoText => put(out, b"no text"),
+        Reason::TextTooLong => put(out, b"text too long"),
+        Reason::TriesSpent { seen, now } => put_tries(alloc, out, seen, now),
     }
 }
 

@@ -1,8 +1,10 @@
 //! Runs over bytes, and over readers and writers.
-ghost use Rattle.std.specs.Prelude.{◌≡◌, ◌≢◌, ◌⊎◌, Err, Ok, None, IfOk, IfErr, IfSome, OnOk};
+ghost use Rattle.std.specs.Prelude.{◌≡◌, ◌≢◌, ◌≤◌, ◌⊎◌, Err, Ok, IfOk, IfErr, IfSome, OnOk};
 ghost use Rattle.sno_rewrite.specs.declared.faults.RunFault.TheVariants.{Memory, Write as WriteFailed};
 ghost use Rattle.sno_rewrite.specs.Document.{Document, IsDocument};
-ghost use Rattle.sno_rewrite.specs.Reports.{listing_by, IsReport, IsRun, IsOutside};
+ghost use Rattle.sno_rewrite.specs.Reports.{listing_by, IsReport, IsOutside};
+ghost use Rattle.sno_rewrite.specs.Runs.{AreInLimits, FailsBy, IsOwn, IsRun, Reports};
+ghost use Rattle.sno_rewrite.specs.Shared.{IsSharedReport};
 ghost use Rattle.sno_rewrite.specs.Histories.{performed_seen};
 ghost use Rattle.std.specs.Io.KnownBytes.{IsAtEnd};
 
@@ -10,11 +12,14 @@ use crate::documents::read_document;
 use crate::json_listing::json_listing;
 use crate::listing::listing;
 use crate::serial::{Performed, serial};
+use crate::sharing::shared;
 use crate::shown_texts::shown_texts;
 use crate::streams::{read_all, write_all};
 use crate::{Options, RunFault};
 use std::alloc::Global;
 use std::io::{Read, Write};
+use std::sync::Wait;
+use std::thread::Threads;
 
 /// What came of a run.
 #[derive(Debug, Drop)]
@@ -67,31 +72,98 @@ fn reported(alloc: Global, bytes: &[u8], anchor: bool, json: bool) -> Result<Rep
     Ok(Report { bytes, refused })
 }
 
-/// Reads a document to its end, performs its statements in order, and writes the listing and nothing else. It answers the status of a
-/// run that did so: 0 where no statement was refused, and 1 otherwise. Workers are not to be had yet.
+fn reported_shared<T: Threads + Wait + Sync>(
+    rt: &T,
+    alloc: Global,
+    bytes: &[u8],
+    workers: u32,
+    options: &Options,
+) -> Result<Report, RunFault>
+    requires workers { (1 ≤ workers) × (workers ≤ 16) }
+    requires tries { (1 ≤ options.now.tries) × (options.now.tries ≤ 1000) }
+    ensures found { IfOk result (λ report. IsSharedReport options.now.anchor options.now.json options.now.tries bytes.now report.bytes.items report.refused) }
+    ensures fault { IfErr result (λ e. IsOwn e ⊎ IsDocument options.now.anchor bytes.now (Err e)) }
+{
+    let document = read_document(alloc, bytes, options.anchor)?;
+    let performed = shared(rt, alloc, document, workers, options.tries)?;
+    let bytes = listed(alloc, &performed, options.json)?;
+    let refused = performed.refused.len();
+    Ok(Report { bytes, refused })
+}
+
+/// Performs the statements of a document on its texts by as many workers as `workers` says, one where it says none, and lists what they
+/// did, as JSON where `json` is set. Each statement is tried at most `tries` times. Which of two statements on one text comes first is not
+/// fixed; the listing has the statements in the order in which they were accepted.
+///
+/// Refused with the first fault of the bytes, as `run_serial` refuses; with `Memory` where that was refused, also for a single statement;
+/// with `Audit` where the receipts of the statements don't agree with the journal, and with `Closing` where the desk does not close. No
+/// lawful run meets the last two.
+pub fn run_shared<T: Threads + Wait + Sync>(
+    rt: &T,
+    alloc: Global,
+    bytes: &[u8],
+    options: &Options,
+) -> Result<Report, RunFault>
+    requires { AreInLimits options.now }
+    // The bytes are a document, and the report is that of a shared run: each statement is in the journal once or is refused for a reason.
+    ensures found { IfOk result (λ report. IsSharedReport options.now.anchor options.now.json options.now.tries bytes.now report.bytes.items report.refused) }
+    // Any fault but the run's own is the first of the bytes.
+    ensures fault { IfErr result (λ e. IsOwn e ⊎ IsDocument options.now.anchor bytes.now (Err e)) }
+{
+    let workers = options.workers.unwrap_or(1);
+    let report = reported_shared(rt, alloc, bytes, workers, options)?;
+    Ok(report)
+}
+
+/// The report of the bytes, with workers or without.
+fn report_by<T: Threads + Wait + Sync>(
+    rt: &T,
+    alloc: Global,
+    bytes: &[u8],
+    options: &Options,
+) -> Result<Report, RunFault>
+    requires { AreInLimits options.now }
+    ensures found { IfOk result (λ report. Reports options.now.workers options.now bytes.now report.bytes.items report.refused) }
+    ensures fault { IfErr result (FailsBy options.now.workers options.now.anchor bytes.now) }
+{
+    match options.workers {
+        None => {
+            let report = run_serial(alloc, bytes, options)?;
+            Ok(report)
+        }
+        Some(_) => {
+            let report = run_shared(rt, alloc, bytes, options)?;
+            Ok(report)
+        }
+    }
+}
+
+/// Reads a document to its end, performs its statements, in order or by workers where there are any, and writes the listing and nothing
+/// else. It answers the status of a run that did so: 0 where no statement was refused, and 1 otherwise.
 ///
 /// Refused: `Read` where a read fails, an interrupted one too; a fault of the document as `run_serial` answers it, of which more than
-/// 16,777,216 bytes are one; `Memory`; and `Write` where a write fails, an interrupted one too, or takes no byte. After a fault other
-/// than `Write` nothing was written.
-pub fn run<R: Read, W: Write>(
+/// 16,777,216 bytes are one, or of the run as `run_shared` answers it; `Memory`; and `Write` where a write fails, an interrupted one too,
+/// or takes no byte. After a fault other than `Write` nothing was written.
+pub fn run<T: Threads + Wait + Sync, R: Read, W: Write>(
+    rt: &T,
     alloc: Global,
     reader: &mut R,
     writer: &mut W,
     options: &Options,
 ) -> Result<u8, RunFault>
-    requires { options.now.workers ≡ None }
+    requires { AreInLimits options.now }
     // The reader was read to its end.
     ensures end { OnOk result (IsAtEnd (R.remaining reader.new)) }
     // What was written is the listing of the document, and the status tells whether a statement was refused.
     ensures done { IfOk result (λ status. IfSome (R.remaining reader.old) (λ bytes.
-        IsRun options.now.anchor options.now.json bytes (W.contents writer.old) (W.contents writer.new) status)) }
-    // A fault is that of the document, but for memory, a read or a write.
-    ensures fault { IfErr result (λ e. IsOutside e ⊎ IfSome (R.remaining reader.old) (λ bytes. e ≢ Memory → IsDocument options.now.anchor bytes (Err e))) }
+        IsRun options.now bytes (W.contents writer.old) (W.contents writer.new) status)) }
+    // A fault is that of the document or of the run's own, but for memory, a read or a write.
+    ensures fault { IfErr result (λ e. IsOutside e ⊎ IfSome (R.remaining reader.old) (λ bytes. FailsBy options.now.workers options.now.anchor bytes e)) }
     // Nothing was written but for what a failed write took before.
     ensures nothing { IfErr result (λ e. (e ≡ WriteFailed) ⊎ (writer.new ≡ writer.old)) }
 {
     let bytes = read_all(alloc, reader)?;
-    let report = run_serial(alloc, &bytes, options)?;
+    let report = report_by(rt, alloc, &bytes, options)?;
     write_all(writer, &report.bytes)?;
     Ok(if report.refused == 0 { 0 } else { 1 })
 }

@@ -20,6 +20,13 @@ pub enum Reason {
     NoText,
     /// The new text would have more than 65,536 characters.
     TextTooLong,
+    /// The text changed under each of its tries. A serial run never meets this.
+    TriesSpent {
+        /// The version that the last try was made on.
+        seen: u64,
+        /// The version of the text when that try was to be accepted.
+        now: u64,
+    },
 }
 
 /// A statement that is refused.
@@ -38,7 +45,12 @@ pub(crate) struct Performed {
     pub(crate) refused: Vec<Refusal>,
 }
 
-fn refuse(refused: &mut Vec<Refusal>, statement: &Statement, reason: Reason) -> Result<(), RunFault>
+/// The statement is refused, behind those that are.
+pub(crate) fn refuse(
+    refused: &mut Vec<Refusal>,
+    statement: &Statement,
+    reason: Reason,
+) -> Result<(), RunFault>
     ensures refused { OnOk result (refused.new.items ≡ refused.old.items ++ record { number = statement.now.number; reason = reason } ∷ []) }
     ensures memory { IfErr result (λ e. e ≡ Memory) }
 {

@@ -1,14 +1,15 @@
-//! The program: options from its words, a document on standard input, its listing on standard output.
+//! The program: a document on standard input, its listing on standard output.
 //!
-//! It ends with 0 where every statement was accepted, with 1 where some was refused, with 3 where its words are no options, and
-//! otherwise with the status of the fault, whose line goes to standard error.
+//! Its words are those of `options_of`. It ends with 0 where every statement was accepted, with 1 where some was refused, and otherwise with
+//! the status of the fault, whose line goes to standard error. Help goes to standard output, with status 0; words that are refused end it
+//! with 3, and standard error says how the program is used.
 #![tactic(auto)]
 
-use sno_rewrite::{Options, OptionsFault, RunFault, options_of, run, status_of};
-use std::alloc::{AllocError, Global};
-use std::env;
-use std::io;
+use sno_rewrite::{OptionsFault, RunFault, options_of, run, status_of};
 use std::process::ExitCode;
+use std::{env, io};
+
+const USAGE_STATUS: u8 = 3;
 
 /// The words behind the program's name.
 fn words(rt: &HostRuntime) -> io::Result<Vec<String>> {
@@ -19,36 +20,29 @@ fn words(rt: &HostRuntime) -> io::Result<Vec<String>> {
     Ok(words)
 }
 
-/// The run of these options, and the status that it ends with.
-fn performed(rt: &HostRuntime, options: Options) -> io::Result<u8> {
-    let serial = Options {
-        workers: None,
-        ..options
-    };
-    match run(rt.alloc(), &mut rt.stdin(), &mut rt.stdout(), &serial) {
-        Ok(status) => Ok(status),
-        Err(fault) => {
-            eprintln!(rt; "{fault}")?;
-            Ok(status_of(&fault))
-        }
-    }
+fn fails(rt: &HostRuntime, fault: &RunFault) -> io::Result<ExitCode> {
+    eprintln!(rt; "{fault}")?;
+    Ok(ExitCode::from(status_of(fault)))
 }
 
 fn main(rt: HostRuntime) -> io::Result<ExitCode> {
-    let status = match options_of(rt.alloc(), &words(&rt)?) {
-        Ok(options) => performed(&rt, options)?,
+    let Ok(words) = words(&rt) else {
+        return fails(&rt, &RunFault::Memory);
+    };
+    let options = match options_of(rt.alloc(), &words) {
+        Ok(options) => options,
         Err(OptionsFault::Help(text)) => {
             print!(rt; "{text}")?;
-            0
+            return Ok(ExitCode::SUCCESS);
         }
         Err(OptionsFault::Usage(text)) => {
             eprint!(rt; "{text}")?;
-            3
+            return Ok(ExitCode::from(USAGE_STATUS));
         }
-        Err(OptionsFault::Memory) => {
-            eprintln!(rt; "{}", RunFault::Memory)?;
-            status_of(&RunFault::Memory)
-        }
+        Err(OptionsFault::Memory) => return fails(&rt, &RunFault::Memory),
     };
-    Ok(ExitCode::from(status))
+    match run(&rt, rt.alloc(), &mut rt.stdin(), &mut rt.stdout(), &options) {
+        Ok(status) => Ok(ExitCode::from(status)),
+        Err(fault) => fails(&rt, &fault),
+    }
 }

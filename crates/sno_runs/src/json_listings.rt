@@ -46,7 +46,7 @@ fn runs_write_json(rt: HostRuntime) -> Result<(), Fail> {
         r#"{"texts":[{"name":"T","text":"aa"}],"statements":[{"text":"U","pattern":"'a'"}]}"#;
     let mut reader = document.as_bytes();
     let mut written = Vec::new(rt.alloc());
-    let status = run(rt.alloc(), &mut reader, &mut written, &JSON)?;
+    let status = run(&rt, rt.alloc(), &mut reader, &mut written, &JSON)?;
     assert_eq!(rt; status, 1);
     assert_eq!(rt;
         written.as_slice(),

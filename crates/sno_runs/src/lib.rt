@@ -1,4 +1,4 @@
-//! Whole runs, tested: listings in lines and as JSON, the line of each fault, command lines, and readers and writers that give pieces or fail.
+//! Whole runs, tested: listings in lines and as JSON, the line of each fault, command lines, workers, and readers and writers that give pieces or fail.
 #![tactic(auto)]
 
 #[cfg(test)]
@@ -7,5 +7,7 @@ mod command_lines;
 mod documents;
 #[cfg(test)]
 mod json_listings;
+#[cfg(test)]
+mod shared_runs;
 #[cfg(test)]
 mod streams;

@@ -84,6 +84,7 @@ fn reader_of(reads_left: usize, kind: ErrorKind) -> Pieces<'static> {
 fn pieces_make_the_whole(rt: HostRuntime) -> Result<(), Fail> {
     let mut writer = writer_of(&rt, 1, 1_000);
     let status = run(
+        &rt,
         rt.alloc(),
         &mut reader_of(1_000, ErrorKind::Other),
         &mut writer,
@@ -100,7 +101,13 @@ fn a_read_that_fails_ends_the_run(rt: HostRuntime) -> Result<(), Fail> {
     for reads in 0..DOCUMENT.len().div_ceil(7) + 1 {
         for kind in [ErrorKind::Interrupted, ErrorKind::Other] {
             let mut writer = writer_of(&rt, 1_000, 1_000);
-            let answer = run(rt.alloc(), &mut reader_of(reads, kind), &mut writer, &PLAIN);
+            let answer = run(
+                &rt,
+                rt.alloc(),
+                &mut reader_of(reads, kind),
+                &mut writer,
+                &PLAIN,
+            );
             assert_eq!(rt; answer, Err(RunFault::Read), "after {reads} reads");
             assert!(rt; writer.taken.is_empty());
         }
@@ -114,6 +121,7 @@ fn a_write_that_fails_ends_the_run(rt: HostRuntime) -> Result<(), Fail> {
     for (most, writes) in [(0, 1_000), (10, 0), (10, 1), (10, 5), (1, 50)] {
         let mut writer = writer_of(&rt, most, writes);
         let answer = run(
+            &rt,
             rt.alloc(),
             &mut reader_of(1_000, ErrorKind::Other),
             &mut writer,
@@ -138,7 +146,7 @@ fn the_longest_input(rt: HostRuntime) -> Result<(), Fail> {
         let blanks = vec![in rt.alloc(); b' '; length]?;
         let mut writer = writer_of(&rt, 1_000, 1_000);
         let mut reader = blanks.as_slice();
-        let answer = run(rt.alloc(), &mut reader, &mut writer, &PLAIN);
+        let answer = run(&rt, rt.alloc(), &mut reader, &mut writer, &PLAIN);
         assert_eq!(rt; answer, Err(fault), "of {length} blanks");
     }
     Ok(())

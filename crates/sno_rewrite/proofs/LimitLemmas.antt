@@ -1,0 +1,21 @@
+-- Options within their limits.
+use Rattle.std.proofs.Common.{◌≡◌, ℕ, ◌≤◌, Bool, true, ◌&&◌, Option, Some, None, IfSome}
+use Rattle.std.specs.Prelude.{nat_le}
+use Rattle.std.specs.Option.{option_map_or}
+use Rattle.std.proofs.lemmas.Bool.{and_parts, leb-true}
+use Rattle.sno_rewrite.specs.CommandLine.{are_lawful, is_up_to}
+use Rattle.sno_rewrite.specs.Runs.{AreInLimits}
+use Rattle.sno_rewrite.specs.declared.options.Options.{Options}
+
+up_to : (most n : ℕ) → is_up_to most n ≡ true → (1 ≤ n) × (n ≤ most)
+up_to most n h = let p = and_parts (nat_le 1 n) (nat_le n most) h in (leb-true 1 n p.0, leb-true n most p.1)
+
+workers_up_to : (workers : Option ℕ) → option_map_or (is_up_to 16) workers true ≡ true → IfSome workers (λ n. (1 ≤ n) × (n ≤ 16))
+workers_up_to None h = tt
+workers_up_to (Some n) h = up_to 16 n h
+
+-- options that pass the test are within their limits
+pub in_limits : (options : Options) → are_lawful options ≡ true → AreInLimits options
+in_limits options h =
+    let p = and_parts (option_map_or (is_up_to 16) options.workers true) (is_up_to 1000 options.tries) h in
+    record { workers = workers_up_to options.workers p.0; tries = up_to 1000 options.tries p.1 }

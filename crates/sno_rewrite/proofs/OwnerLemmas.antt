@@ -1,0 +1,178 @@
+-- Which statement each entry of a journal is of.
+use Rattle.std.proofs.Common.{◌≡◌, ◌≢◌, ℕ, true, false, zero, suc, ◌+◌, ◌<◌, ◌⊎◌, inl, inr, List, [], ◌∷◌, length, get_or, set, map, replicate, Option, Some, None, Result, Ok, Err, slice_get, refl, ap, sym, subst, ◌∙◌, arith}
+use Rattle.std.specs.Option.{option_map}
+use Rattle.std.specs.List.{All}
+use Rattle.std.specs.Prelude.{IsSome}
+use Rattle.std.proofs.Math.ListN.{length-set, length-replicate, length-map}
+use Rattle.std.proofs.lemmas.List.{get_or-replicate}
+use Rattle.std.proofs.lemmas.List.Elements.{All-head, All-tail}
+use Rattle.std.proofs.lemmas.Bool.{cases_eq}
+use Rattle.std.proofs.lemmas.Option.{slice_get-get_or, slice_get_within, slice_get-map}
+use Rattle.sno_statement.specs.Task.{Task}
+use Rattle.sno_book.specs.Entries.{Entry}
+use Rattle.sno_book.specs.Proposals.{Received}
+use Rattle.sno_desk.specs.Answers.{Answers}
+use Rattle.sno_desk.specs.Turns.{AllAnswer}
+use Rattle.sno_desk.specs.declared.faults.SubmitFault.{SubmitFault}
+use Rattle.sno_desk.specs.declared.faults.SubmitFault.TheVariants as submit
+use Rattle.sno_rewrite.specs.Owners.{IsReceipt, Owns, answer_in}
+use Rattle.sno_rewrite.specs.Shared.{IsOrder}
+use Rattle.sno_rewrite.specs.declared.serial.Reason.{Reason}
+
+-- what is set stands there, and all else as it stood
+set_there : {X : Type 0} (xs : List X) (i : ℕ) (y : X) → i < length xs → slice_get (set xs i y) i ≡ Some y
+set_there [] i y inside = absurd (omega (arith, inside))
+set_there (x ∷ xs) zero y inside = refl
+set_there (x ∷ xs) (suc i) y inside = set_there xs i y (omega (arith, inside))
+
+set_elsewhere : {X : Type 0} (xs : List X) (i k : ℕ) (y : X) → k ≢ i → slice_get (set xs i y) k ≡ slice_get xs k
+set_elsewhere [] i k y other = refl
+set_elsewhere (x ∷ xs) zero zero y other = absurd (other refl)
+set_elsewhere (x ∷ xs) zero (suc k) y other = refl
+set_elsewhere (x ∷ xs) (suc i) zero y other = refl
+set_elsewhere (x ∷ xs) (suc i) (suc k) y other = set_elsewhere xs i k y (λ e. other (ap suc e))
+
+module _ (journal : List Entry) (replies : List (Result Received SubmitFault)) where
+  -- before all replies no entry is owned
+  pub owns_none : (owners : List (Option ℕ)) → owners ≡ replicate (length journal) None → Owns journal replies 0 owners
+  owns_none owners made = record {
+    as_many = ap length made ∙ length-replicate (length journal) None;
+    backed = λ k p h.
+        let inside : k < length owners = slice_get_within owners k (Some p) h in
+        let few : length owners ≡ length journal = ap length made ∙ length-replicate (length journal) None in
+        let within : k < length journal = omega (arith, inside, few) in
+        let read : slice_get owners k ≡ Some (get_or owners k None) = slice_get-get_or owners k None inside in
+        let e : get_or owners k None ≡ None = ap (λ (l : List (Option ℕ)). get_or l k None) made ∙ get_or-replicate (length journal) k None None within in
+        absurd (cc);
+    noted = λ p r below h. absurd (omega (arith, below));
+  }
+
+  -- a receipt's place owns its entry, which nobody owned
+  module _ (i : ℕ) (r : Received) (old new : List (Option ℕ)) (before : Owns journal replies i old) (there : slice_get replies i ≡ Some (Ok r))
+      (agrees : slice_get journal r.index ≡ Some r.entry) (free : slice_get old r.index ≡ Some None) (grown : new ≡ set old r.index (Some i)) where
+    mine : slice_get new r.index ≡ Some (Some i)
+    mine = ap (λ (l : List (Option ℕ)). slice_get l r.index) grown ∙ set_there old r.index (Some i) (slice_get_within old r.index None free)
+
+    others : (k : ℕ) → k ≢ r.index → slice_get new k ≡ slice_get old k
+    others k other = ap (λ (l : List (Option ℕ)). slice_get l k) grown ∙ set_elsewhere old r.index k (Some i) other
+
+    backed_by : (k p : ℕ) → slice_get new k ≡ Some (Some p) → (k ≡ r.index) ⊎ (k ≢ r.index) → (p < i + 1) × IsReceipt journal replies k p
+    backed_by k p h (inl same) =
+        let at : slice_get new k ≡ Some (Some i) = ap (slice_get new) same ∙ mine in
+        let e : p ≡ i = cc in (
+          omega (arith, e),
+          record {
+            receipt = r;
+            there = ap (slice_get replies) e ∙ there;
+            indexed = sym same;
+            entry = ap (slice_get journal) same ∙ agrees;
+          },
+        )
+    backed_by k p h (inr other) = let b = before.backed k p (sym (others k other) ∙ h) in (omega (arith, b.0), b.1)
+
+    noted_by : (p : ℕ) (s : Received) → p < i + 1 → slice_get replies p ≡ Some (Ok s) → (p ≡ i) ⊎ (p ≢ i) → slice_get new s.index ≡ Some (Some p)
+    noted_by p s below h (inl same) =
+        let e : s ≡ r = (let at : slice_get replies p ≡ Some (Ok r) = ap (slice_get replies) same ∙ there in cc) in
+        ap (λ (t : Received). slice_get new t.index) e ∙ mine ∙ ap (λ (n : ℕ). Some (Some n)) (sym same)
+    noted_by p s below h (inr other) =
+        let had : slice_get old s.index ≡ Some (Some p) = before.noted p s (omega (arith, below, other)) h in
+        others s.index (λ e. let at : slice_get old s.index ≡ Some None = ap (slice_get old) e ∙ free in cc) ∙ had
+
+    pub owns_more : Owns journal replies (i + 1) new
+    owns_more = record {
+      as_many = ap length grown ∙ length-set old r.index (Some i) ∙ before.as_many;
+      backed = λ k p h. backed_by k p h (cases_eq k r.index);
+      noted = λ p s below h. noted_by p s below h (cases_eq p i);
+    }
+
+  -- a refusal owns nothing
+  pub owns_same : (i : ℕ) (e : SubmitFault) (owners : List (Option ℕ)) → Owns journal replies i owners → slice_get replies i ≡ Some (Err e)
+      → Owns journal replies (i + 1) owners
+  owns_same i e owners before there = record {
+    as_many = before.as_many;
+    backed = λ k p h. let b = before.backed k p h in (omega (arith, b.0), b.1);
+    noted = λ p r below h. (elim (cases_eq p i) [
+      | inl same ↦ absurd (let at : slice_get replies p ≡ Some (Err e) = ap (slice_get replies) same ∙ there in cc)
+      | inr other ↦ before.noted p r (omega (arith, below, other)) h
+    ]);
+  }
+
+-- the list of those that own, where each entry is owned
+pub record Filled (owners : List (Option ℕ)) : Type 0 where
+  pub order : List ℕ
+  pub filled : owners ≡ map Some order
+
+pub fill : (owners : List (Option ℕ)) → All (λ o. IsSome o) owners → Filled owners
+fill [] h = record { order = []; filled = refl }
+fill (None ∷ owners) h = let e : false ≡ true = All-head (λ (o : Option ℕ). IsSome o) None owners h in absurd (cc)
+fill (Some p ∷ owners) h = let more = fill owners (All-tail (λ (o : Option ℕ). IsSome o) (Some p) owners h) in record { order = p ∷ more.order; filled = ap (λ (l : List (Option ℕ)). Some p ∷ l) more.filled }
+
+-- a reply that is a receipt is one for the statement at its place
+pub receipt_for : (shuts : ℕ → ℕ → Type 0) (tries : ℕ) (statements : List Task) (replies : List (Result Received SubmitFault))
+    → AllAnswer (Answers shuts tries) statements replies → (p : ℕ) (r : Received) → slice_get replies p ≡ Some (Ok r)
+    → slice_get statements p ≡ Some r.entry.statement
+receipt_for shuts tries [] [] h p r there = cc
+receipt_for shuts tries [] (x ∷ replies) h p r there = absurd h
+receipt_for shuts tries (s ∷ statements) [] h p r there = absurd h
+receipt_for shuts tries (s ∷ statements) (Ok x ∷ replies) h zero r there =
+    let e : x ≡ r = cc in ap Some (sym h.0) ∙ ap (λ (t : Received). Some t.entry.statement) e
+receipt_for shuts tries (s ∷ statements) (Err x ∷ replies) h zero r there = cc
+receipt_for shuts tries (s ∷ statements) (x ∷ replies) h (suc p) r there = receipt_for shuts tries statements replies h.1 p r there
+
+-- a refusal has a reason
+accepted_in : (r : Result Received SubmitFault) → answer_in r ≡ None → (receipt : Received) × (r ≡ Ok receipt)
+accepted_in (Ok receipt) h = (receipt, refl)
+accepted_in (Err submit.NoText) h = absurd (cc)
+accepted_in (Err submit.GateShut) h = absurd (cc)
+accepted_in (Err submit.TextTooLong) h = absurd (cc)
+accepted_in (Err submit.Foreign) h = absurd (cc)
+accepted_in (Err submit.Full) h = absurd (cc)
+accepted_in (Err submit.Memory) h = absurd (cc)
+accepted_in (Err (submit.TriesSpent seen now)) h = absurd (cc)
+
+accepted_at : (replies : List (Result Received SubmitFault)) (p : ℕ) → slice_get (map answer_in replies) p ≡ Some None
+    → (receipt : Received) × (slice_get replies p ≡ Some (Ok receipt))
+accepted_at [] p h = absurd (cc)
+accepted_at (r ∷ replies) zero h = let e : answer_in r ≡ None = cc in let a = accepted_in r e in (a.0, ap Some a.1)
+accepted_at (r ∷ replies) (suc p) h = accepted_at replies p h
+
+filled_at : (order : List ℕ) (k p : ℕ) → slice_get order k ≡ Some p → slice_get (map Some order) k ≡ Some (Some p)
+filled_at [] k p h = absurd (cc)
+filled_at (x ∷ order) zero p h = let e : x ≡ p = cc in ap (λ (n : ℕ). Some (Some n)) e
+filled_at (x ∷ order) (suc k) p h = filled_at order k p h
+
+order_at : (order : List ℕ) (k p : ℕ) → slice_get (map Some order) k ≡ Some (Some p) → slice_get order k ≡ Some p
+order_at [] k p h = absurd (cc)
+order_at (x ∷ order) zero p h = let e : x ≡ p = cc in ap Some e
+order_at (x ∷ order) (suc k) p h = order_at order k p h
+
+-- where each entry is owned, the owners are the order of the statements
+module _ (shuts : ℕ → ℕ → Type 0) (tries : ℕ) (statements : List Task) (replies : List (Result Received SubmitFault)) (journal : List Entry)
+    (owners : List (Option ℕ)) (answered : AllAnswer (Answers shuts tries) statements replies) (owns : Owns journal replies (length replies) owners)
+    (filled : Filled owners) where
+  owned : (k p : ℕ) → slice_get filled.order k ≡ Some p → slice_get owners k ≡ Some (Some p)
+  owned k p h = ap (λ (l : List (Option ℕ)). slice_get l k) filled.filled ∙ filled_at filled.order k p h
+
+  its : (k p : ℕ) → slice_get filled.order k ≡ Some p → IsReceipt journal replies k p
+  its k p h = (owns.backed k p (owned k p h)).1
+
+  pub in_order : IsOrder statements (map answer_in replies) journal filled.order
+  in_order = record {
+    as_many = sym (length-map filled.order Some) ∙ sym (ap length filled.filled) ∙ owns.as_many;
+    once = λ j k p h g.
+        let one = its j p h in
+        let other = its k p g in
+        let same : one.receipt ≡ other.receipt = (let a = one.there in let b = other.there in cc) in
+        sym one.indexed ∙ ap (λ (r : Received). r.index) same ∙ other.indexed;
+    statement = λ k p h.
+        let one = its k p h in
+        ap (option_map (λ (e : Entry). e.statement)) one.entry ∙ sym (receipt_for shuts tries statements replies answered p one.receipt one.there);
+    accepted = λ k p h.
+        let one = its k p h in
+        slice_get-map answer_in replies p ∙ ap (option_map answer_in) one.there;
+    all = λ p h.
+        let a = accepted_at replies p h in
+        let inside = slice_get_within replies p (Ok a.0) a.1 in
+        let had = owns.noted p a.0 inside a.1 in
+        (a.0.index, order_at filled.order a.0.index p (sym (ap (λ (l : List (Option ℕ)). slice_get l a.0.index) filled.filled) ∙ had));
+  }

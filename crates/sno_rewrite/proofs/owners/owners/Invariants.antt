@@ -1,0 +1,5 @@
+use Rattle.sno_rewrite.specs.Owners.{Owns}
+use Rattle.sno_rewrite.proofs.owners.owners.Given as goal
+
+abbrev pub invariant-loop-place : goal.invariant-loop-place
+invariant-loop-place l = Owns l.book.journal l.replies l.place l.owners.items

@@ -1,0 +1,30 @@
+use Rattle.std.proofs.Common.{◌≡◌, ◌∙◌, ℕ, List, length, map, subst, sym, arith}
+use Rattle.std.specs.Arc.{arc_value}
+use Rattle.std.proofs.Math.ListN.{length-map}
+use Rattle.sno_book.specs.Views.{state_of}
+use Rattle.sno_desk.specs.Answers.{Answers}
+use Rattle.sno_rewrite.specs.Owners.{Lists, answer_in}
+use Rattle.sno_rewrite.proofs.SettlingLemmas.{as_many, lists_all}
+use Rattle.sno_rewrite.proofs.settling.refused.Goals as goal
+
+pub list_at-requires-clause-replied : goal.list_at-requires-clause-replied
+list_at-requires-clause-replied c =
+    let even = as_many (Answers (λ _ _. ⊥) c.args.tries) (map arc_value c.args.statements.now) c.args.replies.now c.requires in
+    let seen = length-map c.args.statements.now arc_value in
+    omega (arith, even, seen)
+
+pub returns-clause-refused : goal.returns-clause-refused
+returns-clause-refused c =
+    let even = as_many (Answers (λ _ _. ⊥) c.args.tries) (map arc_value c.args.statements.now) c.args.replies.now c.requires in
+    let seen = length-map c.args.statements.now arc_value in
+    let all = lists_all c.args.tries (state_of c.args.book.now) (map arc_value c.args.statements.now) (map answer_in c.args.replies.now) c.loop-place.place
+    c.loop-place.refused.items (even ∙ sym (length-map c.args.replies.now answer_in)) (omega (arith, seen)) c.loop-place.invariant in
+    all.0
+
+pub returns-clause-may : goal.returns-clause-may
+returns-clause-may c =
+    let even = as_many (Answers (λ _ _. ⊥) c.args.tries) (map arc_value c.args.statements.now) c.args.replies.now c.requires in
+    let seen = length-map c.args.statements.now arc_value in
+    let all = lists_all c.args.tries (state_of c.args.book.now) (map arc_value c.args.statements.now) (map answer_in c.args.replies.now) c.loop-place.place
+    c.loop-place.refused.items (even ∙ sym (length-map c.args.replies.now answer_in)) (omega (arith, seen)) c.loop-place.invariant in
+    all.1

@@ -1,0 +1,195 @@
+//! What the replies to the statements of a document come to.
+ghost use Rattle.std.specs.Prelude.{◌≡◌, ◌≤◌, ◌<◌, ◌+◌, ◌++◌, length, map, IfOk, IfErr, OnOk, Some, None, Err};
+ghost use Rattle.std.specs.Option.{option_map};
+ghost use Rattle.std.specs.Arc.{arc_value};
+ghost use Rattle.sno_book.specs.States.{find};
+ghost use Rattle.sno_book.specs.Views.{state_of};
+ghost use Rattle.sno_desk.specs.Answers.{Answers};
+ghost use Rattle.sno_desk.specs.Turns.{AllAnswer};
+ghost use Rattle.sno_rewrite.specs.Histories.{performed_seen};
+ghost use Rattle.sno_rewrite.specs.Owners.{IsAuditOrMemory, Lists, answer_in};
+ghost use Rattle.sno_rewrite.specs.Shared.{AreAnswers, HasReached, MayAnswer, MayRefuse, Settles, refusal_of, refusals};
+ghost use Rattle.sno_rewrite.specs.declared.faults.RunFault.TheVariants.{Memory as MemoryRefused};
+ghost use Rattle.sno_rewrite.specs.declared.serial.Reason.TheVariants.{NoText as WithoutText, TriesSpent as Spent};
+
+use crate::RunFault;
+use crate::owners::owners;
+use crate::serial::{Performed, Reason, Refusal, refuse};
+use sno_book::{Book, SnapshotFault};
+use sno_desk::{Reply, SubmitFault};
+use sno_statement::Statement;
+use std::alloc::Global;
+use std::sync::Arc;
+
+/// The version of the statement's text, where the book has the text.
+fn version_in(book: &Book, statement: &Statement) -> Result<Option<u64>, RunFault>
+    ensures version { IfOk result (λ o. o ≡ option_map (λ held. held.version) (find statement.now.text (state_of book.now))) }
+    ensures fault { IfErr result (λ e. e ≡ MemoryRefused) }
+{
+    match book.snapshot(statement.text()) {
+        Ok(snapshot) => Ok(Some(snapshot.version)),
+        Err(SnapshotFault::NoText) => Ok(None),
+        Err(SnapshotFault::Memory) => Err(RunFault::Memory),
+    }
+}
+
+/// That the book has no text of the statement's name; `Audit` where it has one.
+fn without_text(book: &Book, statement: &Statement) -> Result<Reason, RunFault>
+    ensures reason { IfOk result (λ reason. reason ≡ WithoutText) }
+    ensures none { IfOk result (λ _. find statement.now.text (state_of book.now) ≡ None) }
+    ensures fault { IfErr result IsAuditOrMemory }
+{
+    match version_in(book, statement)? {
+        None => Ok(Reason::NoText),
+        Some(_) => Err(RunFault::Audit),
+    }
+}
+
+/// That the statement's text was replaced at least as often as the statement was tried, and is no older than the last try found it; `Audit`
+/// where that is not so.
+fn with_tries_spent(
+    book: &Book,
+    statement: &Statement,
+    tries: u32,
+    seen: u64,
+    now: u64,
+) -> Result<Reason, RunFault>
+    ensures reason { IfOk result (λ reason. reason ≡ Spent seen now) }
+    ensures many { IfOk result (λ _. tries ≤ now) }
+    ensures reached { IfOk result (λ _. HasReached (state_of book.now) statement.now.text now) }
+    ensures fault { IfErr result IsAuditOrMemory }
+{
+    let Some(version) = version_in(book, statement)? else {
+        return Err(RunFault::Audit);
+    };
+    if u64::from(tries) <= now && now <= version {
+        Ok(Reason::TriesSpent { seen, now })
+    } else {
+        Err(RunFault::Audit)
+    }
+}
+
+/// The reason for which the statement is listed as refused.
+fn reason(
+    book: &Book,
+    statement: &Statement,
+    fault: &SubmitFault,
+    tries: u32,
+) -> Result<Reason, RunFault>
+    requires { Answers (λ _ _. ⊥) tries statement.now (Err fault.now) }
+    ensures reason { IfOk result (λ reason. answer_in (Err fault.now) ≡ Some reason) }
+    ensures may { IfOk result (λ reason. MayRefuse tries (state_of book.now) statement.now reason) }
+    ensures fault { IfErr result IsAuditOrMemory }
+{
+    match *fault {
+        SubmitFault::NoText => {
+            let reason = without_text(book, statement)?;
+            Ok(reason)
+        }
+        SubmitFault::TextTooLong => Ok(Reason::TextTooLong),
+        SubmitFault::TriesSpent { seen, now } => {
+            let reason = with_tries_spent(book, statement, tries, seen, now)?;
+            Ok(reason)
+        }
+        SubmitFault::Memory => Err(RunFault::Memory),
+        SubmitFault::GateShut | SubmitFault::Foreign | SubmitFault::Full => Err(RunFault::Audit),
+    }
+}
+
+/// One reply: a refusal is listed behind those before.
+fn list(
+    book: &Book,
+    statement: &Statement,
+    reply: &Reply,
+    tries: u32,
+    refused: &mut Vec<Refusal>,
+) -> Result<(), RunFault>
+    requires { Answers (λ _ _. ⊥) tries statement.now reply.now }
+    ensures listed { OnOk result (refused.new.items ≡ refused.old.items ++ refusal_of statement.now (answer_in reply.now)) }
+    ensures may { OnOk result (MayAnswer tries (state_of book.now) statement.now (answer_in reply.now)) }
+    ensures fault { IfErr result IsAuditOrMemory }
+{
+    match reply {
+        Ok(_) => Ok(()),
+        Err(fault) => {
+            let reason = reason(book, statement, fault, tries)?;
+            refuse(refused, statement, reason)?;
+            Ok(())
+        }
+    }
+}
+
+/// The reply at a place.
+fn list_at(
+    book: &Book,
+    statements: &[Arc<Statement>],
+    replies: &[Reply],
+    place: usize,
+    tries: u32,
+    refused: &mut Vec<Refusal>,
+) -> Result<(), RunFault>
+    requires inside { place < length statements.now }
+    requires replied { place < length replies.now }
+    requires answers { AllAnswer (Answers (λ _ _. ⊥) tries) (map arc_value statements.now) replies.now }
+    requires before { Lists tries (state_of book.now) (map arc_value statements.now) (map answer_in replies.now) place refused.old.items }
+    ensures lists { OnOk result (Lists tries (state_of book.now) (map arc_value statements.now) (map answer_in replies.now) (place + 1) refused.new.items) }
+    ensures fault { IfErr result IsAuditOrMemory }
+{
+    let statement = &statements[place];
+    let reply = &replies[place];
+    list(book, statement, reply, tries, refused)?;
+    Ok(())
+}
+
+/// The refused statements, in their order.
+#[tactic(auto, using(crate::proofs::SettlingLemmas::lists_none))]
+fn refused(
+    alloc: Global,
+    book: &Book,
+    statements: &[Arc<Statement>],
+    replies: &[Reply],
+    tries: u32,
+) -> Result<Vec<Refusal>, RunFault>
+    requires { AllAnswer (Answers (λ _ _. ⊥) tries) (map arc_value statements.now) replies.now }
+    ensures refused { IfOk result (λ v. v.items ≡ refusals (map arc_value statements.now) (map answer_in replies.now)) }
+    ensures may { IfOk result (λ _. AreAnswers tries (state_of book.now) (map arc_value statements.now) (map answer_in replies.now)) }
+    ensures fault { IfErr result IsAuditOrMemory }
+{
+    let mut refused = Vec::new(alloc);
+    for place in 0..statements.len() {
+        list_at(book, statements, replies, place, tries, &mut refused)?;
+    }
+    Ok(refused)
+}
+
+/// Whether memory was refused for one of the statements.
+fn ran_short(replies: &[Reply]) -> bool {
+    replies
+        .iter()
+        .any(|reply| matches!(reply, Err(SubmitFault::Memory)))
+}
+
+/// The book that the statements left, with those that were refused. Each entry of its journal is checked against the receipts.
+///
+/// Refused: `Memory` where a reply is `Memory`; then `Audit` where a reply can't be that of a lawful run, or a receipt and the journal
+/// don't agree; `Memory`. The book is dropped then.
+#[tactic(auto, using(crate::proofs::SettlingLemmas::settles))]
+pub(crate) fn settled(
+    alloc: Global,
+    book: Book,
+    statements: &[Arc<Statement>],
+    replies: &[Reply],
+    tries: u32,
+) -> Result<Performed, RunFault>
+    requires { AllAnswer (Answers (λ _ _. ⊥) tries) (map arc_value statements.now) replies.now }
+    ensures book { IfOk result (λ p. p.book ≡ book) }
+    ensures settles { IfOk result (λ p. Settles tries (map arc_value statements.now) (performed_seen p)) }
+    ensures fault { IfErr result IsAuditOrMemory }
+{
+    if ran_short(replies) {
+        return Err(RunFault::Memory);
+    }
+    let refused = refused(alloc, &book, statements, replies, tries)?;
+    let _owners = owners(alloc, &book, replies)?;
+    Ok(Performed { book, refused })
+}

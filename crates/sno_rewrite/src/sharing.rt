@@ -1,0 +1,124 @@
+//! The shared run of a document.
+ghost use Rattle.std.specs.Prelude.{◌≡◌, ◌≤◌, [], length, map, IfOk, IfErr};
+ghost use Rattle.std.specs.Arc.{arc_value};
+ghost use Rattle.sno_book.specs.Views.{IsLawful};
+ghost use Rattle.sno_desk.specs.Answers.{Answers};
+ghost use Rattle.sno_desk.specs.Turns.{AllAnswer};
+ghost use Rattle.sno_rewrite.specs.Histories.{performed_seen};
+ghost use Rattle.sno_rewrite.specs.Reads.{document_seen, IsReady};
+ghost use Rattle.sno_rewrite.specs.Runs.{IsOwn};
+ghost use Rattle.sno_rewrite.specs.Shared.{IsShared};
+
+use crate::RunFault;
+use crate::documents::Document;
+use crate::serial::Performed;
+use crate::settling::settled;
+use sno_book::Book;
+use sno_desk::{Desk, DeskFault, OpenGate, Reply, Seat, WorkersFault, close, run_workers};
+use sno_statement::Statement;
+use std::alloc::Global;
+use std::marker::Brand;
+use std::sync::ledger::{Blank, Ledger};
+use std::sync::{Arc, Wait};
+use std::thread::Threads;
+
+/// The book of a document on a desk with that many seats.
+fn opened<L: Ledger>(
+    alloc: Global,
+    blank: Blank,
+    book: Book,
+    workers: usize,
+) -> Result<(Desk<L>, Vec<Seat<L>>), RunFault>
+    requires name { blank.name ≡ L.name }
+    requires parts { blank.parts ≡ L.parts }
+    requires one_each { blank.parts ≡ workers }
+    requires few { (1 ≤ workers) × (workers ≤ 16) }
+    requires empty { book.journal ≡ [] }
+    ensures opening { IfOk result (λ d. arc_value d.0.opening ≡ book.opening) }
+    ensures count { IfOk result (λ d. length d.1.items ≡ workers) }
+    ensures fault { IfErr result IsOwn }
+{
+    match Desk::new(alloc, blank, book, workers) {
+        Ok(made) => Ok(made),
+        Err((DeskFault::Memory, _)) => Err(RunFault::Memory),
+    }
+}
+
+/// All seats at work on the statements, and then the desk closed.
+fn worked<L: Ledger + Send + Sync, R: Threads + Wait + Sync>(
+    rt: &R,
+    alloc: Global,
+    desk: Desk<L>,
+    seats: Vec<Seat<L>>,
+    statements: &[Arc<Statement>],
+    tries: u32,
+) -> Result<(Book, Vec<Reply>), RunFault>
+    requires all { length seats.items ≡ L.parts }
+    requires few { (1 ≤ length seats.items) × (length seats.items ≤ 16) }
+    requires lawful { (1 ≤ tries) × (tries ≤ 1000) }
+    ensures opening { IfOk result (λ r. r.0.opening ≡ arc_value desk.opening) }
+    ensures lawful { IfOk result (λ r. IsLawful r.0) }
+    ensures answers { IfOk result (λ r. AllAnswer (Answers (λ _ _. ⊥) tries) (map arc_value statements.now) r.1.items) }
+    ensures fault { IfErr result IsOwn }
+{
+    let mut seats = seats;
+    let replies = match run_workers(rt, alloc, &desk, &mut seats, statements, tries, &OpenGate) {
+        Ok(replies) => replies,
+        Err(WorkersFault::Memory) => return Err(RunFault::Memory),
+    };
+    match close(desk, seats) {
+        Ok(book) => Ok((book, replies)),
+        Err(_) => Err(RunFault::Closing),
+    }
+}
+
+/// The statements of the document performed on its texts by so many workers.
+#[tactic(auto, using(crate::proofs::SettlingLemmas::shares))]
+fn performed<L: Ledger + Send + Sync, R: Threads + Wait + Sync>(
+    rt: &R,
+    alloc: Global,
+    blank: Blank,
+    document: Document,
+    workers: usize,
+    tries: u32,
+) -> Result<Performed, RunFault>
+    requires name { blank.name ≡ L.name }
+    requires parts { blank.parts ≡ L.parts }
+    requires one_each { blank.parts ≡ workers }
+    requires few { (1 ≤ workers) × (workers ≤ 16) }
+    requires lawful { (1 ≤ tries) × (tries ≤ 1000) }
+    requires ready { IsReady document }
+    ensures shared { IfOk result (λ p. IsShared tries (document_seen document) (performed_seen p)) }
+    ensures fault { IfErr result IsOwn }
+{
+    let Document {
+        book,
+        statements,
+        ..
+    } = document;
+    let (desk, seats) = opened::<L>(alloc, blank, book, workers)?;
+    let (book, replies) = worked(rt, alloc, desk, seats, &statements, tries)?;
+    let performed = settled(alloc, book, &statements, &replies, tries)?;
+    Ok(performed)
+}
+
+/// What the statements of the document, performed on its texts by 1 to 16 workers with 1 to 1,000 tries each, do.
+///
+/// Refused: `Memory`; `Audit` where the replies and the journal don't agree, `Closing` where the desk does not close. No lawful run meets
+/// the last two.
+pub(crate) fn shared<R: Threads + Wait + Sync>(
+    rt: &R,
+    alloc: Global,
+    document: Document,
+    workers: u32,
+    tries: u32,
+) -> Result<Performed, RunFault>
+    requires few { (1 ≤ workers) × (workers ≤ 16) }
+    requires lawful { (1 ≤ tries) × (tries ≤ 1000) }
+    requires ready { IsReady document }
+    ensures shared { IfOk result (λ p. IsShared tries (document_seen document) (performed_seen p)) }
+    ensures fault { IfErr result IsOwn }
+{
+    let blank = Blank::new(u64::from(workers));
+    performed::<Brand, R>(rt, alloc, blank, document, workers as usize, tries)
+}
