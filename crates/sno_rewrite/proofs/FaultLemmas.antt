@@ -8,6 +8,10 @@ use Rattle.sno_rewrite.specs.declared.rows.Rows.{Rows}
 use Rattle.sno_rewrite.specs.Document.{IsDocument, definitions_of}
 use Rattle.sno_rewrite.specs.Reads.{Reads}
 use Rattle.sno_rewrite.specs.declared.documents.Document.{Document}
+use Rattle.std.proofs.Common.{◌⊎◌, inl, inr}
+use Rattle.sno_rewrite.specs.Document as document
+use Rattle.sno_rewrite.specs.Runs.{IsOwn}
+use Rattle.sno_rewrite.proofs.DocumentLaw.{one_answer}
 use Rattle.sno_rewrite.specs.declared.faults.RunFault.{RunFault}
 use Rattle.sno_rewrite.specs.declared.faults.RunFault.TheVariants.{Memory}
 
@@ -40,3 +44,10 @@ memory_only e h = absurd (h (λ m. cc))
 pub memory_err : {X : Type 0} (result : Result X RunFault) (e : RunFault) → IsErrAnd result (λ d. d ≡ e) → e ≡ Memory → IfErr result (λ d. d ≡ Memory)
 memory_err (Err d) e is h = is ∙ h
 memory_err (Ok x) e is h = absurd is
+
+-- a fault of the run's own or of the bytes, where the bytes are a document
+pub own_err : {X : Type 0} (anchor : Bool) (bytes : List ℕ) (result : Result X RunFault) (e : RunFault) (d : document.Document) → IsErrAnd result (λ f. f ≡ e)
+    → IsOwn e ⊎ IsDocument anchor bytes (Err e) → IsDocument anchor bytes (Ok d) → IfErr result IsOwn
+own_err anchor bytes (Ok x) e d is h found = absurd is
+own_err anchor bytes (Err f) e d is (inl own) found = subst (λ (g : RunFault). IsOwn g) (sym is) own
+own_err anchor bytes (Err f) e d is (inr h) found = absurd (let both = one_answer anchor bytes _ _ h found in cc)

@@ -1,5 +1,5 @@
 -- How replies to the statements of a document are checked against a journal.
-use Rattle.std.specs.Prelude.{◌≡◌, ◌⊎◌, ◌<◌, ◌++◌, ℕ, List, drop, length, slice_get, Option, Some, None, Result, Ok, Err}
+use Rattle.std.specs.Prelude.{◌≡◌, ◌⊎◌, ◌<◌, ◌++◌, ℕ, Bool, true, false, List, drop, length, slice_get, Option, Some, None, Result, Ok, Err}
 use Rattle.sno_statement.specs.Task.{Task}
 use Rattle.sno_book.specs.Entries.{Entry}
 use Rattle.sno_book.specs.States.{State}
@@ -45,3 +45,14 @@ IsAuditOrMemory e = (e ≡ fault.Audit) ⊎ (e ≡ fault.Memory)
 pub record Lists (tries : ℕ) (state : State) (statements : List Task) (answers : List (Option Reason)) (before : ℕ) (refused : List Refusal) : Type 0 where
   pub listed : refused ++ refusals (drop before statements) (drop before answers) ≡ refusals statements answers
   pub may : AreAnswers tries state (drop before statements) (drop before answers) → AreAnswers tries state statements answers
+
+-- whether memory was refused for a statement
+abbrev pub is_short : Result Received SubmitFault → Bool
+is_short (Ok receipt) = false
+is_short (Err submit.Memory) = true
+is_short (Err submit.NoText) = false
+is_short (Err submit.GateShut) = false
+is_short (Err submit.TextTooLong) = false
+is_short (Err submit.Foreign) = false
+is_short (Err submit.Full) = false
+is_short (Err (submit.TriesSpent seen now)) = false

@@ -107,6 +107,8 @@ pub fn run_shared<T: Threads + Wait + Sync>(
     requires { AreInLimits options.now }
     // The bytes are a document, and the report is that of a shared run: each statement is in the journal once or is refused for a reason.
     ensures found { IfOk result (λ report. IsSharedReport options.now.anchor options.now.json options.now.tries bytes.now report.bytes.items report.refused) }
+    // A document is refused for a fault of the run's own alone.
+    ensures only { (d : Document) → IsDocument options.now.anchor bytes.now (Ok d) → IfErr result IsOwn }
     // Any fault but the run's own is the first of the bytes.
     ensures fault { IfErr result (λ e. IsOwn e ⊎ IsDocument options.now.anchor bytes.now (Err e)) }
 {

@@ -1,5 +1,6 @@
 //! What the replies to the statements of a document come to.
-ghost use Rattle.std.specs.Prelude.{◌≡◌, ◌≤◌, ◌<◌, ◌+◌, ◌++◌, length, map, IfOk, IfErr, OnOk, Some, None, Err};
+ghost use Rattle.std.specs.Prelude.{◌≡◌, ◌≤◌, ◌<◌, ◌+◌, ◌++◌, length, map, IfOk, IfErr, OnOk, Some, None, Err, true};
+ghost use Rattle.std.specs.List.{list_any};
 ghost use Rattle.std.specs.Option.{option_map};
 ghost use Rattle.std.specs.Arc.{arc_value};
 ghost use Rattle.sno_book.specs.States.{find};
@@ -7,7 +8,7 @@ ghost use Rattle.sno_book.specs.Views.{state_of};
 ghost use Rattle.sno_desk.specs.Answers.{Answers};
 ghost use Rattle.sno_desk.specs.Turns.{AllAnswer};
 ghost use Rattle.sno_rewrite.specs.Histories.{performed_seen};
-ghost use Rattle.sno_rewrite.specs.Owners.{IsAuditOrMemory, Lists, answer_in};
+ghost use Rattle.sno_rewrite.specs.Owners.{IsAuditOrMemory, Lists, answer_in, is_short};
 ghost use Rattle.sno_rewrite.specs.Shared.{AreAnswers, HasReached, MayAnswer, MayRefuse, Settles, refusal_of, refusals};
 ghost use Rattle.sno_rewrite.specs.declared.faults.RunFault.TheVariants.{Memory as MemoryRefused};
 ghost use Rattle.sno_rewrite.specs.declared.serial.Reason.TheVariants.{NoText as WithoutText, TriesSpent as Spent};
@@ -162,11 +163,17 @@ fn refused(
     Ok(refused)
 }
 
+fn is_short(reply: &Reply) -> bool
+    ensures { result ≡ is_short reply.now }
+{
+    matches!(reply, Err(SubmitFault::Memory))
+}
+
 /// Whether memory was refused for one of the statements.
-fn ran_short(replies: &[Reply]) -> bool {
-    replies
-        .iter()
-        .any(|reply| matches!(reply, Err(SubmitFault::Memory)))
+fn ran_short(replies: &[Reply]) -> bool
+    ensures { result ≡ list_any is_short replies.now }
+{
+    replies.iter().any(|reply| is_short(reply))
 }
 
 /// The book that the statements left, with those that were refused. Each entry of its journal is checked against the receipts.
@@ -184,6 +191,7 @@ pub(crate) fn settled(
     requires { AllAnswer (Answers (λ _ _. ⊥) tries) (map arc_value statements.now) replies.now }
     ensures book { IfOk result (λ p. p.book ≡ book) }
     ensures settles { IfOk result (λ p. Settles tries (map arc_value statements.now) (performed_seen p)) }
+    ensures memory { list_any is_short replies.now ≡ true → IfErr result (λ e. e ≡ MemoryRefused) }
     ensures fault { IfErr result IsAuditOrMemory }
 {
     if ran_short(replies) {

@@ -91,7 +91,7 @@ fn workers_answer_the_documents_fault(rt: HostRuntime) -> Result<(), Fail> {
     let answer = run(
         &rt,
         rt.alloc(),
-        &mut b"{}".as_slice(),
+        &mut b"[]".as_slice(),
         &mut written,
         &options,
     );
