@@ -1,4 +1,7 @@
 //! Runs with workers.
+ghost use Rattle.std.specs.Prelude.{◌≤◌, IfSome};
+ghost use Rattle.sno_rewrite.specs.Runs.{AreInLimits};
+
 use sno_rewrite::{Options, RunFault, run, run_serial, run_shared};
 use std::str;
 use std::test::Fail;
@@ -23,7 +26,10 @@ const FIRST_FIRST: &str =
 const SECOND_FIRST: &str =
     "texts 1\nA 2 |aabb|\nentries 2\n0 statement 2 A 0 matched 1 2\n  -> |abb|\n1 statement 1 A 1 matched 0 1\n  -> |aabb|\nrefused 0\n";
 
-fn with_workers(workers: Option<u32>) -> Options {
+fn options_of(workers: Option<u32>) -> Options
+    requires { IfSome workers (λ n. (1 ≤ n) × (n ≤ 16)) }
+    ensures { AreInLimits result }
+{
     Options {
         anchor: false,
         workers,
@@ -35,8 +41,8 @@ fn with_workers(workers: Option<u32>) -> Options {
 // Up to more workers than statements: each statement is listed once, in one of the two orders.
 #[test]
 fn workers_list_each_statement_once(rt: HostRuntime) -> Result<(), Fail> {
-    for workers in [2, 3, 16] {
-        let options = with_workers(Some(workers));
+    for workers in 2..17 {
+        let options = options_of(Some(workers));
         let mut written = Vec::new(rt.alloc());
         let status = run(
             &rt,
@@ -55,8 +61,8 @@ fn workers_list_each_statement_once(rt: HostRuntime) -> Result<(), Fail> {
 // Two statements on one text are performed one after the other.
 #[test]
 fn workers_share_a_text(rt: HostRuntime) -> Result<(), Fail> {
-    for workers in [1, 2, 5] {
-        let options = with_workers(Some(workers));
+    for workers in 1..6 {
+        let options = options_of(Some(workers));
         let report = run_shared(&rt, rt.alloc(), ONE_TEXT.as_bytes(), &options)?;
         assert_eq!(rt; report.refused, 0);
         let listing = str::from_utf8(&report.bytes)?;
@@ -71,14 +77,15 @@ fn workers_share_a_text(rt: HostRuntime) -> Result<(), Fail> {
 // One worker, also where none is asked for, performs the statements in their order.
 #[test]
 fn one_worker_keeps_the_order(rt: HostRuntime) -> Result<(), Fail> {
+    let options = options_of(None);
+    let one_worker = options_of(Some(1));
     for document in [DOCUMENT, ONE_TEXT] {
-        for workers in [None, Some(1)] {
-            let options = with_workers(workers);
-            let serial = run_serial(rt.alloc(), document.as_bytes(), &options)?;
-            let shared = run_shared(&rt, rt.alloc(), document.as_bytes(), &options)?;
-            assert_eq!(rt; shared.bytes.as_slice(), serial.bytes.as_slice());
-            assert_eq!(rt; shared.refused, serial.refused);
-        }
+        let serial = run_serial(rt.alloc(), document.as_bytes(), &options)?;
+        let shared = run_shared(&rt, rt.alloc(), document.as_bytes(), &options)?;
+        assert_eq!(rt; shared.bytes.as_slice(), serial.bytes.as_slice());
+        assert_eq!(rt; shared.refused, serial.refused);
+        let shared = run_shared(&rt, rt.alloc(), document.as_bytes(), &one_worker)?;
+        assert_eq!(rt; shared.bytes.as_slice(), serial.bytes.as_slice());
     }
     Ok(())
 }
@@ -87,7 +94,7 @@ fn one_worker_keeps_the_order(rt: HostRuntime) -> Result<(), Fail> {
 #[test]
 fn workers_answer_the_documents_fault(rt: HostRuntime) -> Result<(), Fail> {
     let mut written = Vec::new(rt.alloc());
-    let options = with_workers(Some(2));
+    let options = options_of(Some(2));
     let answer = run(
         &rt,
         rt.alloc(),
