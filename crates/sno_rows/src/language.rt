@@ -3,10 +3,64 @@ use crate::row::Task::{Match, MatchAnchored, Replace};
 use crate::row::{Row, Written, check};
 use std::test::Fail;
 
-static EXAMPLES: [(Written, Row); 70] = [
+static EXAMPLES: [(Written, Row); 126] = [
     (
         &[],
         Row("examples", "banana", Match("'nan'"), "matched 2 5"),
+    ),
+    (
+        &[],
+        Row(
+            "if you never saw snobol4",
+            "abcd",
+            Match("'ab' | 'abcd'"),
+            "matched 0 2",
+        ),
+    ),
+    (
+        &[],
+        Row(
+            "if you never saw snobol4",
+            "abcd",
+            Match("'abcd' | 'ab'"),
+            "matched 0 4",
+        ),
+    ),
+    (
+        &[],
+        Row(
+            "if you never saw snobol4",
+            "abcd",
+            Match("('ab' | 'abcd') RPOS(0)"),
+            "matched 0 4",
+        ),
+    ),
+    (
+        &[],
+        Row(
+            "if you never saw snobol4",
+            "aaab",
+            Match("ARBNO('a') . A"),
+            "matched 0 0 A=||",
+        ),
+    ),
+    (
+        &[],
+        Row(
+            "if you never saw snobol4",
+            "aaab",
+            Match("ARBNO('a') . A 'b'"),
+            "matched 0 4 A=|aaa|",
+        ),
+    ),
+    (
+        &[("S", "'a' *S | ''")],
+        Row(
+            "if you never saw snobol4",
+            "aaab",
+            Match("S . A"),
+            "matched 0 3 A=|aaa|",
+        ),
     ),
     (
         &[],
@@ -28,7 +82,20 @@ static EXAMPLES: [(Written, Row); 70] = [
     ),
     (
         &[],
+        Row(
+            "texts and cursors",
+            "banana",
+            Match("RPOS(0)"),
+            "matched 6 6",
+        ),
+    ),
+    (
+        &[],
         Row("literals", "don't", Match("\"n't\""), "matched 2 5"),
+    ),
+    (
+        &[],
+        Row("literals", "say \"hi\"", Match("'\"hi\"'"), "matched 4 8"),
     ),
     (&[], Row("literals", "banana", Match("''"), "matched 0 0")),
     (
@@ -62,6 +129,15 @@ static EXAMPLES: [(Written, Row); 70] = [
         &[],
         Row(
             "joining patterns",
+            "abcd",
+            Match("('a' | 'ab') . X ('b' | 'cd' | 'bc') . Y RPOS(0)"),
+            "matched 0 4 X=|ab| Y=|cd|",
+        ),
+    ),
+    (
+        &[],
+        Row(
+            "joining patterns",
             "hotdog",
             Match("'dog' | 'hot'"),
             "matched 0 3",
@@ -78,12 +154,28 @@ static EXAMPLES: [(Written, Row); 70] = [
     ),
     (
         &[],
+        Row("counting and places", "abc", Match("LEN(4)"), "failed"),
+    ),
+    (
+        &[],
+        Row("counting and places", "abc", Match("LEN(0)"), "matched 0 0"),
+    ),
+    (
+        &[],
         Row(
             "counting and places",
             "abcabc",
             Match("POS(3) 'abc'"),
             "matched 3 6",
         ),
+    ),
+    (
+        &[],
+        Row("counting and places", "abc", Match("'b' POS(1)"), "failed"),
+    ),
+    (
+        &[],
+        Row("counting and places", "abc", Match("POS(4)"), "failed"),
     ),
     (
         &[],
@@ -99,9 +191,44 @@ static EXAMPLES: [(Written, Row); 70] = [
         Row(
             "counting and places",
             "abcdef",
+            Match("RPOS(2) REM"),
+            "matched 4 6",
+        ),
+    ),
+    (
+        &[],
+        Row("counting and places", "abc", Match("RPOS(4)"), "failed"),
+    ),
+    (
+        &[],
+        Row(
+            "counting and places",
+            "abcdef",
             Match("'b' TAB(5)"),
             "matched 1 5",
         ),
+    ),
+    (
+        &[],
+        Row(
+            "counting and places",
+            "abc",
+            Match("'b' TAB(2)"),
+            "matched 1 2",
+        ),
+    ),
+    (
+        &[],
+        Row(
+            "counting and places",
+            "abcdef",
+            Match("'d' TAB(2)"),
+            "failed",
+        ),
+    ),
+    (
+        &[],
+        Row("counting and places", "abc", Match("TAB(4)"), "failed"),
     ),
     (
         &[],
@@ -117,6 +244,19 @@ static EXAMPLES: [(Written, Row); 70] = [
         Row(
             "counting and places",
             "abcdef",
+            Match("'e' RTAB(3)"),
+            "failed",
+        ),
+    ),
+    (
+        &[],
+        Row("counting and places", "abc", Match("RTAB(4)"), "failed"),
+    ),
+    (
+        &[],
+        Row(
+            "counting and places",
+            "abcdef",
             Match("'d' REM"),
             "matched 3 6",
         ),
@@ -125,9 +265,27 @@ static EXAMPLES: [(Written, Row); 70] = [
         &[],
         Row(
             "counting and places",
+            "abc",
+            Match("'c' REM . R"),
+            "matched 2 3 R=||",
+        ),
+    ),
+    (
+        &[],
+        Row(
+            "counting and places",
             "abcdef",
-            Match("'d' TAB(2)"),
-            "failed",
+            Match("TAB(2) . A TAB(4) . B RTAB(1) . C REM . D"),
+            "matched 0 6 A=|ab| B=|cd| C=|e| D=|f|",
+        ),
+    ),
+    (
+        &[],
+        Row(
+            "sets of characters",
+            "b-",
+            Match("ANY('a-z')"),
+            "matched 1 2",
         ),
     ),
     (
@@ -143,6 +301,15 @@ static EXAMPLES: [(Written, Row); 70] = [
         &[],
         Row(
             "sets of characters",
+            "abc",
+            Match("'c' ANY('abc')"),
+            "failed",
+        ),
+    ),
+    (
+        &[],
+        Row(
+            "sets of characters",
             "aeb",
             Match("NOTANY('aeiou')"),
             "matched 2 3",
@@ -152,9 +319,36 @@ static EXAMPLES: [(Written, Row); 70] = [
         &[],
         Row(
             "sets of characters",
+            "abc",
+            Match("'c' NOTANY('x')"),
+            "failed",
+        ),
+    ),
+    (
+        &[],
+        Row(
+            "sets of characters",
             "room 101",
             Match("SPAN('0123456789')"),
             "matched 5 8",
+        ),
+    ),
+    (
+        &[],
+        Row(
+            "sets of characters",
+            "room",
+            Match("SPAN('0123456789')"),
+            "failed",
+        ),
+    ),
+    (
+        &[],
+        Row(
+            "sets of characters",
+            "1001",
+            Match("SPAN('01') '1'"),
+            "failed",
         ),
     ),
     (
@@ -183,9 +377,9 @@ static EXAMPLES: [(Written, Row); 70] = [
         &[],
         Row(
             "sets of characters",
-            "1001",
-            Match("SPAN('01') '1'"),
-            "failed",
+            "a=b=c",
+            Match("BREAK('=') . K '=c'"),
+            "matched 2 5 K=|b|",
         ),
     ),
     (
@@ -210,6 +404,24 @@ static EXAMPLES: [(Written, Row); 70] = [
         &[],
         Row(
             "patterns that grow",
+            "abc",
+            Match("ARB . A 'c'"),
+            "matched 0 3 A=|ab|",
+        ),
+    ),
+    (
+        &[],
+        Row(
+            "patterns that grow",
+            "abc",
+            MatchAnchored("ARB $ A FAIL"),
+            "failed A=|abc|",
+        ),
+    ),
+    (
+        &[],
+        Row(
+            "patterns that grow",
             "(a+b)*c",
             MatchAnchored("BAL"),
             "matched 0 5",
@@ -224,7 +436,29 @@ static EXAMPLES: [(Written, Row); 70] = [
             "matched 0 7",
         ),
     ),
+    (
+        &[],
+        Row(
+            "patterns that grow",
+            "f(x,y),z",
+            MatchAnchored("BAL . A ','"),
+            "matched 0 7 A=|f(x,y)|",
+        ),
+    ),
     (&[], Row("patterns that grow", ")(", Match("BAL"), "failed")),
+    (
+        &[],
+        Row("patterns that grow", "((a", Match("BAL"), "matched 2 3"),
+    ),
+    (
+        &[],
+        Row(
+            "patterns that grow",
+            "abab",
+            Match("ARBNO('ab')"),
+            "matched 0 0",
+        ),
+    ),
     (
         &[],
         Row(
@@ -232,6 +466,24 @@ static EXAMPLES: [(Written, Row); 70] = [
             "ababac",
             Match("ARBNO('ab') 'ac'"),
             "matched 0 6",
+        ),
+    ),
+    (
+        &[],
+        Row(
+            "patterns that grow",
+            "1,22,3",
+            Match("SPAN('0123456789') ARBNO(',' SPAN('0123456789')) RPOS(0)"),
+            "matched 0 6",
+        ),
+    ),
+    (
+        &[],
+        Row(
+            "patterns that grow",
+            "abc",
+            MatchAnchored("ARBNO('a' | 'ab' | 'c') . R RPOS(0)"),
+            "matched 0 3 R=|abc|",
         ),
     ),
     (
@@ -265,6 +517,33 @@ static EXAMPLES: [(Written, Row); 70] = [
         &[],
         Row(
             "patterns that end a match",
+            "abc",
+            Match("'b' FENCE 'c'"),
+            "matched 1 3",
+        ),
+    ),
+    (
+        &[],
+        Row(
+            "patterns that end a match",
+            "abc",
+            Match("FENCE 'b'"),
+            "failed",
+        ),
+    ),
+    (
+        &[],
+        Row(
+            "patterns that end a match",
+            "ab",
+            Match("(FENCE | 'a') 'b'"),
+            "failed",
+        ),
+    ),
+    (
+        &[],
+        Row(
+            "patterns that end a match",
             "abcd#",
             Match("'#' ABORT | 'c'"),
             "matched 2 3",
@@ -283,9 +562,36 @@ static EXAMPLES: [(Written, Row); 70] = [
         &[],
         Row(
             "patterns that end a match",
+            "abcd#",
+            MatchAnchored("ARB '#' ABORT | ARB 'c'"),
+            "failed",
+        ),
+    ),
+    (
+        &[],
+        Row(
+            "patterns that end a match",
+            "abcd",
+            MatchAnchored("ARB '#' ABORT | ARB 'c'"),
+            "matched 0 3",
+        ),
+    ),
+    (
+        &[],
+        Row(
+            "patterns that end a match",
             "abc",
             Match("LEN(1) $ C FAIL"),
             "failed C=|c|",
+        ),
+    ),
+    (
+        &[],
+        Row(
+            "patterns that end a match",
+            "abc",
+            Match("FAIL | 'b'"),
+            "matched 1 2",
         ),
     ),
     (
@@ -300,6 +606,15 @@ static EXAMPLES: [(Written, Row); 70] = [
     (
         &[],
         Row("variables", "k=v", Match("BREAK('=') . K '#'"), "failed"),
+    ),
+    (
+        &[],
+        Row(
+            "variables",
+            "abc",
+            MatchAnchored("ARBNO(LEN(1) . Y | LEN(2) . Y) RPOS(0)"),
+            "matched 0 3 Y=|c|",
+        ),
     ),
     (
         &[],
@@ -419,6 +734,15 @@ static EXAMPLES: [(Written, Row); 70] = [
     ),
     (&[], Row("objects", "abc", Replace("'z'", "'X'"), "failed")),
     (
+        &[],
+        Row(
+            "objects",
+            "a-b",
+            Replace("ANY('abc') . L '-' ANY('abc') . R", "L '+' R"),
+            "matched 0 3 L=|a| R=|b| -> |a+b|",
+        ),
+    ),
+    (
         &[
             ("DIGITS", "SPAN('0123456789')"),
             ("NUMBER", "DIGITS '.' DIGITS"),
@@ -448,6 +772,15 @@ static EXAMPLES: [(Written, Row); 70] = [
         ),
     ),
     (
+        &[("PAIR", "BREAK('=') . K '=' REM . V")],
+        Row(
+            "definitions",
+            "k=v",
+            Replace("PAIR", "V '=' K"),
+            "matched 0 3 K=|k| V=|v| -> |v=k|",
+        ),
+    ),
+    (
         &[("E", "*E 'a' | 'a'")],
         Row("definitions", "a", Match("*E"), "unguarded 0"),
     ),
@@ -468,8 +801,30 @@ static EXAMPLES: [(Written, Row); 70] = [
         Row("definitions", "yyx", Match("*A"), "matched 0 3"),
     ),
     (
+        &[("E", "'a' ARBNO('a')")],
+        Row(
+            "definitions",
+            "aaa",
+            MatchAnchored("*E RPOS(0)"),
+            "matched 0 3",
+        ),
+    ),
+    (
+        &[("E", "'a' *E | 'a'")],
+        Row(
+            "definitions",
+            "aaa",
+            MatchAnchored("*E RPOS(0)"),
+            "matched 0 3",
+        ),
+    ),
+    (
         &[],
         Row("the grammar", "a", Match("'a''b'"), "unexpected at 3"),
+    ),
+    (
+        &[],
+        Row("the grammar", "a", Match("'a'|'b'"), "unexpected at 3"),
     ),
     (
         &[],
@@ -477,7 +832,40 @@ static EXAMPLES: [(Written, Row); 70] = [
     ),
     (
         &[],
+        Row("the grammar", "a", Match("'don't'"), "unexpected at 5"),
+    ),
+    (
+        &[],
+        Row("the grammar", "a", Match("('a'"), "unexpected at 4"),
+    ),
+    (
+        &[],
+        Row("the grammar", "a", Match("LEN (3)"), "unexpected at 3"),
+    ),
+    (
+        &[],
+        Row("the grammar", "a", Match("ARB(1)"), "unexpected at 3"),
+    ),
+    (
+        &[],
+        Row("the grammar", "a", Match("* E"), "unexpected at 1"),
+    ),
+    (&[], Row("the grammar", "a", Match("3"), "unexpected at 0")),
+    (
+        &[],
+        Row("the grammar", "a", Match("ANY(abc)"), "unexpected at 4"),
+    ),
+    (
+        &[],
         Row("the grammar", "a", Match("ANY('')"), "empty set at 4"),
+    ),
+    (
+        &[],
+        Row("the grammar", "a", Match("LEN(x)"), "bad number at 4"),
+    ),
+    (
+        &[],
+        Row("the grammar", "a", Match("LEN( -1 )"), "bad number at 5"),
     ),
     (
         &[],
@@ -490,6 +878,14 @@ static EXAMPLES: [(Written, Row); 70] = [
     (
         &[],
         Row("the grammar", "a", Match("X"), "unknown name at 0"),
+    ),
+    (
+        &[],
+        Row("the grammar", "a", Match("len(3)"), "unknown name at 0"),
+    ),
+    (
+        &[],
+        Row("the grammar", "a", Match("*LEN"), "unknown name at 1"),
     ),
     (
         &[],
