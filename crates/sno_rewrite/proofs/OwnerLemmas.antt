@@ -17,7 +17,7 @@ use Rattle.sno_desk.specs.declared.faults.SubmitFault.{SubmitFault}
 use Rattle.sno_desk.specs.declared.faults.SubmitFault.TheVariants as submit
 use Rattle.sno_rewrite.specs.Owners.{IsReceipt, Owns, answer_in}
 use Rattle.sno_rewrite.specs.Shared.{IsOrder}
-use Rattle.sno_rewrite.specs.declared.serial.Reason.{Reason}
+use Rattle.sno_listing.specs.declared.refusals.Reason.{Reason}
 
 -- what is set stands there, and all else as it stood
 set_there : {X : Type 0} (xs : List X) (i : ℕ) (y : X) → i < length xs → slice_get (set xs i y) i ≡ Some y

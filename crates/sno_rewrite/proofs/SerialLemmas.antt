@@ -13,10 +13,10 @@ use Rattle.sno_book.specs.Commits.{IsSnapshot, GivesSnapshot, IsAccepted}
 use Rattle.sno_book.specs.declared.faults.SnapshotFault.{SnapshotFault}
 use Rattle.sno_book.specs.declared.faults.SnapshotFault.TheVariants as snapshots
 use Rattle.sno_book.specs.declared.snapshots.Snapshot.{Snapshot}
-use Rattle.sno_rewrite.specs.Histories.{history_of}
-use Rattle.sno_rewrite.specs.declared.serial.Refusal.{Refusal}
-use Rattle.sno_rewrite.specs.Serial.{History, refuse, accept, settle, perform_on, advance}
-use Rattle.sno_rewrite.specs.declared.serial.Reason.TheVariants.{NoText, TextTooLong}
+use Rattle.sno_listing.specs.History.{History, history_of}
+use Rattle.sno_listing.specs.declared.refusals.Refusal.{Refusal}
+use Rattle.sno_rewrite.specs.Serial.{refuse, accept, settle, perform_on, advance}
+use Rattle.sno_listing.specs.declared.refusals.Reason.TheVariants.{NoText, TextTooLong}
 
 -- there is no text of that name
 pub advance_none : (h : History) (s : Task) → find s.text h.state ≡ None → advance h s ≡ refuse h s NoText

@@ -16,13 +16,13 @@ use Rattle.sno_book.specs.Openings.{Opening, start}
 use Rattle.sno_desk.specs.Answers.{Answers}
 use Rattle.sno_desk.specs.Turns.{AllAnswer}
 use Rattle.sno_desk.specs.declared.faults.SubmitFault.{SubmitFault}
-use Rattle.sno_rewrite.specs.Histories.{history_of}
+use Rattle.sno_listing.specs.History.{history_of}
 use Rattle.sno_rewrite.specs.Owners.{Lists, Owns, answer_in}
-use Rattle.sno_rewrite.specs.Document.{Document}
-use Rattle.sno_rewrite.specs.Serial.{room}
+use Rattle.sno_document.specs.Document.{Document}
+use Rattle.sno_document.specs.Document.{room}
 use Rattle.sno_rewrite.specs.Shared.{AreAnswers, IsShared, MayAnswer, Settles, refusal_of, refusals}
-use Rattle.sno_rewrite.specs.declared.serial.Reason.{Reason}
-use Rattle.sno_rewrite.specs.declared.serial.Refusal.{Refusal}
+use Rattle.sno_listing.specs.declared.refusals.Reason.{Reason}
+use Rattle.sno_listing.specs.declared.refusals.Refusal.{Refusal}
 use Rattle.sno_rewrite.proofs.OwnerLemmas.{fill, in_order}
 
 -- there are as many replies as statements
