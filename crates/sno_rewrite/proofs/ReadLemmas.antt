@@ -1,5 +1,5 @@
 -- Faults of the reading of a document's bytes.
-use Rattle.std.proofs.Common.{◌≡◌, ◌≢◌, ◌⊎◌, ◌<◌, inl, inr, ℕ, Bool, List, length, Option, Some, None, Result, Ok, Err, IfSome, IfErr, IsErrAnd, sym, ap, ◌∙◌}
+use Rattle.std.proofs.Common.{◌≡◌, ◌⊎◌, ◌<◌, inl, inr, ℕ, Bool, List, length, Option, Some, None, Result, Ok, Err, IfSome, IfErr, IsErrAnd, sym, ap, ◌∙◌}
 use Rattle.sno_document.proofs.LengthLemmas.{too_long}
 use Rattle.sno_rewrite.specs.Streams.{IsReadFault}
 use Rattle.sno_rewrite.specs.Reports.{IsOutside}

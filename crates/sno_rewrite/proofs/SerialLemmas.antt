@@ -1,11 +1,11 @@
 -- What a statement does to a book.
-use Rattle.std.proofs.Common.{◌≡◌, ℕ, List, [], ◌∷◌, ◌++◌, Option, Some, None, Result, Ok, Err, refl, ap, sym, subst, ◌∙◌}
+use Rattle.std.proofs.Common.{◌≡◌, ℕ, List, [], ◌∷◌, ◌++◌, Option, Some, None, Result, Ok, Err, ap, sym, subst, ◌∙◌}
 use Rattle.std.specs.Arc.{arc_value}
 use Rattle.sno_statement.specs.Task.{Task}
 use Rattle.sno_statement.specs.Perform.{Done, perform}
 use Rattle.sno_statement.specs.declared.outcomes.StatementFault.{StatementFault}
 use Rattle.sno_statement.specs.declared.outcomes.StatementFault.TheVariants as fault
-use Rattle.sno_book.specs.States.{Held, State, find}
+use Rattle.sno_book.specs.States.{Held, find}
 use Rattle.sno_book.specs.Entries.{Entry}
 use Rattle.sno_book.specs.Views.{View, state_of}
 use Rattle.sno_book.specs.Proposals.{Proposed, Proposes, GivesProposal, Received, entry_of}

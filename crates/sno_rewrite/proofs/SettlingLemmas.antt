@@ -1,13 +1,11 @@
 -- What replies come to.
-use Rattle.std.proofs.Common.{◌≡◌, ℕ, zero, suc, ◌+◌, ◌<◌, ◌≤◌, List, [], ◌∷◌, ◌++◌, drop, get_or, length, map, Option, Some, None, Result, Ok, Err, slice_get, refl, ap, sym, subst, ◌∙◌, arith, append_assoc}
+use Rattle.std.proofs.Common.{◌≡◌, ℕ, zero, suc, ◌<◌, ◌≤◌, List, [], ◌∷◌, ◌++◌, drop, get_or, length, map, Option, Some, Result, slice_get, refl, ap, sym, subst, ◌∙◌, arith, append_assoc}
 use Rattle.std.proofs.lemmas.List.{append-nil, drop_all}
 use Rattle.std.specs.List.{All}
 use Rattle.std.specs.Option.{option_map}
 use Rattle.std.proofs.lemmas.Option.{slice_get-map, slice_get_read}
 use Rattle.std.specs.Prelude.{IsSome}
-use Rattle.std.proofs.Math.ListN.{length-map}
 use Rattle.sno_statement.specs.Task.{Task}
-use Rattle.sno_book.specs.Entries.{Entry}
 use Rattle.sno_book.specs.Proposals.{Received}
 use Rattle.sno_book.specs.States.{State}
 use Rattle.sno_book.specs.Views.{IsLawful, View, state_of}

@@ -1,9 +1,8 @@
 -- What a run has done, of the program and by value.
-use Rattle.std.specs.Prelude.{◌≡◌, ◌≤◌, ◌+◌, ℕ, List, length}
-use Rattle.sno_book.specs.Views.{View, state_of}
+use Rattle.std.specs.Prelude.{◌≡◌, ◌≤◌, ◌+◌, ℕ, length}
+use Rattle.sno_book.specs.Views.{View}
 use Rattle.sno_document.specs.Document.{room}
 use Rattle.sno_listing.specs.History.{History, history_of}
-use Rattle.sno_listing.specs.declared.refusals.Refusal.{Refusal}
 use Rattle.sno_rewrite.specs.declared.serial.Performed.{Performed}
 
 abbrev pub performed_seen : Performed → History

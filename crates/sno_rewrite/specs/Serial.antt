@@ -3,7 +3,7 @@ use Rattle.std.specs.Prelude.{ℕ, List, [], ◌∷◌, ◌++◌, Option, Some, 
 use Rattle.sno_statement.specs.Task.{Task}
 use Rattle.sno_statement.specs.Perform.{Done, perform}
 use Rattle.sno_statement.specs.declared.outcomes.StatementFault.{StatementFault}
-use Rattle.sno_book.specs.States.{Held, State, find}
+use Rattle.sno_book.specs.States.{Held, find}
 use Rattle.sno_book.specs.Entries.{Entry}
 use Rattle.sno_book.specs.Journals.{step}
 use Rattle.sno_book.specs.Openings.{start}
@@ -11,7 +11,6 @@ use Rattle.sno_document.specs.Document.{Document, room}
 use Rattle.sno_listing.specs.History.{History}
 use Rattle.sno_listing.specs.declared.refusals.Reason.{Reason}
 use Rattle.sno_listing.specs.declared.refusals.Reason.TheVariants.{NoText, TextTooLong}
-use Rattle.sno_listing.specs.declared.refusals.Refusal.{Refusal}
 
 -- a refused statement changes nothing
 abbrev pub refuse : History → Task → Reason → History

@@ -1,5 +1,5 @@
 -- Shared runs: workers perform the statements of a document on its texts, in an order that nobody fixed.
-use Rattle.std.specs.Prelude.{◌≡◌, ◌≢◌, ◌≤◌, ◌↔◌, ℕ, Bool, List, [], ◌∷◌, ◌++◌, length, slice_get, Option, Some, None, Ok}
+use Rattle.std.specs.Prelude.{◌≡◌, ◌≢◌, ◌≤◌, ℕ, Bool, List, [], ◌∷◌, ◌++◌, length, slice_get, Option, Some, None, Ok}
 use Rattle.std.specs.Option.{option_map}
 use Rattle.sno_statement.specs.Task.{Task}
 use Rattle.sno_book.specs.States.{Held, State, find}
