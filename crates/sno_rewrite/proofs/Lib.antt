@@ -1,16 +1,8 @@
-pub mod JsonLemmas
-pub mod FaultLemmas
-pub mod PlaceLemmas
-pub mod References
-pub mod CircleLemmas
-pub mod BookLemmas
+pub mod RunLemmas
 pub mod SerialLemmas
-pub mod ListingLemmas
 pub mod OwnerLemmas
 pub mod SettlingLemmas
-pub mod DocumentLaw
 pub mod StreamLemmas
 pub mod ReadLemmas
-pub mod JsonListingLemmas
 pub mod CommandLineLemmas
 pub mod LimitLemmas

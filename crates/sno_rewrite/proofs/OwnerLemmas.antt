@@ -1,5 +1,5 @@
 -- Which statement each entry of a journal is of.
-use Rattle.std.proofs.Common.{◌≡◌, ◌≢◌, ℕ, true, false, zero, suc, ◌+◌, ◌<◌, ◌⊎◌, inl, inr, List, [], ◌∷◌, length, get_or, set, map, replicate, Option, Some, None, Result, Ok, Err, slice_get, refl, ap, sym, subst, ◌∙◌, arith}
+use Rattle.std.proofs.Common.{◌≡◌, ◌≢◌, ℕ, true, false, zero, suc, ◌+◌, ◌<◌, ◌⊎◌, inl, inr, List, [], ◌∷◌, length, get_or, set, map, replicate, Option, Some, None, Result, Ok, Err, slice_get, refl, ap, sym, ◌∙◌, arith}
 use Rattle.std.specs.Option.{option_map}
 use Rattle.std.specs.List.{All}
 use Rattle.std.specs.Prelude.{IsSome}
@@ -17,7 +17,6 @@ use Rattle.sno_desk.specs.declared.faults.SubmitFault.{SubmitFault}
 use Rattle.sno_desk.specs.declared.faults.SubmitFault.TheVariants as submit
 use Rattle.sno_rewrite.specs.Owners.{IsReceipt, Owns, answer_in}
 use Rattle.sno_rewrite.specs.Shared.{IsOrder}
-use Rattle.sno_rewrite.specs.declared.serial.Reason.{Reason}
 
 -- what is set stands there, and all else as it stood
 set_there : {X : Type 0} (xs : List X) (i : ℕ) (y : X) → i < length xs → slice_get (set xs i y) i ≡ Some y

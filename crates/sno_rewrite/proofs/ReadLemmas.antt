@@ -1,23 +1,12 @@
 -- Faults of the reading of a document's bytes.
-use Rattle.std.proofs.Common.{◌≡◌, ◌≢◌, ◌⊎◌, ◌<◌, inl, inr, ℕ, Bool, true, false, cond, List, length, Option, Some, None, Result, Ok, Err, IfSome, IfErr, IsErrAnd, nat_lt, refl, sym, ap, ◌∙◌}
-use Rattle.std.proofs.lemmas.Bool.{lt-ltb}
-use Rattle.serde_json.specs.Data.{Data}
-use Rattle.sno_rewrite.specs.Json.{json_of}
+use Rattle.std.proofs.Common.{◌≡◌, ◌⊎◌, ◌<◌, inl, inr, ℕ, Bool, List, length, Option, Some, None, Result, Ok, Err, IfSome, IfErr, IsErrAnd, sym, ap, ◌∙◌}
+use Rattle.sno_document.proofs.LengthLemmas.{too_long}
 use Rattle.sno_rewrite.specs.Streams.{IsReadFault}
 use Rattle.sno_rewrite.specs.Reports.{IsOutside}
 use Rattle.sno_rewrite.specs.Runs.{FailsBy}
-use Rattle.sno_rewrite.specs.Document.{IsDocument, value_in, value_or}
-use Rattle.sno_rewrite.specs.declared.faults.RunFault.{RunFault}
-use Rattle.sno_rewrite.specs.declared.faults.RunFault.TheVariants.{Memory, DocumentTooLong}
-
-long_by : (b : Bool) (r : Result Data RunFault) → b ≡ true → cond b (Err DocumentTooLong) r ≡ Err DocumentTooLong
-long_by true r h = refl
-long_by false r h = cc
-
--- more bytes than a document has
-too_long : (bytes : List ℕ) → 16777216 < length bytes → value_in bytes ≡ Err DocumentTooLong
-unfolding value_in
-too_long bytes long = long_by (nat_lt 16777216 (length bytes)) (value_or (json_of bytes)) (lt-ltb 16777216 (length bytes) long)
+use Rattle.sno_document.specs.Document.{IsDocument}
+use Rattle.sno_document.specs.declared.faults.RunFault.{RunFault}
+use Rattle.sno_document.specs.declared.faults.RunFault.TheVariants.{Memory, DocumentTooLong}
 
 no_memory : (workers : Option ℕ) (anchor : Bool) (old : Option (List ℕ)) (e : RunFault) → e ≡ Memory → IfSome old (λ bytes. FailsBy workers anchor bytes e)
 no_memory workers anchor None e is = tt

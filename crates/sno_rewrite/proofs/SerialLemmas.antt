@@ -1,11 +1,11 @@
 -- What a statement does to a book.
-use Rattle.std.proofs.Common.{◌≡◌, ℕ, List, [], ◌∷◌, ◌++◌, Option, Some, None, Result, Ok, Err, refl, ap, sym, subst, ◌∙◌}
+use Rattle.std.proofs.Common.{◌≡◌, ℕ, List, [], ◌∷◌, ◌++◌, Option, Some, None, Result, Ok, Err, ap, sym, subst, ◌∙◌}
 use Rattle.std.specs.Arc.{arc_value}
 use Rattle.sno_statement.specs.Task.{Task}
 use Rattle.sno_statement.specs.Perform.{Done, perform}
 use Rattle.sno_statement.specs.declared.outcomes.StatementFault.{StatementFault}
 use Rattle.sno_statement.specs.declared.outcomes.StatementFault.TheVariants as fault
-use Rattle.sno_book.specs.States.{Held, State, find}
+use Rattle.sno_book.specs.States.{Held, find}
 use Rattle.sno_book.specs.Entries.{Entry}
 use Rattle.sno_book.specs.Views.{View, state_of}
 use Rattle.sno_book.specs.Proposals.{Proposed, Proposes, GivesProposal, Received, entry_of}
@@ -13,10 +13,10 @@ use Rattle.sno_book.specs.Commits.{IsSnapshot, GivesSnapshot, IsAccepted}
 use Rattle.sno_book.specs.declared.faults.SnapshotFault.{SnapshotFault}
 use Rattle.sno_book.specs.declared.faults.SnapshotFault.TheVariants as snapshots
 use Rattle.sno_book.specs.declared.snapshots.Snapshot.{Snapshot}
-use Rattle.sno_rewrite.specs.Histories.{history_of}
-use Rattle.sno_rewrite.specs.declared.serial.Refusal.{Refusal}
-use Rattle.sno_rewrite.specs.Serial.{History, refuse, accept, settle, perform_on, advance}
-use Rattle.sno_rewrite.specs.declared.serial.Reason.TheVariants.{NoText, TextTooLong}
+use Rattle.sno_listing.specs.History.{History, history_of}
+use Rattle.sno_listing.specs.declared.refusals.Refusal.{Refusal}
+use Rattle.sno_rewrite.specs.Serial.{refuse, accept, settle, perform_on, advance}
+use Rattle.sno_listing.specs.declared.refusals.Reason.TheVariants.{NoText, TextTooLong}
 
 -- there is no text of that name
 pub advance_none : (h : History) (s : Task) → find s.text h.state ≡ None → advance h s ≡ refuse h s NoText

@@ -1,13 +1,11 @@
 -- What replies come to.
-use Rattle.std.proofs.Common.{◌≡◌, ℕ, zero, suc, ◌+◌, ◌<◌, ◌≤◌, List, [], ◌∷◌, ◌++◌, drop, get_or, length, map, Option, Some, None, Result, Ok, Err, slice_get, refl, ap, sym, subst, ◌∙◌, arith, append_assoc}
+use Rattle.std.proofs.Common.{◌≡◌, ℕ, zero, suc, ◌<◌, ◌≤◌, List, [], ◌∷◌, ◌++◌, drop, get_or, length, map, Option, Some, Result, slice_get, refl, ap, sym, subst, ◌∙◌, arith, append_assoc}
 use Rattle.std.proofs.lemmas.List.{append-nil, drop_all}
 use Rattle.std.specs.List.{All}
 use Rattle.std.specs.Option.{option_map}
 use Rattle.std.proofs.lemmas.Option.{slice_get-map, slice_get_read}
 use Rattle.std.specs.Prelude.{IsSome}
-use Rattle.std.proofs.Math.ListN.{length-map}
 use Rattle.sno_statement.specs.Task.{Task}
-use Rattle.sno_book.specs.Entries.{Entry}
 use Rattle.sno_book.specs.Proposals.{Received}
 use Rattle.sno_book.specs.States.{State}
 use Rattle.sno_book.specs.Views.{IsLawful, View, state_of}
@@ -16,13 +14,13 @@ use Rattle.sno_book.specs.Openings.{Opening, start}
 use Rattle.sno_desk.specs.Answers.{Answers}
 use Rattle.sno_desk.specs.Turns.{AllAnswer}
 use Rattle.sno_desk.specs.declared.faults.SubmitFault.{SubmitFault}
-use Rattle.sno_rewrite.specs.Histories.{history_of}
+use Rattle.sno_listing.specs.History.{history_of}
 use Rattle.sno_rewrite.specs.Owners.{Lists, Owns, answer_in}
-use Rattle.sno_rewrite.specs.Document.{Document}
-use Rattle.sno_rewrite.specs.Serial.{room}
+use Rattle.sno_document.specs.Document.{Document}
+use Rattle.sno_document.specs.Document.{room}
 use Rattle.sno_rewrite.specs.Shared.{AreAnswers, IsShared, MayAnswer, Settles, refusal_of, refusals}
-use Rattle.sno_rewrite.specs.declared.serial.Reason.{Reason}
-use Rattle.sno_rewrite.specs.declared.serial.Refusal.{Refusal}
+use Rattle.sno_listing.specs.declared.refusals.Reason.{Reason}
+use Rattle.sno_listing.specs.declared.refusals.Refusal.{Refusal}
 use Rattle.sno_rewrite.proofs.OwnerLemmas.{fill, in_order}
 
 -- there are as many replies as statements

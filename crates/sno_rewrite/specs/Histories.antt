@@ -1,13 +1,9 @@
 -- What a run has done, of the program and by value.
-use Rattle.std.specs.Prelude.{◌≡◌, ◌≤◌, ◌+◌, ℕ, List, length}
-use Rattle.sno_book.specs.Views.{View, state_of}
-use Rattle.sno_rewrite.specs.Serial.{History, room}
-use Rattle.sno_rewrite.specs.declared.serial.Refusal.{Refusal}
+use Rattle.std.specs.Prelude.{◌≡◌, ◌≤◌, ◌+◌, ℕ, length}
+use Rattle.sno_book.specs.Views.{View}
+use Rattle.sno_document.specs.Document.{room}
+use Rattle.sno_listing.specs.History.{History, history_of}
 use Rattle.sno_rewrite.specs.declared.serial.Performed.{Performed}
-
--- the texts of a book, its journal, and the statements that were refused beside it
-abbrev pub history_of : View → List Refusal → History
-history_of v refused = record { state = state_of v; journal = v.journal; refused = refused }
 
 abbrev pub performed_seen : Performed → History
 performed_seen p = history_of p.book p.refused.items

@@ -1,15 +1,5 @@
-pub mod Faults
-pub mod Json
-pub mod Shape
-pub mod Rows
-pub mod Document
-pub mod Drafts
-pub mod Reads
-pub mod ShownTexts
 pub mod Serial
 pub mod Histories
-pub mod Listing
-pub mod JsonListing
 pub mod Reports
 pub mod CommandLine
 pub mod Shared

@@ -6,11 +6,11 @@ use Rattle.sno_book.specs.States.{State}
 use Rattle.sno_book.specs.Proposals.{Received}
 use Rattle.sno_desk.specs.declared.faults.SubmitFault.{SubmitFault}
 use Rattle.sno_desk.specs.declared.faults.SubmitFault.TheVariants as submit
-use Rattle.sno_rewrite.specs.declared.faults.RunFault.{RunFault}
-use Rattle.sno_rewrite.specs.declared.faults.RunFault.TheVariants as fault
-use Rattle.sno_rewrite.specs.declared.serial.Reason.{Reason}
-use Rattle.sno_rewrite.specs.declared.serial.Reason.TheVariants.{NoText, TextTooLong, TriesSpent}
-use Rattle.sno_rewrite.specs.declared.serial.Refusal.{Refusal}
+use Rattle.sno_document.specs.declared.faults.RunFault.{RunFault}
+use Rattle.sno_document.specs.declared.faults.RunFault.TheVariants as fault
+use Rattle.sno_listing.specs.declared.refusals.Reason.{Reason}
+use Rattle.sno_listing.specs.declared.refusals.Reason.TheVariants.{NoText, TextTooLong, TriesSpent}
+use Rattle.sno_listing.specs.declared.refusals.Refusal.{Refusal}
 use Rattle.sno_rewrite.specs.Shared.{AreAnswers, refusals}
 
 -- the reply at the place is a receipt of the journal's entry at the index

@@ -1,15 +1,10 @@
 -- Reports: what a run answers for a document.
 use Rattle.std.specs.Prelude.{◌≡◌, ◌⊎◌, ℕ, Bool, List, length, nat_eq, Ok, if◌then◌else◌}
-use Rattle.sno_rewrite.specs.declared.faults.RunFault.{RunFault}
-use Rattle.sno_rewrite.specs.declared.faults.RunFault.TheVariants.{Read, Write}
-use Rattle.sno_rewrite.specs.Document.{Document, IsDocument}
-use Rattle.sno_rewrite.specs.Serial.{History, serial}
-use Rattle.sno_rewrite.specs.Listing.{listing}
-use Rattle.sno_rewrite.specs.JsonListing.{json_listing}
-
--- a listing as JSON or in lines
-abbrev pub listing_by : Bool → History → List ℕ
-listing_by json h = if json then json_listing h else listing h
+use Rattle.sno_document.specs.declared.faults.RunFault.{RunFault}
+use Rattle.sno_document.specs.declared.faults.RunFault.TheVariants.{Read, Write}
+use Rattle.sno_document.specs.Document.{Document, IsDocument}
+use Rattle.sno_rewrite.specs.Serial.{serial}
+use Rattle.sno_listing.specs.Forms.{listing_by}
 
 -- the listing of a document, and how many of its statements are refused
 abbrev pub listing_of : Bool → Document → List ℕ

@@ -1,12 +1,12 @@
 -- Runs with workers and without.
 use Rattle.std.specs.Prelude.{◌≡◌, ◌≢◌, ◌⊎◌, ◌≤◌, ℕ, Bool, List, Option, Some, None, Err, IfSome}
 use Rattle.std.specs.Io.KnownBytes.{Appends}
-use Rattle.sno_rewrite.specs.Document.{IsDocument}
+use Rattle.sno_document.specs.Document.{IsDocument}
 use Rattle.sno_rewrite.specs.Reports.{IsReport, status_of_run}
 use Rattle.sno_rewrite.specs.Shared.{IsSharedReport}
 use Rattle.sno_rewrite.specs.declared.options.Options.{Options}
-use Rattle.sno_rewrite.specs.declared.faults.RunFault.{RunFault}
-use Rattle.sno_rewrite.specs.declared.faults.RunFault.TheVariants.{Memory, Audit, Closing}
+use Rattle.sno_document.specs.declared.faults.RunFault.{RunFault}
+use Rattle.sno_document.specs.declared.faults.RunFault.TheVariants.{Memory, Audit, Closing}
 
 -- workers are 1 to 16, where there are any, and tries 1 to 1,000
 pub record AreInLimits (options : Options) : Type 0 where

@@ -3,20 +3,14 @@ use Rattle.std.specs.Prelude.{ℕ, List, [], ◌∷◌, ◌++◌, Option, Some, 
 use Rattle.sno_statement.specs.Task.{Task}
 use Rattle.sno_statement.specs.Perform.{Done, perform}
 use Rattle.sno_statement.specs.declared.outcomes.StatementFault.{StatementFault}
-use Rattle.sno_book.specs.States.{Held, State, find}
+use Rattle.sno_book.specs.States.{Held, find}
 use Rattle.sno_book.specs.Entries.{Entry}
 use Rattle.sno_book.specs.Journals.{step}
 use Rattle.sno_book.specs.Openings.{start}
-use Rattle.sno_rewrite.specs.Document.{Document}
-use Rattle.sno_rewrite.specs.declared.serial.Reason.{Reason}
-use Rattle.sno_rewrite.specs.declared.serial.Reason.TheVariants.{NoText, TextTooLong}
-use Rattle.sno_rewrite.specs.declared.serial.Refusal.{Refusal}
-
--- the texts as they are left, the accepted statements and the refused ones, each in their order
-pub record History : Type 0 where
-  pub state : State
-  pub journal : List Entry
-  pub refused : List Refusal
+use Rattle.sno_document.specs.Document.{Document, room}
+use Rattle.sno_listing.specs.History.{History}
+use Rattle.sno_listing.specs.declared.refusals.Reason.{Reason}
+use Rattle.sno_listing.specs.declared.refusals.Reason.TheVariants.{NoText, TextTooLong}
 
 -- a refused statement changes nothing
 abbrev pub refuse : History → Task → Reason → History
@@ -42,10 +36,6 @@ advance h s = perform_on h s (find s.text h.state)
 abbrev pub run : History → List Task → History
 run h [] = h
 run h (s ∷ statements) = run (advance h s) statements
-
--- how many entries the journal of a run may hold; no document has more statements
-abbrev pub room : ℕ
-room = 1000000
 
 -- all texts at version 0, and then the statements
 abbrev pub serial : Document → History

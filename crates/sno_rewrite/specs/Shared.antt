@@ -1,5 +1,5 @@
 -- Shared runs: workers perform the statements of a document on its texts, in an order that nobody fixed.
-use Rattle.std.specs.Prelude.{◌≡◌, ◌≢◌, ◌≤◌, ◌↔◌, ℕ, Bool, List, [], ◌∷◌, ◌++◌, length, slice_get, Option, Some, None, Ok}
+use Rattle.std.specs.Prelude.{◌≡◌, ◌≢◌, ◌≤◌, ℕ, Bool, List, [], ◌∷◌, ◌++◌, length, slice_get, Option, Some, None, Ok}
 use Rattle.std.specs.Option.{option_map}
 use Rattle.sno_statement.specs.Task.{Task}
 use Rattle.sno_book.specs.States.{Held, State, find}
@@ -7,12 +7,12 @@ use Rattle.sno_book.specs.Entries.{Entry}
 use Rattle.sno_book.specs.Journals.{Legal, replay}
 use Rattle.sno_book.specs.Openings.{start}
 use Rattle.sno_desk.specs.Answers.{Lengthens}
-use Rattle.sno_rewrite.specs.Document.{Document, IsDocument}
-use Rattle.sno_rewrite.specs.Serial.{History, room}
-use Rattle.sno_rewrite.specs.Reports.{listing_by}
-use Rattle.sno_rewrite.specs.declared.serial.Reason.{Reason}
-use Rattle.sno_rewrite.specs.declared.serial.Reason.TheVariants.{NoText, TextTooLong, TriesSpent}
-use Rattle.sno_rewrite.specs.declared.serial.Refusal.{Refusal}
+use Rattle.sno_document.specs.Document.{Document, IsDocument, room}
+use Rattle.sno_listing.specs.History.{History}
+use Rattle.sno_listing.specs.Forms.{listing_by}
+use Rattle.sno_listing.specs.declared.refusals.Reason.{Reason}
+use Rattle.sno_listing.specs.declared.refusals.Reason.TheVariants.{NoText, TextTooLong, TriesSpent}
+use Rattle.sno_listing.specs.declared.refusals.Refusal.{Refusal}
 
 -- the text of this name is left at this version or a higher one
 pub record HasReached (state : State) (name : List ℕ) (version : ℕ) : Type 0 where

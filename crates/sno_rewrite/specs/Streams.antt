@@ -1,8 +1,8 @@
 -- Bytes that readers have left, where they are known.
 use Rattle.std.specs.Prelude.{◌≡◌, ◌⊎◌, ◌<◌, ℕ, List, ◌++◌, length, Option, IfSome}
 use Rattle.std.specs.Io.KnownBytes.{Consumes, IsAtEnd}
-use Rattle.sno_rewrite.specs.declared.faults.RunFault.{RunFault}
-use Rattle.sno_rewrite.specs.declared.faults.RunFault.TheVariants.{Memory, Read, DocumentTooLong}
+use Rattle.sno_document.specs.declared.faults.RunFault.{RunFault}
+use Rattle.sno_document.specs.declared.faults.RunFault.TheVariants.{Memory, Read, DocumentTooLong}
 
 -- what was read stands behind what there was
 abbrev pub ConsumesBehind : Option (List ℕ) → Option (List ℕ) → List ℕ → List ℕ → Type 0

@@ -3,11 +3,11 @@ ghost use Rattle.std.specs.Prelude.{◌≡◌, ◌<◌, ◌+◌, length, set, sl
 ghost use Rattle.std.specs.List.{All};
 ghost use Rattle.sno_book.specs.Audits.{Agrees};
 ghost use Rattle.sno_rewrite.specs.Owners.{Owns, IsAuditOrMemory};
-ghost use Rattle.sno_rewrite.specs.declared.faults.RunFault.TheVariants.{Audit};
+ghost use Rattle.sno_document.specs.declared.faults.RunFault.TheVariants.{Audit};
 
-use crate::RunFault;
 use sno_book::{Book, Receipt};
 use sno_desk::Reply;
+use sno_document::RunFault;
 use std::alloc::Global;
 use std::slice;
 

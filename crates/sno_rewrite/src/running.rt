@@ -1,21 +1,19 @@
 //! Runs over bytes, and over readers and writers.
 ghost use Rattle.std.specs.Prelude.{◌≡◌, ◌≢◌, ◌≤◌, ◌⊎◌, Err, Ok, IfOk, IfErr, IfSome, OnOk};
-ghost use Rattle.sno_rewrite.specs.declared.faults.RunFault.TheVariants.{Memory, Write as WriteFailed};
-ghost use Rattle.sno_rewrite.specs.Document.{Document, IsDocument};
-ghost use Rattle.sno_rewrite.specs.Reports.{listing_by, IsReport, IsOutside};
+ghost use Rattle.sno_document.specs.declared.faults.RunFault.TheVariants.{Memory, Write as WriteFailed};
+ghost use Rattle.sno_document.specs.Document.{Document, IsDocument};
+ghost use Rattle.sno_rewrite.specs.Reports.{IsReport, IsOutside};
 ghost use Rattle.sno_rewrite.specs.Runs.{AreInLimits, FailsBy, IsOwn, IsRun, Reports};
 ghost use Rattle.sno_rewrite.specs.Shared.{IsSharedReport};
 ghost use Rattle.sno_rewrite.specs.Histories.{performed_seen};
 ghost use Rattle.std.specs.Io.KnownBytes.{IsAtEnd};
 
-use crate::documents::read_document;
-use crate::json_listing::json_listing;
-use crate::listing::listing;
-use crate::serial::{Performed, serial};
+use crate::Options;
+use crate::serial::serial;
 use crate::sharing::shared;
-use crate::shown_texts::shown_texts;
 use crate::streams::{read_all, write_all};
-use crate::{Options, RunFault};
+use sno_document::{RunFault, read_document};
+use sno_listing::listed;
 use std::alloc::Global;
 use std::io::{Read, Write};
 use std::sync::Wait;
@@ -47,27 +45,13 @@ pub fn run_serial(alloc: Global, bytes: &[u8], options: &Options) -> Result<Repo
     Ok(report)
 }
 
-/// The listing of what was performed, as JSON or in lines.
-fn listed(alloc: Global, performed: &Performed, json: bool) -> Result<Vec<u8>, RunFault>
-    ensures listed { IfOk result (λ v. v.items ≡ listing_by json (performed_seen performed.now)) }
-    ensures memory { IfErr result (λ e. e ≡ Memory) }
-{
-    let texts = shown_texts(alloc, &performed.book)?;
-    let journal = performed.book.journal();
-    if json {
-        Ok(json_listing(alloc, &texts, journal, &performed.refused)?)
-    } else {
-        Ok(listing(alloc, &texts, journal, &performed.refused)?)
-    }
-}
-
 fn reported(alloc: Global, bytes: &[u8], anchor: bool, json: bool) -> Result<Report, RunFault>
     ensures found { IfOk result (λ report. IsReport anchor json bytes.now report.bytes.items report.refused) }
     ensures fault { IfErr result (λ e. e ≢ Memory → IsDocument anchor bytes.now (Err e)) }
 {
     let document = read_document(alloc, bytes, anchor)?;
     let performed = serial(alloc, document)?;
-    let bytes = listed(alloc, &performed, json)?;
+    let bytes = listed(alloc, &performed.book, &performed.refused, json)?;
     let refused = performed.refused.len();
     Ok(Report { bytes, refused })
 }
@@ -86,7 +70,7 @@ fn reported_shared<T: Threads + Wait + Sync>(
 {
     let document = read_document(alloc, bytes, options.anchor)?;
     let performed = shared(rt, alloc, document, workers, options.tries)?;
-    let bytes = listed(alloc, &performed, options.json)?;
+    let bytes = listed(alloc, &performed.book, &performed.refused, options.json)?;
     let refused = performed.refused.len();
     Ok(Report { bytes, refused })
 }

@@ -1,42 +1,19 @@
 //! The serial run of a document.
 ghost use Rattle.std.specs.Prelude.{◌≡◌, ◌≢◌, ◌≤◌, ◌+◌, ◌++◌, ◌∷◌, [], length, map, OnOk, IfOk, IfErr};
 ghost use Rattle.std.specs.Arc.{arc_value};
-ghost use Rattle.sno_rewrite.specs.declared.faults.RunFault.TheVariants.{Memory};
-ghost use Rattle.sno_rewrite.specs.Reads.{document_seen, IsReady};
-ghost use Rattle.sno_rewrite.specs.Serial.{refuse, advance, run, room, serial};
-ghost use Rattle.sno_rewrite.specs.Histories.{history_of, performed_seen, HasRoom};
+ghost use Rattle.sno_document.specs.declared.faults.RunFault.TheVariants.{Memory};
+ghost use Rattle.sno_document.specs.Reads.{document_seen, IsReady};
+ghost use Rattle.sno_rewrite.specs.Serial.{refuse, advance, run, serial};
+ghost use Rattle.sno_listing.specs.History.{history_of};
+ghost use Rattle.sno_document.specs.Document.{room};
+ghost use Rattle.sno_rewrite.specs.Histories.{performed_seen, HasRoom};
 
-use crate::RunFault;
-use crate::documents::Document;
 use sno_book::{Book, CommitFault, SnapshotFault, fresh_is_free, propose};
+use sno_document::{Document, RunFault};
+use sno_listing::{Reason, Refusal};
 use sno_statement::{Statement, StatementFault};
 use std::alloc::Global;
 use std::sync::Arc;
-
-/// Why a statement is refused.
-#[derive(Clone, Copy, Debug, PartialEq, Eq)]
-pub enum Reason {
-    /// The document has no text of that name.
-    NoText,
-    /// The new text would have more than 65,536 characters.
-    TextTooLong,
-    /// The text changed under each of its tries. A serial run never meets this.
-    TriesSpent {
-        /// The version that the last try was made on.
-        seen: u64,
-        /// The version of the text when that try was to be accepted.
-        now: u64,
-    },
-}
-
-/// A statement that is refused.
-#[derive(Clone, Copy, Debug, PartialEq, Eq)]
-pub struct Refusal {
-    /// The number of the statement, from 1.
-    pub number: u32,
-    /// Why it is refused.
-    pub reason: Reason,
-}
 
 /// A book on which statements were performed, and those that were refused.
 #[derive(Drop)]

@@ -5,16 +5,15 @@ ghost use Rattle.sno_book.specs.Views.{IsLawful};
 ghost use Rattle.sno_desk.specs.Answers.{Answers};
 ghost use Rattle.sno_desk.specs.Turns.{AllAnswer};
 ghost use Rattle.sno_rewrite.specs.Histories.{performed_seen};
-ghost use Rattle.sno_rewrite.specs.Reads.{document_seen, IsReady};
+ghost use Rattle.sno_document.specs.Reads.{document_seen, IsReady};
 ghost use Rattle.sno_rewrite.specs.Runs.{IsOwn};
 ghost use Rattle.sno_rewrite.specs.Shared.{IsShared};
 
-use crate::RunFault;
-use crate::documents::Document;
 use crate::serial::Performed;
 use crate::settling::settled;
 use sno_book::Book;
 use sno_desk::{Desk, DeskFault, OpenGate, Reply, Seat, WorkersFault, close, run_workers};
+use sno_document::{Document, RunFault};
 use sno_statement::Statement;
 use std::alloc::Global;
 use std::marker::Brand;

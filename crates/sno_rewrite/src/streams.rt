@@ -2,10 +2,9 @@
 ghost use Rattle.std.specs.Prelude.{◌≡◌, ◌<◌, ◌≤◌, ◌+◌, length, IfOk, IfErr, IfSome, OnOk, vec_len};
 ghost use Rattle.std.specs.Io.KnownBytes.{Appends, Consumes, IsAtEnd, Keeps};
 ghost use Rattle.sno_rewrite.specs.Streams.{ConsumesBehind, IsMemoryOrRead, IsWholeInput, IsReadFault};
-ghost use Rattle.sno_rewrite.specs.declared.faults.RunFault.TheVariants.{Write as WriteFailed};
+ghost use Rattle.sno_document.specs.declared.faults.RunFault.TheVariants.{Write as WriteFailed};
 
-use crate::RunFault;
-use crate::documents::MAX_DOCUMENT;
+use sno_document::{MAX_DOCUMENT, RunFault};
 use std::alloc::Global;
 use std::io::{Read, Write};
 

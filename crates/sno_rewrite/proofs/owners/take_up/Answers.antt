@@ -1,4 +1,4 @@
-use Rattle.std.proofs.Common.{refl, ap, sym, ◌∙◌, ◌≡◌, ℕ, List, length, set, slice_get, Option, Some}
+use Rattle.std.proofs.Common.{refl, ap, sym, ◌∙◌, ◌≡◌, ℕ, length, set, slice_get, Some}
 use Rattle.std.proofs.lemmas.Option.{slice_get_read}
 use Rattle.sno_book.specs.Proposals.{Received}
 use Rattle.sno_rewrite.proofs.OwnerLemmas.{owns_more, owns_same}

@@ -1,6 +1,6 @@
 -- A document has no other answer than itself.
-use Rattle.sno_rewrite.proofs.FaultLemmas.{memory_only, memory_err}
-use Rattle.sno_rewrite.proofs.DocumentLaw.{one_answer}
+use Rattle.sno_rewrite.proofs.RunLemmas.{memory_only, memory_err}
+use Rattle.sno_document.proofs.DocumentLaw.{one_answer}
 use Rattle.sno_rewrite.proofs.running.run_serial.Goals as goal
 
 pub returns-in_err-report-clause-only : goal.returns-in_err-report-clause-only

@@ -1,5 +1,5 @@
 -- A document has no other answer than itself.
-use Rattle.sno_rewrite.proofs.FaultLemmas.{own_err}
+use Rattle.sno_rewrite.proofs.RunLemmas.{own_err}
 use Rattle.sno_rewrite.proofs.running.run_shared.Goals as goal
 
 pub returns-in_err-report-clause-only : goal.returns-in_err-report-clause-only

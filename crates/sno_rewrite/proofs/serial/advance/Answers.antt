@@ -1,5 +1,5 @@
 -- What a statement does to a book.
-use Rattle.std.proofs.Common.{ap, ◌∙◌, sym, None}
+use Rattle.std.proofs.Common.{ap, ◌∙◌}
 use Rattle.std.specs.Arc.{arc_value}
 use Rattle.sno_statement.specs.Task.{Task}
 use Rattle.sno_rewrite.proofs.SerialLemmas.{refused_none, refused_long, committed, taken_as, proposed_as, no_text, too_long}

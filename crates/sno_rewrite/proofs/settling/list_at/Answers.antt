@@ -1,9 +1,9 @@
-use Rattle.std.proofs.Common.{◌≡◌, ℕ, suc, ◌+◌, List, length, map, refl, ap, subst, sym, Option, Some, add-one}
+use Rattle.std.proofs.Common.{length, map, refl, add-one}
 use Rattle.std.specs.Arc.{arc_value}
 use Rattle.std.proofs.lemmas.Option.{slice_get_read}
 use Rattle.sno_book.specs.Views.{state_of}
 use Rattle.sno_desk.specs.Answers.{Answers}
-use Rattle.sno_rewrite.specs.Owners.{Lists, answer_in}
+use Rattle.sno_rewrite.specs.Owners.{answer_in}
 use Rattle.sno_rewrite.proofs.SettlingLemmas.{answer_at, lists_more, seen_at}
 use Rattle.sno_rewrite.proofs.settling.list_at.Goals as goal
 

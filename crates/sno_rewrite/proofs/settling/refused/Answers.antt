@@ -1,9 +1,9 @@
-use Rattle.std.proofs.Common.{◌≡◌, ◌∙◌, ℕ, List, length, map, subst, sym, arith}
+use Rattle.std.proofs.Common.{◌∙◌, map, sym, arith}
 use Rattle.std.specs.Arc.{arc_value}
 use Rattle.std.proofs.Math.ListN.{length-map}
 use Rattle.sno_book.specs.Views.{state_of}
 use Rattle.sno_desk.specs.Answers.{Answers}
-use Rattle.sno_rewrite.specs.Owners.{Lists, answer_in}
+use Rattle.sno_rewrite.specs.Owners.{answer_in}
 use Rattle.sno_rewrite.proofs.SettlingLemmas.{as_many, lists_all}
 use Rattle.sno_rewrite.proofs.settling.refused.Goals as goal
 

@@ -1,0 +1,8 @@
+pub mod JsonLemmas
+pub mod FaultLemmas
+pub mod PlaceLemmas
+pub mod References
+pub mod CircleLemmas
+pub mod BookLemmas
+pub mod DocumentLaw
+pub mod LengthLemmas

@@ -1,0 +1,13 @@
+-- The statements so far, with the rows that are left, come to the same.
+use Rattle.std.proofs.Common.{◌≡◌, ◌+◌, [], drop, map, length}
+use Rattle.std.specs.Arc.{arc_value}
+use Rattle.sno_document.specs.Document.{statements_from}
+use Rattle.sno_document.specs.Rows.{statement_seen}
+use Rattle.sno_document.proofs.statements.statements.Given as goal
+
+abbrev pub invariant-loop-place : goal.invariant-loop-place
+invariant-loop-place l = record {
+  rest : statements_from (arc_value l.rules) l.anchor (l.place + 1) (map arc_value l.statements.items) (map statement_seen (drop l.place l.rows))
+      ≡ statements_from (arc_value l.rules) l.anchor 1 [] (map statement_seen l.rows);
+  count : length l.statements.items ≡ l.place;
+}

@@ -1,0 +1,165 @@
+-- Documents: what JSON stands for, and the first fault of what stands for none. `IsDocument`, at the end, says in which order the
+-- checks come; numbers in faults count from 1.
+use Rattle.std.specs.Prelude.{◌≡◌, ℕ, ◌+◌, Bool, List, [], ◌∷◌, ◌++◌, length, map, nat_lt, Option, Some, None, Result, Ok, Err, unwrap_or, slice_get, if◌then◌else◌}
+use Rattle.serde_json.specs.Data.{Data}
+use Rattle.sno_pattern.specs.Tree.{Tree}
+use Rattle.sno_pattern.specs.Identifiers.{name_of}
+use Rattle.sno_pattern.specs.NameList.{names_of, first_repeat}
+use Rattle.sno_pattern.specs.TextNames.{is_text_name}
+use Rattle.sno_pattern.specs.Texts.{text_of}
+use Rattle.sno_pattern.specs.Definitions.{Definitions}
+use Rattle.sno_pattern.specs.Guard.{Guarded}
+use Rattle.sno_pattern.specs.Admission.{IsFirstCycle}
+use Rattle.sno_pattern.specs.declared.name_list.NamesFault.{NamesFault}
+use Rattle.sno_pattern.specs.declared.name_list.NamesFault.TheVariants as names
+use Rattle.sno_pattern.specs.declared.texts.TextFault.{TextFault}
+use Rattle.sno_pattern.specs.declared.texts.TextFault.TheVariants as texts
+use Rattle.sno_read.specs.Reading.{pattern_of}
+use Rattle.sno_read.specs.Objects.{object_of}
+use Rattle.sno_read.specs.declared.faults.ReadFault.{ReadFault}
+use Rattle.sno_read.specs.declared.objects.Part.{Part}
+use Rattle.sno_statement.specs.Task.{Task}
+use Rattle.sno_document.specs.Json.{json_of}
+use Rattle.sno_document.specs.Shape.{Rows, StatementRow, rows_of}
+use Rattle.sno_document.specs.Faults.{◌>>=◌}
+use Rattle.sno_document.specs.declared.faults.RunFault.{RunFault}
+use Rattle.sno_document.specs.declared.faults.RunFault.TheVariants as fault
+
+-- names of texts with their characters
+abbrev pub NamedTexts : Type 0
+NamedTexts = List (List ℕ × List ℕ)
+
+-- what a document stands for
+pub record Document : Type 0 where
+  pub rules : Definitions
+  pub texts : NamedTexts
+  pub statements : List Task
+
+-- how many entries the journal of a run may hold; no document has more statements
+abbrev pub room : ℕ
+room = 1000000
+
+-- what is there, or the fault where there is nothing
+abbrev pub or_fault : {A : Type 0} → RunFault → Option A → Result A RunFault
+or_fault e None = Err e
+or_fault e (Some x) = Ok x
+
+-- what was read, or the fault of the reading
+abbrev pub reading : {A : Type 0} → (ReadFault → RunFault) → Result A ReadFault → Result A RunFault
+reading fault_of (Ok x) = Ok x
+reading fault_of (Err e) = Err (fault_of e)
+
+-- no more rows than there may be
+abbrev pub at_most : {A : Type 0} → ℕ → RunFault → List A → Result (List A) RunFault
+at_most most e rows = if nat_lt most (length rows) then Err e else Ok rows
+
+-- the names of the definitions from number d on, behind those before
+abbrev pub names_from : ℕ → List (List ℕ) → List (List ℕ × List ℕ) → Result (List (List ℕ)) RunFault
+names_from d done [] = Ok done
+names_from d done (row ∷ rows) = or_fault (fault.PatternName d) (name_of row.0) >>= λ name. names_from (d + 1) (done ++ name ∷ []) rows
+
+-- no reserved word, and no name twice
+abbrev pub names_checked : Result (List (List ℕ)) NamesFault → Result (List (List ℕ)) RunFault
+names_checked (Ok done) = Ok done
+names_checked (Err names.TooMany) = Err fault.TooManyPatterns
+names_checked (Err (names.Reserved place)) = Err (fault.PatternReserved (place + 1))
+names_checked (Err (names.Duplicate place)) = Err (fault.PatternDuplicate (place + 1))
+names_checked (Err names.Memory) = Err fault.Memory
+
+-- the expressions of the definitions with d before them, which plain names may name
+abbrev pub bodies_from : List (List ℕ) → ℕ → List Tree → List (List ℕ × List ℕ) → Result (List Tree) RunFault
+bodies_from defined d done [] = Ok done
+bodies_from defined d done (row ∷ rows) =
+    reading (fault.PatternRead (d + 1)) (pattern_of defined d row.1) >>= λ body. bodies_from defined (d + 1) (done ++ body ∷ []) rows
+
+-- the definitions, before they are admitted
+unfoldable pub definitions_of : List (List ℕ × List ℕ) → Result Definitions RunFault
+definitions_of rows =
+    at_most 64 fault.TooManyPatterns rows >>= λ rows. names_from 1 [] rows >>= λ written. names_checked (names_of written) >>= λ defined.
+    bodies_from defined 0 [] rows >>= λ bodies. Ok (record { names = defined; bodies = bodies })
+
+-- the characters of text number t
+abbrev pub text_checked : ℕ → Result (List ℕ) TextFault → Result (List ℕ) RunFault
+text_checked t (Ok text) = Ok text
+text_checked t (Err texts.TooLong) = Err (fault.TextTooLong t)
+text_checked t (Err (texts.NonAscii place)) = Err (fault.TextNonAscii t)
+
+-- text number t: its name, then its length, then its characters
+unfoldable pub text_row : ℕ → List ℕ × List ℕ → Result (List ℕ × List ℕ) RunFault
+text_row t row = if is_text_name row.0 then text_checked t (text_of row.1) >>= (λ text. Ok (row.0, text)) else Err (fault.TextName t)
+
+-- the texts from number t on, behind those before
+abbrev pub texts_from : ℕ → NamedTexts → List (List ℕ × List ℕ) → Result NamedTexts RunFault
+texts_from t done [] = Ok done
+texts_from t done (row ∷ rows) = text_row t row >>= λ text. texts_from (t + 1) (done ++ text ∷ []) rows
+
+-- no name twice
+abbrev pub unless_repeated : Option ℕ → NamedTexts → Result NamedTexts RunFault
+unless_repeated None done = Ok done
+unless_repeated (Some place) done = Err (fault.TextDuplicate (place + 1))
+
+abbrev pub distinct : NamedTexts → Result NamedTexts RunFault
+distinct done = unless_repeated (first_repeat (map (λ t. t.0) done)) done
+
+-- the texts
+unfoldable pub texts_of : List (List ℕ × List ℕ) → Result NamedTexts RunFault
+texts_of rows = at_most 1024 fault.TooManyTexts rows >>= λ rows. texts_from 1 [] rows >>= λ done. distinct done
+
+-- the object of statement number s, where it has one
+abbrev pub object_row : List (List ℕ) → ℕ → Option (List ℕ) → Result (Option (List Part)) RunFault
+object_row defined s None = Ok None
+object_row defined s (Some text) = reading (fault.StatementObject s) (object_of defined text) >>= λ parts. Ok (Some parts)
+
+-- the name of the text of statement number s
+abbrev pub text_name_row : ℕ → List ℕ → Result (List ℕ) RunFault
+text_name_row s name = if is_text_name name then Ok name else Err (fault.StatementName s)
+
+-- statement number s: the name of its text, then its pattern, in which plain names may name all definitions, then its object;
+-- `anchor` is for those that don't say whether they are anchored
+unfoldable pub statement_row : Definitions → Bool → ℕ → StatementRow → Result Task RunFault
+statement_row rules anchor s row =
+    text_name_row s row.text >>= λ text. reading (fault.StatementPattern s) (pattern_of rules.names (length rules.names) row.pattern) >>= λ pattern.
+    object_row rules.names s row.object >>= λ object.
+    Ok (record { number = s; rules = rules; pattern = pattern; object = object; text = text; anchored = unwrap_or row.anchored anchor })
+
+-- the statements from number s on, behind those before
+abbrev pub statements_from : Definitions → Bool → ℕ → List Task → List StatementRow → Result (List Task) RunFault
+statements_from rules anchor s done [] = Ok done
+statements_from rules anchor s done (row ∷ rows) =
+    statement_row rules anchor s row >>= λ statement. statements_from rules anchor (s + 1) (done ++ statement ∷ []) rows
+
+-- the statements
+unfoldable pub statements_of : Definitions → Bool → List StatementRow → Result (List Task) RunFault
+statements_of rules anchor rows = at_most 1000000 fault.TooManyStatements rows >>= λ rows. statements_from rules anchor 1 [] rows
+
+-- the value that bytes stand for: the length is looked at first
+abbrev pub value_or : Option Data → Result Data RunFault
+value_or None = Err fault.NotJson
+value_or (Some d) = Ok d
+
+unfoldable pub value_in : List ℕ → Result Data RunFault
+value_in bytes = if nat_lt 16777216 (length bytes) then Err fault.DocumentTooLong else value_or (json_of bytes)
+
+-- what comes behind the definitions, once they are admitted
+unfoldable pub document_with : Definitions → Bool → Rows → Result Document RunFault
+document_with rules anchor rows =
+    texts_of rows.texts >>= λ done. statements_of rules anchor rows.statements >>= λ statements.
+    Ok (record { rules = rules; texts = done; statements = statements })
+
+-- What definitions stand for: themselves, where they are guarded; or the fault with the name of the first that lies on a circle of
+-- references that takes no character.
+pub data IsAdmitted (rules : Definitions) : Result Definitions RunFault → Type 0 where
+  guarded : Guarded rules.bodies → IsAdmitted rules (Ok rules)
+  circle : {name : List ℕ} (i : ℕ) (others : List ℕ) → IsFirstCycle rules.bodies (i ∷ others) → slice_get rules.names i ≡ Some name
+      → IsAdmitted rules (Err (fault.Unguarded name))
+
+-- What bytes stand for: the value, its shape, the definitions, their admission, and then the rest; or the first fault among these.
+pub data IsDocument (anchor : Bool) (bytes : List ℕ) : Result Document RunFault → Type 0 where
+  no_value : {e : RunFault} → value_in bytes ≡ Err e → IsDocument anchor bytes (Err e)
+  no_rows : {e : RunFault} (d : Data) → value_in bytes ≡ Ok d → rows_of d ≡ Err e → IsDocument anchor bytes (Err e)
+  no_definitions : {e : RunFault} (d : Data) (rows : Rows) → value_in bytes ≡ Ok d → rows_of d ≡ Ok rows → definitions_of rows.patterns ≡ Err e
+      → IsDocument anchor bytes (Err e)
+  not_admitted : {e : RunFault} (d : Data) (rows : Rows) (rules : Definitions) → value_in bytes ≡ Ok d → rows_of d ≡ Ok rows
+      → definitions_of rows.patterns ≡ Ok rules → IsAdmitted rules (Err e) → IsDocument anchor bytes (Err e)
+  whole : {r : Result Document RunFault} (d : Data) (rows : Rows) (rules : Definitions) → value_in bytes ≡ Ok d → rows_of d ≡ Ok rows
+      → definitions_of rows.patterns ≡ Ok rules → IsAdmitted rules (Ok rules) → document_with rules anchor rows ≡ r → IsDocument anchor bytes r

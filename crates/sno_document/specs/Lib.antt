@@ -1,0 +1,8 @@
+pub mod Faults
+pub mod Json
+pub mod Shape
+pub mod Rows
+pub mod Document
+pub mod Drafts
+pub mod Reads
+pub mod Laws

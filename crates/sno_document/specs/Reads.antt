@@ -1,0 +1,22 @@
+-- Documents of the program by value.
+use Rattle.std.specs.Prelude.{◌≡◌, ◌≢◌, ◌≤◌, ℕ, Bool, List, [], length, map, Result, Ok, Err}
+use Rattle.std.specs.Arc.{arc_value}
+use Rattle.sno_document.specs.Document as document
+use Rattle.sno_document.specs.Document.{IsDocument}
+use Rattle.sno_document.specs.declared.documents.Document.{Document}
+use Rattle.sno_document.specs.declared.faults.RunFault.{RunFault}
+use Rattle.sno_document.specs.declared.faults.RunFault.TheVariants.{Memory}
+
+abbrev pub document_seen : Document → document.Document
+document_seen d = record { rules = arc_value d.rules; texts = d.book.opening.texts; statements = map arc_value d.statements.items }
+
+-- the book is as it was made, with room for an entry for each statement
+pub record IsReady (d : Document) : Type 0 where
+  pub empty : d.book.journal ≡ []
+  pub room : d.book.opening.room ≡ 1000000
+  pub few : length d.statements.items ≤ 1000000
+
+-- the answer is what the bytes stand for, or want of memory
+abbrev pub Reads : Bool → List ℕ → Result Document RunFault → Type 0
+Reads anchor bytes (Ok d) = IsDocument anchor bytes (Ok (document_seen d))
+Reads anchor bytes (Err e) = e ≢ Memory → IsDocument anchor bytes (Err e)

@@ -1,0 +1,60 @@
+-- The shape of a document: an object with three arrays. Other members are ignored.
+use Rattle.std.specs.Prelude.{ℕ, Bool, List, [], ◌∷◌, ◌++◌, Option, Some, None, Result, Ok, Err, codes}
+use Rattle.serde_json.specs.Data.{Data}
+use Rattle.serde_json.specs.Find.{as_object}
+use Rattle.sno_document.specs.Json.{array_at, string_at, optional_string_at, optional_bool_at}
+use Rattle.sno_document.specs.Faults.{◌>>=◌}
+use Rattle.sno_document.specs.declared.faults.RunFault.{RunFault}
+use Rattle.sno_document.specs.declared.faults.RunFault.TheVariants.{Shape}
+
+-- a statement as the document writes it
+pub record StatementRow : Type 0 where
+  pub text : List ℕ
+  pub pattern : List ℕ
+  pub object : Option (List ℕ)
+  pub anchored : Option Bool
+
+-- a document as it is written: names with expressions, names with texts, and statements
+pub record Rows : Type 0 where
+  pub patterns : List (List ℕ × List ℕ)
+  pub texts : List (List ℕ × List ℕ)
+  pub statements : List StatementRow
+
+-- what isn't there or is of another kind is a wrong shape
+abbrev pub or_shape : {X : Type 0} → Option X → Result X RunFault
+or_shape None = Err Shape
+or_shape (Some x) = Ok x
+
+-- each element read in order, behind those that are read
+abbrev pub each_row : {X : Type 0} → (Data → Result X RunFault) → List X → List Data → Result (List X) RunFault
+each_row read rows [] = Ok rows
+each_row read rows (d ∷ ds) = read d >>= λ row. each_row read (rows ++ row ∷ []) ds
+
+-- two strings
+abbrev pub pair_row : List ℕ → List ℕ → Data → Result (List ℕ × List ℕ) RunFault
+pair_row first second d = or_shape (string_at first d) >>= λ a. or_shape (string_at second d) >>= λ b. Ok (a, b)
+
+abbrev pub statement_row : Data → Result StatementRow RunFault
+statement_row d =
+    or_shape (string_at (codes "text") d) >>= λ text. or_shape (string_at (codes "pattern") d) >>= λ pattern.
+    or_shape (optional_string_at (codes "object") d) >>= λ object. or_shape (optional_bool_at (codes "anchored") d) >>= λ anchored.
+    Ok (record { text = text; pattern = pattern; object = object; anchored = anchored })
+
+-- the array of pairs with this key
+unfoldable pub pairs_at : List ℕ → List ℕ → List ℕ → Data → Result (List (List ℕ × List ℕ)) RunFault
+pairs_at key first second d = or_shape (array_at key d) >>= λ values. each_row (pair_row first second) [] values
+
+-- the array of statements
+unfoldable pub statements_at : Data → Result (List StatementRow) RunFault
+statements_at d = or_shape (array_at (codes "statements") d) >>= λ values. each_row statement_row [] values
+
+-- the three arrays, in this order; a missing one is empty
+unfoldable pub arrays_of : Data → Result Rows RunFault
+arrays_of d =
+    pairs_at (codes "patterns") (codes "name") (codes "pattern") d >>= λ patterns.
+    pairs_at (codes "texts") (codes "name") (codes "text") d >>= λ texts. statements_at d >>= λ statements.
+    Ok (record { patterns = patterns; texts = texts; statements = statements })
+
+-- the rows of a document, which is an object
+abbrev pub rows_of : Data → Result Rows RunFault
+rows_of d = or_shape (as_object d) >>= λ members. arrays_of d

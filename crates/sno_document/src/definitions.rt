@@ -1,0 +1,122 @@
+//! The definitions of a document.
+ghost use Rattle.std.specs.Prelude.{◌≡◌, ◌<◌, ◌≤◌, ◌+◌, [], map, length, IfOk, IsTrue};
+ghost use Rattle.std.specs.List.{list_all};
+ghost use Rattle.sno_pattern.specs.Tree.{tree_of, trees, refs_below};
+ghost use Rattle.sno_pattern.specs.NameList.{names_of};
+ghost use Rattle.sno_read.specs.Reading.{pattern_of};
+ghost use Rattle.sno_document.specs.Faults.{Gives};
+ghost use Rattle.sno_document.specs.Rows.{pair_seen};
+ghost use Rattle.sno_document.specs.Drafts.{drafted_seen, IsDrafted, Admits};
+ghost use Rattle.sno_document.specs.Document.{names_from, names_checked, reading, bodies_from, definitions_of};
+ghost use Rattle.sno_document.specs.declared.faults.RunFault.TheVariants.{PatternRead};
+
+use crate::RunFault;
+use crate::rows::PairRow;
+use sno_pattern::{Name, Names, NamesFault, Pattern, Rules, RulesFault};
+use sno_read::{ReadFault, read_pattern};
+use std::alloc::Global;
+
+const MAX_DEFINITIONS: usize = 64;
+
+fn names_in(alloc: Global, rows: &[PairRow<'_>]) -> Result<Vec<Name>, RunFault>
+    ensures names { Gives (λ v. v.items) result (names_from 1 [] (map pair_seen rows.now)) }
+    ensures as_many { IfOk result (λ v. length v.items ≡ length rows.now) }
+{
+    let mut names = Vec::new(alloc);
+    for (name, _) in rows {
+        match Name::read(name.as_bytes()) {
+            Some(name) => names.push(name)?,
+            None => return Err(RunFault::PatternName(names.len() + 1)),
+        }
+    }
+    Ok(names)
+}
+
+#[tactic(auto, using(crate::proofs::PlaceLemmas::reserved_place, crate::proofs::PlaceLemmas::duplicate_place))]
+fn names_checked(alloc: Global, names: &[Name]) -> Result<Names, RunFault>
+    requires { length names.now ≤ 64 }
+    ensures { Gives (λ n. n) result (names_checked (names_of names.now)) }
+{
+    match Names::new(alloc, names) {
+        Ok(names) => Ok(names),
+        Err(NamesFault::TooMany) => Err(RunFault::TooManyPatterns),
+        Err(NamesFault::Reserved(place)) => Err(RunFault::PatternReserved(place + 1)),
+        Err(NamesFault::Duplicate(place)) => Err(RunFault::PatternDuplicate(place + 1)),
+        Err(NamesFault::Memory) => Err(RunFault::Memory),
+    }
+}
+
+/// The expression of the definition at a place. Its references are to definitions.
+#[tactic(auto, using(crate::proofs::References::spelled_covered))]
+fn body(alloc: Global, names: &Names, place: usize, text: &str) -> Result<Pattern, RunFault>
+    requires { place < 64 }
+    ensures read { Gives tree_of result (reading (λ e. PatternRead (place + 1) e) (pattern_of names.now place text.now)) }
+    ensures covered { IfOk result (λ p. IsTrue (refs_below (length names.now) (tree_of p))) }
+{
+    match read_pattern(alloc, names, place, text.as_bytes()) {
+        Ok(pattern) => Ok(pattern),
+        Err(ReadFault::Memory) => Err(RunFault::Memory),
+        Err(fault) => Err(RunFault::PatternRead(place + 1, fault)),
+    }
+}
+
+fn bodies(alloc: Global, names: &Names, rows: &[PairRow<'_>]) -> Result<Vec<Pattern>, RunFault>
+    requires { length rows.now ≤ 64 }
+    ensures bodies { Gives (λ v. trees v.items) result (bodies_from names.now 0 [] (map pair_seen rows.now)) }
+    ensures covered { IfOk result (λ v. IsTrue (list_all (refs_below (length names.now)) (trees v.items))) }
+    ensures as_many { IfOk result (λ v. length v.items ≡ length rows.now) }
+{
+    let mut bodies = Vec::new(alloc);
+    for (place, (_, text)) in rows.iter().enumerate() {
+        bodies.push(body(alloc, names, place, text)?)?;
+    }
+    Ok(bodies)
+}
+
+/// Definitions that are not admitted yet.
+#[derive(Drop)]
+pub(crate) struct Drafted {
+    pub(crate) names: Names,
+    pub(crate) bodies: Vec<Pattern>,
+    pub(crate) written: Vec<Name>,
+}
+
+/// The definitions, before they are admitted: as many bodies as names, and their references are to definitions.
+#[tactic(auto, unfolding(crate::specs::Document::definitions_of))]
+pub(crate) fn definitions(alloc: Global, rows: &[PairRow<'_>]) -> Result<Drafted, RunFault>
+    ensures definitions { Gives drafted_seen result (definitions_of (map pair_seen rows.now)) }
+    ensures sound { IfOk result IsDrafted }
+{
+    if rows.len() > MAX_DEFINITIONS {
+        return Err(RunFault::TooManyPatterns);
+    }
+    let written = names_in(alloc, rows)?;
+    let names = names_checked(alloc, &written)?;
+    let bodies = bodies(alloc, &names, rows)?;
+    Ok(Drafted {
+        names,
+        bodies,
+        written,
+    })
+}
+
+/// The definitions admitted; `Unguarded` with the first that lies on a circle of references that takes no character.
+pub(crate) fn admitted(alloc: Global, drafted: Drafted) -> Result<Rules, RunFault>
+    requires { IsDrafted drafted }
+    ensures { Admits (drafted_seen drafted) result }
+{
+    let Drafted {
+        names,
+        bodies,
+        written,
+    } = drafted;
+    match Rules::admit(alloc, names, bodies) {
+        Ok(rules) => Ok(rules),
+        Err(RulesFault::Memory) => Err(RunFault::Memory),
+        Err(RulesFault::BadRef(_)) => unreachable!(),
+        Err(RulesFault::Unguarded(cycle)) => match cycle.first() {
+            Some(first) => Err(RunFault::Unguarded(written[*first])),
+            None => unreachable!(),
+        },
+    }
+}

@@ -1,0 +1,111 @@
+//! The statements of a document.
+ghost use Rattle.std.specs.Prelude.{◌≡◌, ◌≤◌, ◌+◌, [], map, length, IfOk, IsTrue};
+ghost use Rattle.std.specs.Option.{option_map};
+ghost use Rattle.std.specs.Arc.{arc_value};
+ghost use Rattle.sno_pattern.specs.Tree.{tree_of, refs_below};
+ghost use Rattle.sno_read.specs.Reading.{pattern_of};
+ghost use Rattle.sno_document.specs.Faults.{Gives};
+ghost use Rattle.sno_document.specs.Rows.{statement_seen};
+ghost use Rattle.sno_document.specs.Document.{reading, object_row, text_name_row, statement_row, statements_from, statements_of};
+ghost use Rattle.sno_document.specs.declared.faults.RunFault.TheVariants.{StatementPattern};
+
+use crate::RunFault;
+use crate::rows::StatementRow;
+use sno_pattern::{NameFault, Names, Pattern, Rules, TextName};
+use sno_read::{Object, ReadFault, read_object, read_pattern};
+use sno_statement::Statement;
+use std::alloc::Global;
+use std::sync::Arc;
+
+const MAX_STATEMENTS: usize = 1_000_000;
+
+/// The object of statement number `number`, where it has one.
+fn object(
+    alloc: Global,
+    names: &Names,
+    number: usize,
+    text: Option<&str>,
+) -> Result<Option<Object>, RunFault>
+    ensures { Gives (λ o. o) result (object_row names.now number (option_map (λ s. s.now) text.entry)) }
+{
+    let Some(text) = text else {
+        return Ok(None);
+    };
+    match read_object(alloc, names, text.as_bytes()) {
+        Ok(object) => Ok(Some(object)),
+        Err(ReadFault::Memory) => Err(RunFault::Memory),
+        Err(fault) => Err(RunFault::StatementObject(number, fault)),
+    }
+}
+
+/// The pattern of statement number `number`. Its references are to definitions.
+#[tactic(auto, using(crate::proofs::References::spelled_covered))]
+fn pattern(alloc: Global, names: &Names, number: usize, text: &str) -> Result<Pattern, RunFault>
+    ensures read { Gives tree_of result (reading (λ e. StatementPattern number e) (pattern_of names.now (length names.now) text.now)) }
+    ensures covered { IfOk result (λ p. IsTrue (refs_below (length names.now) (tree_of p))) }
+{
+    match read_pattern(alloc, names, names.len(), text.as_bytes()) {
+        Ok(pattern) => Ok(pattern),
+        Err(ReadFault::Memory) => Err(RunFault::Memory),
+        Err(fault) => Err(RunFault::StatementPattern(number, fault)),
+    }
+}
+
+/// The name of the text of statement number `number`.
+fn text_name(alloc: Global, number: usize, name: &str) -> Result<TextName, RunFault>
+    ensures { Gives (λ n. n) result (text_name_row number name.now) }
+{
+    match TextName::new(alloc, name.as_bytes()) {
+        Ok(name) => Ok(name),
+        Err(NameFault::Bad) => Err(RunFault::StatementName(number)),
+        Err(NameFault::Memory) => Err(RunFault::Memory),
+    }
+}
+
+/// Statement number `number`.
+#[tactic(auto, unfolding(crate::specs::Document::statement_row))]
+fn statement(
+    alloc: Global,
+    rules: &Arc<Rules>,
+    anchor: bool,
+    number: usize,
+    row: &StatementRow<'_>,
+) -> Result<Statement, RunFault>
+    requires { number ≤ 1000000 }
+    ensures { Gives (λ s. s) result (statement_row (arc_value rules.now) anchor number (statement_seen row.now)) }
+{
+    let name = text_name(alloc, number, row.text)?;
+    let pattern = pattern(alloc, rules.names(), number, row.pattern)?;
+    let object = object(alloc, rules.names(), number, row.object)?;
+    let rules = Arc::try_clone(rules)?;
+    Ok(Statement::new(
+        number as u32,
+        rules,
+        pattern,
+        object,
+        name,
+        row.anchored.unwrap_or(anchor),
+    ))
+}
+
+/// The statements of the document; `anchor` is for those that don't say whether they are anchored.
+#[tactic(auto, unfolding(crate::specs::Document::statements_of))]
+pub(crate) fn statements(
+    alloc: Global,
+    rules: &Arc<Rules>,
+    anchor: bool,
+    rows: &[StatementRow<'_>],
+) -> Result<Vec<Arc<Statement>>, RunFault>
+    ensures statements { Gives (λ v. map arc_value v.items) result (statements_of (arc_value rules.now) anchor (map statement_seen rows.now)) }
+    ensures few { IfOk result (λ v. length v.items ≤ 1000000) }
+{
+    if rows.len() > MAX_STATEMENTS {
+        return Err(RunFault::TooManyStatements);
+    }
+    let mut statements = Vec::new(alloc);
+    for (place, row) in rows.iter().enumerate() {
+        let statement = statement(alloc, rules, anchor, place + 1, row)?;
+        statements.push(Arc::new(alloc, statement)?)?;
+    }
+    Ok(statements)
+}

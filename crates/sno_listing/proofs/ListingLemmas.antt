@@ -1,0 +1,59 @@
+-- Steps of the listing's loops.
+use Rattle.std.proofs.Common.{◌≡◌, ℕ, zero, suc, ◌+◌, ◌<◌, List, [], ◌∷◌, ◌++◌, length, get_or, drop, Some, None, slice_get, refl, sym, ap, ◌∙◌, arith, add-one, drop-cons, append_assoc}
+use Rattle.std.specs.List.{All, flat_map, list_all}
+use Rattle.std.specs.Char.{is_ascii}
+use Rattle.std.specs.Fmt.{decimal}
+use Rattle.std.specs.Prelude.{codes, IsTrue, Bool, true, ◌&&◌, ◌^◌}
+use Rattle.std.specs.Str.{IsAscii}
+use Rattle.std.proofs.lemmas.Bool.{lt-ltb}
+use Rattle.std.proofs.lemmas.Fmt.{IsAscii-decimal}
+use Rattle.std.proofs.lemmas.List.Elements.{All-head, All-tail}
+use Rattle.std.proofs.lemmas.List.Folds.{list_all-append}
+use Rattle.std.proofs.lemmas.Str.Ascii.{All-from_ascii}
+use Rattle.sno_listing.specs.Listing.{tries_words}
+use Rattle.std.proofs.lemmas.Option.{slice_get-get_or, slice_get_within}
+use Rattle.sno_listing.specs.Listing.{binding_line}
+use Rattle.sno_statement.specs.Bindings.{Bound}
+use Rattle.sno_statement.specs.declared.binding.Datum.{Datum}
+
+-- a binding that is there
+pub binding_next : (bound : Bound) (i : ℕ) (b : List ℕ × Datum) → slice_get bound i ≡ Some b
+    → flat_map binding_line (drop i bound) ≡ binding_line b ++ flat_map binding_line (drop (i + 1) bound)
+binding_next bound i b is =
+    let inside : i < length bound = slice_get_within bound i b is in
+    let there : get_or bound i b ≡ b = (let e = slice_get-get_or bound i b inside in cc) in
+    let bs : drop i bound ≡ b ∷ drop (i + 1) bound = rw (add-one) (drop-cons bound i b inside ∙ ap (λ (x : List ℕ × Datum). x ∷ drop (suc i) bound) there) in
+    ap (flat_map binding_line) bs
+
+-- there is one at each place before the end
+pub binding_there : (bound : Bound) (i : ℕ) → i < length bound → slice_get bound i ≡ None → ⊥
+binding_there [] i inside h = omega arith
+binding_there (b ∷ bound) zero inside h = cc
+binding_there (b ∷ bound) (suc i) inside h = binding_there bound i (omega arith) h
+
+-- one more binding is put
+pub binding_step : (out new all : List ℕ) (bound : Bound) (i : ℕ) (b : List ℕ × Datum) → slice_get bound i ≡ Some b → new ≡ out ++ binding_line b
+    → out ++ flat_map binding_line (drop i bound) ≡ all → new ++ flat_map binding_line (drop (i + 1) bound) ≡ all
+binding_step out new all bound i b is put so_far =
+    ap (λ (l : List ℕ). l ++ flat_map binding_line (drop (i + 1) bound)) put ∙ append_assoc out (binding_line b) (flat_map binding_line (drop (i + 1) bound))
+    ∙ ap (λ (l : List ℕ). out ++ l) (sym (binding_next bound i b is)) ∙ so_far
+
+both : (a b : Bool) → a ≡ true → b ≡ true → (a && b) ≡ true
+both a b h g = λ i. h i && g i
+
+joined_ascii : (xs ys : List ℕ) → list_all is_ascii xs ≡ true → list_all is_ascii ys ≡ true → list_all is_ascii (xs ++ ys) ≡ true
+joined_ascii xs ys h g = list_all-append is_ascii xs ys ∙ both (list_all is_ascii xs) (list_all is_ascii ys) h g
+
+below_ascii : (xs : List ℕ) → All (λ b. b < 128) xs → list_all is_ascii xs ≡ true
+below_ascii [] h = refl
+below_ascii (x ∷ xs) h = both (is_ascii x) (list_all is_ascii xs) (lt-ltb x 128 (All-head (λ b. b < 128) x xs h)) (below_ascii xs (All-tail (λ b. b < 128) x xs h))
+
+all_ascii : (xs : List ℕ) → IsAscii xs → list_all is_ascii xs ≡ true
+all_ascii xs h = below_ascii xs (All-from_ascii xs h)
+
+-- decimals are ASCII
+pub tries_ascii : (seen now : ℕ) → seen < 2 ^ 64 → now < 2 ^ 64 → IsTrue (list_all is_ascii (tries_words seen now))
+unfolding tries_words
+tries_ascii seen now h g =
+    joined_ascii (codes "tries spent ") (decimal seen ++ (32 ∷ [] ++ decimal now)) refl
+    (joined_ascii (decimal seen) (32 ∷ [] ++ decimal now) (all_ascii (decimal seen) (IsAscii-decimal seen h)) (all_ascii (decimal now) (IsAscii-decimal now g)))

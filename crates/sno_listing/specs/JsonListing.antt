@@ -1,0 +1,88 @@
+-- The listing of a run as JSON: an object with the entries, the refused statements and the texts. The members of each object stand
+-- in the order of their names.
+use Rattle.std.specs.Prelude.{ℕ, ◌+◌, true, false, List, [], ◌∷◌, ◌++◌, map, Option, Some, None, codes}
+use Rattle.serde_json.specs.Data.{Data, boolean, number, string, array, object, unsigned, Members, no_members, member}
+use Rattle.serde_json.specs.View.{items_of}
+use Rattle.serde_json.specs.Written.{compact_text}
+use Rattle.sno_statement.specs.Bindings.{Bound}
+use Rattle.sno_statement.specs.Perform.{Done, Matched, Failed}
+use Rattle.sno_statement.specs.declared.binding.Datum.{Datum}
+use Rattle.sno_statement.specs.declared.binding.Datum.TheVariants.{Str, Int}
+use Rattle.sno_book.specs.States.{Held}
+use Rattle.sno_book.specs.Entries.{Entry}
+use Rattle.sno_listing.specs.History.{History}
+use Rattle.sno_listing.specs.Listing.{reason_words}
+use Rattle.sno_listing.specs.declared.refusals.Refusal.{Refusal}
+
+-- a number without sign
+abbrev pub count : ℕ → Data
+count n = number (unsigned n)
+
+-- an array
+abbrev pub array_of : List Data → Data
+array_of ds = array (items_of ds)
+
+-- a text: its name, its characters and its version
+unfoldable pub text_data : Held → Data
+text_data held =
+    object (member (codes "name") (string held.name) (member (codes "text") (string held.text) (member (codes "version") (count held.version) no_members)))
+
+-- the value of a variable: a string, or a number
+abbrev pub value_data : Datum → Data
+value_data (Str t) = string t
+value_data (Int n) = count n
+
+-- a variable with its value
+unfoldable pub binding_data : List ℕ × Datum → Data
+binding_data (name, value) = array_of (string name ∷ value_data value ∷ [])
+
+abbrev pub bindings_data : Bound → Data
+bindings_data bound = array_of (map binding_data bound)
+
+-- what an entry tells of its statement: the number, the text's name and the version that it was performed on
+unfoldable pub subject_members : Entry → Members
+subject_members e =
+    member (codes "statement") (count e.statement.number) (member (codes "text") (string e.statement.text) (member (codes "version") (count e.version) no_members))
+
+-- a match: what it bound, where it ended, the entry's index, and where it began
+unfoldable pub matched_members : ℕ → Entry → ℕ → ℕ → Bound → Members
+matched_members index e start end bound =
+    member (codes "bindings") (bindings_data bound) (member (codes "end") (count end) (member (codes "entry") (count index)
+    (member (codes "matched") (boolean true) (member (codes "start") (count start) (subject_members e)))))
+
+-- the new text stands first, where there is one
+abbrev pub with_after : Option (List ℕ) → Members → Members
+with_after None members = members
+with_after (Some text) members = member (codes "after") (string text) members
+
+-- a failure: what it bound, and the entry's index
+unfoldable pub failed_members : ℕ → Entry → Bound → Members
+failed_members index e bound =
+    member (codes "bindings") (bindings_data bound) (member (codes "entry") (count index) (member (codes "matched") (boolean false) (subject_members e)))
+
+abbrev pub done_members : ℕ → Entry → Done → Members
+done_members index e (Matched start end bound after) = with_after after (matched_members index e start end bound)
+done_members index e (Failed bound) = failed_members index e bound
+
+-- an entry of the journal, at its index
+abbrev pub entry_data : ℕ → Entry → Data
+entry_data index e = object (done_members index e e.done)
+
+-- the entries, from an index on
+abbrev pub entries_data : ℕ → List Entry → List Data
+entries_data index [] = []
+entries_data index (e ∷ entries) = entry_data index e ∷ entries_data (index + 1) entries
+
+-- a refused statement: the reason and its number
+unfoldable pub refused_data : Refusal → Data
+refused_data r = object (member (codes "reason") (string (reason_words r.reason)) (member (codes "statement") (count r.number) no_members))
+
+-- the entries in the journal's order, the refused statements by rising number, and the texts in the document's order
+unfoldable pub json_listing_data : History → Data
+json_listing_data h =
+    object (member (codes "entries") (array_of (entries_data 0 h.journal)) (member (codes "refused") (array_of (map refused_data h.refused))
+    (member (codes "texts") (array_of (map text_data h.state)) no_members)))
+
+-- the compact text of it, and a line feed
+abbrev pub json_listing : History → List ℕ
+json_listing h = compact_text (json_listing_data h) ++ 10 ∷ []

@@ -1,0 +1,5 @@
+pub mod ShownTexts
+pub mod History
+pub mod Listing
+pub mod JsonListing
+pub mod Forms

@@ -1,0 +1,30 @@
+//! The listing of a book.
+ghost use Rattle.std.specs.Prelude.{◌≡◌, IfOk};
+ghost use Rattle.sno_listing.specs.History.{history_of};
+ghost use Rattle.sno_listing.specs.Forms.{listing_by};
+
+use crate::Refusal;
+use crate::json_listing::json_listing;
+use crate::listing::listing;
+use crate::shown_texts::shown_texts;
+use sno_book::Book;
+use std::alloc::{AllocError, Global};
+
+/// The listing of a book's texts, of its journal, and of the statements that were refused beside it: as JSON where `json` is set, and
+/// else in lines. Refused for want of memory alone.
+pub fn listed(
+    alloc: Global,
+    book: &Book,
+    refused: &[Refusal],
+    json: bool,
+) -> Result<Vec<u8>, AllocError>
+    ensures { IfOk result (λ v. v.items ≡ listing_by json (history_of book.now refused.now)) }
+{
+    let texts = shown_texts(alloc, book)?;
+    let journal = book.journal();
+    if json {
+        json_listing(alloc, &texts, journal, refused)
+    } else {
+        listing(alloc, &texts, journal, refused)
+    }
+}

@@ -1,0 +1,265 @@
+//! The listing of a run as JSON.
+ghost use Rattle.std.specs.Prelude.{◌≡◌, ◌++◌, ◌∷◌, [], map, length, false, IfOk, IsTrue};
+ghost use Rattle.std.specs.Option.{option_map};
+ghost use Rattle.std.specs.Arc.{arc_value};
+ghost use Rattle.std.specs.List.{list_all};
+ghost use Rattle.std.specs.Char.{is_ascii};
+ghost use Rattle.serde_json.specs.Data.{string};
+ghost use Rattle.serde_json.specs.View.{view, members_view};
+ghost use Rattle.serde_json.specs.Written.{compact_text};
+ghost use Rattle.sno_statement.specs.Perform.{done_of};
+ghost use Rattle.sno_listing.specs.Listing.{reason_words};
+ghost use Rattle.sno_listing.specs.ShownTexts.{shown};
+ghost use Rattle.sno_listing.specs.JsonListing.{array_of, text_data, value_data, binding_data, bindings_data, subject_members, matched_members, failed_members, done_members, entry_data, entries_data, refused_data, json_listing_data, json_listing};
+
+use crate::listing::put_reason;
+use crate::shown_texts::ShownText;
+use crate::{Reason, Refusal};
+use serde_json::{Map, Value, json, put};
+use sno_book::Entry;
+use sno_pattern::{Name, TextName};
+use sno_statement::{Bindings, Datum, Outcome};
+use std::alloc::{AllocError, Global};
+
+/// A string of ASCII characters.
+#[tactic(auto, using(crate::proofs::JsonListingLemmas::ascii_utf8))]
+fn ascii_value(alloc: Global, characters: &[u8]) -> Result<Value, AllocError>
+    requires { IsTrue (list_all is_ascii characters.now) }
+    ensures { IfOk result (λ v. view v ≡ string characters.now) }
+{
+    match str::from_utf8(characters) {
+        Ok(text) => Value::try_from_str(alloc, text),
+        Err(_) => unreachable!(),
+    }
+}
+
+#[tactic(auto, using(crate::proofs::JsonListingLemmas::name_ascii))]
+fn name_value(alloc: Global, name: &Name) -> Result<Value, AllocError>
+    ensures { IfOk result (λ v. view v ≡ string name.now) }
+{
+    ascii_value(alloc, name.bytes())
+}
+
+#[tactic(auto, using(crate::proofs::JsonListingLemmas::text_name_ascii))]
+fn text_name_value(alloc: Global, name: &TextName) -> Result<Value, AllocError>
+    ensures { IfOk result (λ v. view v ≡ string name.now) }
+{
+    ascii_value(alloc, name.bytes())
+}
+
+#[tactic(auto, unfolding(crate::specs::JsonListing::text_data))]
+fn text_value(alloc: Global, text: &ShownText<'_>) -> Result<Value, AllocError>
+    ensures { IfOk result (λ v. view v ≡ text_data (shown text.now)) }
+{
+    let name = text_name_value(alloc, text.name)?;
+    let characters = ascii_value(alloc, text.text.bytes())?;
+    json!(in alloc; {"name": name, "text": characters, "version": text.version})
+}
+
+fn datum_value(alloc: Global, datum: &Datum) -> Result<Value, AllocError>
+    ensures { IfOk result (λ v. view v ≡ value_data datum.now) }
+{
+    match datum {
+        Datum::Str(text) => ascii_value(alloc, text.bytes()),
+        Datum::Int(number) => Ok(Value::from(*number)),
+    }
+}
+
+#[tactic(auto, unfolding(crate::specs::JsonListing::binding_data))]
+fn binding_value(alloc: Global, name: &Name, datum: &Datum) -> Result<Value, AllocError>
+    ensures { IfOk result (λ v. view v ≡ binding_data (name.now, datum.now)) }
+{
+    let name = name_value(alloc, name)?;
+    let datum = datum_value(alloc, datum)?;
+    json!(in alloc; [name, datum])
+}
+
+#[tactic(auto, using(crate::proofs::ListingLemmas::binding_there))]
+fn binding_values(alloc: Global, bindings: &Bindings) -> Result<Vec<Value>, AllocError>
+    ensures { IfOk result (λ v. map view v.items ≡ map binding_data bindings.now) }
+{
+    let mut values = Vec::with_capacity(alloc, bindings.len())?;
+    for place in 0..bindings.len() {
+        match bindings.get(place) {
+            Some((name, datum)) => values.push(binding_value(alloc, name, datum)?)?,
+            None => unreachable!(),
+        }
+    }
+    Ok(values)
+}
+
+fn bindings_value(alloc: Global, bindings: &Bindings) -> Result<Value, AllocError>
+    ensures { IfOk result (λ v. view v ≡ bindings_data bindings.now) }
+{
+    Ok(Value::Array(binding_values(alloc, bindings)?))
+}
+
+/// The members that tell of an entry's statement. Members are put from the last to the first.
+#[tactic(auto, unfolding(crate::specs::JsonListing::subject_members))]
+fn subject_members(alloc: Global, entry: &Entry) -> Result<Map<String, Value>, AllocError>
+    ensures { IfOk result (λ m. members_view m.entries ≡ subject_members entry.now) }
+{
+    let name = text_name_value(alloc, entry.statement.text())?;
+    let mut members = Map::new(alloc);
+    put(&mut members, alloc, "version", Value::from(entry.version))?;
+    put(&mut members, alloc, "text", name)?;
+    put(
+        &mut members,
+        alloc,
+        "statement",
+        Value::from(entry.statement.number()),
+    )?;
+    Ok(members)
+}
+
+#[tactic(auto, unfolding(crate::specs::JsonListing::matched_members, crate::specs::JsonListing::subject_members))]
+fn matched_members(
+    alloc: Global,
+    index: usize,
+    entry: &Entry,
+    start: usize,
+    end: usize,
+    bindings: &Bindings,
+) -> Result<Map<String, Value>, AllocError>
+    ensures { IfOk result (λ m. members_view m.entries ≡ matched_members index entry.now start end bindings.now) }
+{
+    let bound = bindings_value(alloc, bindings)?;
+    let mut members = subject_members(alloc, entry)?;
+    put(&mut members, alloc, "start", Value::from(start))?;
+    put(&mut members, alloc, "matched", Value::from(true))?;
+    put(&mut members, alloc, "entry", Value::from(index))?;
+    put(&mut members, alloc, "end", Value::from(end))?;
+    put(&mut members, alloc, "bindings", bound)?;
+    Ok(members)
+}
+
+#[tactic(auto, unfolding(crate::specs::JsonListing::failed_members, crate::specs::JsonListing::subject_members))]
+fn failed_members(
+    alloc: Global,
+    index: usize,
+    entry: &Entry,
+    bindings: &Bindings,
+) -> Result<Map<String, Value>, AllocError>
+    ensures { IfOk result (λ m. members_view m.entries ≡ failed_members index entry.now bindings.now) }
+{
+    let bound = bindings_value(alloc, bindings)?;
+    let mut members = subject_members(alloc, entry)?;
+    put(&mut members, alloc, "matched", Value::from(false))?;
+    put(&mut members, alloc, "entry", Value::from(index))?;
+    put(&mut members, alloc, "bindings", bound)?;
+    Ok(members)
+}
+
+#[tactic(auto, unfolding(crate::specs::JsonListing::matched_members))]
+fn done_members(
+    alloc: Global,
+    index: usize,
+    entry: &Entry,
+) -> Result<Map<String, Value>, AllocError>
+    ensures { IfOk result (λ m. members_view m.entries ≡ done_members index entry.now entry.now.done) }
+{
+    match &*entry.outcome {
+        Outcome::Matched {
+            start,
+            end,
+            bindings,
+            after: None,
+        } => matched_members(alloc, index, entry, *start, *end, bindings),
+        Outcome::Matched {
+            start,
+            end,
+            bindings,
+            after: Some(text),
+        } => {
+            let text = ascii_value(alloc, text.bytes())?;
+            let mut members = matched_members(alloc, index, entry, *start, *end, bindings)?;
+            put(&mut members, alloc, "after", text)?;
+            Ok(members)
+        }
+        Outcome::Failed { bindings } => failed_members(alloc, index, entry, bindings),
+    }
+}
+
+fn entry_value(alloc: Global, index: usize, entry: &Entry) -> Result<Value, AllocError>
+    ensures { IfOk result (λ v. view v ≡ entry_data index entry.now) }
+{
+    Ok(Value::Object(done_members(alloc, index, entry)?))
+}
+
+fn entry_values(alloc: Global, journal: &[Entry]) -> Result<Vec<Value>, AllocError>
+    ensures { IfOk result (λ v. map view v.items ≡ entries_data 0 journal.now) }
+{
+    let mut values = Vec::with_capacity(alloc, journal.len())?;
+    for (index, entry) in journal.iter().enumerate() {
+        values.push(entry_value(alloc, index, entry)?)?;
+    }
+    Ok(values)
+}
+
+/// The words of a reason.
+fn reason_value(alloc: Global, reason: Reason) -> Result<Value, AllocError>
+    ensures { IfOk result (λ v. view v ≡ string (reason_words reason)) }
+{
+    let mut words = Vec::new(alloc);
+    put_reason(alloc, &mut words, reason)?;
+    ascii_value(alloc, &words)
+}
+
+#[tactic(auto, unfolding(crate::specs::JsonListing::refused_data))]
+fn refusal_value(alloc: Global, refusal: &Refusal) -> Result<Value, AllocError>
+    ensures { IfOk result (λ v. view v ≡ refused_data refusal.now) }
+{
+    let reason = reason_value(alloc, refusal.reason)?;
+    json!(in alloc; {"reason": reason, "statement": refusal.number})
+}
+
+fn refusal_values(alloc: Global, refused: &[Refusal]) -> Result<Vec<Value>, AllocError>
+    ensures { IfOk result (λ v. map view v.items ≡ map refused_data refused.now) }
+{
+    let mut values = Vec::with_capacity(alloc, refused.len())?;
+    for refusal in refused {
+        values.push(refusal_value(alloc, refusal)?)?;
+    }
+    Ok(values)
+}
+
+fn text_values(alloc: Global, texts: &[ShownText<'_>]) -> Result<Vec<Value>, AllocError>
+    ensures { IfOk result (λ v. map view v.items ≡ map text_data (map shown texts.now)) }
+{
+    let mut values = Vec::with_capacity(alloc, texts.len())?;
+    for text in texts {
+        values.push(text_value(alloc, text)?)?;
+    }
+    Ok(values)
+}
+
+#[tactic(auto, unfolding(crate::specs::JsonListing::json_listing_data))]
+fn listing_value(
+    alloc: Global,
+    texts: &[ShownText<'_>],
+    journal: &[Entry],
+    refused: &[Refusal],
+) -> Result<Value, AllocError>
+    ensures { IfOk result (λ v. view v ≡ json_listing_data (record { state = map shown texts.now; journal = journal.now; refused = refused.now })) }
+{
+    let entries = Value::Array(entry_values(alloc, journal)?);
+    let refused = Value::Array(refusal_values(alloc, refused)?);
+    let texts = Value::Array(text_values(alloc, texts)?);
+    json!(in alloc; {"entries": entries, "refused": refused, "texts": texts})
+}
+
+/// The listing of texts as they are left, of the journal and of the refused statements, as one compact JSON text and a line feed.
+#[tactic(auto, using(crate::proofs::JsonListingLemmas::no_float))]
+pub(crate) fn json_listing(
+    alloc: Global,
+    texts: &[ShownText<'_>],
+    journal: &[Entry],
+    refused: &[Refusal],
+) -> Result<Vec<u8>, AllocError>
+    ensures { IfOk result (λ v. v.items ≡ json_listing (record { state = map shown texts.now; journal = journal.now; refused = refused.now })) }
+{
+    let value = listing_value(alloc, texts, journal, refused)?;
+    let mut line = value.to_vec(alloc)?;
+    line.push(b'\n')?;
+    Ok(line)
+}

@@ -1,0 +1,299 @@
+//! The listing of a run.
+ghost use Rattle.std.specs.Prelude.{◌≡◌, ◌++◌, ◌<◌, [], ◌∷◌, map, length, OnOk, IfOk, IsTrue, Some, None, codes};
+ghost use Rattle.std.specs.Option.{option_map};
+ghost use Rattle.std.specs.Arc.{arc_value};
+ghost use Rattle.std.specs.Char.{is_ascii};
+ghost use Rattle.std.specs.List.{flat_map, list_all};
+ghost use Rattle.std.specs.Fmt.{decimal};
+ghost use Rattle.sno_statement.specs.Perform.{done_of};
+ghost use Rattle.sno_listing.specs.ShownTexts.{shown};
+ghost use Rattle.sno_listing.specs.Listing.{hex_digit, is_plain, escaped_character, escaped, text_line, value_words, binding_line, after_line, done_lines, entry_label, entry_subject, entry_lines, entries_from, tries_words, reason_words, refused_line, count_line, listing};
+
+use crate::shown_texts::ShownText;
+use crate::{Reason, Refusal};
+use sno_book::Entry;
+use sno_pattern::{Name, Text};
+use sno_statement::{Bindings, Datum, Outcome};
+use std::alloc::{AllocError, Global};
+use std::sync::Arc;
+
+fn put(out: &mut Vec<u8>, bytes: &[u8]) -> Result<(), AllocError>
+    ensures { OnOk result (out.new.items ≡ out.old.items ++ bytes.now) }
+{
+    out.extend_from_slice(bytes)
+}
+
+fn put_number(alloc: Global, out: &mut Vec<u8>, number: u64) -> Result<(), AllocError>
+    ensures { OnOk result (out.new.items ≡ out.old.items ++ decimal number) }
+{
+    let digits = number.to_string(alloc)?;
+    put(out, digits.as_bytes())
+}
+
+fn hex_digit(digit: u8) -> u8
+    requires { digit < 16 }
+    ensures { result ≡ hex_digit digit }
+{
+    if digit < 10 {
+        digit + b'0'
+    } else {
+        digit + (b'a' - 10)
+    }
+}
+
+fn is_plain(character: u8) -> bool
+    ensures { result ≡ is_plain character }
+{
+    (32 <= character && character <= 126) && character != b'\\'
+}
+
+fn put_character(out: &mut Vec<u8>, character: u8) -> Result<(), AllocError>
+    ensures { OnOk result (out.new.items ≡ out.old.items ++ escaped_character character) }
+{
+    if is_plain(character) {
+        put(out, &[character])
+    } else {
+        put(
+            out,
+            &[
+                b'\\',
+                b'x',
+                hex_digit(character / 16),
+                hex_digit(character % 16),
+            ],
+        )
+    }
+}
+
+fn put_escaped(out: &mut Vec<u8>, characters: &[u8]) -> Result<(), AllocError>
+    ensures { OnOk result (out.new.items ≡ out.old.items ++ escaped characters.now) }
+{
+    for character in characters {
+        put_character(out, *character)?;
+    }
+    Ok(())
+}
+
+fn put_count(alloc: Global, out: &mut Vec<u8>, word: &str, count: usize) -> Result<(), AllocError>
+    ensures { OnOk result (out.new.items ≡ out.old.items ++ count_line word.now count) }
+{
+    put(out, word.as_bytes())?;
+    put_number(alloc, out, count as u64)?;
+    put(out, b"\n")
+}
+
+#[tactic(auto, unfolding(crate::specs::Listing::text_line))]
+fn put_text(alloc: Global, out: &mut Vec<u8>, text: &ShownText<'_>) -> Result<(), AllocError>
+    ensures { OnOk result (out.new.items ≡ out.old.items ++ text_line (shown text.now)) }
+{
+    put_escaped(out, text.name.bytes())?;
+    put(out, b" ")?;
+    put_number(alloc, out, text.version)?;
+    put(out, b" |")?;
+    put_escaped(out, text.text.bytes())?;
+    put(out, b"|\n")
+}
+
+fn put_value(alloc: Global, out: &mut Vec<u8>, value: &Datum) -> Result<(), AllocError>
+    ensures { OnOk result (out.new.items ≡ out.old.items ++ value_words value.now) }
+{
+    match value {
+        Datum::Str(text) => {
+            put(out, b"|")?;
+            put_escaped(out, text.bytes())?;
+            put(out, b"|")
+        }
+        Datum::Int(number) => put_number(alloc, out, u64::from(*number)),
+    }
+}
+
+#[tactic(auto, unfolding(crate::specs::Listing::binding_line))]
+fn put_binding(
+    alloc: Global,
+    out: &mut Vec<u8>,
+    name: &Name,
+    value: &Datum,
+) -> Result<(), AllocError>
+    ensures { OnOk result (out.new.items ≡ out.old.items ++ binding_line (name.now, value.now)) }
+{
+    put(out, b"  ")?;
+    put(out, name.bytes())?;
+    put(out, b" = ")?;
+    put_value(alloc, out, value)?;
+    put(out, b"\n")
+}
+
+fn put_after(out: &mut Vec<u8>, after: Option<&Arc<Text>>) -> Result<(), AllocError>
+    ensures { OnOk result (out.new.items ≡ out.old.items ++ after_line (option_map (λ a. arc_value a.now) after.entry)) }
+{
+    if let Some(text) = after {
+        put(out, b"  -> |")?;
+        put_escaped(out, text.bytes())?;
+        put(out, b"|\n")?;
+    }
+    Ok(())
+}
+
+#[tactic(auto, unfolding(crate::specs::Listing::refused_line))]
+fn put_refusal(alloc: Global, out: &mut Vec<u8>, refusal: &Refusal) -> Result<(), AllocError>
+    ensures { OnOk result (out.new.items ≡ out.old.items ++ refused_line refusal.now) }
+{
+    put(out, b"statement ")?;
+    put_number(alloc, out, u64::from(refusal.number))?;
+    put(out, b" ")?;
+    put_reason(alloc, out, refusal.reason)?;
+    put(out, b"\n")
+}
+
+#[tactic(auto, using(crate::proofs::ListingLemmas::tries_ascii), unfolding(crate::specs::Listing::tries_words))]
+fn put_tries(alloc: Global, out: &mut Vec<u8>, seen: u64, now: u64) -> Result<(), AllocError>
+    ensures words { OnOk result (out.new.items ≡ out.old.items ++ tries_words seen now) }
+    ensures ascii { IsTrue (list_all is_ascii (tries_words seen now)) }
+{
+    put(out, b"tries spent ")?;
+    put_number(alloc, out, seen)?;
+    put(out, b" ")?;
+    put_number(alloc, out, now)
+}
+
+/// The words of a reason, which are ASCII.
+pub(crate) fn put_reason(alloc: Global, out: &mut Vec<u8>, reason: Reason) -> Result<(), AllocError>
+    ensures words { OnOk result (out.new.items ≡ out.old.items ++ reason_words reason) }
+    ensures ascii { IsTrue (list_all is_ascii (reason_words reason)) }
+{
+    match reason {
+        Reason::NoText => put(out, b"no text"),
+        Reason::TextTooLong => put(out, b"text too long"),
+        Reason::TriesSpent { seen, now } => put_tries(alloc, out, seen, now),
+    }
+}
+
+#[tactic(auto, using(crate::proofs::ListingLemmas::binding_there))]
+fn put_bindings(alloc: Global, out: &mut Vec<u8>, bindings: &Bindings) -> Result<(), AllocError>
+    ensures { OnOk result (out.new.items ≡ out.old.items ++ flat_map binding_line bindings.now) }
+{
+    for place in 0..bindings.len() {
+        match bindings.get(place) {
+            Some((name, value)) => put_binding(alloc, out, name, value)?,
+            None => unreachable!(),
+        }
+    }
+    Ok(())
+}
+
+#[tactic(auto, unfolding(crate::specs::Listing::done_lines))]
+fn put_match(alloc: Global, out: &mut Vec<u8>, start: usize, end: usize) -> Result<(), AllocError>
+    ensures { OnOk result (out.new.items ≡ out.old.items ++ (codes " matched " ++ (decimal start ++ (32 ∷ [] ++ (decimal end ++ (10 ∷ [])))))) }
+{
+    put(out, b" matched ")?;
+    put_number(alloc, out, start as u64)?;
+    put(out, b" ")?;
+    put_number(alloc, out, end as u64)?;
+    put(out, b"\n")
+}
+
+#[tactic(auto, unfolding(crate::specs::Listing::done_lines))]
+fn put_done(alloc: Global, out: &mut Vec<u8>, outcome: &Outcome) -> Result<(), AllocError>
+    ensures { OnOk result (out.new.items ≡ out.old.items ++ done_lines (done_of outcome.now)) }
+{
+    match outcome {
+        Outcome::Matched {
+            start,
+            end,
+            bindings,
+            after,
+        } => {
+            put_match(alloc, out, *start, *end)?;
+            put_bindings(alloc, out, bindings)?;
+            put_after(out, after.as_ref())
+        }
+        Outcome::Failed { bindings } => {
+            put(out, b" failed\n")?;
+            put_bindings(alloc, out, bindings)
+        }
+    }
+}
+
+#[tactic(auto, unfolding(crate::specs::Listing::entry_label))]
+fn put_label(alloc: Global, out: &mut Vec<u8>, index: usize, number: u32) -> Result<(), AllocError>
+    ensures { OnOk result (out.new.items ≡ out.old.items ++ entry_label index number) }
+{
+    put_number(alloc, out, index as u64)?;
+    put(out, b" statement ")?;
+    put_number(alloc, out, u64::from(number))
+}
+
+#[tactic(auto, unfolding(crate::specs::Listing::entry_subject))]
+fn put_subject(
+    alloc: Global,
+    out: &mut Vec<u8>,
+    name: &[u8],
+    version: u64,
+) -> Result<(), AllocError>
+    ensures { OnOk result (out.new.items ≡ out.old.items ++ entry_subject name.now version) }
+{
+    put(out, b" ")?;
+    put_escaped(out, name)?;
+    put(out, b" ")?;
+    put_number(alloc, out, version)
+}
+
+fn put_entry(
+    alloc: Global,
+    out: &mut Vec<u8>,
+    index: usize,
+    entry: &Entry,
+) -> Result<(), AllocError>
+    ensures { OnOk result (out.new.items ≡ out.old.items ++ entry_lines index entry.now) }
+{
+    put_label(alloc, out, index, entry.statement.number())?;
+    put_subject(alloc, out, entry.statement.text().bytes(), entry.version)?;
+    put_done(alloc, out, &entry.outcome)
+}
+
+fn put_entries(alloc: Global, out: &mut Vec<u8>, journal: &[Entry]) -> Result<(), AllocError>
+    ensures { OnOk result (out.new.items ≡ out.old.items ++ entries_from 0 journal.now) }
+{
+    for (index, entry) in journal.iter().enumerate() {
+        put_entry(alloc, out, index, entry)?;
+    }
+    Ok(())
+}
+
+fn put_refusals(alloc: Global, out: &mut Vec<u8>, refused: &[Refusal]) -> Result<(), AllocError>
+    ensures { OnOk result (out.new.items ≡ out.old.items ++ flat_map refused_line refused.now) }
+{
+    for refusal in refused {
+        put_refusal(alloc, out, refusal)?;
+    }
+    Ok(())
+}
+
+fn put_texts(alloc: Global, out: &mut Vec<u8>, texts: &[ShownText<'_>]) -> Result<(), AllocError>
+    ensures { OnOk result (out.new.items ≡ out.old.items ++ flat_map text_line (map shown texts.now)) }
+{
+    for text in texts {
+        put_text(alloc, out, text)?;
+    }
+    Ok(())
+}
+
+/// The listing of texts as they are left, of the journal and of the refused statements.
+#[tactic(auto, unfolding(crate::specs::Listing::listing))]
+pub(crate) fn listing(
+    alloc: Global,
+    texts: &[ShownText<'_>],
+    journal: &[Entry],
+    refused: &[Refusal],
+) -> Result<Vec<u8>, AllocError>
+    ensures { IfOk result (λ v. v.items ≡ listing (record { state = map shown texts.now; journal = journal.now; refused = refused.now })) }
+{
+    let mut out = Vec::new(alloc);
+    put_count(alloc, &mut out, "texts ", texts.len())?;
+    put_texts(alloc, &mut out, texts)?;
+    put_count(alloc, &mut out, "entries ", journal.len())?;
+    put_entries(alloc, &mut out, journal)?;
+    put_count(alloc, &mut out, "refused ", refused.len())?;
+    put_refusals(alloc, &mut out, refused)?;
+    Ok(out)
+}

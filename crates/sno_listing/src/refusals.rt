@@ -1,0 +1,26 @@
+//! Refused statements.
+
+/// Why a statement is refused.
+#[derive(Clone, Copy, Debug, PartialEq, Eq)]
+pub enum Reason {
+    /// The document has no text of that name.
+    NoText,
+    /// The new text would have more than 65,536 characters.
+    TextTooLong,
+    /// The text changed under each of its tries. A serial run never meets this.
+    TriesSpent {
+        /// The version that the last try was made on.
+        seen: u64,
+        /// The version of the text when that try was to be accepted.
+        now: u64,
+    },
+}
+
+/// A statement that is refused.
+#[derive(Clone, Copy, Debug, PartialEq, Eq)]
+pub struct Refusal {
+    /// The number of the statement, from 1.
+    pub number: u32,
+    /// Why it is refused.
+    pub reason: Reason,
+}

@@ -1,0 +1,35 @@
+//! The texts of a book, as a listing shows them.
+ghost use Rattle.std.specs.Prelude.{◌≡◌, map, IfOk};
+ghost use Rattle.sno_book.specs.Views.{state_of};
+ghost use Rattle.sno_listing.specs.ShownTexts.{shown};
+
+use sno_book::Book;
+use sno_pattern::{Text, TextName};
+use std::alloc::{AllocError, Global};
+
+/// A text with its name and its version.
+#[derive(Drop)]
+pub(crate) struct ShownText<'b> {
+    pub(crate) name: &'b TextName,
+    pub(crate) text: &'b Text,
+    pub(crate) version: u64,
+}
+
+/// The texts of the book, in their order.
+#[tactic(auto, using(crate::proofs::ShownLemmas::text_there))]
+pub(crate) fn shown_texts(alloc: Global, book: &Book) -> Result<Vec<ShownText<'_>>, AllocError>
+    ensures { IfOk result (λ v. map shown v.items ≡ state_of book.now) }
+{
+    let mut texts = Vec::with_capacity(alloc, book.len())?;
+    for place in 0..book.len() {
+        match book.text(place) {
+            Some((name, text, version)) => texts.push(ShownText {
+                name,
+                text,
+                version,
+            })?,
+            None => unreachable!(),
+        }
+    }
+    Ok(texts)
+}

@@ -1,7 +1,0 @@
--- What is put so far, with what is left.
-use Rattle.std.proofs.Common.{◌≡◌, ◌++◌, drop}
-use Rattle.sno_rewrite.specs.Listing.{escaped}
-use Rattle.sno_rewrite.proofs.listing.put_escaped.Given as goal
-
-abbrev pub invariant-loop-character : goal.invariant-loop-character
-invariant-loop-character l = l.out.items ++ escaped (drop l.character-index l.characters) ≡ l.fn.out.items ++ escaped l.characters

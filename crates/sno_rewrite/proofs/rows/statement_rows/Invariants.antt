@@ -1,9 +1,0 @@
--- The rows so far, with the values that are left, come to the same.
-use Rattle.std.proofs.Common.{◌≡◌, [], drop, map}
-use Rattle.serde_json.specs.View.{view}
-use Rattle.sno_rewrite.specs.Shape.{statement_row, each_row}
-use Rattle.sno_rewrite.specs.Rows.{statement_seen}
-use Rattle.sno_rewrite.proofs.rows.statement_rows.Given as goal
-
-abbrev pub invariant-loop-value : goal.invariant-loop-value
-invariant-loop-value l = each_row statement_row (map statement_seen l.rows.items) (map view (drop l.value-index l.values)) ≡ each_row statement_row [] (map view l.values)

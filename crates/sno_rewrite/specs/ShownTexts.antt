@@ -1,6 +1,0 @@
--- Texts that are listed, by value.
-use Rattle.sno_book.specs.States.{Held}
-use Rattle.sno_rewrite.specs.declared.shown_texts.ShownText.{ShownText}
-
-abbrev pub shown : ShownText → Held
-shown t = record { name = t.name.now; text = t.text.now; version = t.version }
