@@ -18,7 +18,7 @@ const DEFAULT_TRIES: u32 = 100;
 const ABOUT: &str =
     "Reads a document of texts and statements on standard input, performs the statements, and writes the listing of what they did";
 
-const WORKERS_HELP: &str = "Shares the texts between N workers, 1 to 16; none by default";
+const WORKERS_HELP: &str = "Shares the statements out among N workers, 1 to 16; none by default";
 
 const TRIES_HELP: &str = "How often a worker tries a statement, 1 to 1000";
 

@@ -23,7 +23,7 @@ pub enum Task {
 
 /// What the row shows, its text, what is done to it, and what comes of that, in the words of `told`.
 #[derive(Clone, Copy)]
-pub struct Row(
+pub(crate) struct Row(
     pub &'static str,
     pub &'static str,
     pub Task,
@@ -51,7 +51,11 @@ impl Task {
 }
 
 /// Checks the row.
-pub fn check(rt: &(impl Abort + AllocGlobal), definitions: Written, row: &Row) -> Result<(), Fail> {
+pub(crate) fn check(
+    rt: &(impl Abort + AllocGlobal),
+    definitions: Written,
+    row: &Row,
+) -> Result<(), Fail> {
     let Row(shows, text, task, expected) = *row;
     let line = told(rt, definitions, text, task)?;
     assert_eq!(rt; line.as_str(), expected, "{shows}: {}", task.pattern());
@@ -59,7 +63,7 @@ pub fn check(rt: &(impl Abort + AllocGlobal), definitions: Written, row: &Row) -
 }
 
 /// Definitions that are admitted, or why they are refused.
-pub fn admit(
+pub(crate) fn admit(
     rt: &(impl Abort + AllocGlobal),
     written: Written,
 ) -> Result<Result<Rules, RulesFault>, Fail> {
@@ -114,7 +118,7 @@ fn object_of(
 }
 
 /// Why definitions are refused: of a circle the numbers of its definitions.
-pub fn refusal_told(alloc: Global, refused: &RulesFault) -> Result<String, Fail> {
+pub(crate) fn refusal_told(alloc: Global, refused: &RulesFault) -> Result<String, Fail> {
     let mut line = refused.to_string(alloc)?;
     if let RulesFault::Unguarded(circle) = refused {
         for definition in circle {
