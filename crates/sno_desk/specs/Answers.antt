@@ -1,5 +1,7 @@
 -- What a submit answers.
-use Rattle.std.specs.Prelude.{◌≡◌, ◌≢◌, ◌≤◌, ℕ, List, Result, Ok, Err}
+use Rattle.std.specs.Prelude.{◌≡◌, ◌≢◌, ◌≤◌, ℕ, List, length, Result, Ok, Err, IsTrue}
+use Rattle.std.specs.List.{list_all}
+use Rattle.std.specs.Char.{is_ascii}
 use Rattle.sno_statement.specs.Task.{Task}
 use Rattle.sno_statement.specs.Perform.{perform}
 use Rattle.sno_statement.specs.declared.outcomes.StatementFault.TheVariants as statement
@@ -18,9 +20,11 @@ pub record MayShut (shuts : ℕ → ℕ → Type 0) (number tries : ℕ) : Type 
   pub last : attempt ≤ tries
   pub shut : shuts number attempt
 
--- there is a text that the statement would make too long
+-- there is a text, of no more characters than a text may have, that the statement would make too long
 pub record Lengthens (s : Task) : Type 0 where
   pub text : List ℕ
+  pub short : length text ≤ 65536
+  pub ascii : IsTrue (list_all is_ascii text)
   pub performed : perform s text ≡ Err statement.TextTooLong
 
 -- the receipt's entry has the statement; the gate was shut only where it may be; some text would be too long; the tries were spent

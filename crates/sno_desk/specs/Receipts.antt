@@ -1,5 +1,5 @@
 -- What a seat is answered.
-use Rattle.std.specs.Prelude.{◌≡◌, ◌≢◌, ℕ}
+use Rattle.std.specs.Prelude.{◌≡◌, ◌≢◌, ◌<◌, ◌≤◌, ℕ}
 use Rattle.sno_book.specs.Proposals.{Proposed, Received, entry_of}
 use Rattle.sno_book.specs.declared.faults.CommitFault.{CommitFault}
 use Rattle.sno_book.specs.declared.faults.CommitFault.TheVariants as commit
@@ -8,6 +8,13 @@ use Rattle.sno_book.specs.declared.faults.CommitFault.TheVariants as commit
 pub record IsFor (receipt : Received) (p : Proposed) : Type 0 where
   pub entry : receipt.entry ≡ entry_of p
   pub text : receipt.text ≡ p.text
+
+-- the entries that the seat had accepted stand before the receipt's; where the desk has no other seat, these are all that do; and the journal is
+-- no longer than a book's may be
+pub record StandsBehind (seats accepted : ℕ) (receipt : Received) : Type 0 where
+  pub behind : accepted ≤ receipt.index
+  pub alone : seats ≡ 1 → receipt.index ≡ accepted
+  pub within : receipt.index < 1000000
 
 -- a text that changed has another version than the proposal's, and the refusal names both
 abbrev pub IsCause : CommitFault → Proposed → Type 0

@@ -1,7 +1,7 @@
 //! Snapshots and commits through a seat.
 ghost use Rattle.std.specs.Prelude.{◌≡◌, ◌+◌, IfOk, IfErr, OnOk, OnErr};
 ghost use Rattle.sno_book.specs.Commits.{GivesSnapshot, IsAccepted, IsRefused};
-ghost use Rattle.sno_desk.specs.Receipts.{IsFor, IsCause};
+ghost use Rattle.sno_desk.specs.Receipts.{IsFor, IsCause, StandsBehind};
 
 use crate::locked::Locked;
 use crate::{Desk, Seat};
@@ -25,12 +25,14 @@ impl<L: Ledger> Locked<L> {
         proposal: Proposal,
     ) -> Result<Receipt, (CommitFault, Proposal)>
         ensures accepted { IfOk result (λ r. IsAccepted self.old.book self.new.book proposal r) }
+        ensures behind { IfOk result (λ r. StandsBehind L.parts seat.old.accepted r) }
         ensures counted { OnOk result (seat.new.accepted ≡ seat.old.accepted + 1) }
         ensures refused { IfErr result (λ r. IsRefused self.old.book self.new.book proposal r.1 r.0) }
         ensures same { OnErr result (seat.new.accepted ≡ seat.old.accepted) }
     {
         let _ = self.book.journal();
         let receipt = self.book.commit(proposal)?;
+        let _ = self.book.journal();
         seat.count(&mut self.total);
         Ok(receipt)
     }
@@ -53,7 +55,9 @@ impl<L: Ledger> Desk<L> {
 
     /// Commits a proposal to the book under the lock, and counts it for the seat where it was accepted. It waits for the lock alone.
     ///
-    /// On `Ok` the receipt's entry is the proposal's and its text the one that the proposal is for; the seat's share is one higher.
+    /// On `Ok` the receipt's entry is the proposal's and its text the one that the proposal is for; the seat's share is one higher. The receipt's
+    /// index is no lower than the share was, as the entries that the seat had accepted stand before; it is the share where there is no other
+    /// seat.
     ///
     /// Refused as `Book::commit` refuses, in this order: `NoText`, `Changed` with the proposal's version and the text's, which is another,
     /// `Foreign`, `Full`, `Memory`. After each the share is the same, no entry is added, and the same proposal comes back.
@@ -65,6 +69,7 @@ impl<L: Ledger> Desk<L> {
         proposal: Proposal,
     ) -> Result<Receipt, (CommitFault, Proposal)>
         ensures receipt { IfOk result (λ r. IsFor r proposal) }
+        ensures behind { IfOk result (λ r. StandsBehind L.parts seat.old.accepted r) }
         ensures counted { OnOk result (seat.new.accepted ≡ seat.old.accepted + 1) }
         ensures back { IfErr result (λ r. r.1 ≡ proposal) }
         ensures cause { IfErr result (λ r. IsCause r.0 proposal) }

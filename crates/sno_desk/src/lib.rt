@@ -14,7 +14,7 @@
 //! - **The book is lawful whenever the lock is free**: by its type each entry of its journal is a step from the texts as those before it leave
 //!   them, and its texts are the replay. [`close`] answers it with the opening that the desk began with.
 //! - **A receipt is for what was handed in.** [`Desk::commit`] (`src/committing.rt`, `specs/Receipts.antt`) answers the proposal's entry and the
-//!   text that it is for, or refuses and hands the same proposal back; `Changed` names the proposal's version and another one. What it does
+//!   text that it is for, at an index behind all that its seat had accepted, or refuses and hands the same proposal back; `Changed` names the proposal's version and another one. What it does
 //!   to the book under the lock is the contract of the method that is called there: one step where it accepts, and nothing where it refuses.
 //! - **[`Desk::submit`]** (`src/submitting.rt`, `specs/Answers.antt`): a receipt's entry has the statement, and by the receipt's type its
 //!   outcome is what the statement does to the receipt's text. `TriesSpent` has two versions that differ. `TextTooLong` comes only where there

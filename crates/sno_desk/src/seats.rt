@@ -1,5 +1,5 @@
 //! Seats.
-ghost use Rattle.std.specs.Prelude.{◌≡◌, ◌+◌, ◌<◌, ◌^◌};
+ghost use Rattle.std.specs.Prelude.{◌≡◌, ◌+◌, ◌<◌, ◌≤◌, ◌^◌};
 
 use crate::SubmitFault;
 use sno_book::Receipt;
@@ -45,6 +45,8 @@ impl<L: Ledger> Seat<L> {
         requires { total.old.total + 1 < 2 ^ 64 }
         ensures accepted { self.new.accepted ≡ self.old.accepted + 1 }
         ensures total { total.new.total ≡ total.old.total + 1 }
+        ensures backed { self.old.accepted ≤ total.old.total }
+        ensures alone { L.parts ≡ 1 → self.old.accepted ≡ total.old.total }
     {
         total.audit(&mut self.share);
         total.add(&mut self.share, 1);
