@@ -6,6 +6,7 @@ use Rattle.sno_statement.specs.Task.{Task}
 use Rattle.sno_statement.specs.Perform.{perform}
 use Rattle.sno_statement.specs.declared.outcomes.StatementFault.TheVariants as statement
 use Rattle.sno_book.specs.Proposals.{Received}
+use Rattle.sno_desk.specs.Receipts.{CanStandAt}
 use Rattle.sno_desk.specs.declared.faults.SubmitFault.{SubmitFault}
 use Rattle.sno_desk.specs.declared.faults.SubmitFault.TheVariants as submit
 
@@ -38,6 +39,16 @@ Answers shuts tries s (Err submit.Foreign) = Unit {0}
 Answers shuts tries s (Err submit.Full) = Unit {0}
 Answers shuts tries s (Err submit.Memory) = Unit {0}
 Answers shuts tries s (Err (submit.TriesSpent seen now)) = now ≢ seen
+
+-- tries are spent at a version that a text can have
+abbrev pub SpentAt : ℕ → ℕ → SubmitFault → Type 0
+SpentAt seats accepted (submit.TriesSpent seen now) = CanStandAt seats accepted now
+SpentAt seats accepted submit.NoText = Unit {0}
+SpentAt seats accepted submit.GateShut = Unit {0}
+SpentAt seats accepted submit.TextTooLong = Unit {0}
+SpentAt seats accepted submit.Foreign = Unit {0}
+SpentAt seats accepted submit.Full = Unit {0}
+SpentAt seats accepted submit.Memory = Unit {0}
 
 -- an answer adds one to what its seat has accepted exactly where it is a receipt
 abbrev pub added_by : Answer → ℕ

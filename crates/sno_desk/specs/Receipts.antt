@@ -23,3 +23,17 @@ IsCause commit.NoText p = Unit {0}
 IsCause commit.Foreign p = Unit {0}
 IsCause commit.Full p = Unit {0}
 IsCause commit.Memory p = Unit {0}
+
+-- a text can have this version: a version rises with an entry alone, so it is at most as many as a journal may hold, and at most what the seat
+-- has accepted where the desk has no other seat
+pub record CanStandAt (seats accepted version : ℕ) : Type 0 where
+  pub within : version ≤ 1000000
+  pub alone : seats ≡ 1 → version ≤ accepted
+
+-- the version that a text is said to have now is one that it can have
+abbrev pub NamesVersion : ℕ → ℕ → CommitFault → Type 0
+NamesVersion seats accepted (commit.Changed seen now) = CanStandAt seats accepted now
+NamesVersion seats accepted commit.NoText = Unit {0}
+NamesVersion seats accepted commit.Foreign = Unit {0}
+NamesVersion seats accepted commit.Full = Unit {0}
+NamesVersion seats accepted commit.Memory = Unit {0}

@@ -40,13 +40,21 @@ impl<L: Ledger> Seat<L> {
         }
     }
 
+    /// How the seat's share stands to the total: it is no higher, and where there is no other seat it is the total. Nothing is changed.
+    pub(crate) fn audit(&mut self, total: &mut ledger::Book<L>)
+        ensures backed { self.old.accepted ≤ total.old.total }
+        ensures alone { L.parts ≡ 1 → self.old.accepted ≡ total.old.total }
+        ensures accepted { self.new.accepted ≡ self.old.accepted }
+        ensures total { total.new.total ≡ total.old.total }
+    {
+        total.audit(&mut self.share);
+    }
+
     /// One more was accepted, of the book's total too.
     pub(crate) fn count(&mut self, total: &mut ledger::Book<L>)
         requires { total.old.total + 1 < 2 ^ 64 }
         ensures accepted { self.new.accepted ≡ self.old.accepted + 1 }
         ensures total { total.new.total ≡ total.old.total + 1 }
-        ensures backed { self.old.accepted ≤ total.old.total }
-        ensures alone { L.parts ≡ 1 → self.old.accepted ≡ total.old.total }
     {
         total.audit(&mut self.share);
         total.add(&mut self.share, 1);
