@@ -1,12 +1,13 @@
--- Versions only rise.
-use Rattle.std.proofs.Common.{◌≡◌, ℕ, ◌+◌, ◌⊎◌, inl, inr, Bool, true, false, cond, List, [], ◌∷◌, ◌++◌, Option, Some, None, refl, ap, sym, ◌∙◌, arith}
+-- Versions only rise, and each time with an entry.
+use Rattle.std.proofs.Common.{◌≡◌, ◌≤◌, ℕ, zero, suc, ◌+◌, ◌⊎◌, inl, inr, Bool, true, false, cond, List, [], ◌∷◌, ◌++◌, length, Option, Some, None, slice_get, refl, ap, sym, ◌∙◌, arith}
 use Rattle.sno_pattern.specs.Identifiers.{same}
 use Rattle.sno_book.specs.States.{Held, State, find, raised, renew, renew_by}
 use Rattle.sno_book.specs.Entries.{Entry, after_of}
 use Rattle.sno_book.specs.Journals.{step, replay}
 use Rattle.sno_book.specs.Openings.{Opening, start}
 use Rattle.sno_book.specs.Views.{state_of}
-use Rattle.sno_book.specs.Laws.{OnlyRises, VersionsOnlyRise}
+use Rattle.sno_book.specs.Laws.{OnlyRises, VersionsOnlyRise, VersionsCountEntries}
+use Rattle.sno_book.proofs.Steps.{VersionsBelow, below_replayed, below_started}
 
 -- what is found after a step: what was found before it, or a text of a version one higher
 record Goes (found : Option Held) (held : Held) : Type 0 where
@@ -53,3 +54,15 @@ versions_only_rise earlier later prefix name before after h g =
     ap (λ (o : Opening). replay (start o) later.journal) prefix.opening ∙ ap (λ (j : List Entry). replay (start earlier.opening) j) prefix.journal
     ∙ replay_append (start earlier.opening) earlier.journal prefix.more in
     rises name (state_of earlier) prefix.more before after h (ap (λ (s : State). find name s) (sym same) ∙ g)
+
+below_at : (n k : ℕ) (state : State) (held : Held) → slice_get state k ≡ Some held → VersionsBelow n state → held.version ≤ n
+below_at n k [] held there h = cc
+below_at n zero (x ∷ state) held there h =
+    let is : x ≡ held = cc in
+    let same = ap (λ (y : Held). y.version) is in omega (arith, h.0, same)
+below_at n (suc k) (x ∷ state) held there h = below_at n k state held there h.1
+
+pub versions_count_entries : VersionsCountEntries
+versions_count_entries v place held there =
+    let below = below_replayed 0 (start v.opening) v.journal (below_started v.opening.texts v.opening.room) in
+    let small = below_at (0 + length v.journal) place (state_of v) held there below in omega (arith, small)

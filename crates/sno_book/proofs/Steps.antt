@@ -1,36 +1,10 @@
--- Finding and replacing a text by its name, and by the place of its name.
+-- Journals one entry longer, and versions over the steps of a journal.
 use Rattle.std.proofs.Common.{◌≡◌, ℕ, suc, ◌+◌, ◌≤◌, Bool, true, false, cond, List, [], ◌∷◌, ◌++◌, length, map, Option, Some, None, refl, ap, subst, ◌∙◌, arith}
 use Rattle.sno_pattern.specs.Identifiers.{same}
 use Rattle.sno_book.specs.States.{Held, State, raised, renew, renew_by}
 use Rattle.sno_book.specs.Entries.{Entry, after_of}
 use Rattle.sno_book.specs.Journals.{HasStep, step, replay, Legal}
-use Rattle.sno_book.specs.Openings.{names_in, start}
-
--- the names of the texts
-abbrev pub names : State → List (List ℕ)
-names state = map (λ h. h.name) state
-
-names_kept_if : (b : Bool) (text : List ℕ) (held : Held) (state more : State) → names more ≡ names state
-    → names (cond b (raised held text ∷ state) (held ∷ more)) ≡ held.name ∷ names state
-names_kept_if true text held state more h = refl
-names_kept_if false text held state more h = ap (λ (l : List (List ℕ)). held.name ∷ l) h
-
-names_kept : (name text : List ℕ) (state : State) → names (renew name text state) ≡ names state
-names_kept name text [] = refl
-names_kept name text (held ∷ state) = names_kept_if (same name held.name) text held state (renew name text state) (names_kept name text state)
-
-names_kept_by : (name : List ℕ) (text : Option (List ℕ)) (state : State) → names (renew_by name text state) ≡ names state
-names_kept_by name None state = refl
-names_kept_by name (Some text) state = names_kept name text state
-
--- a journal changes no name
-pub names_replayed : (state : State) (journal : List Entry) → names (replay state journal) ≡ names state
-names_replayed state [] = refl
-names_replayed state (e ∷ journal) = names_replayed (step state e) journal ∙ names_kept_by e.statement.text (after_of e.done) state
-
-pub names_started : (texts : List (List ℕ × List ℕ)) (room : ℕ) → names (start (record { texts = texts; room = room })) ≡ names_in texts
-names_started [] room = refl
-names_started (t ∷ texts) room = ap (λ (l : List (List ℕ)). t.0 ∷ l) (names_started texts room)
+use Rattle.sno_book.specs.Openings.{start}
 
 -- no version is above n
 abbrev pub VersionsBelow : ℕ → State → Type 0

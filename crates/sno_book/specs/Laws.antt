@@ -1,5 +1,5 @@
 -- Laws of views, each the contract of a function in `src/laws.rt`.
-use Rattle.std.specs.Prelude.{◌≡◌, ◌≢◌, ◌≤◌, ℕ, List, length, ◌++◌, Some, None}
+use Rattle.std.specs.Prelude.{◌≡◌, ◌≢◌, ◌≤◌, ℕ, List, length, ◌++◌, Some, None, slice_get}
 use Rattle.sno_statement.specs.Task.{Task}
 use Rattle.sno_book.specs.Proposals.{Proposed, Proposes}
 use Rattle.sno_book.specs.Commits.{IsSnapshot, refusal}
@@ -22,6 +22,10 @@ pub record OnlyRises (before after : Held) : Type 0 where
 abbrev pub VersionsOnlyRise : Type 0
 VersionsOnlyRise = (earlier later : View) → IsPrefix earlier later → (name : List ℕ) (before after : Held) → find name (state_of earlier) ≡ Some before
     → find name (state_of later) ≡ Some after → OnlyRises before after
+
+-- no text has a version above the number of entries
+abbrev pub VersionsCountEntries : Type 0
+VersionsCountEntries = (v : View) (place : ℕ) (held : Held) → slice_get (state_of v) place ≡ Some held → held.version ≤ length v.journal
 
 -- a proposal on a snapshot of the book as it stands is refused for nothing but a full journal
 abbrev pub FreshIsFree : Type 0

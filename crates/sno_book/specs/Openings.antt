@@ -41,13 +41,6 @@ unless_repeated (Some place) texts room = Err (fault.Duplicate place)
 abbrev pub opening_of : List (List ℕ × List ℕ) → ℕ → Result Opening BookFault
 opening_of texts room = if nat_lt 1024 (length texts) then Err fault.TooMany else unless_repeated (first_repeat (names_in texts)) texts room
 
--- the answer is that of `opening_of`; memory is wanted for none but a list that isn't too long
-abbrev pub Opens : Result Opening BookFault → List (List ℕ × List ℕ) → ℕ → Type 0
-Opens (Ok opening) texts room = opening_of texts room ≡ Ok opening
-Opens (Err fault.TooMany) texts room = opening_of texts room ≡ Err fault.TooMany
-Opens (Err (fault.Duplicate place)) texts room = opening_of texts room ≡ Err (fault.Duplicate place)
-Opens (Err fault.Memory) texts room = length texts ≤ 1024
-
 -- texts of the program by value
 abbrev pub texts_seen : List (List ℕ × Arc (List ℕ) Global) → List (List ℕ × List ℕ)
 texts_seen texts = map (λ t. (t.0, arc_value t.1)) texts

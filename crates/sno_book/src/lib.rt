@@ -16,7 +16,7 @@
 //! - **Nothing is made up.** A [`Proposal`] keeps by its type that its outcome is what its statement does to its text, and a
 //!   [`Receipt`] that its entry's outcome is.
 //! - **Receipts can be audited.** [`Book::audit`] compares entries by value, wherever they lie in memory.
-//! - **Laws**: [`versions_only_rise`], [`fresh_is_free`] (`specs/Laws.antt`).
+//! - **Laws**: [`versions_only_rise`], [`versions_count_entries`], [`fresh_is_free`] (`specs/Laws.antt`).
 //!
 //! What each file has:
 //!
@@ -51,7 +51,7 @@ mod snapshots;
 pub use books::Book;
 pub use entries::{Entry, Receipt};
 pub use faults::{BookFault, CommitFault, SnapshotFault};
-pub use laws::{fresh_is_free, versions_only_rise};
+pub use laws::{fresh_is_free, versions_count_entries, versions_only_rise};
 pub use openings::Opening;
 pub use proposals::{Proposal, propose};
 pub use snapshots::Snapshot;

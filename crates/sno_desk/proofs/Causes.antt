@@ -1,42 +1,74 @@
 -- What a book's refusal says of the proposal.
-use Rattle.std.proofs.Common.{◌≡◌, ◌≢◌, ℕ, Bool, true, false, Some, None, Option, refl, sym, subst}
+use Rattle.std.proofs.Common.{◌≡◌, ◌≢◌, ◌≤◌, ℕ, Bool, true, false, Some, None, Option, length, refl, sym, subst, arith}
 use Rattle.std.specs.Prelude.{nat_eq, slice_get, if◌then◌else◌}
 use Rattle.std.proofs.lemmas.Bool.{eqb-false}
-use Rattle.sno_book.specs.Views.{View, state_of}
+use Rattle.sno_pattern.specs.Identifiers.{same}
+use Rattle.sno_book.specs.Views.{View, IsLawful, state_of}
 use Rattle.sno_book.specs.States.{Held}
-use Rattle.sno_book.specs.Commits.{refusal, at_place, beside, full, place_in}
+use Rattle.sno_book.specs.Commits.{IsRefused, refusal, at_place, beside, full, place_in}
 use Rattle.sno_book.specs.Proposals.{Proposed}
+use Rattle.sno_book.specs.Laws.{VersionsCountEntries}
 use Rattle.sno_book.specs.declared.faults.CommitFault.{CommitFault}
 use Rattle.sno_book.specs.declared.faults.CommitFault.TheVariants as fault
-use Rattle.sno_desk.specs.Receipts.{IsCause}
+use Rattle.sno_desk.specs.Receipts.{IsCause, NamesVersion}
+use Rattle.sno_desk.specs.Answers.{SpentAt}
+use Rattle.sno_desk.specs.Faults.{of_commit}
 
-carried : (p : Proposed) (e d : CommitFault) → IsCause e p → Some e ≡ Some d → IsCause d p
-carried p e d k h = let q : e ≡ d = cc in subst (λ x. IsCause x p) q k
+-- what holds of each refusal that may come holds of the one that comes
+module _ (v : View) (p : Proposed) (P : CommitFault → Type 0) (no_text : P fault.NoText) (foreign : P fault.Foreign) (at_end : P fault.Full)
+    (another : (place : ℕ) (held : Held) → slice_get (state_of v) place ≡ Some held → p.version ≢ held.version → P (fault.Changed p.version held.version)) where
+  carried : (e d : CommitFault) → P e → Some e ≡ Some d → P d
+  carried e d k h = let q : e ≡ d = cc in subst P q k
 
-full_causes : (v : View) (p : Proposed) (e : CommitFault) (b : Bool) → (if b then Some fault.Full else None) ≡ Some e → IsCause e p
-full_causes v p e true h = carried p fault.Full e tt h
-full_causes v p e false h = absurd cc
+  of_full : (e : CommitFault) (b : Bool) → (if b then Some fault.Full else None) ≡ Some e → P e
+  of_full e true h = carried fault.Full e at_end h
+  of_full e false h = absurd cc
 
-same_causes : (v : View) (p : Proposed) (e : CommitFault) (b : Bool) → (if b then full v else Some fault.Foreign) ≡ Some e → IsCause e p
-same_causes v p e true h = full_causes v p e _ h
-same_causes v p e false h = carried p fault.Foreign e tt h
+  of_same : (e : CommitFault) (b : Bool) → (if b then full v else Some fault.Foreign) ≡ Some e → P e
+  of_same e true h = of_full e _ h
+  of_same e false h = carried fault.Foreign e foreign h
 
-beside_causes : (v : View) (p : Proposed) (e : CommitFault) (held : Held) (b : Bool) → nat_eq p.version held.version ≡ b
-    → (if b then (if Rattle.sno_pattern.specs.Identifiers.same p.text held.text then full v else Some fault.Foreign) else Some (fault.Changed p.version held.version)) ≡ Some e → IsCause e p
-beside_causes v p e held true was h = same_causes v p e _ h
-beside_causes v p e held false was h = carried p (fault.Changed p.version held.version) e (refl, λ q. eqb-false p.version held.version was (sym q)) h
+  of_version : (e : CommitFault) (place : ℕ) (held : Held) (b : Bool) → slice_get (state_of v) place ≡ Some held → nat_eq p.version held.version ≡ b
+      → (if b then (if same p.text held.text then full v else Some fault.Foreign) else Some (fault.Changed p.version held.version)) ≡ Some e → P e
+  of_version e place held true there was h = of_same e _ h
+  of_version e place held false there was h = carried (fault.Changed p.version held.version) e (another place held there (eqb-false p.version held.version was)) h
 
-held_causes : (v : View) (p : Proposed) (e : CommitFault) (o : Option Held) → beside v p o ≡ Some e → IsCause e p
-held_causes v p e None h = carried p fault.NoText e tt h
-held_causes v p e (Some held) h = beside_causes v p e held (nat_eq p.version held.version) refl h
+  of_held : (e : CommitFault) (place : ℕ) (o : Option Held) → slice_get (state_of v) place ≡ o → beside v p o ≡ Some e → P e
+  of_held e place None there h = carried fault.NoText e no_text h
+  of_held e place (Some held) there h = of_version e place held (nat_eq p.version held.version) there refl h
 
-place_causes : (v : View) (p : Proposed) (e : CommitFault) (b : Bool) (o : Option Held) → (if b then beside v p o else Some fault.NoText) ≡ Some e → IsCause e p
-place_causes v p e true o h = held_causes v p e o h
-place_causes v p e false o h = carried p fault.NoText e tt h
+  of_place : (e : CommitFault) (place : ℕ) (b : Bool) → (if b then beside v p (slice_get (state_of v) place) else Some fault.NoText) ≡ Some e → P e
+  of_place e place true h = of_held e place (slice_get (state_of v) place) refl h
+  of_place e place false h = carried fault.NoText e no_text h
 
-at_causes : (v : View) (p : Proposed) (e : CommitFault) (o : Option ℕ) → at_place v p o ≡ Some e → IsCause e p
-at_causes v p e None h = carried p fault.NoText e tt h
-at_causes v p e (Some place) h = place_causes v p e (nat_eq place p.place) (slice_get (state_of v) place) h
+  of_at : (e : CommitFault) (o : Option ℕ) → at_place v p o ≡ Some e → P e
+  of_at e None h = carried fault.NoText e no_text h
+  of_at e (Some place) h = of_place e place (nat_eq place p.place) h
+
+  by_refusal : (e : CommitFault) → refusal v p ≡ Some e → P e
+  by_refusal e h = of_at e (place_in v p.statement.text) h
 
 pub changed : (v : View) (p : Proposed) (e : CommitFault) → refusal v p ≡ Some e → IsCause e p
-changed v p e h = at_causes v p e (place_in v p.statement.text) h
+changed v p e h = by_refusal v p (λ d. IsCause d p) tt tt tt (λ place held there differ. (refl, λ q. differ (sym q))) e h
+
+-- the version that a refusal names is one that a text can have
+pub named : (before after : View) (p back : Proposed) (e : CommitFault) (seats accepted total : ℕ) → IsRefused before after p back e → IsLawful before → VersionsCountEntries
+    → (seats ≡ 1 → accepted ≡ total) → length before.journal ≡ total → NamesVersion seats accepted e
+named before after p back (fault.Changed seen now) seats accepted total refused lawful law alone counted =
+    by_refusal before p (NamesVersion seats accepted) tt tt tt
+    (λ place held there differ.
+    let small = law before place held there in
+    record { within = omega (arith, small, lawful.within, lawful.opening.room); alone = λ one. let all = alone one in omega (arith, small, all, counted) })
+    (fault.Changed seen now) (refused.cause (λ q. cc))
+named before after p back fault.NoText seats accepted total refused lawful law alone counted = tt
+named before after p back fault.Foreign seats accepted total refused lawful law alone counted = tt
+named before after p back fault.Full seats accepted total refused lawful law alone counted = tt
+named before after p back fault.Memory seats accepted total refused lawful law alone counted = tt
+
+-- and so is the one that a submit answers
+pub spent : (seats accepted : ℕ) (e : CommitFault) → NamesVersion seats accepted e → SpentAt seats accepted (of_commit e)
+spent seats accepted (fault.Changed seen now) h = h
+spent seats accepted fault.NoText h = tt
+spent seats accepted fault.Foreign h = tt
+spent seats accepted fault.Full h = tt
+spent seats accepted fault.Memory h = tt

@@ -1,9 +1,12 @@
 -- What a submit answers.
-use Rattle.std.specs.Prelude.{◌≡◌, ◌≢◌, ◌≤◌, ℕ, List, Result, Ok, Err}
+use Rattle.std.specs.Prelude.{◌≡◌, ◌≢◌, ◌≤◌, ℕ, List, length, Result, Ok, Err, IsTrue}
+use Rattle.std.specs.List.{list_all}
+use Rattle.std.specs.Char.{is_ascii}
 use Rattle.sno_statement.specs.Task.{Task}
 use Rattle.sno_statement.specs.Perform.{perform}
 use Rattle.sno_statement.specs.declared.outcomes.StatementFault.TheVariants as statement
 use Rattle.sno_book.specs.Proposals.{Received}
+use Rattle.sno_desk.specs.Receipts.{CanStandAt}
 use Rattle.sno_desk.specs.declared.faults.SubmitFault.{SubmitFault}
 use Rattle.sno_desk.specs.declared.faults.SubmitFault.TheVariants as submit
 
@@ -18,9 +21,11 @@ pub record MayShut (shuts : ℕ → ℕ → Type 0) (number tries : ℕ) : Type 
   pub last : attempt ≤ tries
   pub shut : shuts number attempt
 
--- there is a text that the statement would make too long
+-- there is a text, of no more characters than a text may have, that the statement would make too long
 pub record Lengthens (s : Task) : Type 0 where
   pub text : List ℕ
+  pub short : length text ≤ 65536
+  pub ascii : IsTrue (list_all is_ascii text)
   pub performed : perform s text ≡ Err statement.TextTooLong
 
 -- the receipt's entry has the statement; the gate was shut only where it may be; some text would be too long; the tries were spent
@@ -34,6 +39,16 @@ Answers shuts tries s (Err submit.Foreign) = Unit {0}
 Answers shuts tries s (Err submit.Full) = Unit {0}
 Answers shuts tries s (Err submit.Memory) = Unit {0}
 Answers shuts tries s (Err (submit.TriesSpent seen now)) = now ≢ seen
+
+-- tries are spent at a version that a text can have
+abbrev pub SpentAt : ℕ → ℕ → SubmitFault → Type 0
+SpentAt seats accepted (submit.TriesSpent seen now) = CanStandAt seats accepted now
+SpentAt seats accepted submit.NoText = Unit {0}
+SpentAt seats accepted submit.GateShut = Unit {0}
+SpentAt seats accepted submit.TextTooLong = Unit {0}
+SpentAt seats accepted submit.Foreign = Unit {0}
+SpentAt seats accepted submit.Full = Unit {0}
+SpentAt seats accepted submit.Memory = Unit {0}
 
 -- an answer adds one to what its seat has accepted exactly where it is a receipt
 abbrev pub added_by : Answer → ℕ

@@ -1,5 +1,5 @@
 -- What a seat is answered.
-use Rattle.std.specs.Prelude.{◌≡◌, ◌≢◌, ℕ}
+use Rattle.std.specs.Prelude.{◌≡◌, ◌≢◌, ◌<◌, ◌≤◌, ℕ}
 use Rattle.sno_book.specs.Proposals.{Proposed, Received, entry_of}
 use Rattle.sno_book.specs.declared.faults.CommitFault.{CommitFault}
 use Rattle.sno_book.specs.declared.faults.CommitFault.TheVariants as commit
@@ -9,6 +9,13 @@ pub record IsFor (receipt : Received) (p : Proposed) : Type 0 where
   pub entry : receipt.entry ≡ entry_of p
   pub text : receipt.text ≡ p.text
 
+-- the entries that the seat had accepted stand before the receipt's; where the desk has no other seat, these are all that do; and the journal is
+-- no longer than a book's may be
+pub record StandsBehind (seats accepted : ℕ) (receipt : Received) : Type 0 where
+  pub behind : accepted ≤ receipt.index
+  pub alone : seats ≡ 1 → receipt.index ≡ accepted
+  pub within : receipt.index < 1000000
+
 -- a text that changed has another version than the proposal's, and the refusal names both
 abbrev pub IsCause : CommitFault → Proposed → Type 0
 IsCause (commit.Changed seen now) p = (seen ≡ p.version) × (now ≢ seen)
@@ -16,3 +23,17 @@ IsCause commit.NoText p = Unit {0}
 IsCause commit.Foreign p = Unit {0}
 IsCause commit.Full p = Unit {0}
 IsCause commit.Memory p = Unit {0}
+
+-- a text can have this version: a version rises with an entry alone, so it is at most as many as a journal may hold, and at most what the seat
+-- has accepted where the desk has no other seat
+pub record CanStandAt (seats accepted version : ℕ) : Type 0 where
+  pub within : version ≤ 1000000
+  pub alone : seats ≡ 1 → version ≤ accepted
+
+-- the version that a text is said to have now is one that it can have
+abbrev pub NamesVersion : ℕ → ℕ → CommitFault → Type 0
+NamesVersion seats accepted (commit.Changed seen now) = CanStandAt seats accepted now
+NamesVersion seats accepted commit.NoText = Unit {0}
+NamesVersion seats accepted commit.Foreign = Unit {0}
+NamesVersion seats accepted commit.Full = Unit {0}
+NamesVersion seats accepted commit.Memory = Unit {0}

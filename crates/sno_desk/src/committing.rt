@@ -1,11 +1,11 @@
 //! Snapshots and commits through a seat.
 ghost use Rattle.std.specs.Prelude.{◌≡◌, ◌+◌, IfOk, IfErr, OnOk, OnErr};
 ghost use Rattle.sno_book.specs.Commits.{GivesSnapshot, IsAccepted, IsRefused};
-ghost use Rattle.sno_desk.specs.Receipts.{IsFor, IsCause};
+ghost use Rattle.sno_desk.specs.Receipts.{IsFor, IsCause, NamesVersion, StandsBehind};
 
 use crate::locked::Locked;
 use crate::{Desk, Seat};
-use sno_book::{CommitFault, Proposal, Receipt, Snapshot, SnapshotFault};
+use sno_book::{CommitFault, Proposal, Receipt, Snapshot, SnapshotFault, versions_count_entries};
 use sno_pattern::TextName;
 use std::sync::Wait;
 use std::sync::ledger::Ledger;
@@ -25,12 +25,20 @@ impl<L: Ledger> Locked<L> {
         proposal: Proposal,
     ) -> Result<Receipt, (CommitFault, Proposal)>
         ensures accepted { IfOk result (λ r. IsAccepted self.old.book self.new.book proposal r) }
+        ensures behind { IfOk result (λ r. StandsBehind L.parts seat.old.accepted r) }
         ensures counted { OnOk result (seat.new.accepted ≡ seat.old.accepted + 1) }
         ensures refused { IfErr result (λ r. IsRefused self.old.book self.new.book proposal r.1 r.0) }
+        ensures version { IfErr result (λ r. NamesVersion L.parts seat.old.accepted r.0) }
         ensures same { OnErr result (seat.new.accepted ≡ seat.old.accepted) }
     {
         let _ = self.book.journal();
-        let receipt = self.book.commit(proposal)?;
+        versions_count_entries();
+        seat.audit(&mut self.total);
+        let receipt = match self.book.commit(proposal) {
+            Ok(receipt) => receipt,
+            Err(refused) => return Err(refused),
+        };
+        let _ = self.book.journal();
         seat.count(&mut self.total);
         Ok(receipt)
     }
@@ -53,10 +61,13 @@ impl<L: Ledger> Desk<L> {
 
     /// Commits a proposal to the book under the lock, and counts it for the seat where it was accepted. It waits for the lock alone.
     ///
-    /// On `Ok` the receipt's entry is the proposal's and its text the one that the proposal is for; the seat's share is one higher.
+    /// On `Ok` the receipt's entry is the proposal's and its text the one that the proposal is for; the seat's share is one higher. The receipt's
+    /// index is no lower than the share was, as the entries that the seat had accepted stand before; it is the share where there is no other
+    /// seat.
     ///
-    /// Refused as `Book::commit` refuses, in this order: `NoText`, `Changed` with the proposal's version and the text's, which is another,
-    /// `Foreign`, `Full`, `Memory`. After each the share is the same, no entry is added, and the same proposal comes back.
+    /// Refused as `Book::commit` refuses, in this order: `NoText`, `Changed` with the proposal's version and the text's, `Foreign`, `Full`,
+    /// `Memory`. The text's version is another one, at most a million, and at most the seat's share where there is no other seat. After each the
+    /// share is the same, no entry is added, and the same proposal comes back.
     #[tactic(auto, using(crate::proofs::Causes::changed))]
     pub fn commit<R: Wait>(
         &self,
@@ -65,9 +76,11 @@ impl<L: Ledger> Desk<L> {
         proposal: Proposal,
     ) -> Result<Receipt, (CommitFault, Proposal)>
         ensures receipt { IfOk result (λ r. IsFor r proposal) }
+        ensures behind { IfOk result (λ r. StandsBehind L.parts seat.old.accepted r) }
         ensures counted { OnOk result (seat.new.accepted ≡ seat.old.accepted + 1) }
         ensures back { IfErr result (λ r. r.1 ≡ proposal) }
         ensures cause { IfErr result (λ r. IsCause r.0 proposal) }
+        ensures version { IfErr result (λ r. NamesVersion L.parts seat.old.accepted r.0) }
         ensures same { OnErr result (seat.new.accepted ≡ seat.old.accepted) }
     {
         self.lock.lock(rt).commit(seat, proposal)

@@ -14,12 +14,14 @@
 //! - **The book is lawful whenever the lock is free**: by its type each entry of its journal is a step from the texts as those before it leave
 //!   them, and its texts are the replay. [`close`] answers it with the opening that the desk began with.
 //! - **A receipt is for what was handed in.** [`Desk::commit`] (`src/committing.rt`, `specs/Receipts.antt`) answers the proposal's entry and the
-//!   text that it is for, or refuses and hands the same proposal back; `Changed` names the proposal's version and another one. What it does
-//!   to the book under the lock is the contract of the method that is called there: one step where it accepts, and nothing where it refuses.
+//!   text that it is for, at an index behind all that its seat had accepted, or refuses and hands the same proposal back; `Changed` names the
+//!   proposal's version and another one that the text can have. What it does to the book under the lock is the contract of the method that is
+//!   called there: one step where it accepts, and nothing where it refuses.
 //! - **[`Desk::submit`]** (`src/submitting.rt`, `specs/Answers.antt`): a receipt's entry has the statement, and by the receipt's type its
-//!   outcome is what the statement does to the receipt's text. `TriesSpent` has two versions that differ. `TextTooLong` comes only where there
-//!   is a text that the statement makes too long. `GateShut` comes only where the gate may be shut for the statement's number at one of its
-//!   attempts, and a [`Gate`] (`src/gates.rt`) says by its ghost member where that is; with [`OpenGate`] it never comes.
+//!   outcome is what the statement does to the receipt's text. `TriesSpent` has two versions that differ, the second one that the text can
+//!   have. `TextTooLong` comes only where there is a text that the statement makes too long. `GateShut` comes only where the gate may be shut
+//!   for the statement's number at one of its attempts, and a [`Gate`] (`src/gates.rt`) says by its ghost member where that is; with
+//!   [`OpenGate`] it never comes.
 //! - **[`run_workers`]** (`src/workers.rt`, `src/gathering.rt`, `specs/Turns.antt`): as many replies as jobs, in their order, each an answer of
 //!   `submit` to its job. Each share rises by the receipts among its seat's replies, and all together by all receipts.
 //!

@@ -1,5 +1,5 @@
 //! Seats.
-ghost use Rattle.std.specs.Prelude.{◌≡◌, ◌+◌, ◌<◌, ◌^◌};
+ghost use Rattle.std.specs.Prelude.{◌≡◌, ◌+◌, ◌<◌, ◌≤◌, ◌^◌};
 
 use crate::SubmitFault;
 use sno_book::Receipt;
@@ -38,6 +38,16 @@ impl<L: Ledger> Seat<L> {
             share,
             replies: None,
         }
+    }
+
+    /// How the seat's share stands to the total: it is no higher, and where there is no other seat it is the total. Nothing is changed.
+    pub(crate) fn audit(&mut self, total: &mut ledger::Book<L>)
+        ensures backed { self.old.accepted ≤ total.old.total }
+        ensures alone { L.parts ≡ 1 → self.old.accepted ≡ total.old.total }
+        ensures accepted { self.new.accepted ≡ self.old.accepted }
+        ensures total { total.new.total ≡ total.old.total }
+    {
+        total.audit(&mut self.share);
     }
 
     /// One more was accepted, of the book's total too.

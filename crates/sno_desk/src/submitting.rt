@@ -1,7 +1,8 @@
 //! Submits: snapshot, gate, matching and commit, until the text stays as it was under one of them.
-ghost use Rattle.std.specs.Prelude.{◌≡◌, ◌+◌, ◌≤◌, true};
+ghost use Rattle.std.specs.Prelude.{◌≡◌, ◌+◌, ◌≤◌, true, IfOk, IfErr};
 ghost use Rattle.std.specs.Arc.{arc_value};
-ghost use Rattle.sno_desk.specs.Answers.{Answers, added_by};
+ghost use Rattle.sno_desk.specs.Answers.{Answers, SpentAt, added_by};
+ghost use Rattle.sno_desk.specs.Receipts.{StandsBehind};
 
 use crate::{Desk, Gate, Seat, SubmitFault};
 use sno_book::{Receipt, propose};
@@ -19,6 +20,7 @@ fn is_lost(answer: &Result<Receipt, SubmitFault>) -> bool
 
 impl<L: Ledger> Desk<L> {
     /// Attempt number `attempt` of `tries`. That the text changed under it is told as all tries spent.
+    #[tactic(auto, using(crate::proofs::Causes::spent))]
     fn attempt<R: Wait, G: Gate>(
         &self,
         rt: &R,
@@ -31,6 +33,8 @@ impl<L: Ledger> Desk<L> {
     ) -> Result<Receipt, SubmitFault>
         requires in_turn { (1 ≤ attempt) × (attempt ≤ tries) }
         ensures answer { Answers (G.shuts gate.now) tries (arc_value statement.now) result }
+        ensures behind { IfOk result (λ r. StandsBehind L.parts seat.old.accepted r) }
+        ensures spent { IfErr result (λ e. SpentAt L.parts seat.old.accepted e) }
         ensures counted { seat.new.accepted ≡ seat.old.accepted + added_by result }
     {
         let snapshot = self.snapshot(rt, seat, statement.text())?;
@@ -38,6 +42,7 @@ impl<L: Ledger> Desk<L> {
             return Err(SubmitFault::GateShut);
         }
         let shared = Arc::try_clone(statement)?;
+        let _text = snapshot.text.bytes();
         let proposal = propose(alloc, shared, snapshot)?;
         match self.commit(rt, seat, proposal) {
             Ok(receipt) => Ok(receipt),
@@ -57,6 +62,8 @@ impl<L: Ledger> Desk<L> {
     ) -> Result<Receipt, SubmitFault>
         requires { 1 ≤ tries }
         ensures answer { Answers (G.shuts gate.now) tries (arc_value statement.now) result }
+        ensures behind { IfOk result (λ r. StandsBehind L.parts seat.old.accepted r) }
+        ensures spent { IfErr result (λ e. SpentAt L.parts seat.old.accepted e) }
         ensures counted { seat.new.accepted ≡ seat.old.accepted + added_by result }
     {
         for attempt in 1..tries {
@@ -80,6 +87,8 @@ impl<L: Ledger> Desk<L> {
     ) -> Result<Receipt, SubmitFault>
         requires { (1 ≤ tries) × (tries ≤ 1000) }
         ensures answer { Answers (G.shuts gate.now) tries (arc_value statement.now) result }
+        ensures behind { IfOk result (λ r. StandsBehind L.parts seat.old.accepted r) }
+        ensures spent { IfErr result (λ e. SpentAt L.parts seat.old.accepted e) }
         ensures counted { seat.new.accepted ≡ seat.old.accepted + added_by result }
     {
         let answer = self.attempts(rt, alloc, seat, statement, tries, gate);
@@ -93,12 +102,12 @@ impl<L: Ledger> Desk<L> {
     ///
     /// From 1 to 1,000 tries.
     ///
-    /// On `Ok` the receipt's entry has this statement, and the seat's share is one higher. On `Err` the share is the same, and no entry was
-    /// added.
+    /// On `Ok` the receipt's entry has this statement, at an index as [`Desk::commit`] says, and the seat's share is one higher. On `Err` the share
+    /// is the same, and no entry was added.
     ///
     /// Refused, as it is met: `NoText` where the book has no text of the statement's name; `GateShut`, only where the gate may be shut for the
     /// statement's number at an attempt from 1 to `tries`; `TextTooLong`, only where the statement would make some text too long; `Foreign`;
-    /// `Full`; `Memory`; `TriesSpent` with the two versions of the last try, which differ.
+    /// `Full`; `Memory`; `TriesSpent` with the two versions of the last try, as [`Desk::commit`] says of `Changed`.
     pub fn submit<R: Wait, G: Gate>(
         &self,
         rt: &R,
@@ -110,6 +119,8 @@ impl<L: Ledger> Desk<L> {
     ) -> Result<Receipt, SubmitFault>
         requires { (1 ≤ tries) × (tries ≤ 1000) }
         ensures answer { Answers (G.shuts gate.now) tries (arc_value statement) result }
+        ensures behind { IfOk result (λ r. StandsBehind L.parts seat.old.accepted r) }
+        ensures spent { IfErr result (λ e. SpentAt L.parts seat.old.accepted e) }
         ensures counted { seat.new.accepted ≡ seat.old.accepted + added_by result }
     {
         self.submit_shared(rt, alloc, seat, &statement, tries, gate)

@@ -1,8 +1,10 @@
--- Texts hold ASCII characters alone.
-use Rattle.std.proofs.Common.{◌≡◌, ℕ, ◌+◌, ◌&&◌, Bool, true, false, not, cond, List, [], ◌∷◌, Option, Some, None, IsTrue, sym, refl}
+-- Texts hold ASCII characters alone, and ASCII characters that aren't too many are a text.
+use Rattle.std.proofs.Common.{◌≡◌, ℕ, ◌+◌, ◌≤◌, ◌&&◌, Bool, true, false, not, cond, List, [], ◌∷◌, length, nat_lt, Option, Some, None, Ok, Err, IsTrue, sym, refl, ap}
+use Rattle.std.proofs.lemmas.Bool.{le-ltb}
 use Rattle.std.specs.List.{list_all, position_from}
 use Rattle.std.specs.Char.{is_ascii}
-use Rattle.sno_pattern.specs.Texts.{first_non_ascii}
+use Rattle.sno_pattern.specs.Texts.{first_non_ascii, ascii_or, text_of}
+use Rattle.sno_pattern.specs.declared.texts.TextFault.TheVariants.{TooLong}
 
 -- one byte in front of bytes of which this is known
 ascii_more : (v : Bool) (i : ℕ) (rest : Bool) (found : Option ℕ) → (found ≡ None → IsTrue rest) → cond (not v) (Some i) found ≡ None → IsTrue (v && rest)
@@ -16,3 +18,24 @@ all_ascii-from i (b ∷ bs) h = ascii_more (is_ascii b) i _ _ (all_ascii-from (i
 
 pub all_ascii : (bytes : List ℕ) → None ≡ first_non_ascii bytes → IsTrue (list_all is_ascii bytes)
 all_ascii bytes h = all_ascii-from 0 bytes (sym h)
+
+-- the same the other way round
+none_more : (v : Bool) (i : ℕ) (rest : Bool) (found : Option ℕ) → (IsTrue rest → found ≡ None) → IsTrue (v && rest) → cond (not v) (Some i) found ≡ None
+none_more true i rest found more h = more h
+none_more false i rest found more h = cc
+
+none_from : (i : ℕ) (bytes : List ℕ) → IsTrue (list_all is_ascii bytes) → position_from (λ b. not (is_ascii b)) i bytes ≡ None
+none_from i [] h = refl
+none_from i (b ∷ bs) h = none_more (is_ascii b) i _ _ (none_from (i + 1) bs) h
+
+-- what is ASCII has no byte above 127
+pub none_non_ascii : (bytes : List ℕ) → IsTrue (list_all is_ascii bytes) → first_non_ascii bytes ≡ None
+none_non_ascii bytes ascii = none_from 0 bytes ascii
+
+short_text : (long : Bool) (place : Option ℕ) (bytes : List ℕ) → long ≡ false → place ≡ None → cond long (Err TooLong) (ascii_or place bytes) ≡ Ok bytes
+short_text true place bytes h g = cc
+short_text false place bytes h g = ap (λ (o : Option ℕ). ascii_or o bytes) g
+
+-- characters that are few and ASCII are a text
+pub text_of_ascii : (bytes : List ℕ) → length bytes ≤ 65536 → IsTrue (list_all is_ascii bytes) → text_of bytes ≡ Ok bytes
+text_of_ascii bytes short ascii = short_text (nat_lt 65536 (length bytes)) (first_non_ascii bytes) bytes (le-ltb 65536 (length bytes) short) (none_non_ascii bytes ascii)

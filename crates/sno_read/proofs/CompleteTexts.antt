@@ -10,7 +10,7 @@ use Rattle.sno_read.specs.Depth.{depth}
 use Rattle.sno_read.specs.Grammar.{AreBlanks, IsAlternation, Spells}
 use Rattle.sno_read.specs.Laws.{OneTree}
 use Rattle.sno_read.specs.Reading.{Env, ended, shallow, whole_of, checked, pattern_of, alternation_at, inside}
-use Rattle.sno_read.proofs.Ascii.{none_non_ascii}
+use Rattle.sno_pattern.proofs.TextLemmas.{none_non_ascii}
 use Rattle.sno_read.proofs.Marks.{alternation_starts, starts_no_blank, blanks_or, skip_blanks, follows_end}
 use Rattle.sno_read.proofs.Complete.{alternation_again, inside_again}
 use Rattle.sno_read.proofs.Results.{ok_same}

@@ -17,3 +17,4 @@ pub mod CompleteTexts
 pub mod ObjectTexts
 pub mod Answered
 pub mod NoMemory
+pub mod Late

@@ -10,7 +10,7 @@ use Rattle.sno_read.specs.Characters.{is_blank, front, skip}
 use Rattle.sno_read.specs.Depth.{depth}
 use Rattle.sno_read.specs.Grammar.{IsAlternation, Spells}
 use Rattle.sno_read.specs.Reading.{Env, ended, shallow, whole_of, checked, ascii_only, pattern_of, alternation_at, inside}
-use Rattle.sno_read.proofs.Ascii.{all_ascii}
+use Rattle.sno_pattern.proofs.TextLemmas.{all_ascii}
 use Rattle.sno_read.proofs.Fronts.{front_passes, front_behind}
 use Rattle.sno_read.proofs.Results.{bind_ok, if_ok, unless_ok, ok_same}
 use Rattle.sno_read.proofs.Sound.{alternation_sound}

@@ -26,8 +26,20 @@ abbrev pub Gives : {X Y : Type 0} → (X → Y) → Result X Stop → Result Y R
 Gives view (Ok x) reading = reading ≡ Ok (view x)
 Gives view (Err s) reading = Stops s reading
 
+-- what holds where a function stopped for want of memory
+abbrev pub OnMemory : {X : Type 0} → Result X Stop → Type 0 → Type 0
+OnMemory (Ok x) holds = Unit {0}
+OnMemory (Err stop.Memory) holds = holds
+OnMemory (Err (stop.Fault e)) holds = Unit {0}
+
 -- the same of a public function: what it answered is what the reading answers, unless memory was refused
 abbrev pub Answers : {X Y : Type 0} → (X → Y) → Result X ReadFault → Result Y ReadFault → Type 0
 Answers view (Ok x) reading = reading ≡ Ok (view x)
 Answers view (Err fault.Memory) reading = Unit {0}
 Answers view (Err e) reading = reading ≡ Err e
+
+-- what holds where a public function answered want of memory
+abbrev pub OnWant : {X : Type 0} → Result X ReadFault → Type 0 → Type 0
+OnWant (Ok x) holds = Unit {0}
+OnWant (Err fault.Memory) holds = holds
+OnWant (Err e) holds = Unit {0}

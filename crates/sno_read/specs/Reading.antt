@@ -1,5 +1,5 @@
 -- Reading a pattern from left to right, with the first fault that is met.
-use Rattle.std.specs.Prelude.{ℕ, zero, suc, ◌-◌, ◌||◌, List, length, drop, nat_eq, nat_lt, Option, Some, None, Result, Ok, Err, if◌then◌else◌}
+use Rattle.std.specs.Prelude.{◌≡◌, ℕ, zero, suc, ◌-◌, ◌<◌, ◌||◌, List, length, drop, nat_eq, nat_lt, Option, Some, None, Result, Ok, Err, if◌then◌else◌}
 use Rattle.std.specs.Option.{is_some}
 use Rattle.std.specs.List.{prefix_len}
 use Rattle.std.specs.Char.{is_ascii_digit}
@@ -246,6 +246,10 @@ ascii_only (Some i) text = Err (fault.NonAscii i)
 -- a text that is short and ASCII
 abbrev pub checked : List ℕ → Result (List ℕ) ReadFault
 checked text = if nat_lt 4096 (length text) then Err (fault.TooLong 4096) else ascii_only (first_non_ascii text) text
+
+-- A text that is short and ASCII, and not blanks alone. For any other the answer is found before memory is asked for.
+abbrev pub AsksForMemory : List ℕ → Type 0
+AsksForMemory text = (checked text ≡ Ok text) × (0 < length (skip text))
 
 -- The tree that a text spells, or the first fault of the text: `names` are those of the definitions, and a plain name
 -- may name the first `earlier` of them.

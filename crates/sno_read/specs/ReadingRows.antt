@@ -1,7 +1,8 @@
 -- Worked examples of reading: each holds by computation alone.
-use Rattle.std.specs.Prelude.{◌≡◌, [], ◌∷◌, Ok, Err, replicate, codes, refl}
+use Rattle.std.specs.Prelude.{◌≡◌, ℕ, [], ◌∷◌, ◌++◌, Ok, Err, replicate, codes, refl}
+use Rattle.std.specs.List.{flat_map}
 use Rattle.sno_pattern.specs.Identifiers.{is_letter, is_name_char, is_reserved}
-use Rattle.sno_pattern.specs.Tree.{Lit, Len, Ref, Seq, Alt, Cond, Imm}
+use Rattle.sno_pattern.specs.Tree.{Lit, Len, Arb, Ref, Seq, Alt, Cond, Imm}
 use Rattle.sno_read.specs.declared.faults.ReadFault.TheVariants as fault
 use Rattle.sno_read.specs.declared.objects.Part.TheVariants.{Quoted, Var}
 use Rattle.sno_read.specs.Objects.{object_of, parts_of, part_at, gap_at}
@@ -110,6 +111,60 @@ too_many_open : pattern_of [] 0 (replicate 101 40) ≡ Err (fault.TooDeep 100)
 unfolding pattern_of whole_of shallow ended inside alternation_at concatenation_at parts_at items_at item_at targets_at signed element_at quoted_at named_at repeated_at group_at chosen_at counted_at plain_of starred_at cursor_at parted closed opened variable_at name_at number_at set_at literal_at depth keyword_of call_of number_from start_of sign_of what_follows is_letter is_name_char is_reserved
 too_many_open = refl
 
+-- three blanks
+blanks_alone : pattern_of [] 0 (codes "   ") ≡ Err (fault.Empty 3)
+unfolding pattern_of whole_of shallow ended inside alternation_at concatenation_at parts_at items_at item_at targets_at signed element_at quoted_at named_at repeated_at group_at chosen_at counted_at plain_of starred_at cursor_at parted closed opened variable_at name_at number_at set_at literal_at depth keyword_of call_of number_from start_of sign_of what_follows is_letter is_name_char is_reserved
+blanks_alone = refl
+
+-- *LEN
+starred_reserved_word : pattern_of [] 0 (codes "*LEN") ≡ Err (fault.UnknownName 1)
+unfolding pattern_of whole_of shallow ended inside alternation_at concatenation_at parts_at items_at item_at targets_at signed element_at quoted_at named_at repeated_at group_at chosen_at counted_at plain_of starred_at cursor_at parted closed opened variable_at name_at number_at set_at literal_at depth keyword_of call_of number_from start_of sign_of what_follows is_letter is_name_char is_reserved
+starred_reserved_word = refl
+
+-- LEN( x)
+no_number : pattern_of [] 0 (codes "LEN( x)") ≡ Err (fault.BadNumber 5)
+unfolding pattern_of whole_of shallow ended inside alternation_at concatenation_at parts_at items_at item_at targets_at signed element_at quoted_at named_at repeated_at group_at chosen_at counted_at plain_of starred_at cursor_at parted closed opened variable_at name_at number_at set_at literal_at depth keyword_of call_of number_from start_of sign_of what_follows is_letter is_name_char is_reserved
+no_number = refl
+
+-- ( )
+null_group : pattern_of [] 0 (codes "( )") ≡ Err (fault.Unexpected 2)
+unfolding pattern_of whole_of shallow ended inside alternation_at concatenation_at parts_at items_at item_at targets_at signed element_at quoted_at named_at repeated_at group_at chosen_at counted_at plain_of starred_at cursor_at parted closed opened variable_at name_at number_at set_at literal_at depth keyword_of call_of number_from start_of sign_of what_follows is_letter is_name_char is_reserved
+null_group = refl
+
+-- ANY('' x
+null_set_comes_first : pattern_of [] 0 (codes "ANY('' x") ≡ Err (fault.EmptySet 4)
+unfolding pattern_of whole_of shallow ended inside alternation_at concatenation_at parts_at items_at item_at targets_at signed element_at quoted_at named_at repeated_at group_at chosen_at counted_at plain_of starred_at cursor_at parted closed opened variable_at name_at number_at set_at literal_at depth keyword_of call_of number_from start_of sign_of what_follows is_letter is_name_char is_reserved
+null_set_comes_first = refl
+
+-- @ V
+blank_behind_the_sign : pattern_of [] 0 (codes "@ V") ≡ Err (fault.Unexpected 1)
+unfolding pattern_of whole_of shallow ended inside alternation_at concatenation_at parts_at items_at item_at targets_at signed element_at quoted_at named_at repeated_at group_at chosen_at counted_at plain_of starred_at cursor_at parted closed opened variable_at name_at number_at set_at literal_at depth keyword_of call_of number_from start_of sign_of what_follows is_letter is_name_char is_reserved
+blank_behind_the_sign = refl
+
+-- 'a' . and the end
+target_is_due : pattern_of [] 0 (codes "'a' .") ≡ Err (fault.Unexpected 5)
+unfolding pattern_of whole_of shallow ended inside alternation_at concatenation_at parts_at items_at item_at targets_at signed element_at quoted_at named_at repeated_at group_at chosen_at counted_at plain_of starred_at cursor_at parted closed opened variable_at name_at number_at set_at literal_at depth keyword_of call_of number_from start_of sign_of what_follows is_letter is_name_char is_reserved
+target_is_due = refl
+
+-- 64 times A, and 65 times
+longest_name : pattern_of [] 0 (replicate 64 65) ≡ Err (fault.UnknownName 0)
+unfolding pattern_of whole_of shallow ended inside alternation_at concatenation_at parts_at items_at item_at targets_at signed element_at quoted_at named_at repeated_at group_at chosen_at counted_at plain_of starred_at cursor_at parted closed opened variable_at name_at number_at set_at literal_at depth keyword_of call_of number_from start_of sign_of what_follows is_letter is_name_char is_reserved
+longest_name = refl
+
+name_too_long : pattern_of [] 0 (replicate 65 65) ≡ Err (fault.TooLong 0)
+unfolding pattern_of whole_of shallow ended inside alternation_at concatenation_at parts_at items_at item_at targets_at signed element_at quoted_at named_at repeated_at group_at chosen_at counted_at plain_of starred_at cursor_at parted closed opened variable_at name_at number_at set_at literal_at depth keyword_of call_of number_from start_of sign_of what_follows is_letter is_name_char is_reserved
+name_too_long = refl
+
+-- 100 parentheses round ARB
+most_open : pattern_of [] 0 (replicate 100 40 ++ (codes "ARB" ++ replicate 100 41)) ≡ Ok Arb
+unfolding pattern_of whole_of shallow ended inside alternation_at concatenation_at parts_at items_at item_at targets_at signed element_at quoted_at named_at repeated_at group_at chosen_at counted_at plain_of starred_at cursor_at parted closed opened variable_at name_at number_at set_at literal_at depth keyword_of call_of number_from start_of sign_of what_follows is_letter is_name_char is_reserved
+most_open = refl
+
+-- 1,001 times the null literal and a blank: each makes the tree deeper by one
+tree_too_deep : pattern_of [] 0 (flat_map {X = ℕ} (λ blank. codes "'' ") (replicate 1001 32)) ≡ Err (fault.TooDeep 3003)
+unfolding pattern_of whole_of shallow ended inside alternation_at concatenation_at parts_at items_at item_at targets_at signed element_at quoted_at named_at repeated_at group_at chosen_at counted_at plain_of starred_at cursor_at parted closed opened variable_at name_at number_at set_at literal_at depth keyword_of call_of number_from start_of sign_of what_follows is_letter is_name_char is_reserved
+tree_too_deep = refl
+
 -- the object of the empty text
 null_object : object_of [] [] ≡ Ok []
 unfolding object_of parts_of part_at gap_at whole_of shallow ended inside alternation_at concatenation_at parts_at items_at item_at targets_at signed element_at quoted_at named_at repeated_at group_at chosen_at counted_at plain_of starred_at cursor_at parted closed opened variable_at name_at number_at set_at literal_at depth keyword_of call_of number_from start_of sign_of what_follows is_letter is_name_char is_reserved
@@ -134,3 +189,33 @@ object_parenthesis = refl
 three_parts : object_of [] (codes "V '=' K") ≡ Ok (Var (codes "V") ∷ Quoted (codes "=") ∷ Var (codes "K") ∷ [])
 unfolding object_of parts_of part_at gap_at whole_of shallow ended inside alternation_at concatenation_at parts_at items_at item_at targets_at signed element_at quoted_at named_at repeated_at group_at chosen_at counted_at plain_of starred_at cursor_at parted closed opened variable_at name_at number_at set_at literal_at depth keyword_of call_of number_from start_of sign_of what_follows is_letter is_name_char is_reserved
 three_parts = refl
+
+-- an object of two blanks
+blank_object : object_of [] (codes "  ") ≡ Ok []
+unfolding object_of parts_of part_at gap_at whole_of shallow ended inside alternation_at concatenation_at parts_at items_at item_at targets_at signed element_at quoted_at named_at repeated_at group_at chosen_at counted_at plain_of starred_at cursor_at parted closed opened variable_at name_at number_at set_at literal_at depth keyword_of call_of number_from start_of sign_of what_follows is_letter is_name_char is_reserved
+blank_object = refl
+
+-- the object P, the name of a definition
+definition_in_object : object_of (codes "P" ∷ []) (codes "P") ≡ Err (fault.ReservedTarget 0)
+unfolding object_of parts_of part_at gap_at whole_of shallow ended inside alternation_at concatenation_at parts_at items_at item_at targets_at signed element_at quoted_at named_at repeated_at group_at chosen_at counted_at plain_of starred_at cursor_at parted closed opened variable_at name_at number_at set_at literal_at depth keyword_of call_of number_from start_of sign_of what_follows is_letter is_name_char is_reserved
+definition_in_object = refl
+
+-- the object V 'x
+open_quote_in_object : object_of [] (codes "V 'x") ≡ Err (fault.OpenQuote 2)
+unfolding object_of parts_of part_at gap_at whole_of shallow ended inside alternation_at concatenation_at parts_at items_at item_at targets_at signed element_at quoted_at named_at repeated_at group_at chosen_at counted_at plain_of starred_at cursor_at parted closed opened variable_at name_at number_at set_at literal_at depth keyword_of call_of number_from start_of sign_of what_follows is_letter is_name_char is_reserved
+open_quote_in_object = refl
+
+-- an object of 65 times A
+variable_too_long : object_of [] (replicate 65 65) ≡ Err (fault.TooLong 0)
+unfolding object_of parts_of part_at gap_at whole_of shallow ended inside alternation_at concatenation_at parts_at items_at item_at targets_at signed element_at quoted_at named_at repeated_at group_at chosen_at counted_at plain_of starred_at cursor_at parted closed opened variable_at name_at number_at set_at literal_at depth keyword_of call_of number_from start_of sign_of what_follows is_letter is_name_char is_reserved
+variable_too_long = refl
+
+-- an object of 4,097 blanks
+object_too_long : object_of [] (replicate 4097 32) ≡ Err (fault.TooLong 4096)
+unfolding object_of parts_of part_at gap_at whole_of shallow ended inside alternation_at concatenation_at parts_at items_at item_at targets_at signed element_at quoted_at named_at repeated_at group_at chosen_at counted_at plain_of starred_at cursor_at parted closed opened variable_at name_at number_at set_at literal_at depth keyword_of call_of number_from start_of sign_of what_follows is_letter is_name_char is_reserved
+object_too_long = refl
+
+-- an object of the byte 195
+object_not_ascii : object_of [] (195 ∷ []) ≡ Err (fault.NonAscii 0)
+unfolding object_of parts_of part_at gap_at whole_of shallow ended inside alternation_at concatenation_at parts_at items_at item_at targets_at signed element_at quoted_at named_at repeated_at group_at chosen_at counted_at plain_of starred_at cursor_at parted closed opened variable_at name_at number_at set_at literal_at depth keyword_of call_of number_from start_of sign_of what_follows is_letter is_name_char is_reserved
+object_not_ascii = refl

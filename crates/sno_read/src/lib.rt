@@ -7,6 +7,7 @@
 //!   is read is spelled so (the clause `found`), and what is spelled so is read (`only`).
 //! - `specs/Reading.antt` and `specs/Objects.antt` read a list of characters from left to right and tell the first fault and
 //!   its place: the calls answer just that (the clause `exact`).
+//! - Want of memory comes only for a text that is short, ASCII and not blank (the clause `late`).
 //! - `one_tree` and `one_object` are the laws that no text spells two trees or two objects, `memory_is_no_fault` the law that
 //!   no text is refused for want of memory.
 #![tactic(auto)]

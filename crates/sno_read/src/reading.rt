@@ -1,12 +1,13 @@
 //! Reading whole texts.
-ghost use Rattle.std.specs.Prelude.{◌≡◌, List, IfOk, Ok};
+ghost use Rattle.std.specs.Prelude.{◌≡◌, ◌<◌, List, length, IfOk, Ok};
 ghost use Rattle.sno_pattern.specs.Tree.{Tree, tree_of};
 ghost use Rattle.sno_read.specs.declared.objects.Part.{Part};
 ghost use Rattle.sno_read.specs.Grammar.{Spells};
 ghost use Rattle.sno_read.specs.ObjectGrammar.{SpellsObject};
 ghost use Rattle.sno_pattern.specs.Texts.{first_non_ascii};
-ghost use Rattle.sno_read.specs.Gives.{Gives, Answers};
-ghost use Rattle.sno_read.specs.Reading.{checked, whole_of, pattern_of};
+ghost use Rattle.sno_read.specs.Gives.{Gives, Answers, OnMemory, OnWant};
+ghost use Rattle.sno_read.specs.Characters.{skip};
+ghost use Rattle.sno_read.specs.Reading.{checked, whole_of, pattern_of, AsksForMemory};
 ghost use Rattle.sno_read.specs.Objects.{object_of};
 ghost use Rattle.sno_read.specs.Views.{env_of};
 
@@ -34,9 +35,11 @@ fn first_non_ascii(text: &[u8]) -> Option<usize>
 }
 
 // The text, if it is short and ASCII.
-#[tactic(auto, using(crate::proofs::Ascii::all_ascii))]
+#[tactic(auto, using(sno_pattern::proofs::TextLemmas::all_ascii))]
 fn checked(text: &[u8]) -> Result<Piece<'_>, Stop>
-    ensures { Gives (λ p. p.characters.now) result (checked text.now) }
+    ensures read { Gives (λ p. p.characters.now) result (checked text.now) }
+    ensures same { IfOk result (λ p. p.characters.now ≡ text.now) }
+    ensures late { OnMemory result ⊥ }
 {
     if text.len() > MAX_EXPRESSION {
         return Err(Stop::Fault(ReadFault::TooLong(MAX_EXPRESSION)));
@@ -50,7 +53,8 @@ fn checked(text: &[u8]) -> Result<Piece<'_>, Stop>
 // The pattern that a whole text spells.
 #[tactic(auto, unfolding(crate::specs::Reading::whole_of, crate::specs::Reading::shallow, crate::specs::Reading::ended, crate::specs::Reading::alternation_at))]
 fn whole(reader: &Reader, text: Piece) -> Result<Pattern, Stop>
-    ensures { Gives tree_of result (whole_of (env_of reader.now) text.entry.characters.now) }
+    ensures read { Gives tree_of result (whole_of (env_of reader.now) text.entry.characters.now) }
+    ensures late { OnMemory result (0 < length (skip text.entry.characters.now)) }
 {
     let rest = text.after_blanks();
     if rest.characters.is_empty() {
@@ -70,7 +74,8 @@ fn whole(reader: &Reader, text: Piece) -> Result<Pattern, Stop>
 
 #[tactic(auto, unfolding(crate::specs::Reading::pattern_of))]
 fn pattern(alloc: Global, names: &Names, earlier: usize, text: &[u8]) -> Result<Pattern, Stop>
-    ensures { Gives tree_of result (pattern_of names.now earlier text.now) }
+    ensures read { Gives tree_of result (pattern_of names.now earlier text.now) }
+    ensures late { OnMemory result (AsksForMemory text.now) }
 {
     let piece = checked(text)?;
     let total = text.len();
@@ -88,7 +93,8 @@ fn pattern(alloc: Global, names: &Names, earlier: usize, text: &[u8]) -> Result<
 
 #[tactic(auto, unfolding(crate::specs::Objects::object_of))]
 fn object(alloc: Global, names: &Names, text: &[u8]) -> Result<Object, Stop>
-    ensures { Gives (λ object. object) result (object_of names.now text.now) }
+    ensures read { Gives (λ object. object) result (object_of names.now text.now) }
+    ensures late { OnMemory result (AsksForMemory text.now) }
 {
     let piece = checked(text)?;
     let total = text.len();
@@ -98,7 +104,12 @@ fn object(alloc: Global, names: &Names, text: &[u8]) -> Result<Object, Stop>
         earlier: 0,
         total,
     };
-    let parts = reader.parts(piece.after_blanks())?;
+    let start = piece.after_blanks();
+    // Blanks alone take no memory.
+    if start.characters.is_empty() {
+        return Ok(Object::of(Vec::new(alloc)));
+    }
+    let parts = reader.parts(start)?;
     Ok(Object::of(parts))
 }
 
@@ -108,7 +119,8 @@ fn answered_pattern(
     earlier: usize,
     text: &[u8],
 ) -> Result<Pattern, ReadFault>
-    ensures { Answers tree_of result (pattern_of names.now earlier text.now) }
+    ensures exact { Answers tree_of result (pattern_of names.now earlier text.now) }
+    ensures late { OnWant result (AsksForMemory text.now) }
 {
     match pattern(alloc, names, earlier, text) {
         Ok(pattern) => Ok(pattern),
@@ -118,7 +130,8 @@ fn answered_pattern(
 }
 
 fn answered_object(alloc: Global, names: &Names, text: &[u8]) -> Result<Object, ReadFault>
-    ensures { Answers (λ object. object) result (object_of names.now text.now) }
+    ensures exact { Answers (λ object. object) result (object_of names.now text.now) }
+    ensures late { OnWant result (AsksForMemory text.now) }
 {
     match object(alloc, names, text) {
         Ok(object) => Ok(object),
@@ -133,7 +146,7 @@ fn answered_object(alloc: Global, names: &Names, text: &[u8]) -> Result<Object, 
 /// It is read exactly where the text spells a tree by the grammar of `specs/Grammar.antt`: at most 4,096 ASCII characters,
 /// 100 open parentheses and a depth of 1,000. Refused with the first fault and its place: first `TooLong` for the length,
 /// then `NonAscii`, then from left to right the first fault of the text as `specs/Reading.antt` finds it, and last `TooDeep`
-/// for the tree. `Memory` is answered only where memory was refused.
+/// for the tree. `Memory` is answered only where memory was refused, and never for a text that is too long, not ASCII or blank.
 pub fn read_pattern(
     alloc: Global,
     names: &Names,
@@ -142,6 +155,8 @@ pub fn read_pattern(
 ) -> Result<Pattern, ReadFault>
     // Which answer it is, with the fault and its place.
     ensures exact { Answers tree_of result (pattern_of names.now earlier text.now) }
+    // Memory is asked for only where length, characters and blanks give no answer yet.
+    ensures late { OnWant result (AsksForMemory text.now) }
     // What is read is spelled so.
     ensures found { IfOk result (λ p. Spells names.now earlier text.now (tree_of p)) }
     // What is spelled so is read.
@@ -154,10 +169,13 @@ pub fn read_pattern(
 ///
 /// It is read exactly where the text spells parts by the grammar of `specs/ObjectGrammar.antt`: at most 4,096 ASCII
 /// characters. Refused with the first fault and its place: first `TooLong` for the length, then `NonAscii`, then from left to
-/// right the first fault of the text. `Memory` is answered only where memory was refused.
+/// right the first fault of the text. `Memory` is answered only where memory was refused, and never for a text that is too
+/// long, not ASCII or blank.
 pub fn read_object(alloc: Global, names: &Names, text: &[u8]) -> Result<Object, ReadFault>
     // Which answer it is, with the fault and its place.
     ensures exact { Answers (λ object. object) result (object_of names.now text.now) }
+    // Memory is asked for only where length, characters and blanks give no answer yet.
+    ensures late { OnWant result (AsksForMemory text.now) }
     // What is read is spelled so.
     ensures found { IfOk result (λ parts. SpellsObject names.now text.now parts) }
     // What is spelled so is read.

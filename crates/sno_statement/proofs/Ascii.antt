@@ -1,17 +1,17 @@
 -- What texts are put together from is ASCII.
-use Rattle.std.proofs.Common.{◌≡◌, ℕ, suc, ◌+◌, ◌-◌, ◌≤◌, ◌<◌, ◌^◌, Bool, true, false, not, ◌&&◌, cond, List, [], ◌∷◌, ◌++◌, length, take, drop, Option, Some, None, Ok, Err, IsTrue, refl, sym, ◌∙◌, ap, arith, nat_lt, ◌⊎◌, inl, inr}
-use Rattle.std.specs.List.{list_all, position_from}
+use Rattle.std.proofs.Common.{◌≡◌, ℕ, suc, ◌-◌, ◌≤◌, ◌<◌, ◌^◌, Bool, true, ◌&&◌, List, [], ◌∷◌, ◌++◌, length, take, drop, Ok, Err, IsTrue, refl, sym, ◌∙◌, ap, arith, ◌⊎◌, inl, inr}
+use Rattle.std.specs.List.{list_all}
 use Rattle.std.specs.Char.{is_ascii}
 use Rattle.std.specs.Str.{IsAscii}
 use Rattle.std.specs.Fmt.{decimal}
 use Rattle.std.proofs.lemmas.Fmt.{IsAscii-decimal}
-use Rattle.std.proofs.lemmas.Bool.{and_parts, le-ltb, lt-ltb, cases_lt}
+use Rattle.std.proofs.lemmas.Bool.{and_parts, lt-ltb, cases_lt}
 use Rattle.std.proofs.lemmas.List.{take-append-drop, length-take, length-drop}
 use Rattle.std.proofs.lemmas.List.Folds.{list_all-append}
-use Rattle.sno_pattern.specs.Texts.{text_of, first_non_ascii, ascii_or}
+use Rattle.sno_pattern.specs.Texts.{text_of}
 use Rattle.sno_pattern.specs.declared.texts.TextFault.{TextFault}
-use Rattle.sno_pattern.specs.declared.texts.TextFault.TheVariants.{TooLong}
 use Rattle.sno_pattern.specs.Ends.{part}
+use Rattle.sno_pattern.proofs.TextLemmas.{text_of_ascii}
 
 abbrev pub AreAscii : List ℕ → Type 0
 AreAscii bytes = IsTrue (list_all is_ascii bytes)
@@ -43,22 +43,6 @@ ascii_from_index (b ∷ bs) h = both (is_ascii b) (list_all is_ascii bs) (ascii_
 
 pub ascii_decimal : (n : ℕ) → n < 2 ^ 32 → AreAscii (decimal n)
 ascii_decimal n h = ascii_from_index (decimal n) (IsAscii-decimal n (omega arith))
-
-no_more : (v : Bool) (i : ℕ) (found : Option ℕ) (rest : Bool) → (rest ≡ true → found ≡ None) → (v && rest) ≡ true → cond (not v) (Some i) found ≡ None
-no_more true i found rest more h = more h
-no_more false i found rest more h = cc
-
-none_past : (i : ℕ) (bytes : List ℕ) → AreAscii bytes → position_from (λ b. not (is_ascii b)) i bytes ≡ None
-none_past i [] h = refl
-none_past i (b ∷ bs) h = no_more (is_ascii b) i _ _ (none_past (i + 1) bs) h
-
-short_text : (long : Bool) (place : Option ℕ) (bytes : List ℕ) → long ≡ false → place ≡ None → cond long (Err TooLong) (ascii_or place bytes) ≡ Ok bytes
-short_text true place bytes h g = cc
-short_text false place bytes h g = ap (λ (o : Option ℕ). ascii_or o bytes) g
-
--- characters that are few and ASCII are a text
-pub text_of_ascii : (bytes : List ℕ) → length bytes ≤ 65536 → AreAscii bytes → text_of bytes ≡ Ok bytes
-text_of_ascii bytes short h = short_text (nat_lt 65536 (length bytes)) (first_non_ascii bytes) bytes (le-ltb 65536 (length bytes) short) (none_past 0 bytes h)
 
 -- a part of a text is never refused as a text
 pub part_is_text : (t v : List ℕ) (from to : ℕ) (e : TextFault) → Err e ≡ text_of v → v ≡ part t from to → length t ≤ 65536 → AreAscii t → ⊥

@@ -1,0 +1,30 @@
+-- When memory is asked for.
+use Rattle.std.proofs.Common.{◌≡◌, ℕ, suc, true, List, [], length, nat_eq, Result, Ok, Err, ap, ◌∙◌, arith}
+use Rattle.sno_read.specs.declared.faults.ReadFault.{ReadFault}
+use Rattle.sno_read.specs.declared.faults.ReadFault.TheVariants as fault
+use Rattle.sno_read.specs.Gives.{◌>>=◌, OnWant}
+use Rattle.sno_read.specs.Characters.{skip}
+use Rattle.sno_read.specs.Reading.{Env, checked}
+use Rattle.sno_read.specs.Objects.{parts_of, object_of}
+use Rattle.sno_read.proofs.Parts.{end_step}
+
+-- a fault that the reading finds is no want of memory
+pub fault_is_found : (X : Type 0) {Y : Type 0} (holds : Type 0) (reading : Result Y ReadFault) (e : ReadFault) → (reading ≡ Err fault.Memory → ⊥) → reading ≡ Err e → OnWant {X = X} (Err e) holds
+fault_is_found X holds reading fault.Memory h g = absurd (h g)
+fault_is_found X holds reading (fault.Empty i) h g = tt
+fault_is_found X holds reading (fault.OpenQuote i) h g = tt
+fault_is_found X holds reading (fault.Unexpected i) h g = tt
+fault_is_found X holds reading (fault.BadNumber i) h g = tt
+fault_is_found X holds reading (fault.UnknownName i) h g = tt
+fault_is_found X holds reading (fault.EmptySet i) h g = tt
+fault_is_found X holds reading (fault.TooDeep i) h g = tt
+fault_is_found X holds reading (fault.TooLong i) h g = tt
+fault_is_found X holds reading (fault.ReservedTarget i) h g = tt
+fault_is_found X holds reading (fault.NonAscii i) h g = tt
+
+-- blanks alone are the object of no parts
+pub blank_object : (names : List (List ℕ)) (text t : List ℕ) → checked text ≡ Ok t → nat_eq (length (skip t)) 0 ≡ true → object_of names text ≡ Ok []
+unfolding object_of
+blank_object names text t h g =
+    let env : Env = record { names = names; earlier = 0; total = length text } in
+    ap (λ r. r >>= λ z. parts_of env (suc (length (skip z))) (skip z)) h ∙ end_step env (suc (length (skip t))) (skip t) (length (skip t)) (omega arith) g
