@@ -1,13 +1,22 @@
-//! The examples of `docs/LANGUAGE.md`, in its order. An example that is changed here is changed there.
+//! The examples of `docs/LANGUAGE.md`, in its order, a test for each of its parts. An example that is changed here is changed there.
 use crate::row::Task::{Match, MatchAnchored, Replace};
 use crate::row::{Row, Written, check};
 use std::test::Fail;
 
-static EXAMPLES: [(Written, Row); 126] = [
-    (
-        &[],
-        Row("examples", "banana", Match("'nan'"), "matched 2 5"),
-    ),
+static EXAMPLES: [(Written, Row); 1] = [(
+    &[],
+    Row("examples", "banana", Match("'nan'"), "matched 2 5"),
+)];
+
+#[test]
+fn examples(rt: HostRuntime) -> Result<(), Fail> {
+    for (definitions, row) in &EXAMPLES {
+        check(&rt, definitions, row)?;
+    }
+    Ok(())
+}
+
+static IF_YOU_NEVER_SAW_SNOBOL4: [(Written, Row); 6] = [
     (
         &[],
         Row(
@@ -62,6 +71,17 @@ static EXAMPLES: [(Written, Row); 126] = [
             "matched 0 3 A=|aaa|",
         ),
     ),
+];
+
+#[test]
+fn if_you_never_saw_snobol4(rt: HostRuntime) -> Result<(), Fail> {
+    for (definitions, row) in &IF_YOU_NEVER_SAW_SNOBOL4 {
+        check(&rt, definitions, row)?;
+    }
+    Ok(())
+}
+
+static TEXTS_AND_CURSORS: [(Written, Row); 3] = [
     (
         &[],
         Row(
@@ -89,6 +109,17 @@ static EXAMPLES: [(Written, Row); 126] = [
             "matched 6 6",
         ),
     ),
+];
+
+#[test]
+fn texts_and_cursors(rt: HostRuntime) -> Result<(), Fail> {
+    for (definitions, row) in &TEXTS_AND_CURSORS {
+        check(&rt, definitions, row)?;
+    }
+    Ok(())
+}
+
+static LITERALS: [(Written, Row); 3] = [
     (
         &[],
         Row("literals", "don't", Match("\"n't\""), "matched 2 5"),
@@ -98,6 +129,17 @@ static EXAMPLES: [(Written, Row); 126] = [
         Row("literals", "say \"hi\"", Match("'\"hi\"'"), "matched 4 8"),
     ),
     (&[], Row("literals", "banana", Match("''"), "matched 0 0")),
+];
+
+#[test]
+fn literals(rt: HostRuntime) -> Result<(), Fail> {
+    for (definitions, row) in &LITERALS {
+        check(&rt, definitions, row)?;
+    }
+    Ok(())
+}
+
+static JOINING_PATTERNS: [(Written, Row); 5] = [
     (
         &[],
         Row(
@@ -143,6 +185,17 @@ static EXAMPLES: [(Written, Row); 126] = [
             "matched 0 3",
         ),
     ),
+];
+
+#[test]
+fn joining_patterns(rt: HostRuntime) -> Result<(), Fail> {
+    for (definitions, row) in &JOINING_PATTERNS {
+        check(&rt, definitions, row)?;
+    }
+    Ok(())
+}
+
+static COUNTING_AND_PLACES: [(Written, Row); 19] = [
     (
         &[],
         Row(
@@ -279,6 +332,17 @@ static EXAMPLES: [(Written, Row); 126] = [
             "matched 0 6 A=|ab| B=|cd| C=|e| D=|f|",
         ),
     ),
+];
+
+#[test]
+fn counting_and_places(rt: HostRuntime) -> Result<(), Fail> {
+    for (definitions, row) in &COUNTING_AND_PLACES {
+        check(&rt, definitions, row)?;
+    }
+    Ok(())
+}
+
+static SETS_OF_CHARACTERS: [(Written, Row); 12] = [
     (
         &[],
         Row(
@@ -382,6 +446,17 @@ static EXAMPLES: [(Written, Row); 126] = [
             "matched 2 5 K=|b|",
         ),
     ),
+];
+
+#[test]
+fn sets_of_characters(rt: HostRuntime) -> Result<(), Fail> {
+    for (definitions, row) in &SETS_OF_CHARACTERS {
+        check(&rt, definitions, row)?;
+    }
+    Ok(())
+}
+
+static PATTERNS_THAT_GROW: [(Written, Row); 14] = [
     (
         &[],
         Row(
@@ -495,6 +570,17 @@ static EXAMPLES: [(Written, Row); 126] = [
             "failed",
         ),
     ),
+];
+
+#[test]
+fn patterns_that_grow(rt: HostRuntime) -> Result<(), Fail> {
+    for (definitions, row) in &PATTERNS_THAT_GROW {
+        check(&rt, definitions, row)?;
+    }
+    Ok(())
+}
+
+static PATTERNS_THAT_END_A_MATCH: [(Written, Row); 11] = [
     (
         &[],
         Row(
@@ -594,6 +680,17 @@ static EXAMPLES: [(Written, Row); 126] = [
             "matched 1 2",
         ),
     ),
+];
+
+#[test]
+fn patterns_that_end_a_match(rt: HostRuntime) -> Result<(), Fail> {
+    for (definitions, row) in &PATTERNS_THAT_END_A_MATCH {
+        check(&rt, definitions, row)?;
+    }
+    Ok(())
+}
+
+static VARIABLES: [(Written, Row); 14] = [
     (
         &[],
         Row(
@@ -697,6 +794,17 @@ static EXAMPLES: [(Written, Row); 126] = [
             "matched 0 1 N=|a|",
         ),
     ),
+];
+
+#[test]
+fn variables(rt: HostRuntime) -> Result<(), Fail> {
+    for (definitions, row) in &VARIABLES {
+        check(&rt, definitions, row)?;
+    }
+    Ok(())
+}
+
+static OBJECTS: [(Written, Row); 7] = [
     (
         &[],
         Row(
@@ -742,6 +850,17 @@ static EXAMPLES: [(Written, Row); 126] = [
             "matched 0 3 L=|a| R=|b| -> |a+b|",
         ),
     ),
+];
+
+#[test]
+fn objects(rt: HostRuntime) -> Result<(), Fail> {
+    for (definitions, row) in &OBJECTS {
+        check(&rt, definitions, row)?;
+    }
+    Ok(())
+}
+
+static DEFINITIONS: [(Written, Row); 12] = [
     (
         &[
             ("DIGITS", "SPAN('0123456789')"),
@@ -818,6 +937,17 @@ static EXAMPLES: [(Written, Row); 126] = [
             "matched 0 3",
         ),
     ),
+];
+
+#[test]
+fn definitions(rt: HostRuntime) -> Result<(), Fail> {
+    for (definitions, row) in &DEFINITIONS {
+        check(&rt, definitions, row)?;
+    }
+    Ok(())
+}
+
+static THE_GRAMMAR: [(Written, Row); 19] = [
     (
         &[],
         Row("the grammar", "a", Match("'a''b'"), "unexpected at 3"),
@@ -894,8 +1024,8 @@ static EXAMPLES: [(Written, Row); 126] = [
 ];
 
 #[test]
-fn examples(rt: HostRuntime) -> Result<(), Fail> {
-    for (definitions, row) in &EXAMPLES {
+fn the_grammar(rt: HostRuntime) -> Result<(), Fail> {
+    for (definitions, row) in &THE_GRAMMAR {
         check(&rt, definitions, row)?;
     }
     Ok(())
