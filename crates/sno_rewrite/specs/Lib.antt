@@ -6,3 +6,4 @@ pub mod Shared
 pub mod Owners
 pub mod Runs
 pub mod Streams
+pub mod Rows
