@@ -11,7 +11,7 @@
 //! - `src/books.rt`: what a book accepts and refuses, and what stands after each.
 //! - `src/limits.rt`: the longest text, the most definitions, the longest names.
 //! - `src/reading.rt`: texts that are not read.
-//! - `src/language.rt`: the examples of `docs/LANGUAGE.md`, in the order of that document.
+//! - `src/language.rt`: the examples of `docs/LANGUAGE.md`, as they stand there; `src/example.rt`: how one is read.
 //! - `src/row.rt`: how a row is written, performed and told.
 #![tactic(auto)]
 
@@ -19,6 +19,8 @@
 mod admission;
 #[cfg(test)]
 mod books;
+#[cfg(test)]
+mod example;
 #[cfg(test)]
 mod language;
 #[cfg(test)]

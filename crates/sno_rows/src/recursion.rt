@@ -8,7 +8,7 @@ use std::alloc::Global;
 use std::test::Fail;
 
 // Sets of definitions, and what is told of each.
-static SETS: [(&'static str, Written, &'static str); 10] = [
+static SETS: [(&'static str, Written<'static>, &'static str); 10] = [
     (
         "left_recursion_is_refused",
         &[("E", "*E 'a' | 'a'")],
@@ -89,7 +89,7 @@ fn a_reference_past_the_last_is_refused(rt: HostRuntime) -> Result<(), Fail> {
     Ok(())
 }
 
-static MATCHES: [(Written, Row); 6] = [
+static MATCHES: [(Written<'static>, Row); 6] = [
     (
         &[("P", "'(' *P ')' | 'x'")],
         Row(

@@ -8,7 +8,7 @@ use std::sync::Arc;
 use std::test::Fail;
 
 /// Definitions as they are written: of each its name and its pattern.
-pub type Written = &'static [(&'static str, &'static str)];
+pub type Written<'d> = &'d [(&'static str, &'static str)];
 
 /// What is done to the text of a row: each has a pattern, and a replacement an object.
 #[derive(Clone, Copy)]
@@ -53,7 +53,7 @@ impl Task {
 /// Checks the row.
 pub(crate) fn check(
     rt: &(impl Abort + AllocGlobal),
-    definitions: Written,
+    definitions: Written<'_>,
     row: &Row,
 ) -> Result<(), Fail> {
     let Row(shows, text, task, expected) = *row;
@@ -65,7 +65,7 @@ pub(crate) fn check(
 /// Definitions that are admitted, or why they are refused.
 pub(crate) fn admit(
     rt: &(impl Abort + AllocGlobal),
-    written: Written,
+    written: Written<'_>,
 ) -> Result<Result<Rules, RulesFault>, Fail> {
     let alloc = rt.alloc();
     let names = names_of(alloc, written)?;
@@ -77,7 +77,7 @@ pub(crate) fn admit(
     Ok(Rules::admit(alloc, names, bodies))
 }
 
-fn names_of(alloc: Global, written: Written) -> Result<Names, Fail> {
+fn names_of(alloc: Global, written: Written<'_>) -> Result<Names, Fail> {
     let mut names = Vec::new(alloc);
     for definition in written {
         names.push(Name::read(definition.0.as_bytes()).ok_or("no name")?)?;
@@ -133,7 +133,7 @@ pub(crate) fn refusal_told(alloc: Global, refused: &RulesFault) -> Result<String
 // there is one; `failed` and the bindings; or why the definitions, the pattern, the object or the new text are refused.
 fn told(
     rt: &(impl Abort + AllocGlobal),
-    definitions: Written,
+    definitions: Written<'_>,
     text: &str,
     task: Task,
 ) -> Result<String, Fail> {

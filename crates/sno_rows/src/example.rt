@@ -1,0 +1,78 @@
+//! How an example of `docs/LANGUAGE.md` is read and checked.
+//!
+//! An example is a line: `- `, then definitions where it has them, the text, the pattern, the object where it has one, and what comes of it,
+//! each between two backquotes, as in ``- `banana` with `'nan'`: `matched 2 5` ``.
+use crate::row::Task::{Match, MatchAnchored, Replace};
+use crate::row::{Row, check};
+use std::process::Abort;
+use std::test::Fail;
+
+/// What stands before two backquotes, between them, and behind them.
+#[derive(Clone, Copy)]
+struct Quoted {
+    before: &'static str,
+    inside: &'static str,
+    behind: &'static str,
+}
+
+fn cut(line: &'static str) -> Result<Quoted, Fail> {
+    let (before, rest) = line.split_once('`').ok_or("no backquote")?;
+    let (inside, behind) = rest.split_once('`').ok_or("no second backquote")?;
+    Ok(Quoted {
+        before,
+        inside,
+        behind,
+    })
+}
+
+/// The definition that begins with this name, and what stands behind it.
+fn definition(name: Quoted) -> Result<((&'static str, &'static str), &'static str), Fail> {
+    let pattern = cut(name.behind)?;
+    if pattern.before == " is " {
+        Ok(((name.inside, pattern.inside), pattern.behind))
+    } else {
+        Err("no definition".into())
+    }
+}
+
+/// The row of this text, in the words behind it.
+fn row(line: &'static str, text: Quoted) -> Result<Row, Fail> {
+    let pattern = cut(text.behind)?;
+    let next = cut(pattern.behind)?;
+    let (task, told) = match next.before {
+        ": " => (Match(pattern.inside), next),
+        ", anchored: " => (MatchAnchored(pattern.inside), next),
+        ", replaced by " => (Replace(pattern.inside, next.inside), cut(next.behind)?),
+        _ => return Err("no example".into()),
+    };
+    Ok(Row(line, text.inside, task, told.inside))
+}
+
+/// The most definitions that an example has.
+const MOST_DEFINITIONS: usize = 4;
+
+fn check_line(rt: &(impl Abort + AllocGlobal), line: &'static str) -> Result<(), Fail> {
+    let mut definitions = Vec::new(rt.alloc());
+    let mut next = cut(line)?;
+    for _ in 0..MOST_DEFINITIONS {
+        if next.before == "- where " || next.before == " and " {
+            let (definition, behind) = definition(next)?;
+            definitions.push(definition)?;
+            next = cut(behind)?;
+        }
+    }
+    check(rt, &definitions, &row(line, next)?)
+}
+
+/// Checks the examples, of which there are `count`.
+pub(crate) fn check_all(
+    rt: &(impl Abort + AllocGlobal),
+    examples: &'static str,
+    count: usize,
+) -> Result<(), Fail> {
+    for line in examples.lines() {
+        check_line(rt, line)?;
+    }
+    assert_eq!(rt; examples.lines().count(), count);
+    Ok(())
+}
