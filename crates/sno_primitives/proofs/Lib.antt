@@ -1,0 +1,2 @@
+mod LeafLaws
+mod BalancedEnds

@@ -1,0 +1,36 @@
+//! `BAL`, an end at a time.
+ghost use Rattle.std.specs.Prelude.{◌≡◌, ◌+◌, ◌<◌, ◌≤◌, ◌^◌, ◌∷◌, [], length, MatchOption, IfSome};
+ghost use Rattle.sno_pattern.specs.Ends.{bal_ends};
+ghost use Rattle.sno_primitives.specs.Depth.{depth_after};
+
+/// The first cursor past `c` up to which the text from `c` on is balanced in parentheses; none where there is none.
+///
+/// From an end that came back, the next call gives the next end of `BAL` from `c`. It takes no memory, and reads no character past the end.
+pub fn first_balanced(text: &[u8], c: usize) -> Option<usize>
+    requires { c ≤ length text.now }
+    ensures exact { MatchOption result (bal_ends text.now c ≡ []) (λ e. bal_ends text.now c ≡ e ∷ bal_ends text.now e) }
+    ensures behind { IfSome result (λ e. (c < e) × (e ≤ length text.now)) }
+{
+    let (_, rest) = text.split_at(c);
+    let mut depth = 0;
+    for (passed, character) in rest.iter().enumerate() {
+        depth = depth_after(depth, *character)?;
+        if depth == 0 {
+            return Some(c + passed + 1);
+        }
+    }
+    None
+}
+
+// How many parentheses are open behind the character; none where it closes one that isn't open.
+fn depth_after(depth: usize, character: u8) -> Option<usize>
+    requires { depth + 1 < 2 ^ 64 }
+    ensures exact { result ≡ depth_after depth character }
+    ensures few { IfSome result (λ after. after ≤ depth + 1) }
+{
+    match character {
+        b'(' => Some(depth + 1),
+        b')' => depth.checked_sub(1),
+        _ => Some(depth),
+    }
+}

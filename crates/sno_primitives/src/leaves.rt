@@ -1,0 +1,47 @@
+//! The end of a primitive that has at most one.
+ghost use Rattle.std.specs.Prelude.{◌≡◌, ◌≤◌, length, option_to_list, IfSome, IsTrue};
+ghost use Rattle.sno_pattern.specs.Tree.{tree_of};
+ghost use Rattle.sno_primitives.specs.Leaves.{is_single, leaf_ends};
+
+use crate::primitives::{
+    any_end, break_end, len_end, literal_end, notany_end, pos_end, rpos_end, rtab_end, span_end,
+    tab_end,
+};
+use sno_pattern::Pattern;
+
+/// Where the primitive ends from the cursor; none where it fails there.
+///
+/// The end is no cursor before `c` and none behind the text. The call takes no memory.
+#[tactic(auto, using(crate::proofs::LeafLaws::leaf_within))]
+pub fn leaf_end(text: &[u8], pattern: &Pattern, c: usize) -> Option<usize>
+    requires within { c ≤ length text.now }
+    requires single { IsTrue (is_single (tree_of pattern.now)) }
+    ensures exact { option_to_list result ≡ leaf_ends text.now (tree_of pattern.now) c }
+    ensures behind { IfSome result (λ e. (c ≤ e) × (e ≤ length text.now)) }
+{
+    match pattern {
+        Pattern::Lit(literal) => literal_end(text, literal.bytes(), c),
+        Pattern::Len(n) => len_end(text, *n as usize, c),
+        Pattern::Pos(n) => pos_end(*n as usize, c),
+        Pattern::Rpos(n) => rpos_end(text, *n as usize, c),
+        Pattern::Tab(n) => tab_end(text, *n as usize, c),
+        Pattern::Rtab(n) => rtab_end(text, *n as usize, c),
+        Pattern::AnyOf(set) => any_end(text, set, c),
+        Pattern::NoneOf(set) => notany_end(text, set, c),
+        Pattern::Span(set) => span_end(text, set, c),
+        Pattern::Break(set) => break_end(text, set, c),
+        Pattern::Rem => Some(text.len()),
+        Pattern::Arb
+        | Pattern::Arbno(_)
+        | Pattern::Bal
+        | Pattern::Fence
+        | Pattern::Abort
+        | Pattern::Fail
+        | Pattern::At(_)
+        | Pattern::Ref(_)
+        | Pattern::Seq(_, _)
+        | Pattern::Alt(_, _)
+        | Pattern::Cond(_, _)
+        | Pattern::Imm(_, _) => unreachable!(),
+    }
+}
