@@ -1,6 +1,6 @@
 -- Cursors that are left, from one on.
-use Rattle.std.proofs.Common.{◌≡◌, ℕ, suc, ◌+◌, ◌-◌, ◌≤◌, Bool, true, false, List, [], ◌∷◌, ◌++◌, cond, ap, sym, ◌∙◌, arith, append_assoc}
-use Rattle.std.specs.List.{range_with_len, filter}
+use Rattle.std.proofs.Common.{◌≡◌, ℕ, suc, ◌+◌, ◌-◌, ◌≤◌, List, [], ◌∷◌, ◌++◌, ap, sym, ◌∙◌, arith, append_assoc}
+use Rattle.std.specs.List.{range_with_len}
 use Rattle.sno_pattern.specs.Results.{ends}
 use Rattle.sno_pattern.specs.declared.events.Event.{Event}
 use Rattle.sno_pattern.specs.declared.events.Event.TheVariants.{End}
@@ -20,18 +20,3 @@ pub ends_more : (done new : List Event) (i n : ℕ) (all : List Event) → i ≤
 ends_more done new i n all h is e =
     ap (λ l. l ++ ends (up_to (i + 1) n)) is
     ∙ append_assoc done (End i [] ∷ []) (ends (up_to (i + 1) n)) ∙ sym (ap (λ s. done ++ ends s) (up_to_more i n h)) ∙ e
-
--- one End more, where the cursor passes the test
-pub tested_more : (test : ℕ → Bool) (done new : List Event) (i n : ℕ) (all : List Event) → i ≤ n → new ≡ done ++ End i [] ∷ [] → test i ≡ true → done ++ ends (filter test (up_to i n)) ≡ all → new ++ ends (filter test (up_to (i + 1) n)) ≡ all
-tested_more test done new i n all h is passes e =
-    ap (λ l. l ++ ends (filter test (up_to (i + 1) n))) is
-    ∙ append_assoc done (End i [] ∷ []) (ends (filter test (up_to (i + 1) n)))
-    ∙ sym (ap (λ b. done ++ ends (cond b (i ∷ filter test (up_to (i + 1) n)) (filter test (up_to (i + 1) n)))) passes)
-    ∙ sym (ap (λ s. done ++ ends (filter test s)) (up_to_more i n h)) ∙ e
-
--- none more, where it doesn't
-pub tested_none : (test : ℕ → Bool) (done new : List Event) (i n : ℕ) (all : List Event) → i ≤ n → new ≡ done → test i ≡ false → done ++ ends (filter test (up_to i n)) ≡ all → new ++ ends (filter test (up_to (i + 1) n)) ≡ all
-tested_none test done new i n all h is fails e =
-    ap (λ l. l ++ ends (filter test (up_to (i + 1) n))) is
-    ∙ sym (ap (λ b. done ++ ends (cond b (i ∷ filter test (up_to (i + 1) n)) (filter test (up_to (i + 1) n)))) fails)
-    ∙ sym (ap (λ s. done ++ ends (filter test s)) (up_to_more i n h)) ∙ e

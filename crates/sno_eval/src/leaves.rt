@@ -7,11 +7,8 @@ ghost use Rattle.sno_pattern.specs.declared.events.Event.{Event as HappenedEvent
 ghost use Rattle.sno_eval.specs.Steps.{is_leaf};
 
 use crate::events::{at_most_one, push_end};
-use crate::primitives::{
-    any_end, break_end, is_balanced_part, len_end, literal_end, notany_end, pos_end, rpos_end,
-    rtab_end, span_end, tab_end,
-};
 use sno_pattern::{Assign, Event, Name, Pattern, What};
+use sno_primitives::{first_balanced, leaf_end};
 use std::alloc::{AllocError, Global};
 
 // What a pattern without parts does from a cursor.
@@ -27,19 +24,19 @@ pub fn leaf(
     ensures { (named : ℕ → ℕ → List HappenedEvent) → IfOk result (λ v. v.items ≡ results_of text.now named (tree_of pattern.now) c) }
 {
     match pattern {
-        Pattern::Lit(literal) => at_most_one(alloc, literal_end(text, literal.bytes(), c)),
-        Pattern::Len(n) => at_most_one(alloc, len_end(text, *n as usize, c)),
-        Pattern::Pos(n) => at_most_one(alloc, pos_end(*n as usize, c)),
-        Pattern::Rpos(n) => at_most_one(alloc, rpos_end(text, *n as usize, c)),
-        Pattern::Tab(n) => at_most_one(alloc, tab_end(text, *n as usize, c)),
-        Pattern::Rtab(n) => at_most_one(alloc, rtab_end(text, *n as usize, c)),
-        Pattern::AnyOf(set) => at_most_one(alloc, any_end(text, set, c)),
-        Pattern::NoneOf(set) => at_most_one(alloc, notany_end(text, set, c)),
-        Pattern::Span(set) => at_most_one(alloc, span_end(text, set, c)),
-        Pattern::Break(set) => at_most_one(alloc, break_end(text, set, c)),
+        Pattern::Lit(_)
+        | Pattern::Len(_)
+        | Pattern::Pos(_)
+        | Pattern::Rpos(_)
+        | Pattern::Tab(_)
+        | Pattern::Rtab(_)
+        | Pattern::AnyOf(_)
+        | Pattern::NoneOf(_)
+        | Pattern::Span(_)
+        | Pattern::Break(_)
+        | Pattern::Rem => at_most_one(alloc, leaf_end(text, pattern, c)),
         Pattern::Arb => arb(alloc, text, c),
         Pattern::Bal => bal(alloc, text, c),
-        Pattern::Rem => at_most_one(alloc, Some(text.len())),
         Pattern::Fence => fence(alloc, c),
         Pattern::Abort => abort(alloc),
         Pattern::Fail => Ok(Vec::new(alloc)),
@@ -69,10 +66,10 @@ fn bal(alloc: Global, text: &[u8], c: usize) -> Result<Vec<Event>, AllocError>
     ensures { IfOk result (λ v. v.items ≡ ends (bal_ends text.now c)) }
 {
     let mut events = Vec::new(alloc);
-    for end in c + 1..text.len() + 1 {
-        if is_balanced_part(text, c, end) {
-            push_end(alloc, &mut events, end)?;
-        }
+    let mut cursor = c;
+    while let Some(end) = first_balanced(text, cursor) {
+        push_end(alloc, &mut events, end)?;
+        cursor = end;
     }
     Ok(events)
 }

@@ -8,7 +8,6 @@
 mod endings;
 mod events;
 mod leaves;
-mod primitives;
 mod results;
 mod starts;
 #[cfg(test)]

@@ -1,10 +1,14 @@
--- The Ends so far and those among the cursors that are left are all of them.
-use Rattle.std.proofs.Common.{◌≡◌, ◌++◌, length}
-use Rattle.std.specs.List.{filter}
-use Rattle.sno_pattern.specs.Ends.{balanced, part, bal_ends}
+-- The Ends so far and those from the cursor on are all of them.
+use Rattle.std.proofs.Common.{◌≡◌, ◌-◌, ◌≤◌, ◌++◌, length}
+use Rattle.sno_pattern.specs.Ends.{bal_ends}
 use Rattle.sno_pattern.specs.Results.{ends}
-use Rattle.sno_eval.proofs.Ranges.{up_to}
 use Rattle.sno_eval.proofs.leaves.bal.Given as goal
 
 abbrev pub invariant-loop-end : goal.invariant-loop-end
-invariant-loop-end l = l.events.items ++ ends (filter (λ e. balanced 0 (part l.text l.c e)) (up_to l.end (length l.text))) ≡ ends (bal_ends l.text l.c)
+invariant-loop-end l = record {
+  added : l.events.items ++ ends (bal_ends l.text l.cursor) ≡ ends (bal_ends l.text l.c);
+  within : l.cursor ≤ length l.text;
+}
+
+abbrev pub decreases-loop-end : goal.decreases-loop-end
+decreases-loop-end l = length l.text - l.cursor
