@@ -3,6 +3,7 @@ pub mod NameLemmas
 pub mod NameListLemmas
 pub mod EachEnd
 pub mod Within
+pub mod Words
 pub mod Repetition
 pub mod ToldLies
 pub mod Taking

@@ -3,6 +3,7 @@ pub mod Identifiers
 pub mod TextNames
 pub mod Texts
 pub mod Classes
+pub mod Tables
 pub mod Tree
 pub mod Events
 pub mod Ends

@@ -6,6 +6,7 @@ ghost use Rattle.std.specs.List.{list_all};
 ghost use Rattle.std.specs.Char.{is_ascii};
 ghost use Rattle.sno_pattern.specs.Classes.{class_of, has, is_class};
 
+use crate::tables::Table;
 use std::fmt;
 use std::marker::Model;
 
@@ -13,17 +14,19 @@ use std::marker::Model;
 #[derive(Drop)]
 pub struct Class {
     members: Vec<u8>,
+    table: Table,
 }
 
 impl Model for Class {
     ghost use Rattle.std.specs.Prelude.{ℕ, List, IsTrue};
     ghost use Rattle.sno_pattern.specs.Classes.{is_class};
+    ghost use Rattle.sno_pattern.specs.Tables.{IsTableOf};
 
     ghost Value = { List ℕ };
 
     ghost view = { λ s. s.members.items };
 
-    ghost invariant = { λ s. IsTrue (is_class s.members.items) };
+    ghost invariant = { λ s. IsTrue (is_class s.members.items) × IsTableOf s.members.items s.table };
 }
 
 impl Class {
@@ -35,21 +38,16 @@ impl Class {
         if !is_class(&members) {
             return None;
         }
-        Some(Class { members })
+        let table = Table::of(&members);
+        Some(Class { members, table })
     }
 
     /// Whether the character is a member.
     pub fn has(&self, character: u8) -> bool
         ensures { result ≡ has self.now character }
     {
-        has(&self.members, character)
+        self.table.has(character)
     }
-}
-
-fn has(members: &[u8], character: u8) -> bool
-    ensures { result ≡ has members.now character }
-{
-    members.iter().any(|member| *member == character)
 }
 
 fn is_class(members: &[u8]) -> bool

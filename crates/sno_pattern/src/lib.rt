@@ -9,7 +9,7 @@
 //! | `identifiers` | `Name`: read exactly where bytes are a name; the sixteen reserved words |
 //! | `text_names` | `TextName`: made exactly of 1 to 255 characters from `!` to `~` |
 //! | `texts` | `Text`: made exactly of at most 65,536 ASCII characters, with the first fault otherwise |
-//! | `classes` | `Class`: made exactly of a non-empty list of ASCII characters; membership |
+//! | `classes`, `tables` | `Class`: made exactly of a non-empty list of ASCII characters; membership, by a table |
 //! | `tree` | `Pattern`: the tree, with 23 variants |
 //! | `name_list` | `Names`: at most 64, none reserved, none twice; the place of a name |
 //! | `definitions`, `admission` | `Rules`: definitions are admitted exactly where their references are to definitions and each circle of them takes a character |
@@ -26,6 +26,7 @@ mod found;
 mod identifiers;
 mod laws;
 mod name_list;
+mod tables;
 mod text_names;
 mod texts;
 mod tree;

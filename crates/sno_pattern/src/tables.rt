@@ -1,0 +1,60 @@
+//! Sets of characters as bits, so that a member is found by one look.
+ghost use Rattle.std.specs.Prelude.{◌≡◌, ℕ, ◌+◌, ◌<◌, ◌≤◌, IsTrue};
+ghost use Rattle.std.specs.Char.{is_ascii};
+ghost use Rattle.std.specs.List.{list_all};
+ghost use Rattle.sno_pattern.specs.Classes.{has};
+ghost use Rattle.sno_pattern.specs.Tables.{IsTableOf, is_set, table_has};
+
+// A bit for each ASCII character: the first 64 of them are in `low`.
+#[derive(Clone, Copy)]
+pub struct Table {
+    low: u64,
+    high: u64,
+}
+
+impl Table {
+    // The table of these characters.
+    pub fn of(members: &[u8]) -> Table
+        requires { IsTrue (list_all is_ascii members.now) }
+        ensures { IsTableOf members.now result }
+    {
+        Table {
+            low: word_of(members, 0),
+            high: word_of(members, 64),
+        }
+    }
+
+    pub fn has(&self, character: u8) -> bool
+        ensures { result ≡ table_has self.now character }
+    {
+        if character < 64 {
+            is_set(self.low, character)
+        } else if character < 128 {
+            is_set(self.high, character - 64)
+        } else {
+            false
+        }
+    }
+}
+
+// The bits of the 64 characters from the first on.
+fn word_of(members: &[u8], first: u8) -> u64
+    ensures { (place : ℕ) → place < 64 → is_set result place ≡ has members.now (first + place) }
+{
+    let mut word: u64 = 0;
+    for member in members {
+        if first <= *member && *member - first < 64 {
+            let place = *member - first;
+            word |= 1 << place;
+        }
+    }
+    word
+}
+
+#[tactic(auto, using(std::proofs::lemmas::Nat::Bits::shr_and_one))]
+fn is_set(word: u64, place: u8) -> bool
+    requires { place < 64 }
+    ensures { result ≡ is_set word place }
+{
+    (word >> place) & 1 == 1
+}
