@@ -37,3 +37,17 @@ fn a_primitive_has_one_end(rt: HostRuntime) -> Result<(), Fail> {
     assert_eq!(rt; leaf_end(text, &literal, 1), None);
     Ok(())
 }
+
+// ANY('?@'), the characters 63 and 64, on ?@A
+#[test]
+fn members_of_low_and_high_codes_are_found(rt: HostRuntime) -> Result<(), Fail> {
+    let alloc = rt.alloc();
+    let text = b"?@A\xe1".as_slice();
+    let set = Class::new(Vec::from_slice(alloc, b"?@")?).ok_or("no set")?;
+    let any = Pattern::AnyOf(set);
+    assert_eq!(rt; leaf_end(text, &any, 0), Some(1));
+    assert_eq!(rt; leaf_end(text, &any, 1), Some(2));
+    assert_eq!(rt; leaf_end(text, &any, 2), None);
+    assert_eq!(rt; leaf_end(text, &any, 3), None);
+    Ok(())
+}
