@@ -37,7 +37,7 @@
 //! # What is not promised
 //!
 //! Want of memory is a possible answer of `perform` at any growth, and no clause says that memory is there; tests show that it is
-//! not always answered. How long a match takes and how much memory and stack it needs are those of `sno_eval::first`.
+//! not always answered. How long a match takes and how much memory and stack it needs are those of `sno_machine::first`.
 #![tactic(auto)]
 
 mod binding;

@@ -141,7 +141,7 @@ pub fn perform(
 ) -> Result<Outcome, StatementFault>
     ensures { Gives result (perform statement.now subject.now) }
 {
-    let found = sno_eval::first(
+    let found = sno_machine::first(
         alloc,
         statement.rules(),
         statement.pattern(),

@@ -1,0 +1,9 @@
+mod CarryLaws
+mod TrailLaws
+mod StateLaws
+mod StepLaws
+mod PrimitiveLaws
+mod EndingLaws
+mod Ranges
+mod BeginningLaws
+mod StartLaws

@@ -1,0 +1,43 @@
+//! The matcher: what comes of a match, sought one step after the other.
+//!
+//! [`first`] answers exactly what the definitions of `sno_pattern` say of a match, `outcome` of its `specs/Outcome.antt`. Its one refusal is
+//! want of memory.
+//!
+//! What is left to be done once a part has matched, the assignments that are pending and what is left to be tried stand on three stacks.
+//! The first two are lists that share their tails: a choice keeps the number of its lists, and how many cells there were when it was left,
+//! and backing up drops the cells that came since. So no call goes deeper for a longer text or a deeper recursion of definitions, and
+//! memory grows with the steps that can still be taken back.
+//!
+//! | File | What it holds |
+//! |---|---|
+//! | `frames`, `pending`, `choices` | what stands on the stacks |
+//! | `matcher` | the stacks, what is next, and putting something on a stack |
+//! | `trying` | a pattern is tried: each kind of pattern is one step |
+//! | `primitives` | the patterns without parts |
+//! | `resuming` | a part has matched, and what is left to be done is done |
+//! | `backing_up` | the newest choice is taken up |
+//! | `conditions` | the pending assignments of a success, in their order |
+//! | `stepping` | one step after the other, from one start |
+//! | `beginnings` | starts at which no match can begin are passed over |
+//! | `starts` | [`first`] |
+//!
+//! How it is proved: `specs/Meaning.antt` says what is still to come of a match that has come so far, as a list of events, and
+//! `specs/State.antt` says it of the stacks. Each step keeps, with the assignments that were done, what is still to come
+//! (`LeadsTo`), and takes one from a number of steps that `specs/Steps.antt` counts beforehand; so a match ends.
+#![tactic(auto)]
+
+mod backing_up;
+mod beginnings;
+mod choices;
+mod conditions;
+mod frames;
+mod matcher;
+mod pending;
+mod primitives;
+mod resuming;
+mod starts;
+mod stepping;
+mod trying;
+
+pub use sno_pattern::{Assign, Assigns, Conds, Found, Hit, What};
+pub use starts::first;
