@@ -8,11 +8,11 @@ use std::sync::Arc;
 use std::test::Fail;
 
 /// Definitions as they are written: of each its name and its pattern.
-pub type Written<'d> = &'d [(&'static str, &'static str)];
+pub(crate) type Written<'d> = &'d [(&'static str, &'static str)];
 
 /// What is done to the text of a row: each has a pattern, and a replacement an object.
 #[derive(Clone, Copy)]
-pub enum Task {
+pub(crate) enum Task {
     /// A match that floats.
     Match(&'static str),
     /// A match that begins at cursor 0 alone.
