@@ -6,6 +6,8 @@ mod command_lines;
 #[cfg(test)]
 mod documents;
 #[cfg(test)]
+mod examples;
+#[cfg(test)]
 mod json_listings;
 #[cfg(test)]
 mod shared_runs;
