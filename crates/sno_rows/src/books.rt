@@ -261,17 +261,11 @@ fn the_same_characters_raise_the_version(rt: HostRuntime) -> Result<(), Fail> {
 
 #[test]
 fn a_text_grown_too_long_proposes_nothing(rt: HostRuntime) -> Result<(), Fail> {
-    let book = long_book(rt.alloc(), 65_536)?;
+    let mut book = long_book(rt.alloc(), 65_536)?;
     let doubled = Written(1, "T", Replace("REM . R", "R R"));
     let fault = proposed(&rt, &book, "T", doubled)?.err();
     assert_eq!(rt; fault, Some(StatementFault::TextTooLong));
     assert_eq!(rt; book.journal().len(), 0);
-    Ok(())
-}
-
-#[test]
-fn the_longest_text_is_replaced(rt: HostRuntime) -> Result<(), Fail> {
-    let mut book = long_book(rt.alloc(), 65_536)?;
     let receipt = perform(&rt, &mut book, Written(2, "T", Replace("REM . R", "R")))?;
     assert_eq!(rt; extent(&receipt), Some((0, 65_536)));
     let (_, text, version) = book.text(0).ok_or("no text")?;

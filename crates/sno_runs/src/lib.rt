@@ -1,4 +1,5 @@
-//! Whole runs, tested: listings in lines and as JSON, the line of each fault, command lines, workers, and readers and writers that give pieces or fail.
+//! Whole runs, tested: listings in lines and as JSON, the examples of `examples/`, the line of each fault, command lines, workers, and
+//! readers and writers that give pieces or fail.
 #![tactic(auto)]
 
 #[cfg(test)]
