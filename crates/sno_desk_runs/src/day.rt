@@ -16,14 +16,14 @@ use std::thread::Threads;
 
 /// What a day leaves: the book, the replies, and how many each seat had accepted.
 #[derive(Drop)]
-pub struct Day {
+pub(crate) struct Day {
     pub book: Book,
     pub replies: Vec<Reply>,
     pub shares: Vec<u64>,
 }
 
 /// No definitions.
-pub fn rules(rt: &impl Abort, alloc: Global) -> Result<Arc<Rules>, Fail> {
+pub(crate) fn rules(rt: &impl Abort, alloc: Global) -> Result<Arc<Rules>, Fail> {
     let names = Names::new(alloc, &[])?;
     let bodies = Vec::new(alloc);
     assert_eq!(rt; names.len(), bodies.len());
@@ -31,7 +31,7 @@ pub fn rules(rt: &impl Abort, alloc: Global) -> Result<Arc<Rules>, Fail> {
 }
 
 /// A statement that replaces what the pattern matches in the text by the object.
-pub fn statement(
+pub(crate) fn statement(
     rt: &impl Abort,
     alloc: Global,
     rules: &Arc<Rules>,
@@ -50,7 +50,7 @@ pub fn statement(
 }
 
 /// A book of these texts, each with its name, and room for many entries.
-pub fn book(alloc: Global, texts: &[(&str, &str)]) -> Result<Book, Fail>
+pub(crate) fn book(alloc: Global, texts: &[(&str, &str)]) -> Result<Book, Fail>
     ensures { IfOk result (λ b. b.journal ≡ []) }
 {
     let mut rows = Vec::new(alloc);
@@ -94,7 +94,7 @@ fn spend<L: Ledger + Send + Sync, G: Gate + Sync, R: Threads + Wait + Sync>(
 }
 
 /// A day of so many seats, with a ledger of its own.
-pub fn run_day<G: Gate + Sync, R: Threads + Wait + Sync>(
+pub(crate) fn run_day<G: Gate + Sync, R: Threads + Wait + Sync>(
     rt: &R,
     alloc: Global,
     book: Book,

@@ -4,42 +4,70 @@ use std::alloc::Global;
 use std::process::Abort;
 use std::test::Fail;
 
-fn literal(alloc: Global, characters: &[u8]) -> Result<Pattern, Fail> {
-    let text = Text::new(characters.to_vec(alloc)?)?;
-    Ok(Pattern::Lit(text))
+// Patterns; none where a part is none, or memory is refused.
+
+fn literal(alloc: Global, characters: &[u8]) -> Option<Pattern> {
+    let text = Text::new(characters.to_vec(alloc).ok()?).ok()?;
+    Some(Pattern::Lit(text))
 }
 
-fn span(alloc: Global, characters: &[u8]) -> Result<Pattern, Fail> {
-    let class = Class::new(characters.to_vec(alloc)?).ok_or("a class")?;
-    Ok(Pattern::Span(class))
+fn span(alloc: Global, characters: &[u8]) -> Option<Pattern> {
+    let class = Class::new(characters.to_vec(alloc).ok()?)?;
+    Some(Pattern::Span(class))
 }
 
-fn seq(alloc: Global, left: Pattern, right: Pattern) -> Result<Pattern, Fail> {
-    let left = Box::new(alloc, left)?;
-    let right = Box::new(alloc, right)?;
-    Ok(Pattern::Seq(left, right))
+fn reference(definition: usize) -> Option<Pattern> {
+    Some(Pattern::Ref(definition))
 }
 
-fn alt(alloc: Global, left: Pattern, right: Pattern) -> Result<Pattern, Fail> {
-    let left = Box::new(alloc, left)?;
-    let right = Box::new(alloc, right)?;
-    Ok(Pattern::Alt(left, right))
+fn boxed(alloc: Global, part: Option<Pattern>) -> Option<Box<Pattern>> {
+    Box::new(alloc, part?).ok()
 }
 
-fn name(letters: &[u8]) -> Result<Name, Fail> {
-    let name = Name::read(letters).ok_or("a name")?;
+fn seq(alloc: Global, left: Option<Pattern>, right: Option<Pattern>) -> Option<Pattern> {
+    Some(Pattern::Seq(boxed(alloc, left)?, boxed(alloc, right)?))
+}
+
+fn alt(alloc: Global, left: Option<Pattern>, right: Option<Pattern>) -> Option<Pattern> {
+    Some(Pattern::Alt(boxed(alloc, left)?, boxed(alloc, right)?))
+}
+
+fn arbno(alloc: Global, part: Option<Pattern>) -> Option<Pattern> {
+    Some(Pattern::Arbno(boxed(alloc, part)?))
+}
+
+fn name(letters: &str) -> Result<Name, Fail> {
+    let name = Name::read(letters.as_bytes()).ok_or("a name")?;
     Ok(name)
 }
 
-fn admit(
-    rt: &impl Abort,
-    alloc: Global,
-    names: &[Name],
+/// Definitions, of each its name and its pattern.
+#[derive(Drop)]
+struct Definitions {
+    names: Vec<Name>,
     bodies: Vec<Pattern>,
-) -> Result<Result<Rules, RulesFault>, Fail> {
-    let names = Names::new(alloc, names)?;
-    assert_eq!(rt; names.len(), bodies.len());
-    Ok(Rules::admit(alloc, names, bodies))
+}
+
+impl Definitions {
+    fn new(alloc: Global) -> Definitions {
+        Definitions {
+            names: Vec::new(alloc),
+            bodies: Vec::new(alloc),
+        }
+    }
+
+    fn define(&mut self, letters: &str, body: Option<Pattern>) -> Result<(), Fail> {
+        self.names.push(name(letters)?)?;
+        self.bodies.push(body.ok_or("no pattern")?)?;
+        Ok(())
+    }
+
+    fn admit(self, rt: &(impl Abort + AllocGlobal)) -> Result<Result<Rules, RulesFault>, Fail> {
+        let Definitions { names, bodies } = self;
+        let names = Names::new(rt.alloc(), &names)?;
+        assert_eq!(rt; names.len(), bodies.len());
+        Ok(Rules::admit(rt.alloc(), names, bodies))
+    }
 }
 
 fn is_unguarded(answer: Result<Rules, RulesFault>, cycle: &[usize]) -> bool {
@@ -51,7 +79,7 @@ fn is_unguarded(answer: Result<Rules, RulesFault>, cycle: &[usize]) -> bool {
 
 #[test]
 fn a_name_is_printed_as_it_is_written(rt: HostRuntime) -> Result<(), Fail> {
-    let printed = name(b"Item_1.b")?.to_string(rt.alloc())?;
+    let printed = name("Item_1.b")?.to_string(rt.alloc())?;
     assert_eq!(rt; printed.as_str(), "Item_1.b");
     Ok(())
 }
@@ -60,10 +88,10 @@ fn a_name_is_printed_as_it_is_written(rt: HostRuntime) -> Result<(), Fail> {
 #[test]
 fn left_recursion_is_refused(rt: HostRuntime) -> Result<(), Fail> {
     let alloc = rt.alloc();
-    let recursive = seq(alloc, Pattern::Ref(0), literal(alloc, b"a")?)?;
-    let body = alt(alloc, recursive, literal(alloc, b"a")?)?;
-    let answer = admit(&rt, alloc, &[name(b"E")?], vec![in alloc; body]?)?;
-    assert!(rt; is_unguarded(answer, &[0]));
+    let recursive = seq(alloc, reference(0), literal(alloc, b"a"));
+    let mut definitions = Definitions::new(alloc);
+    definitions.define("E", alt(alloc, recursive, literal(alloc, b"a")))?;
+    assert!(rt; is_unguarded(definitions.admit(&rt)?, &[0]));
     Ok(())
 }
 
@@ -71,15 +99,12 @@ fn left_recursion_is_refused(rt: HostRuntime) -> Result<(), Fail> {
 #[test]
 fn a_list_of_items_is_admitted(rt: HostRuntime) -> Result<(), Fail> {
     let alloc = rt.alloc();
-    let item = seq(alloc, span(alloc, b"ab")?, literal(alloc, b",")?)?;
-    let items = seq(alloc, Pattern::Ref(0), Pattern::Ref(1))?;
-    let list = alt(alloc, items, literal(alloc, b"")?)?;
-    let rules = admit(
-        &rt,
-        alloc,
-        &[name(b"ITEM")?, name(b"LIST")?],
-        vec![in alloc; item, list]?,
-    )??;
+    let mut definitions = Definitions::new(alloc);
+    let item = seq(alloc, span(alloc, b"ab"), literal(alloc, b","));
+    definitions.define("ITEM", item)?;
+    let items = seq(alloc, reference(0), reference(1));
+    definitions.define("LIST", alt(alloc, items, literal(alloc, b"")))?;
+    let rules = definitions.admit(&rt)??;
     assert_eq!(rt; rules.len(), 2);
     assert!(rt; rules.covers(&Pattern::Ref(1)));
     assert!(rt; !rules.covers(&Pattern::Ref(2)));
@@ -90,11 +115,11 @@ fn a_list_of_items_is_admitted(rt: HostRuntime) -> Result<(), Fail> {
 #[test]
 fn guarded_recursion_is_admitted(rt: HostRuntime) -> Result<(), Fail> {
     let alloc = rt.alloc();
-    let tail = seq(alloc, Pattern::Ref(0), literal(alloc, b")")?)?;
-    let nested = seq(alloc, literal(alloc, b"(")?, tail)?;
-    let body = alt(alloc, nested, literal(alloc, b"x")?)?;
-    let rules = admit(&rt, alloc, &[name(b"P")?], vec![in alloc; body]?)??;
-    assert_eq!(rt; rules.len(), 1);
+    let tail = seq(alloc, reference(0), literal(alloc, b")"));
+    let nested = seq(alloc, literal(alloc, b"("), tail);
+    let mut definitions = Definitions::new(alloc);
+    definitions.define("P", alt(alloc, nested, literal(alloc, b"x")))?;
+    assert_eq!(rt; definitions.admit(&rt)??.len(), 1);
     Ok(())
 }
 
@@ -102,27 +127,23 @@ fn guarded_recursion_is_admitted(rt: HostRuntime) -> Result<(), Fail> {
 #[test]
 fn the_first_cycle_is_answered(rt: HostRuntime) -> Result<(), Fail> {
     let alloc = rt.alloc();
-    let first = literal(alloc, b"a")?;
-    let third = seq(alloc, Pattern::Ref(2), literal(alloc, b"c")?)?;
-    let third = Pattern::Arbno(Box::new(alloc, third)?);
-    let last = seq(alloc, Pattern::Arb, Pattern::Ref(1))?;
-    let last = alt(alloc, Pattern::Ref(0), last)?;
-    let bodies = vec![in alloc; first, Pattern::Ref(3), third, last]?;
-    let answer = admit(
-        &rt,
-        alloc,
-        &[name(b"A")?, name(b"B")?, name(b"C")?, name(b"D")?],
-        bodies,
-    )?;
-    assert!(rt; is_unguarded(answer, &[1, 3]));
+    let mut definitions = Definitions::new(alloc);
+    definitions.define("A", literal(alloc, b"a"))?;
+    definitions.define("B", reference(3))?;
+    let repeated = seq(alloc, reference(2), literal(alloc, b"c"));
+    definitions.define("C", arbno(alloc, repeated))?;
+    let last = seq(alloc, Some(Pattern::Arb), reference(1));
+    definitions.define("D", alt(alloc, reference(0), last))?;
+    assert!(rt; is_unguarded(definitions.admit(&rt)?, &[1, 3]));
     Ok(())
 }
 
 #[test]
 fn a_reference_past_the_last_is_refused(rt: HostRuntime) -> Result<(), Fail> {
-    let alloc = rt.alloc();
-    let bodies = vec![in alloc; Pattern::Ref(0), Pattern::Ref(2)]?;
-    let answer = admit(&rt, alloc, &[name(b"A")?, name(b"B")?], bodies)?;
+    let mut definitions = Definitions::new(rt.alloc());
+    definitions.define("A", reference(0))?;
+    definitions.define("B", reference(2))?;
+    let answer = definitions.admit(&rt)?;
     assert!(rt; matches!(&answer, Err(RulesFault::BadRef(1))));
     Ok(())
 }

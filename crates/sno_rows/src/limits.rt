@@ -1,43 +1,27 @@
 //! Rows on limits: the longest text, the most definitions, the longest names.
-use sno_pattern::{Name, Names, NamesFault, Rules, Text, TextName};
-use sno_read::{read_object, read_pattern};
-use sno_statement::{Outcome, Statement, StatementFault, perform};
+use crate::row::Task::Replace;
+use crate::row::{admit, statement};
+use sno_pattern::{Name, Names, NamesFault, Text};
+use sno_statement::{Outcome, StatementFault, perform};
 use std::alloc::Global;
 use std::process::Abort;
-use std::sync::Arc;
 use std::test::Fail;
 
 const MAX_TEXT: usize = 65_536;
 
 fn repeated(alloc: Global, character: u8, count: usize) -> Result<Vec<u8>, Fail> {
-    let mut characters = Vec::new(alloc);
-    for _ in 0..count {
-        characters.push(character)?;
-    }
-    Ok(characters)
+    Ok(vec![in alloc; character; count]?)
 }
 
 // What `REM . R` with this object makes of the longest text.
 fn performed(
     rt: &(impl Abort + AllocGlobal),
-    object: &[u8],
+    object: &'static str,
 ) -> Result<Result<Outcome, StatementFault>, Fail> {
-    let alloc = rt.alloc();
-    let rules = Rules::admit(alloc, Names::new(alloc, &[])?, Vec::new(alloc))?;
-    let pattern = read_pattern(alloc, rules.names(), rules.len(), b"REM . R")?;
-    let object = read_object(alloc, rules.names(), object)?;
-    assert!(rt; rules.covers(&pattern));
-    let rules = Arc::new(alloc, rules)?;
-    let statement = Statement::new(
-        1,
-        rules,
-        pattern,
-        Some(object),
-        TextName::new(alloc, b"T")?,
-        false,
-    );
-    let text = Text::new(repeated(alloc, b'a', MAX_TEXT)?)?;
-    Ok(perform(alloc, &statement, &text))
+    let rules = admit(rt, &[])??;
+    let statement = statement(rt, rules, 1, "T", Replace("REM . R", object))??;
+    let text = Text::new(repeated(rt.alloc(), b'a', MAX_TEXT)?)?;
+    Ok(perform(rt.alloc(), &statement, &text))
 }
 
 fn is_too_long(answer: &Result<Outcome, StatementFault>) -> bool {
@@ -60,21 +44,27 @@ fn extent(outcome: &Outcome) -> Option<(usize, usize, usize)> {
 
 #[test]
 fn a_new_text_has_at_most_65536_characters(rt: HostRuntime) -> Result<(), Fail> {
-    assert!(rt; is_too_long(&performed(&rt, b"R R")?));
-    assert!(rt; is_too_long(&performed(&rt, b"R 'a'")?));
+    assert!(rt; is_too_long(&performed(&rt, "R R")?));
+    assert!(rt; is_too_long(&performed(&rt, "R 'a'")?));
     assert_eq!(rt;
-        extent(&performed(&rt, b"R")??),
+        extent(&performed(&rt, "R")??),
         Some((0, MAX_TEXT, MAX_TEXT))
     );
     Ok(())
+}
+
+// `A` with this number.
+fn name(alloc: Global, number: usize) -> Result<Name, Fail> {
+    let mut word = String::from_str(alloc, "A")?;
+    word.push_str(number.to_string(alloc)?.as_str())?;
+    Ok(Name::read(word.as_bytes()).ok_or("no name")?)
 }
 
 // So many names: A0, A1 and so on.
 fn numbered(alloc: Global, count: usize) -> Result<Result<Names, NamesFault>, Fail> {
     let mut names = Vec::new(alloc);
     for number in 0..count {
-        let word = format!(in alloc; "A{number}")?;
-        names.push(Name::read(word.as_bytes()).ok_or("no name")?)?;
+        names.push(name(alloc, number)?)?;
     }
     Ok(Names::new(alloc, names.as_slice()))
 }

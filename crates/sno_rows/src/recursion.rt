@@ -1,10 +1,11 @@
 //! Rows on definitions: which are admitted, and matches with them.
 use crate::row::Task::{Match, MatchAnchored, Replace};
 use crate::row::{Row, Written, admit, check, refusal_told};
-use sno_eval::{What, first};
+use sno_eval::{Found, What, first};
 use sno_pattern::{Name, Names, Pattern, Rules, RulesFault, Text};
 use sno_read::{ReadFault, read_pattern};
 use std::alloc::Global;
+use std::process::Abort;
 use std::test::Fail;
 
 // Sets of definitions, and what is told of each.
@@ -154,43 +155,84 @@ fn matches(rt: HostRuntime) -> Result<(), Fail> {
     Ok(())
 }
 
+// Where the first unknown name of a pattern stands, which comes behind so many definitions, if it has one.
+fn unknown(
+    alloc: Global,
+    names: &Names,
+    earlier: usize,
+    pattern: &str,
+) -> Result<Option<usize>, Fail> {
+    match read_pattern(alloc, names, earlier, pattern.as_bytes()) {
+        Err(ReadFault::UnknownName(place)) => Ok(Some(place)),
+        Err(_) => Err("another fault".into()),
+        Ok(_) => Ok(None),
+    }
+}
+
+// The definition that a pattern refers to, which is a reference and no more.
+fn referred(alloc: Global, names: &Names, earlier: usize, pattern: &str) -> Result<usize, Fail> {
+    match read_pattern(alloc, names, earlier, pattern.as_bytes())? {
+        Pattern::Ref(definition) => Ok(definition),
+        _ => Err("no reference".into()),
+    }
+}
+
 // In the pattern of the first of two definitions no plain name is known; in that of the second the first one's.
 #[test]
 fn a_plain_name_is_that_of_an_earlier_definition(rt: HostRuntime) -> Result<(), Fail> {
     let alloc = rt.alloc();
     let names = Names::new(alloc, &[name(b"P")?, name(b"Q")?])?;
-    assert!(rt;
-        matches!(
-            &read_pattern(alloc, &names, 0, b"'a' P"),
-            Err(ReadFault::UnknownName(4))
-        )
-    );
-    assert!(rt;
-        matches!(
-            &read_pattern(alloc, &names, 1, b"Q"),
-            Err(ReadFault::UnknownName(0))
-        )
-    );
-    assert!(rt; matches!(&read_pattern(alloc, &names, 1, b"P")?, Pattern::Ref(0)));
-    assert!(rt; matches!(&read_pattern(alloc, &names, 1, b"*Q")?, Pattern::Ref(1)));
+    assert_eq!(rt; unknown(alloc, &names, 0, "'a' P")?, Some(4));
+    assert_eq!(rt; unknown(alloc, &names, 1, "Q")?, Some(0));
+    assert_eq!(rt; referred(alloc, &names, 1, "P")?, 0);
+    assert_eq!(rt; referred(alloc, &names, 1, "*Q")?, 1);
     Ok(())
 }
 
-// S is `LEN(1) $ C *S | ''`; on `abc`, anchored, `*S 'c'` assigns C three times before it matches.
-#[test]
-fn assignments_that_are_backed_over_are_told_in_order(rt: HostRuntime) -> Result<(), Fail> {
-    let alloc = rt.alloc();
-    let rules = admit(&rt, &[("S", "LEN(1) $ C *S | ''")])??;
-    let pattern = read_pattern(alloc, rules.names(), rules.len(), b"*S 'c'")?;
-    let text = Text::new(Vec::from_slice(alloc, b"abc")?)?;
+// What an anchored match finds.
+fn found(
+    rt: &(impl Abort + AllocGlobal),
+    definitions: Written<'_>,
+    pattern: &str,
+    text: &str,
+) -> Result<Found, Fail> {
+    let rules = admit(rt, definitions)??;
+    let text = Text::new(Vec::from_slice(rt.alloc(), text.as_bytes())?)?;
+    found_by(rt, &rules, pattern, &text)
+}
+
+fn found_by(
+    rt: &(impl Abort + AllocGlobal),
+    rules: &Rules,
+    pattern: &str,
+    text: &Text,
+) -> Result<Found, Fail> {
+    let pattern = read_pattern(rt.alloc(), rules.names(), rules.len(), pattern.as_bytes())?;
     assert!(rt; rules.covers(&pattern));
-    let found = first(alloc, &rules, &pattern, &text, true)?;
-    let hit = found.end.ok_or("failed")?;
-    assert_eq!(rt; (hit.start, hit.end), (0, 3));
+    Ok(first(rt.alloc(), rules, &pattern, text, true)?)
+}
+
+// Where the match begins and ends, if there is one.
+fn extent(found: &Found) -> Option<(usize, usize)> {
+    let hit = found.end.as_ref()?;
+    Some((hit.start, hit.end))
+}
+
+// What is assigned at once, in its order.
+fn assigned(alloc: Global, found: &Found) -> Result<Vec<What>, Fail> {
     let mut parts = Vec::new(alloc);
     for set in found.sets.as_slice() {
         parts.push(set.what)?;
     }
+    Ok(parts)
+}
+
+// On `abc`, anchored, `*S 'c'` assigns C three times before it matches.
+#[test]
+fn assignments_that_are_backed_over_are_told_in_order(rt: HostRuntime) -> Result<(), Fail> {
+    let found = found(&rt, &[("S", "LEN(1) $ C *S | ''")], "*S 'c'", "abc")?;
+    assert_eq!(rt; extent(&found), Some((0, 3)));
+    let parts = assigned(rt.alloc(), &found)?;
     assert_eq!(rt;
         parts.as_slice(),
         [What::Part(0, 1), What::Part(1, 2), What::Part(2, 3)].as_slice()

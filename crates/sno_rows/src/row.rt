@@ -1,5 +1,5 @@
 //! How a row is written, performed and told.
-use sno_pattern::{Name, Names, Rules, RulesFault, Text, TextName};
+use sno_pattern::{Name, Names, Pattern, Rules, RulesFault, Text, TextName};
 use sno_read::{Object, ReadFault, read_object, read_pattern};
 use sno_statement::{Bindings, Datum, Outcome, Statement, perform};
 use std::alloc::Global;
@@ -8,11 +8,11 @@ use std::sync::Arc;
 use std::test::Fail;
 
 /// Definitions as they are written: of each its name and its pattern.
-pub type Written<'d> = &'d [(&'static str, &'static str)];
+pub(crate) type Written<'d> = &'d [(&'static str, &'static str)];
 
 /// What is done to the text of a row: each has a pattern, and a replacement an object.
 #[derive(Clone, Copy)]
-pub enum Task {
+pub(crate) enum Task {
     /// A match that floats.
     Match(&'static str),
     /// A match that begins at cursor 0 alone.
@@ -85,25 +85,28 @@ fn names_of(alloc: Global, written: Written<'_>) -> Result<Names, Fail> {
     Ok(Names::new(alloc, names.as_slice())?)
 }
 
-// The statement that does the task, if its pattern and its object are read.
-fn statement(
+/// A statement of this number that does the task to the text of this name, if its pattern and its object are read.
+pub(crate) fn statement(
     rt: &(impl Abort + AllocGlobal),
     rules: Rules,
+    number: u32,
+    text: &str,
     task: Task,
 ) -> Result<Result<Statement, ReadFault>, Fail> {
-    let alloc = rt.alloc();
-    let pattern = match read_pattern(alloc, rules.names(), rules.len(), task.pattern().as_bytes()) {
-        Ok(pattern) => pattern,
-        Err(fault) => return Ok(Err(fault)),
-    };
-    let object = match object_of(alloc, rules.names(), task.object()) {
-        Ok(object) => object,
+    let (pattern, object) = match parts(rt.alloc(), &rules, task) {
+        Ok(parts) => parts,
         Err(fault) => return Ok(Err(fault)),
     };
     assert!(rt; rules.covers(&pattern));
-    let rules = Arc::new(alloc, rules)?;
-    let name = TextName::new(alloc, b"T")?;
-    Ok(Ok(Statement::new(1, rules, pattern, object, name, task.is_anchored())))
+    let rules = Arc::new(rt.alloc(), rules)?;
+    let text = TextName::new(rt.alloc(), text.as_bytes())?;
+    Ok(Ok(Statement::new(number, rules, pattern, object, text, task.is_anchored())))
+}
+
+fn parts(alloc: Global, rules: &Rules, task: Task) -> Result<(Pattern, Option<Object>), ReadFault> {
+    let pattern = read_pattern(alloc, rules.names(), rules.len(), task.pattern().as_bytes())?;
+    let object = object_of(alloc, rules.names(), task.object())?;
+    Ok((pattern, object))
 }
 
 fn object_of(
@@ -140,7 +143,7 @@ fn told(
     let alloc = rt.alloc();
     match admit(rt, definitions)? {
         Err(refused) => refusal_told(alloc, &refused),
-        Ok(rules) => match statement(rt, rules, task)? {
+        Ok(rules) => match statement(rt, rules, 1, "T", task)? {
             Err(fault) => Ok(fault.to_string(alloc)?),
             Ok(statement) => performed_told(alloc, &statement, text),
         },

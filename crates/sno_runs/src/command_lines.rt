@@ -1,6 +1,7 @@
 //! Command lines and the options that they give.
 use sno_rewrite::{Options, OptionsFault, options_of};
 use std::alloc::Global;
+use std::process::Abort;
 use std::test::Fail;
 
 const PLAIN: Options = Options {
@@ -42,114 +43,132 @@ fn help_of(alloc: Global, line: &str) -> Result<Option<String>, Fail> {
 }
 
 // Each option alone, at its limits, and all together in any order.
+static GIVEN: [(&'static str, Options); 8] = [
+    ("", PLAIN),
+    (
+        "--anchor",
+        Options {
+            anchor: true,
+            ..PLAIN
+        },
+    ),
+    (
+        "--json",
+        Options {
+            json: true,
+            ..PLAIN
+        },
+    ),
+    (
+        "--workers 1",
+        Options {
+            workers: Some(1),
+            ..PLAIN
+        },
+    ),
+    (
+        "--workers=16",
+        Options {
+            workers: Some(16),
+            ..PLAIN
+        },
+    ),
+    ("--tries 1", Options { tries: 1, ..PLAIN }),
+    (
+        "--tries 1000",
+        Options {
+            tries: 1_000,
+            ..PLAIN
+        },
+    ),
+    (
+        "--json --tries=7 --anchor --workers 3",
+        Options {
+            anchor: true,
+            workers: Some(3),
+            tries: 7,
+            json: true,
+        },
+    ),
+];
+
+fn check_given(rt: &(impl Abort + AllocGlobal), line: &str, options: &Options) -> Result<(), Fail> {
+    let words = words_of(rt.alloc(), line)?;
+    let given = options_of(rt.alloc(), &words)?;
+    assert_eq!(rt; given, *options, "for {line}");
+    Ok(())
+}
+
 #[test]
 fn lines_give_options(rt: HostRuntime) -> Result<(), Fail> {
-    let rows = [
-        ("", PLAIN),
-        (
-            "--anchor",
-            Options {
-                anchor: true,
-                ..PLAIN
-            },
-        ),
-        (
-            "--json",
-            Options {
-                json: true,
-                ..PLAIN
-            },
-        ),
-        (
-            "--workers 1",
-            Options {
-                workers: Some(1),
-                ..PLAIN
-            },
-        ),
-        (
-            "--workers=16",
-            Options {
-                workers: Some(16),
-                ..PLAIN
-            },
-        ),
-        ("--tries 1", Options { tries: 1, ..PLAIN }),
-        (
-            "--tries 1000",
-            Options {
-                tries: 1_000,
-                ..PLAIN
-            },
-        ),
-        (
-            "--json --tries=7 --anchor --workers 3",
-            Options {
-                anchor: true,
-                workers: Some(3),
-                tries: 7,
-                json: true,
-            },
-        ),
-    ];
-    for (line, options) in rows {
-        let words = words_of(rt.alloc(), line)?;
-        let given = options_of(rt.alloc(), &words)?;
-        assert_eq!(rt; given, options, "for {line}");
+    for (line, options) in &GIVEN {
+        check_given(&rt, line, options)?;
     }
     Ok(())
 }
 
-// What is past a limit, no number, no option, twice or without its value is refused, with a line that says how to get help.
+// What is past a limit, no number, no option, twice or without its value.
+static REFUSED: [&'static str; 16] = [
+    "--workers 0",
+    "--workers 17",
+    "--workers x",
+    "--workers",
+    "--workers=",
+    "--workers 1 --workers 2",
+    "--workers 4294967296",
+    "--tries 0",
+    "--tries 1001",
+    "--tries x",
+    "--tries -1",
+    "--tries",
+    "--json=yes",
+    "--quick",
+    "-q",
+    "document.json",
+];
+
+// The text that refuses the line says that it is an error, and how to get help.
+fn check_refused(rt: &(impl Abort + AllocGlobal), line: &str) -> Result<(), Fail> {
+    let text = refusal_of(rt.alloc(), line)?.ok_or("not refused")?;
+    let begins = text.as_str().starts_with("error: ");
+    let helps = text.as_str().contains("try '--help'.");
+    assert!(rt; begins && helps, "for {line}: {text}");
+    Ok(())
+}
+
 #[test]
 fn lines_are_refused(rt: HostRuntime) -> Result<(), Fail> {
-    let rows = [
-        "--workers 0",
-        "--workers 17",
-        "--workers x",
-        "--workers",
-        "--workers=",
-        "--workers 1 --workers 2",
-        "--workers 4294967296",
-        "--tries 0",
-        "--tries 1001",
-        "--tries x",
-        "--tries -1",
-        "--tries",
-        "--json=yes",
-        "--quick",
-        "-q",
-        "document.json",
-    ];
-    for line in rows {
-        let text = refusal_of(rt.alloc(), line)?.ok_or("not refused")?;
-        let begins = text.as_str().starts_with("error: ");
-        let helps = text.as_str().contains("try '--help'.");
-        assert!(rt; begins && helps, "for {line}: {text}");
+    for line in &REFUSED {
+        check_refused(&rt, line)?;
     }
     Ok(())
 }
 
-// Help names the program and each option.
-#[test]
-fn help_names_each_option(rt: HostRuntime) -> Result<(), Fail> {
-    let parts = [
-        "sno_rewrite",
-        "--workers <N>",
-        "1 to 16",
-        "--tries <N>",
-        "1 to 1000",
-        "[default: 100]",
-        "--anchor",
-        "--json",
-        "--help",
-    ];
-    for line in ["--help", "-h", "--json --help"] {
-        let text = help_of(rt.alloc(), line)?.ok_or("no help")?;
-        for part in parts {
-            let holds = text.as_str().contains(part);
-            assert!(rt; holds, "{part} is not in {text}");
-        }
+// What help names: the program and each option.
+static HELPED: [&'static str; 9] = [
+    "sno_rewrite",
+    "--workers <N>",
+    "1 to 16",
+    "--tries <N>",
+    "1 to 1000",
+    "[default: 100]",
+    "--anchor",
+    "--json",
+    "--help",
+];
+
+fn check_help(rt: &(impl Abort + AllocGlobal), line: &str) -> Result<(), Fail> {
+    let text = help_of(rt.alloc(), line)?.ok_or("no help")?;
+    for part in &HELPED {
+        let holds = text.as_str().contains(*part);
+        assert!(rt; holds, "{part} is not in {text}");
     }
     Ok(())
+}
+
+#[test]
+fn help_names_each_option(rt: HostRuntime) -> Result<(), Fail> {
+    check_help(&rt, "--help")?;
+    check_help(&rt, "-h")?;
+    check_help(&rt, "--json --help")
 }

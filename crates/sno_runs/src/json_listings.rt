@@ -1,5 +1,6 @@
 //! Listings as JSON.
 use sno_rewrite::{Options, run, run_serial};
+use std::process::Abort;
 use std::test::Fail;
 
 const JSON: Options = Options {
@@ -9,32 +10,43 @@ const JSON: Options = Options {
     json: true,
 };
 
-// What a document lists, and how many statements are refused.
+// Documents, each with its listing, without the end of the line, and the number of statements that are refused.
+static LISTED: [(&'static str, &'static str, usize); 4] = [
+    (
+        r#"{"texts":[{"name":"T","text":"abc"}],"statements":[{"text":"T","pattern":"'b'","object":"'X'"}]}"#,
+        r#"{"entries":[{"after":"aXc","bindings":[],"end":2,"entry":0,"matched":true,"start":1,"statement":1,"text":"T","version":0}],"refused":[],"texts":[{"name":"T","text":"aXc","version":1}]}"#,
+        0,
+    ),
+    ("{}", r#"{"entries":[],"refused":[],"texts":[]}"#, 0),
+    (
+        r#"{"texts":[{"name":"A","text":"k=v"},{"name":"B","text":"aaab"}],"statements":[{"text":"A","pattern":"BREAK('=') . K '=' REM . V","object":"V '=' K"},{"text":"B","pattern":"SPAN('a') 'a'"},{"text":"C","pattern":"'x'"}]}"#,
+        r#"{"entries":[{"after":"v=k","bindings":[["K","k"],["V","v"]],"end":3,"entry":0,"matched":true,"start":0,"statement":1,"text":"A","version":0},{"bindings":[],"entry":1,"matched":false,"statement":2,"text":"B","version":0}],"refused":[{"reason":"no text","statement":3}],"texts":[{"name":"A","text":"v=k","version":1},{"name":"B","text":"aaab","version":0}]}"#,
+        1,
+    ),
+    (
+        r#"{"texts":[{"name":"T","text":"a\tb\"\\"}],"statements":[{"text":"T","pattern":"@P 'b'"}]}"#,
+        r#"{"entries":[{"bindings":[["P",2]],"end":3,"entry":0,"matched":true,"start":2,"statement":1,"text":"T","version":0}],"refused":[],"texts":[{"name":"T","text":"a\tb\"\\","version":0}]}"#,
+        0,
+    ),
+];
+
+fn check(
+    rt: &(impl Abort + AllocGlobal),
+    document: &str,
+    listing: &str,
+    refused: usize,
+) -> Result<(), Fail> {
+    let report = run_serial(rt.alloc(), document.as_bytes(), &JSON)?;
+    let line = format!(in rt.alloc(); "{listing}\n")?;
+    assert_eq!(rt; report.bytes.as_slice(), line.as_bytes(), "for {document}");
+    assert_eq!(rt; report.refused, refused, "for {document}");
+    Ok(())
+}
+
 #[test]
 fn documents_are_listed_as_json(rt: HostRuntime) -> Result<(), Fail> {
-    let rows = [
-        (
-            r#"{"texts":[{"name":"T","text":"abc"}],"statements":[{"text":"T","pattern":"'b'","object":"'X'"}]}"#,
-            r#"{"entries":[{"after":"aXc","bindings":[],"end":2,"entry":0,"matched":true,"start":1,"statement":1,"text":"T","version":0}],"refused":[],"texts":[{"name":"T","text":"aXc","version":1}]}"#,
-            0,
-        ),
-        ("{}", r#"{"entries":[],"refused":[],"texts":[]}"#, 0),
-        (
-            r#"{"texts":[{"name":"A","text":"k=v"},{"name":"B","text":"aaab"}],"statements":[{"text":"A","pattern":"BREAK('=') . K '=' REM . V","object":"V '=' K"},{"text":"B","pattern":"SPAN('a') 'a'"},{"text":"C","pattern":"'x'"}]}"#,
-            r#"{"entries":[{"after":"v=k","bindings":[["K","k"],["V","v"]],"end":3,"entry":0,"matched":true,"start":0,"statement":1,"text":"A","version":0},{"bindings":[],"entry":1,"matched":false,"statement":2,"text":"B","version":0}],"refused":[{"reason":"no text","statement":3}],"texts":[{"name":"A","text":"v=k","version":1},{"name":"B","text":"aaab","version":0}]}"#,
-            1,
-        ),
-        (
-            r#"{"texts":[{"name":"T","text":"a\tb\"\\"}],"statements":[{"text":"T","pattern":"@P 'b'"}]}"#,
-            r#"{"entries":[{"bindings":[["P",2]],"end":3,"entry":0,"matched":true,"start":2,"statement":1,"text":"T","version":0}],"refused":[],"texts":[{"name":"T","text":"a\tb\"\\","version":0}]}"#,
-            0,
-        ),
-    ];
-    for (document, listing, refused) in rows {
-        let report = run_serial(rt.alloc(), document.as_bytes(), &JSON)?;
-        let line = format!(in rt.alloc(); "{listing}\n")?;
-        assert_eq!(rt; report.bytes.as_slice(), line.as_bytes(), "for {document}");
-        assert_eq!(rt; report.refused, refused, "for {document}");
+    for (document, listing, refused) in &LISTED {
+        check(&rt, document, listing, *refused)?;
     }
     Ok(())
 }

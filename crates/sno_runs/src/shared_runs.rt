@@ -2,9 +2,13 @@
 ghost use Rattle.std.specs.Prelude.{◌≤◌, IfSome};
 ghost use Rattle.sno_rewrite.specs.Runs.{AreInLimits};
 
-use sno_rewrite::{Options, RunFault, run, run_serial, run_shared};
+use sno_rewrite::{Options, Report, RunFault, run, run_serial, run_shared};
+use std::alloc::Global;
+use std::process::Abort;
 use std::str;
+use std::sync::Wait;
 use std::test::Fail;
+use std::thread::Threads;
 
 const DOCUMENT: &str =
     r#"{"texts":[{"name":"A","text":"k=v"},{"name":"B","text":"aaab"}],"statements":[{"text":"A","pattern":"BREAK('=') . K '=' REM . V","object":"V '=' K"},{"text":"B","pattern":"SPAN('a') 'a'"},{"text":"C","pattern":"'x'"}]}"#;
@@ -38,22 +42,51 @@ fn options_of(workers: Option<u32>) -> Options
     }
 }
 
+// What the run with so many workers writes, and its status.
+fn written<R: Threads + Wait + AllocGlobal + Sync>(
+    rt: &R,
+    document: &str,
+    workers: u32,
+) -> Result<(Vec<u8>, u8), Fail>
+    requires { (1 ≤ workers) × (workers ≤ 16) }
+{
+    let options = options_of(Some(workers));
+    let mut written = Vec::new(rt.alloc());
+    let mut reader = document.as_bytes();
+    let status = run(rt, rt.alloc(), &mut reader, &mut written, &options)?;
+    Ok((written, status))
+}
+
+// The report of a run with so many workers.
+fn shared<R: Threads + Wait + AllocGlobal + Sync>(
+    rt: &R,
+    document: &str,
+    workers: Option<u32>,
+) -> Result<Report, Fail>
+    requires { IfSome workers (λ n. (1 ≤ n) × (n ≤ 16)) }
+{
+    let options = options_of(workers);
+    Ok(run_shared(rt, rt.alloc(), document.as_bytes(), &options)?)
+}
+
+fn serial(alloc: Global, document: &str) -> Result<Report, Fail> {
+    let options = options_of(None);
+    Ok(run_serial(alloc, document.as_bytes(), &options)?)
+}
+
+fn check_either(rt: &impl Abort, listing: &[u8], one: &str, other: &str) -> Result<(), Fail> {
+    let listing = str::from_utf8(listing)?;
+    assert!(rt; listing == one || listing == other, "{listing}");
+    Ok(())
+}
+
 // Up to more workers than statements: each statement is listed once, in one of the two orders.
 #[test]
 fn workers_list_each_statement_once(rt: HostRuntime) -> Result<(), Fail> {
     for workers in 2..17 {
-        let options = options_of(Some(workers));
-        let mut written = Vec::new(rt.alloc());
-        let status = run(
-            &rt,
-            rt.alloc(),
-            &mut DOCUMENT.as_bytes(),
-            &mut written,
-            &options,
-        )?;
+        let (listing, status) = written(&rt, DOCUMENT, workers)?;
         assert_eq!(rt; status, 1);
-        let listing = str::from_utf8(&written)?;
-        assert!(rt; listing == A_FIRST || listing == B_FIRST, "{listing}");
+        check_either(&rt, &listing, A_FIRST, B_FIRST)?;
     }
     Ok(())
 }
@@ -62,30 +95,33 @@ fn workers_list_each_statement_once(rt: HostRuntime) -> Result<(), Fail> {
 #[test]
 fn workers_share_a_text(rt: HostRuntime) -> Result<(), Fail> {
     for workers in 1..6 {
-        let options = options_of(Some(workers));
-        let report = run_shared(&rt, rt.alloc(), ONE_TEXT.as_bytes(), &options)?;
+        let report = shared(&rt, ONE_TEXT, Some(workers))?;
         assert_eq!(rt; report.refused, 0);
-        let listing = str::from_utf8(&report.bytes)?;
-        assert!(rt;
-            listing == FIRST_FIRST || listing == SECOND_FIRST,
-            "{listing}"
-        );
+        check_either(&rt, &report.bytes, FIRST_FIRST, SECOND_FIRST)?;
     }
+    Ok(())
+}
+
+fn check_order<R: Threads + Wait + Abort + AllocGlobal + Sync>(
+    rt: &R,
+    document: &str,
+    workers: Option<u32>,
+) -> Result<(), Fail>
+    requires { IfSome workers (λ n. (1 ≤ n) × (n ≤ 16)) }
+{
+    let serial = serial(rt.alloc(), document)?;
+    let shared = shared(rt, document, workers)?;
+    assert_eq!(rt; shared.bytes.as_slice(), serial.bytes.as_slice());
+    assert_eq!(rt; shared.refused, serial.refused);
     Ok(())
 }
 
 // One worker, also where none is asked for, performs the statements in their order.
 #[test]
 fn one_worker_keeps_the_order(rt: HostRuntime) -> Result<(), Fail> {
-    let options = options_of(None);
-    let one_worker = options_of(Some(1));
     for document in [DOCUMENT, ONE_TEXT] {
-        let serial = run_serial(rt.alloc(), document.as_bytes(), &options)?;
-        let shared = run_shared(&rt, rt.alloc(), document.as_bytes(), &options)?;
-        assert_eq!(rt; shared.bytes.as_slice(), serial.bytes.as_slice());
-        assert_eq!(rt; shared.refused, serial.refused);
-        let shared = run_shared(&rt, rt.alloc(), document.as_bytes(), &one_worker)?;
-        assert_eq!(rt; shared.bytes.as_slice(), serial.bytes.as_slice());
+        check_order(&rt, document, None)?;
+        check_order(&rt, document, Some(1))?;
     }
     Ok(())
 }

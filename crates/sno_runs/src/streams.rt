@@ -2,7 +2,10 @@
 use sno_rewrite::{Options, RunFault, run};
 use std::io;
 use std::io::{ErrorKind, Read, Write};
+use std::process::Abort;
+use std::sync::Wait;
 use std::test::Fail;
+use std::thread::Threads;
 
 const PLAIN: Options = Options {
     anchor: false,
@@ -79,75 +82,76 @@ fn reader_of(reads_left: usize, kind: ErrorKind) -> Pieces<'static> {
     }
 }
 
+// What comes of the run of the document between the reader and the writer.
+fn answer(
+    rt: &(impl Threads + Wait + AllocGlobal + Sync),
+    mut reader: Pieces<'_>,
+    writer: &mut Taker,
+) -> Result<u8, RunFault> {
+    let status = run(rt, rt.alloc(), &mut reader, writer, &PLAIN)?;
+    Ok(status)
+}
+
 // Pieces of 7 bytes in, one byte a call out: the whole listing, and the status of a refused statement.
 #[test]
 fn pieces_make_the_whole(rt: HostRuntime) -> Result<(), Fail> {
     let mut writer = writer_of(&rt, 1, 1_000);
-    let status = run(
-        &rt,
-        rt.alloc(),
-        &mut reader_of(1_000, ErrorKind::Other),
-        &mut writer,
-        &PLAIN,
-    )?;
+    let status = answer(&rt, reader_of(1_000, ErrorKind::Other), &mut writer)?;
     assert_eq!(rt; status, 1);
     assert_eq!(rt; writer.taken.as_slice(), LISTING.as_bytes());
     Ok(())
 }
 
-// Each read that the document meets fails in turn, an interrupted one too: nothing is written.
+// A read that fails so behind so many others is told, and nothing is written.
+fn check_read(
+    rt: &(impl Threads + Wait + Abort + AllocGlobal + Sync),
+    reads: usize,
+    kind: ErrorKind,
+) {
+    let mut writer = writer_of(rt, 1_000, 1_000);
+    let answer = answer(rt, reader_of(reads, kind), &mut writer);
+    assert_eq!(rt; answer, Err(RunFault::Read), "after {reads} reads");
+    assert!(rt; writer.taken.is_empty());
+}
+
+// Each read that the document meets fails in turn, an interrupted one too.
 #[test]
-fn a_read_that_fails_ends_the_run(rt: HostRuntime) -> Result<(), Fail> {
+fn a_read_that_fails_ends_the_run(rt: HostRuntime) {
     for reads in 0..DOCUMENT.len().div_ceil(7) + 1 {
-        for kind in [ErrorKind::Interrupted, ErrorKind::Other] {
-            let mut writer = writer_of(&rt, 1_000, 1_000);
-            let answer = run(
-                &rt,
-                rt.alloc(),
-                &mut reader_of(reads, kind),
-                &mut writer,
-                &PLAIN,
-            );
-            assert_eq!(rt; answer, Err(RunFault::Read), "after {reads} reads");
-            assert!(rt; writer.taken.is_empty());
-        }
+        check_read(&rt, reads, ErrorKind::Interrupted);
+        check_read(&rt, reads, ErrorKind::Other);
     }
-    Ok(())
 }
 
 // A write that fails ends the run, and so does one that takes no byte.
 #[test]
-fn a_write_that_fails_ends_the_run(rt: HostRuntime) -> Result<(), Fail> {
+fn a_write_that_fails_ends_the_run(rt: HostRuntime) {
     for (most, writes) in [(0, 1_000), (10, 0), (10, 1), (10, 5), (1, 50)] {
         let mut writer = writer_of(&rt, most, writes);
-        let answer = run(
-            &rt,
-            rt.alloc(),
-            &mut reader_of(1_000, ErrorKind::Other),
-            &mut writer,
-            &PLAIN,
-        );
+        let answer = answer(&rt, reader_of(1_000, ErrorKind::Other), &mut writer);
         assert_eq!(rt;
             answer,
             Err(RunFault::Write),
             "{most} bytes, {writes} times"
         );
     }
-    Ok(())
+}
+
+// What comes of the run of so many blanks.
+fn of_blanks(
+    rt: &(impl Threads + Wait + AllocGlobal + Sync),
+    length: usize,
+) -> Result<Result<u8, RunFault>, Fail> {
+    let blanks = vec![in rt.alloc(); b' '; length]?;
+    let mut writer = writer_of(rt, 1_000, 1_000);
+    let mut reader = blanks.as_slice();
+    Ok(run(rt, rt.alloc(), &mut reader, &mut writer, &PLAIN))
 }
 
 // One byte more than a document has is too long, blanks as they are; as many are no JSON.
 #[test]
 fn the_longest_input(rt: HostRuntime) -> Result<(), Fail> {
-    for (length, fault) in [
-        (16_777_216, RunFault::NotJson),
-        (16_777_217, RunFault::DocumentTooLong),
-    ] {
-        let blanks = vec![in rt.alloc(); b' '; length]?;
-        let mut writer = writer_of(&rt, 1_000, 1_000);
-        let mut reader = blanks.as_slice();
-        let answer = run(&rt, rt.alloc(), &mut reader, &mut writer, &PLAIN);
-        assert_eq!(rt; answer, Err(fault), "of {length} blanks");
-    }
+    assert_eq!(rt; of_blanks(&rt, 16_777_216)?, Err(RunFault::NotJson));
+    assert_eq!(rt; of_blanks(&rt, 16_777_217)?, Err(RunFault::DocumentTooLong));
     Ok(())
 }
