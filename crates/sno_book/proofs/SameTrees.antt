@@ -1,5 +1,5 @@
 -- The trees that are the same by `same_tree` are the equal ones.
-use Rattle.std.proofs.Common.{◌≡◌, ℕ, Bool, true, false, ◌&&◌, nat_eq, List, refl, ap, subst}
+use Rattle.std.proofs.Common.{◌≡◌, ℕ, true, nat_eq, List, refl, ap, subst}
 use Rattle.std.specs.Bool.{Decides}
 use Rattle.std.proofs.lemmas.Bool.{eqb-true, eq-eqb, and_from, and_parts}
 use Rattle.std.proofs.lemmas.Slice.Eq.{bytes_eq-Decides}

@@ -1,5 +1,5 @@
 -- What a text spells refers to definitions alone.
-use Rattle.std.proofs.Common.{◌≡◌, ℕ, Bool, true, ◌&&◌, List, length, Some, refl, IsTrue, arith}
+use Rattle.std.proofs.Common.{◌≡◌, ℕ, true, List, length, Some, refl, IsTrue, arith}
 use Rattle.std.proofs.lemmas.Bool.{and_from, lt-ltb}
 use Rattle.sno_pattern.specs.Tree.{Tree, refs_below}
 use Rattle.sno_pattern.specs.Identifiers.{same}
