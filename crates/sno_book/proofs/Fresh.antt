@@ -1,7 +1,7 @@
 -- A proposal on a text as it stands.
-use Rattle.std.proofs.Common.{◌≡◌, ◌≢◌, ℕ, Bool, true, false, cond, ◌&&◌, nat_eq, List, [], ◌∷◌, length, Option, Some, None, refl, ap, sym, ◌∙◌}
+use Rattle.std.proofs.Common.{◌≡◌, ◌≢◌, ℕ, Bool, true, false, cond, nat_eq, List, [], ◌∷◌, length, Option, Some, None, refl, ap, sym, ◌∙◌}
 use Rattle.std.specs.Arc.{arc_value}
-use Rattle.std.proofs.lemmas.Bool.{eq-eqb, eqb-true}
+use Rattle.std.proofs.lemmas.Bool.{eq-eqb, eqb-true, and_from}
 use Rattle.sno_pattern.specs.Identifiers.{same}
 use Rattle.sno_statement.specs.Task.{Task}
 use Rattle.sno_book.specs.States.{Held}
@@ -11,13 +11,9 @@ use Rattle.sno_book.specs.declared.faults.CommitFault.{CommitFault}
 use Rattle.sno_book.specs.declared.faults.CommitFault.TheVariants.{Changed, Foreign, Full}
 use Rattle.sno_book.proofs.BookLaws.{refusal_there}
 
-both_true : (b c : Bool) → b ≡ true → c ≡ true → b && c ≡ true
-both_true true c h g = g
-both_true false c h g = cc
-
 pub same_self : (t : List ℕ) → same t t ≡ true
 same_self [] = refl
-same_self (c ∷ t) = both_true (nat_eq c c) (same t t) (eq-eqb c c refl) (same_self t)
+same_self (c ∷ t) = and_from (nat_eq c c) (same t t) (eq-eqb c c refl) (same_self t)
 
 same_equal : (s t : List ℕ) → s ≡ t → same s t ≡ true
 same_equal s t h = rw h (same_self t)

@@ -1,11 +1,11 @@
 -- Texts at the places of their names.
-use Rattle.std.proofs.Common.{◌≡◌, ℕ, zero, suc, ◌+◌, ◌<◌, ◌≤◌, Bool, true, false, cond, ◌&&◌, nat_eq, List, [], ◌∷◌, length, set, Option, Some, None, slice_get, refl, ap, sym, ◌∙◌, arith}
+use Rattle.std.proofs.Common.{◌≡◌, ℕ, zero, suc, ◌+◌, ◌<◌, ◌≤◌, Bool, true, false, cond, nat_eq, List, [], ◌∷◌, length, set, Option, Some, None, slice_get, refl, ap, sym, ◌∙◌, arith}
 use Rattle.std.specs.List.{position_from}
 use Rattle.std.specs.Arc.{arc_value}
 use Rattle.std.specs.declared.sync.Arc.{Arc}
 use Rattle.std.proofs.Common.{Global}
 use Rattle.std.specs.Option.{option_map}
-use Rattle.std.proofs.lemmas.Bool.{eqb-true}
+use Rattle.std.proofs.lemmas.Bool.{eqb-true, and_parts}
 use Rattle.sno_pattern.specs.Identifiers.{same}
 use Rattle.sno_pattern.specs.NameList.{place_of}
 use Rattle.sno_book.specs.States.{Held, State, find, raised, renew, renew_by}
@@ -13,17 +13,13 @@ use Rattle.sno_book.specs.Shelves.{held_of}
 use Rattle.sno_book.specs.declared.shelves.Standing.{Standing}
 use Rattle.sno_book.proofs.Steps.{VersionsBelow}
 
-both : (b c : Bool) → b && c ≡ true → (b ≡ true) × (c ≡ true)
-both true c h = (refl, h)
-both false c h = cc
-
 -- names of the same characters are equal
 pub same_is : (a b : List ℕ) → same a b ≡ true → a ≡ b
 same_is [] [] h = refl
 same_is [] (y ∷ b) h = cc
 same_is (x ∷ a) [] h = cc
 same_is (x ∷ a) (y ∷ b) h =
-    let hs = both (nat_eq x y) (same a b) h in
+    let hs = and_parts (nat_eq x y) (same a b) h in
     let head : x ≡ y = eqb-true x y hs.0 in
     let tail = same_is a b hs.1 in cc
 

@@ -1,16 +1,12 @@
 -- The trees that are the same by `same_tree` are the equal ones.
-use Rattle.std.proofs.Common.{◌≡◌, ℕ, Bool, true, false, ◌&&◌, nat_eq, List, refl, ap, subst}
+use Rattle.std.proofs.Common.{◌≡◌, ℕ, true, nat_eq, List, refl, ap, subst}
 use Rattle.std.specs.Bool.{Decides}
-use Rattle.std.proofs.lemmas.Bool.{eqb-true, eq-eqb}
+use Rattle.std.proofs.lemmas.Bool.{eqb-true, eq-eqb, and_from, and_parts}
 use Rattle.std.proofs.lemmas.Slice.Eq.{bytes_eq-Decides}
 use Rattle.sno_pattern.specs.Identifiers.{same}
 use Rattle.sno_pattern.specs.Tree.{Tree, Lit, Len, Pos, Rpos, Tab, Rtab, AnyOf, NoneOf, Span, Break, Arb, Arbno, Bal, Rem, Fence, Abort, Fail, At, Ref, Seq, Alt, Cond, Imm}
 use Rattle.sno_book.specs.SamePatterns.{same_leaf, same_tree}
 use Rattle.sno_book.proofs.Places.{same_is}
-
-both : (b c : Bool) → b && c ≡ true → (b ≡ true) × (c ≡ true)
-both true c h = (refl, h)
-both false c h = cc
 
 leaf_is : (t u : Tree) → same_leaf t u ≡ true → t ≡ u
 leaf_is (Lit s) (Lit t) h = ap Lit (same_is s t h)
@@ -36,18 +32,14 @@ leaf_is _ _ h = cc
 tree_is : (t u : Tree) → same_tree t u ≡ true → t ≡ u
 tree_is (Arbno p) (Arbno q) h = ap Arbno (tree_is p q h)
 tree_is (Seq p r) (Seq q s) h =
-    let hs = both (same_tree p q) (same_tree r s) h in let left = tree_is p q hs.0 in let right = tree_is r s hs.1 in (λ i. Seq (left i) (right i))
+    let hs = and_parts (same_tree p q) (same_tree r s) h in let left = tree_is p q hs.0 in let right = tree_is r s hs.1 in (λ i. Seq (left i) (right i))
 tree_is (Alt p r) (Alt q s) h =
-    let hs = both (same_tree p q) (same_tree r s) h in let left = tree_is p q hs.0 in let right = tree_is r s hs.1 in (λ i. Alt (left i) (right i))
+    let hs = and_parts (same_tree p q) (same_tree r s) h in let left = tree_is p q hs.0 in let right = tree_is r s hs.1 in (λ i. Alt (left i) (right i))
 tree_is (Cond p v) (Cond q w) h =
-    let hs = both (same v w) (same_tree p q) h in let called = same_is v w hs.0 in let below = tree_is p q hs.1 in (λ i. Cond (below i) (called i))
+    let hs = and_parts (same v w) (same_tree p q) h in let called = same_is v w hs.0 in let below = tree_is p q hs.1 in (λ i. Cond (below i) (called i))
 tree_is (Imm p v) (Imm q w) h =
-    let hs = both (same v w) (same_tree p q) h in let called = same_is v w hs.0 in let below = tree_is p q hs.1 in (λ i. Imm (below i) (called i))
+    let hs = and_parts (same v w) (same_tree p q) h in let called = same_is v w hs.0 in let below = tree_is p q hs.1 in (λ i. Imm (below i) (called i))
 tree_is p q h = leaf_is p q h
-
-joined : (b c : Bool) → b ≡ true → c ≡ true → b && c ≡ true
-joined true c h g = g
-joined false c h g = cc
 
 self_text : (s : List ℕ) → same s s ≡ true
 self_text s = (bytes_eq-Decides s s).1 refl
@@ -75,10 +67,10 @@ tree_self Abort = refl
 tree_self Fail = refl
 tree_self (At v) = self_text v
 tree_self (Ref i) = self_number i
-tree_self (Seq p q) = joined (same_tree p p) (same_tree q q) (tree_self p) (tree_self q)
-tree_self (Alt p q) = joined (same_tree p p) (same_tree q q) (tree_self p) (tree_self q)
-tree_self (Cond p v) = joined (same v v) (same_tree p p) (self_text v) (tree_self p)
-tree_self (Imm p v) = joined (same v v) (same_tree p p) (self_text v) (tree_self p)
+tree_self (Seq p q) = and_from (same_tree p p) (same_tree q q) (tree_self p) (tree_self q)
+tree_self (Alt p q) = and_from (same_tree p p) (same_tree q q) (tree_self p) (tree_self q)
+tree_self (Cond p v) = and_from (same v v) (same_tree p p) (self_text v) (tree_self p)
+tree_self (Imm p v) = and_from (same v v) (same_tree p p) (self_text v) (tree_self p)
 
 -- the same trees are the equal ones
 pub tree_decides : (t u : Tree) → Decides (same_tree t u) (t ≡ u)

@@ -1,5 +1,5 @@
 -- Journals one entry longer, and versions over the steps of a journal.
-use Rattle.std.proofs.Common.{◌≡◌, ℕ, suc, ◌+◌, ◌≤◌, Bool, true, false, cond, List, [], ◌∷◌, ◌++◌, length, map, Option, Some, None, refl, ap, subst, ◌∙◌, arith}
+use Rattle.std.proofs.Common.{◌≡◌, ℕ, suc, ◌+◌, ◌≤◌, Bool, true, false, cond, List, [], ◌∷◌, ◌++◌, length, Option, Some, None, refl, subst, arith}
 use Rattle.sno_pattern.specs.Identifiers.{same}
 use Rattle.sno_book.specs.States.{Held, State, raised, renew, renew_by}
 use Rattle.sno_book.specs.Entries.{Entry, after_of}

@@ -6,12 +6,10 @@ use denote.Struct.Field.{row_field}
 use denote.Struct.Tuple.{TupleAt, type_at, parts}
 use denote.Param.Send.{IsSend, IsSync, AllSync, sendable}
 use denote.Param.SendFields.{FieldsHave, as_row_sync, declared_sync}
-use Rattle.std.proofs.Crossing.{crosses, Arc-sync}
+use Rattle.std.proofs.Crossing.{crosses}
 use Rattle.std.proofs.sync.ledger.Share.TheSendSync as share
 use Rattle.std.proofs.sync.ledger.Book.TheSendSync as total
 use Rattle.std.specs.declared.sync.ledger.Ledger.{Ghosts}
-use Rattle.sno_statement.specs.contracts.statements.Statement as Statement
-use Rattle.sno_book.specs.contracts.openings.Opening as Opening
 use Rattle.sno_book.proofs.openings.Opening.TheSendSync as opening
 use Rattle.sno_book.specs.contracts.books.Book as Book
 use Rattle.sno_book.specs.contracts.entries.Receipt as Receipt

@@ -1,5 +1,5 @@
 -- Openings with the same rows and the same room are one.
-use Rattle.std.proofs.Common.{◌≡◌, ◌<◌, ℕ, List, [], Some, Option, length, get_or, sym, ◌∙◌, ap}
+use Rattle.std.proofs.Common.{◌≡◌, ◌<◌, ℕ, List, [], length, get_or, ◌∙◌, ap}
 use Rattle.std.specs.Prelude.{slice_get}
 use Rattle.std.proofs.lemmas.List.{ext_get_or}
 use Rattle.std.proofs.lemmas.Option.{slice_get-get_or}

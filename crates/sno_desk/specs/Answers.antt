@@ -1,5 +1,5 @@
 -- What a submit answers.
-use Rattle.std.specs.Prelude.{◌≡◌, ◌≢◌, ◌≤◌, ℕ, List, length, Result, Ok, Err, IsTrue}
+use Rattle.std.specs.Prelude.{◌≡◌, ◌≢◌, ◌≤◌, ℕ, Bool, true, false, List, length, Result, Ok, Err, IsTrue}
 use Rattle.std.specs.List.{list_all}
 use Rattle.std.specs.Char.{is_ascii}
 use Rattle.sno_statement.specs.Task.{Task}
@@ -49,6 +49,17 @@ SpentAt seats accepted submit.TextTooLong = Unit {0}
 SpentAt seats accepted submit.Foreign = Unit {0}
 SpentAt seats accepted submit.Full = Unit {0}
 SpentAt seats accepted submit.Memory = Unit {0}
+
+-- the text changed under the try
+abbrev pub is_lost : Answer → Bool
+is_lost (Ok receipt) = false
+is_lost (Err (submit.TriesSpent seen now)) = true
+is_lost (Err submit.NoText) = false
+is_lost (Err submit.GateShut) = false
+is_lost (Err submit.TextTooLong) = false
+is_lost (Err submit.Foreign) = false
+is_lost (Err submit.Full) = false
+is_lost (Err submit.Memory) = false
 
 -- an answer adds one to what its seat has accepted exactly where it is a receipt
 abbrev pub added_by : Answer → ℕ

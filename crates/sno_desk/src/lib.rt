@@ -40,8 +40,8 @@
 //! comes: what a call with `rt` promises holds if it returns. No lock is held at the gate or while matching, and no call takes a second lock
 //! while it holds one; tests show that two statements overlap. Which seat made an entry is not kept. A function that takes the lock can't say
 //! what the book was at that moment, so no clause of `snapshot` says which text it is, and none of `submit` why it answered `NoText`,
-//! `Foreign` or `Full`. That all tries were used before `TriesSpent` is shown by a test. Want of memory is a possible answer of each call that
-//! says so, and no clause says that memory is there.
+//! `Foreign` or `Full`. That all tries were used before `TriesSpent`, and what the gate was told, is shown by tests. Want of memory is a possible
+//! answer of each call that says so, and no clause says that memory is there.
 #![tactic(auto)]
 
 mod closing;

@@ -52,11 +52,10 @@ impl<L: Ledger> Seat<L> {
 
     /// One more was accepted, of the book's total too.
     pub(crate) fn count(&mut self, total: &mut ledger::Book<L>)
-        requires { total.old.total + 1 < 2 ^ 64 }
+        requires { self.old.accepted + 1 < 2 ^ 64 }
         ensures accepted { self.new.accepted ≡ self.old.accepted + 1 }
         ensures total { total.new.total ≡ total.old.total + 1 }
     {
-        total.audit(&mut self.share);
         total.add(&mut self.share, 1);
         self.accepted += 1;
     }

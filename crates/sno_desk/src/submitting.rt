@@ -1,7 +1,7 @@
 //! Submits: snapshot, gate, matching and commit, until the text stays as it was under one of them.
 ghost use Rattle.std.specs.Prelude.{◌≡◌, ◌+◌, ◌≤◌, true, IfOk, IfErr};
 ghost use Rattle.std.specs.Arc.{arc_value};
-ghost use Rattle.sno_desk.specs.Answers.{Answers, SpentAt, added_by};
+ghost use Rattle.sno_desk.specs.Answers.{Answers, SpentAt, added_by, is_lost};
 ghost use Rattle.sno_desk.specs.Receipts.{StandsBehind};
 
 use crate::{Desk, Gate, Seat, SubmitFault};
@@ -13,7 +13,8 @@ use std::sync::{Arc, Wait};
 
 /// Whether the text changed under the try.
 fn is_lost(answer: &Result<Receipt, SubmitFault>) -> bool
-    ensures { result ≡ true → added_by answer.now ≡ 0 }
+    ensures value { result ≡ is_lost answer.now }
+    ensures none { result ≡ true → added_by answer.now ≡ 0 }
 {
     matches!(answer, Err(SubmitFault::TriesSpent { .. }))
 }

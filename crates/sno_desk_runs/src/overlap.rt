@@ -15,13 +15,25 @@ use std::time::{Clock, Duration};
 
 const TURNS: usize = 1_000;
 
-/// Holds statement 2 at attempt 1 until statement 1 has come to attempt 1, and statement 1 there until statement 2 has its answer.
+/// Holds statement 2 at attempt 1 until statement 1 has come to attempt 1, and statement 1 there until statement 2 has its answer. It notes what
+/// it is told: the attempts of statement 1, a digit each; and how many answers were receipts and how many refusals, ones for statement 1 and
+/// hundreds for statement 2.
 #[derive(Drop)]
 struct Held<'a, C: Clock> {
     clock: &'a C,
     first_came: AtomicBool,
     second_done: AtomicBool,
-    first_passes: AtomicU32,
+    attempts: AtomicU32,
+    accepted: AtomicU32,
+    refused: AtomicU32,
+}
+
+/// What a gate was told.
+#[derive(Clone, Copy)]
+struct Told {
+    attempts: u32,
+    accepted: u32,
+    refused: u32,
 }
 
 impl<C: Clock> Held<'_, C> {
@@ -42,7 +54,11 @@ impl<C: Clock> Gate for Held<'_, C> {
 
     fn pass<R: Wait>(&self, _rt: &R, number: u32, attempt: u32) -> bool {
         if number == 1 {
-            self.first_passes.fetch_add(1, Ordering::SeqCst);
+            let earlier = self.attempts.load(Ordering::SeqCst);
+            self.attempts.store(
+                earlier.wrapping_mul(10).wrapping_add(attempt),
+                Ordering::SeqCst,
+            );
         }
         match (number, attempt) {
             (1, 1) => {
@@ -54,19 +70,25 @@ impl<C: Clock> Gate for Held<'_, C> {
         }
     }
 
-    fn done<R: Wait>(&self, _rt: &R, number: u32, _accepted: bool) {
+    fn done<R: Wait>(&self, _rt: &R, number: u32, accepted: bool) {
+        let one = if number == 1 { 1 } else { 100 };
+        if accepted {
+            self.accepted.fetch_add(one, Ordering::SeqCst);
+        } else {
+            self.refused.fetch_add(one, Ordering::SeqCst);
+        }
         if number == 2 {
             self.second_done.store(true, Ordering::SeqCst);
         }
     }
 }
 
-/// Both statements submitted by two seats, and how often statement 1 came to the gate.
+/// Both statements submitted by two seats, and what the gate was told.
 fn overlapped<R: Threads + Wait + Clock + Abort + Sync>(
     rt: &R,
     alloc: Global,
     tries: u32,
-) -> Result<(Day, u32), Fail>
+) -> Result<(Day, Told), Fail>
     requires { (1 ≤ tries) × (tries ≤ 1000) }
 {
     let rules = rules(rt, alloc)?;
@@ -77,7 +99,9 @@ fn overlapped<R: Threads + Wait + Clock + Abort + Sync>(
         clock: rt,
         first_came: AtomicBool::new(false),
         second_done: AtomicBool::new(false),
-        first_passes: AtomicU32::new(0),
+        attempts: AtomicU32::new(0),
+        accepted: AtomicU32::new(0),
+        refused: AtomicU32::new(0),
     };
     let day = run_day(
         rt,
@@ -88,7 +112,12 @@ fn overlapped<R: Threads + Wait + Clock + Abort + Sync>(
         tries,
         &gate,
     )?;
-    Ok((day, gate.first_passes.load(Ordering::SeqCst)))
+    let told = Told {
+        attempts: gate.attempts.load(Ordering::SeqCst),
+        accepted: gate.accepted.load(Ordering::SeqCst),
+        refused: gate.refused.load(Ordering::SeqCst),
+    };
+    Ok((day, told))
 }
 
 fn check_bound(rt: &impl Abort, datum: Option<&Datum>, wanted: &str) {
@@ -116,10 +145,12 @@ fn check_text(rt: &impl Abort, day: &Day, text: &str, version: u64) {
 
 #[test]
 fn a_text_that_changed_is_matched_again(rt: HostRuntime) -> Result<(), Fail> {
-    let (day, passes) = overlapped(&rt, rt.alloc(), 2)?;
+    let (day, told) = overlapped(&rt, rt.alloc(), 2)?;
     assert_eq!(rt; day.replies.len(), 2);
     assert!(rt; day.replies[0].is_ok() && day.replies[1].is_ok());
-    assert_eq!(rt; passes, 2);
+    assert_eq!(rt; told.attempts, 12);
+    assert_eq!(rt; told.accepted, 101);
+    assert_eq!(rt; told.refused, 0);
     check_text(&rt, &day, "zz", 2);
     assert_eq!(rt; day.book.journal().len(), 2);
     check_entry(&rt, &day, 0, 2, 0);
@@ -136,14 +167,16 @@ fn a_text_that_changed_is_matched_again(rt: HostRuntime) -> Result<(), Fail> {
 
 #[test]
 fn tries_are_spent(rt: HostRuntime) -> Result<(), Fail> {
-    let (day, passes) = overlapped(&rt, rt.alloc(), 1)?;
+    let (day, told) = overlapped(&rt, rt.alloc(), 1)?;
     assert_eq!(rt; day.replies.len(), 2);
     match &day.replies[0] {
         Ok(_) => assert!(rt; false, "it was accepted"),
         Err(fault) => assert_eq!(rt; *fault, SubmitFault::TriesSpent { seen: 0, now: 1 }),
     }
     assert!(rt; day.replies[1].is_ok());
-    assert_eq!(rt; passes, 1);
+    assert_eq!(rt; told.attempts, 1);
+    assert_eq!(rt; told.accepted, 100);
+    assert_eq!(rt; told.refused, 1);
     assert_eq!(rt; day.shares.as_slice(), [0u64, 1].as_slice());
     check_text(&rt, &day, "z", 1);
     assert_eq!(rt; day.book.journal().len(), 1);

@@ -1,6 +1,6 @@
 -- What a text spells refers to definitions alone.
-use Rattle.std.proofs.Common.{◌≡◌, ℕ, Bool, true, ◌&&◌, List, length, Some, refl, IsTrue, arith}
-use Rattle.std.proofs.lemmas.Bool.{lt-ltb}
+use Rattle.std.proofs.Common.{◌≡◌, ℕ, true, List, length, Some, refl, IsTrue, arith}
+use Rattle.std.proofs.lemmas.Bool.{and_from, lt-ltb}
 use Rattle.sno_pattern.specs.Tree.{Tree, refs_below}
 use Rattle.sno_pattern.specs.Identifiers.{same}
 use Rattle.sno_pattern.specs.NameList.{place_of}
@@ -13,9 +13,6 @@ use Rattle.sno_read.specs.declared.keywords.NumberCall.TheVariants as numbers
 use Rattle.sno_read.specs.declared.keywords.SetCall.{SetCall}
 use Rattle.sno_read.specs.declared.keywords.SetCall.TheVariants as sets
 use Rattle.sno_document.proofs.PlaceLemmas.{position_inside}
-
-both : (a b : Bool) → a ≡ true → b ≡ true → (a && b) ≡ true
-both a b h g = λ i. h i && g i
 
 word_covered : (n : ℕ) (w : Word) → refs_below n (word_tree w) ≡ true
 word_covered n words.Arb = refl
@@ -61,11 +58,11 @@ module _ (names : List (List ℕ)) (earlier : ℕ) where
 
     concatenation_covered : {k : ℕ} {x : List ℕ} {t : Tree} → IsConcatenation names earlier k x t → refs_below (length names) t ≡ true
     concatenation_covered (IsConcatenation.single x t i) = item_covered i
-    concatenation_covered (IsConcatenation.followed x b y t u i g c) = both _ _ (item_covered i) (concatenation_covered c)
+    concatenation_covered (IsConcatenation.followed x b y t u i g c) = and_from _ _ (item_covered i) (concatenation_covered c)
 
     alternation_covered : {k : ℕ} {x : List ℕ} {t : Tree} → IsAlternation names earlier k x t → refs_below (length names) t ≡ true
     alternation_covered (IsAlternation.only x t c) = concatenation_covered c
-    alternation_covered (IsAlternation.otherwise x b c y t u p g h a) = both _ _ (concatenation_covered p) (alternation_covered a)
+    alternation_covered (IsAlternation.otherwise x b c y t u p g h a) = and_from _ _ (concatenation_covered p) (alternation_covered a)
 
 -- each reference of a pattern that a text spells is to a definition
 pub spelled_covered : (names : List (List ℕ)) (earlier : ℕ) (text : List ℕ) (t : Tree) → Spells names earlier text t → IsTrue (refs_below (length names) t)

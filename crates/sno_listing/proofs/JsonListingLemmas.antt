@@ -1,9 +1,9 @@
 -- What is listed as JSON is ASCII and has no float.
-use Rattle.std.proofs.Common.{◌≡◌, ℕ, suc, ◌+◌, ◌<◌, Bool, true, false, ◌&&◌, ◌||◌, List, [], ◌∷◌, ◌++◌, length, get_or, drop, map, Some, None, slice_get, IsTrue, refl, sym, ap, ◌∙◌, arith, add-one, drop-cons, append_assoc}
+use Rattle.std.proofs.Common.{◌≡◌, ℕ, suc, ◌+◌, ◌<◌, Bool, true, false, ◌||◌, List, [], ◌∷◌, ◌++◌, length, get_or, drop, map, Some, None, slice_get, IsTrue, refl, sym, ap, ◌∙◌, arith, add-one, drop-cons, append_assoc}
 use Rattle.std.specs.List.{list_all}
 use Rattle.std.specs.Char.{is_ascii, is_ascii_graphic}
 use Rattle.std.specs.Str.{IsAscii, IsUtf8}
-use Rattle.std.proofs.lemmas.Bool.{and_parts, ltb-true}
+use Rattle.std.proofs.lemmas.Bool.{and_from, and_parts, ltb-true}
 use Rattle.std.proofs.lemmas.Bool.Decides.{nat_tests}
 use Rattle.std.proofs.lemmas.List.{map-append}
 use Rattle.std.proofs.lemmas.Option.{slice_get-get_or, slice_get_within}
@@ -25,9 +25,6 @@ use Rattle.sno_listing.specs.History.{History}
 use Rattle.sno_listing.specs.declared.refusals.Refusal.{Refusal}
 use Rattle.sno_listing.specs.JsonListing.{text_data, value_data, binding_data, subject_members, matched_members, failed_members, done_members, entries_data, refused_data, json_listing_data}
 
-both : (a b : Bool) → a ≡ true → b ≡ true → (a && b) ≡ true
-both a b h g = λ i. h i && g i
-
 neither : (a b : Bool) → a ≡ false → b ≡ false → (a || b) ≡ false
 neither a b h g = λ i. h i || g i
 
@@ -41,7 +38,7 @@ ascii_utf8 bytes h = IsUtf8-from_ascii bytes (from_all bytes h)
 
 wider : (p q : ℕ → Bool) → ((c : ℕ) → p c ≡ true → q c ≡ true) → (bytes : List ℕ) → list_all p bytes ≡ true → list_all q bytes ≡ true
 wider p q more [] h = refl
-wider p q more (b ∷ bytes) h = let both_hold = and_parts (p b) (list_all p bytes) h in both (q b) (list_all q bytes) (more b both_hold.0) (wider p q more bytes both_hold.1)
+wider p q more (b ∷ bytes) h = let both_hold = and_parts (p b) (list_all p bytes) h in and_from (q b) (list_all q bytes) (more b both_hold.0) (wider p q more bytes both_hold.1)
 
 letter_ascii : (c : ℕ) → is_letter c ≡ true → is_ascii c ≡ true
 unfolding is_letter
@@ -59,7 +56,7 @@ pub name_ascii : (name : List ℕ) → IsTrue (is_name name) → IsTrue (list_al
 name_ascii [] h = refl
 name_ascii (c ∷ cs) h =
     let parts = and_parts (is_letter c) _ h in
-    both (is_ascii c) (list_all is_ascii cs) (letter_ascii c parts.0) (wider is_name_char is_ascii name_char_ascii cs (and_parts (list_all is_name_char cs) _ parts.1).0)
+    and_from (is_ascii c) (list_all is_ascii cs) (letter_ascii c parts.0) (wider is_name_char is_ascii name_char_ascii cs (and_parts (list_all is_name_char cs) _ parts.1).0)
 
 -- the names of texts are ASCII
 pub text_name_ascii : (name : List ℕ) → IsTrue (is_text_name name) → IsTrue (list_all is_ascii name)

@@ -3,9 +3,9 @@ use Rattle.std.proofs.Common.{◌≡◌, ℕ, zero, suc, ◌+◌, ◌<◌, List,
 use Rattle.std.specs.List.{All, flat_map, list_all}
 use Rattle.std.specs.Char.{is_ascii}
 use Rattle.std.specs.Fmt.{decimal}
-use Rattle.std.specs.Prelude.{codes, IsTrue, Bool, true, ◌&&◌, ◌^◌}
+use Rattle.std.specs.Prelude.{codes, IsTrue, true, ◌^◌}
 use Rattle.std.specs.Str.{IsAscii}
-use Rattle.std.proofs.lemmas.Bool.{lt-ltb}
+use Rattle.std.proofs.lemmas.Bool.{and_from, lt-ltb}
 use Rattle.std.proofs.lemmas.Fmt.{IsAscii-decimal}
 use Rattle.std.proofs.lemmas.List.Elements.{All-head, All-tail}
 use Rattle.std.proofs.lemmas.List.Folds.{list_all-append}
@@ -38,15 +38,12 @@ binding_step out new all bound i b is put so_far =
     ap (λ (l : List ℕ). l ++ flat_map binding_line (drop (i + 1) bound)) put ∙ append_assoc out (binding_line b) (flat_map binding_line (drop (i + 1) bound))
     ∙ ap (λ (l : List ℕ). out ++ l) (sym (binding_next bound i b is)) ∙ so_far
 
-both : (a b : Bool) → a ≡ true → b ≡ true → (a && b) ≡ true
-both a b h g = λ i. h i && g i
-
 joined_ascii : (xs ys : List ℕ) → list_all is_ascii xs ≡ true → list_all is_ascii ys ≡ true → list_all is_ascii (xs ++ ys) ≡ true
-joined_ascii xs ys h g = list_all-append is_ascii xs ys ∙ both (list_all is_ascii xs) (list_all is_ascii ys) h g
+joined_ascii xs ys h g = list_all-append is_ascii xs ys ∙ and_from (list_all is_ascii xs) (list_all is_ascii ys) h g
 
 below_ascii : (xs : List ℕ) → All (λ b. b < 128) xs → list_all is_ascii xs ≡ true
 below_ascii [] h = refl
-below_ascii (x ∷ xs) h = both (is_ascii x) (list_all is_ascii xs) (lt-ltb x 128 (All-head (λ b. b < 128) x xs h)) (below_ascii xs (All-tail (λ b. b < 128) x xs h))
+below_ascii (x ∷ xs) h = and_from (is_ascii x) (list_all is_ascii xs) (lt-ltb x 128 (All-head (λ b. b < 128) x xs h)) (below_ascii xs (All-tail (λ b. b < 128) x xs h))
 
 all_ascii : (xs : List ℕ) → IsAscii xs → list_all is_ascii xs ≡ true
 all_ascii xs h = below_ascii xs (All-from_ascii xs h)

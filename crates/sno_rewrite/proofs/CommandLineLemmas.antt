@@ -1,12 +1,12 @@
 -- What `clap` reads of words.
-use Rattle.std.proofs.Common.{◌≡◌, ◌⊎◌, ℕ, Bool, true, false, ◌&&◌, cond, List, [], ◌∷◌, length, map, Option, Some, None, Result, Ok, Err, IfOk, unwrap_or, nat_lt, string_bytes, String, Global, refl, sym, ap, subst, ◌∙◌, inl, inr, codes}
+use Rattle.std.proofs.Common.{◌≡◌, ◌⊎◌, ℕ, Bool, true, false, cond, List, [], ◌∷◌, length, map, Option, Some, None, Result, Ok, Err, IfOk, unwrap_or, nat_lt, string_bytes, String, Global, refl, sym, ap, subst, ◌∙◌, inl, inr, codes}
 use Rattle.std.specs.List.{list_all}
 use Rattle.std.specs.Option.{option_map_or}
 use Rattle.std.specs.Prelude.{option_and_then}
 use Rattle.std.specs.Char.{digit_value}
 use Rattle.std.specs.Str.{bytes_eq}
 use Rattle.std.specs.Str.Parse.{AllDigits, ParsesBool, ParsesUnsigned, digits_value, without_leading_plus}
-use Rattle.std.proofs.lemmas.Bool.{and_parts, lt-ltb, ltb-true}
+use Rattle.std.proofs.lemmas.Bool.{and_from, and_parts, lt-ltb, ltb-true}
 use Rattle.std.proofs.lemmas.Slice.Eq.{bytes_eq-Decides}
 use Rattle.clap.specs.Words.{App, IsAmong, ReadsOne, Row, Text, fault_of, is_simple, is_simple_and_free, matches_of}
 use Rattle.clap.specs.declared.error.kind.ErrorKind.{ErrorKind}
@@ -16,9 +16,6 @@ use Rattle.sno_rewrite.specs.CommandLine.{AreRefused, IsAnswer, IsChecked, Tells
 use Rattle.sno_rewrite.specs.declared.options.Options.{Options}
 use Rattle.sno_rewrite.specs.declared.command_line.OptionsFault.{OptionsFault}
 use Rattle.sno_rewrite.specs.declared.command_line.OptionsFault.TheVariants.{Help, Usage, Memory}
-
-both : (a b : Bool) → a ≡ true → b ≡ true → (a && b) ≡ true
-both a b h g = λ i. h i && g i
 
 -- the program is one of those whose matches and faults are known
 pub program_simple : is_simple program ≡ true
@@ -39,7 +36,7 @@ faults_are a words is = ap (λ (b : App). fault_of b words) is
 
 digits_true : (ds : Text) → AllDigits 10 ds → list_all (λ d. nat_lt (digit_value d) 10) ds ≡ true
 digits_true [] h = refl
-digits_true (d ∷ ds) h = both _ _ (lt-ltb (digit_value d) 10 h.0) (digits_true ds h.1)
+digits_true (d ∷ ds) h = and_from _ _ (lt-ltb (digit_value d) 10 h.0) (digits_true ds h.1)
 
 digits_from : (ds : Text) → list_all (λ d. nat_lt (digit_value d) 10) ds ≡ true → AllDigits 10 ds
 digits_from [] h = tt
@@ -58,7 +55,7 @@ number_as_read : {E : Type 0} (G : Text → Result ℕ E → Type 0) (t : Text) 
 number_as_read G t (Some v) parses read =
     let p = parses (Ok v) read in
     let ds = without_leading_plus t in
-    number_yes _ (digits_value 10 ds) v (both _ _ (both _ _ (lt-ltb 0 (length ds) p.0.0.0) (digits_true ds p.0.0.1)) (lt-ltb (digits_value 10 ds) 4294967296 p.0.1)) p.1
+    number_yes _ (digits_value 10 ds) v (and_from _ _ (and_from _ _ (lt-ltb 0 (length ds) p.0.0.0) (digits_true ds p.0.0.1)) (lt-ltb (digits_value 10 ds) 4294967296 p.0.1)) p.1
 number_as_read G t None parses read =
     let ds = without_leading_plus t in
     number_no _ (digits_value 10 ds) (λ h.

@@ -1,11 +1,11 @@
 -- What texts are put together from is ASCII.
-use Rattle.std.proofs.Common.{◌≡◌, ℕ, suc, ◌-◌, ◌≤◌, ◌<◌, ◌^◌, Bool, true, ◌&&◌, List, [], ◌∷◌, ◌++◌, length, take, drop, Ok, Err, IsTrue, refl, sym, ◌∙◌, ap, arith, ◌⊎◌, inl, inr}
+use Rattle.std.proofs.Common.{◌≡◌, ℕ, suc, ◌-◌, ◌≤◌, ◌<◌, ◌^◌, true, ◌&&◌, List, [], ◌∷◌, ◌++◌, length, take, drop, Ok, Err, IsTrue, refl, sym, ◌∙◌, ap, arith, ◌⊎◌, inl, inr}
 use Rattle.std.specs.List.{list_all}
 use Rattle.std.specs.Char.{is_ascii}
 use Rattle.std.specs.Str.{IsAscii}
 use Rattle.std.specs.Fmt.{decimal}
 use Rattle.std.proofs.lemmas.Fmt.{IsAscii-decimal}
-use Rattle.std.proofs.lemmas.Bool.{and_parts, lt-ltb, cases_lt}
+use Rattle.std.proofs.lemmas.Bool.{and_from, and_parts, lt-ltb, cases_lt}
 use Rattle.std.proofs.lemmas.List.{take-append-drop, length-take, length-drop}
 use Rattle.std.proofs.lemmas.List.Folds.{list_all-append}
 use Rattle.sno_pattern.specs.Texts.{text_of}
@@ -16,11 +16,8 @@ use Rattle.sno_pattern.proofs.TextLemmas.{text_of_ascii}
 abbrev pub AreAscii : List ℕ → Type 0
 AreAscii bytes = IsTrue (list_all is_ascii bytes)
 
-both : (a b : Bool) → a ≡ true → b ≡ true → (a && b) ≡ true
-both a b h g = (λ i. h i && g i)
-
 pub ascii_append : (xs ys : List ℕ) → AreAscii xs → AreAscii ys → AreAscii (xs ++ ys)
-ascii_append xs ys h g = list_all-append is_ascii xs ys ∙ both (list_all is_ascii xs) (list_all is_ascii ys) h g
+ascii_append xs ys h g = list_all-append is_ascii xs ys ∙ and_from (list_all is_ascii xs) (list_all is_ascii ys) h g
 
 parts : (n : ℕ) (xs : List ℕ) → AreAscii xs → (list_all is_ascii (take n xs) && list_all is_ascii (drop n xs)) ≡ true
 parts n xs h = sym (list_all-append is_ascii (take n xs) (drop n xs)) ∙ ap (list_all is_ascii) (take-append-drop n xs) ∙ h
@@ -39,7 +36,7 @@ ascii_code b h = lt-ltb b 128 h
 
 pub ascii_from_index : (bytes : List ℕ) → IsAscii bytes → AreAscii bytes
 ascii_from_index [] h = refl
-ascii_from_index (b ∷ bs) h = both (is_ascii b) (list_all is_ascii bs) (ascii_code b (h 0)) (ascii_from_index bs (λ i. h (suc i)))
+ascii_from_index (b ∷ bs) h = and_from (is_ascii b) (list_all is_ascii bs) (ascii_code b (h 0)) (ascii_from_index bs (λ i. h (suc i)))
 
 pub ascii_decimal : (n : ℕ) → n < 2 ^ 32 → AreAscii (decimal n)
 ascii_decimal n h = ascii_from_index (decimal n) (IsAscii-decimal n (omega arith))

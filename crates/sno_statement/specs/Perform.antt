@@ -51,8 +51,8 @@ Gives (Ok outcome) wanted = wanted ≡ Ok (done_of outcome)
 Gives (Err fault.TextTooLong) wanted = wanted ≡ Err fault.TextTooLong
 Gives (Err fault.Memory) wanted = Unit {0}
 
--- the text answered is the one wanted; it is refused where that is too long; or want of memory
+-- the text answered is the one wanted; it is refused where that is too long; or want of memory, for a text that isn't
 abbrev pub GivesText : Result (Arc (List ℕ) Global) StatementFault → List ℕ → Type 0
 GivesText (Ok text) wanted = (arc_value text ≡ wanted) × (length wanted ≤ 65536)
 GivesText (Err fault.TextTooLong) wanted = 65536 < length wanted
-GivesText (Err fault.Memory) wanted = Unit {0}
+GivesText (Err fault.Memory) wanted = length wanted ≤ 65536

@@ -29,6 +29,7 @@
 //! - `src/statements.rt`: [`Statement`], by value the record `Task` of `specs/Task.antt`. Each reader answers what `new` was
 //!   given, and that the definitions cover the pattern is kept by the type.
 //! - `src/performing.rt`: [`perform`], with the two kinds of assignment.
+//! - `src/lengths.rt`: how many characters the new text has, counted before any is copied.
 //! - `src/values.rt`: the object's value, and the texts that are cut and put together.
 //! - `src/binding.rt`: [`Bindings`], by value a list of distinct variables with their values, and [`Datum`].
 //! - `src/outcomes.rt`: [`Outcome`] and [`StatementFault`].
@@ -41,6 +42,7 @@
 #![tactic(auto)]
 
 mod binding;
+mod lengths;
 mod outcomes;
 mod performing;
 mod statements;

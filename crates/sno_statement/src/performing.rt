@@ -6,6 +6,7 @@ ghost use Rattle.sno_statement.specs.Bindings.{datum_of, bind_sets, bind_conds};
 ghost use Rattle.sno_statement.specs.Value.{value_of, replaced};
 ghost use Rattle.sno_statement.specs.Perform.{Gives, GivesText, finish, finish_found, perform};
 
+use crate::lengths::new_length;
 use crate::values::{part, replaced};
 use crate::{Bindings, Datum, Outcome, Statement, StatementFault};
 use sno_pattern::{Assign, Found, Hit, Name, Text, What, cursors_lie_within_the_text};
@@ -85,7 +86,7 @@ fn succeed(
     })
 }
 
-/// The text that the replacement leaves.
+/// The text that the replacement leaves. Nothing is copied where it is too long.
 #[tactic(auto, using(crate::proofs::Ascii::refused_is_long))]
 fn new_text(
     alloc: Global,
@@ -96,10 +97,13 @@ fn new_text(
 ) -> Result<Arc<Text>, StatementFault>
     ensures { GivesText result (replaced subject.now hit.now.start hit.now.end (value_of bindings.now parts.now)) }
 {
-    let characters = replaced(alloc, subject, hit.start, hit.end, parts, bindings)?;
+    let Some(length) = new_length(subject, hit.start, hit.end, parts, bindings) else {
+        return Err(StatementFault::TextTooLong);
+    };
+    let characters = replaced(alloc, subject, hit.start, hit.end, parts, bindings, length)?;
     match Text::new(characters) {
         Ok(text) => Ok(Arc::new(alloc, text)?),
-        Err(_) => Err(StatementFault::TextTooLong),
+        Err(_) => unreachable!(),
     }
 }
 

@@ -12,7 +12,7 @@ use sno_read::Part;
 use std::alloc::{AllocError, Global};
 
 /// The first characters, as many as there are up to a number.
-fn front(characters: &[u8], count: usize) -> &[u8]
+pub(crate) fn front(characters: &[u8], count: usize) -> &[u8]
     ensures { result.now ≡ take count characters.now }
 {
     if count < characters.len() {
@@ -23,7 +23,7 @@ fn front(characters: &[u8], count: usize) -> &[u8]
 }
 
 /// The characters behind the first ones.
-fn back(characters: &[u8], count: usize) -> &[u8]
+pub(crate) fn back(characters: &[u8], count: usize) -> &[u8]
     ensures { result.now ≡ drop count characters.now }
 {
     if count < characters.len() {
@@ -80,7 +80,8 @@ fn put_part(
     }
 }
 
-/// The characters in which the part between two cursors is replaced by the object's value.
+/// The characters in which the part between two cursors is replaced by the object's value, in memory that is taken at once where
+/// `length` is how many they are.
 #[tactic(auto, using(crate::proofs::Ascii::ascii_append, crate::proofs::Ascii::ascii_take, crate::proofs::Ascii::ascii_drop))]
 pub(crate) fn replaced(
     alloc: Global,
@@ -89,11 +90,13 @@ pub(crate) fn replaced(
     end: usize,
     parts: &[Part],
     bindings: &Bindings,
+    length: usize,
 ) -> Result<Vec<u8>, AllocError>
     ensures value { IfOk result (λ v. v.items ≡ replaced subject.now start end (value_of bindings.now parts.now)) }
     ensures ascii { IfOk result (λ v. IsTrue (list_all is_ascii v.items)) }
 {
-    let mut out = Vec::from_slice(alloc, front(subject.bytes(), start))?;
+    let mut out = Vec::with_capacity(alloc, length)?;
+    out.extend_from_slice(front(subject.bytes(), start))?;
     for part in parts {
         put_part(alloc, part, bindings, &mut out)?;
     }

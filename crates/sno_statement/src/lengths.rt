@@ -1,0 +1,62 @@
+//! How many characters a new text has, which is known before any is copied.
+ghost use Rattle.std.specs.Prelude.{◌≡◌, ◌≤◌, ◌<◌, IfSome, IfNone, length};
+ghost use Rattle.std.specs.Fmt.{decimal};
+ghost use Rattle.sno_statement.specs.Value.{part_value, value_of, replaced};
+
+use crate::values::{back, front};
+use crate::{Bindings, Datum};
+use sno_pattern::Text;
+use sno_read::Part;
+
+/// The most characters that a text has.
+const MAX_TEXT: usize = 65_536;
+
+/// How many digits a number has.
+#[tactic(auto, using(crate::proofs::Decimals::one_digit, crate::proofs::Decimals::one_digit_more))]
+fn count_digits(number: u32) -> usize
+    ensures { result ≡ length (decimal number) }
+{
+    if number < 10 {
+        return 1;
+    }
+    count_digits(number / 10) + 1
+}
+
+/// How many characters a part's value has.
+#[tactic(auto, using(crate::proofs::Decimals::few_digits))]
+fn part_length(part: &Part, bindings: &Bindings) -> usize
+    ensures value { result ≡ length (part_value bindings.now part.now) }
+    ensures short { result ≤ 65536 }
+{
+    match part {
+        Part::Quoted(text) => text.bytes().len(),
+        Part::Var(name) => match bindings.value(name) {
+            None => 0,
+            Some(Datum::Str(text)) => text.bytes().len(),
+            Some(Datum::Int(number)) => count_digits(*number),
+        },
+    }
+}
+
+/// How many characters the text has in which the part between two cursors is replaced by the object's value; none where they are
+/// more than a text has.
+pub(crate) fn new_length(
+    subject: &Text,
+    start: usize,
+    end: usize,
+    parts: &[Part],
+    bindings: &Bindings,
+) -> Option<usize>
+    ensures value { IfSome result (λ n. n ≡ length (replaced subject.now start end (value_of bindings.now parts.now))) }
+    ensures short { IfSome result (λ n. n ≤ 65536) }
+    ensures long { IfNone result (65536 < length (replaced subject.now start end (value_of bindings.now parts.now))) }
+{
+    let mut total = front(subject.bytes(), start).len() + back(subject.bytes(), end).len();
+    for part in parts {
+        if total > MAX_TEXT {
+            return None;
+        }
+        total += part_length(part, bindings);
+    }
+    if total > MAX_TEXT { None } else { Some(total) }
+}
