@@ -4,18 +4,18 @@ use sno_pattern::Pattern;
 /// Where a match stands.
 #[derive(Clone, Copy)]
 pub struct Place {
-    pub cursor: usize,
-    pub frames: usize,
-    pub pending: usize,
+    pub cursor: u32,
+    pub frames: u32,
+    pub pending: u32,
 }
 
 /// What is tried when the match backs up.
 #[derive(Clone, Copy)]
 pub enum Other<'a> {
     /// The pattern is tried, so many references deep.
-    Alternative(&'a Pattern, usize),
+    Alternative(&'a Pattern, u32),
     /// A round of a repetition is tried.
-    Round(&'a Pattern, usize),
+    Round(&'a Pattern, u32),
     /// The whole match fails.
     Halt,
 }
@@ -25,6 +25,6 @@ pub enum Other<'a> {
 pub struct Choice<'a> {
     pub other: Other<'a>,
     pub place: Place,
-    pub frame_count: usize,
-    pub pending_count: usize,
+    pub frame_count: u32,
+    pub pending_count: u32,
 }

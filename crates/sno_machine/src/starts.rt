@@ -69,10 +69,10 @@ fn found(matcher: Matcher, ending: Ending) -> Found
 }
 
 // A depth that is always enough.
-fn depth(text: &Text, rules: &Rules) -> usize
+fn depth(text: &Text, rules: &Rules) -> u32
     ensures { result ≡ depth text.now rules.now.bodies }
 {
-    (text.bytes().len() + 1) * rules.len()
+    (text.bytes().len() as u32 + 1) * rules.len() as u32
 }
 
 impl<'a> Matcher<'a> {
@@ -83,10 +83,11 @@ impl<'a> Matcher<'a> {
         text: &[u8],
         rules: &'a Rules,
         pattern: &'a Pattern,
-        depth: usize,
+        depth: u32,
         literal: Option<&Finder>,
     ) -> Result<Ending, AllocError>
-        requires { option_copied literal ≡ first_literal (tree_of pattern.now) }
+        requires short { length text.now ≤ 65536 }
+        requires literal { option_copied literal ≡ first_literal (tree_of pattern.now) }
         ensures { IfOk result (λ ending.
             found_in self.old.sets.items (cut_scan (flat_map (tried_from text.now rules.now.bodies depth (tree_of pattern.now)) (starts text.now false)))
             ≡ found_after ending self.new.sets.items []) }
