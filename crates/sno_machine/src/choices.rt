@@ -1,7 +1,7 @@
 //! What is left to be tried.
 use sno_pattern::Pattern;
 
-/// Where a match stands.
+/// Where a match stands: the cursor, and the numbers of the lists of what is left to be done and of the pending assignments.
 #[derive(Clone, Copy)]
 pub struct Place {
     pub cursor: u32,
@@ -12,9 +12,9 @@ pub struct Place {
 /// What is tried when the match backs up.
 #[derive(Clone, Copy)]
 pub enum Other<'a> {
-    /// The pattern is tried, so many references deep.
+    /// The pattern is tried, at most so many references deep.
     Alternative(&'a Pattern, u32),
-    /// A round of a repetition is tried.
+    /// A round of a repetition of this part is tried, at most so many references deep.
     Round(&'a Pattern, u32),
     /// The whole match fails.
     Halt,

@@ -19,10 +19,11 @@ use std::alloc::{AllocError, Global};
 /// succeeds. Each reference of the pattern has to be to one of the definitions (`Rules::covers`).
 ///
 /// The assignments that were done at once come back in their order, also where they were backed over, and the first success
-/// with its conditional assignments; none where the match failed. It keeps what is left to be tried on stacks of its own, so the
-/// calls stay as deep as they are whatever the pattern and the text; the stacks grow with the steps that can still be taken back.
+/// with its conditional assignments; none where the match failed. What is left to be tried stands on stacks of its own: no call goes
+/// deeper for a longer text, for more rounds or for definitions that refer to themselves, and the stacks grow with the steps that
+/// can still be taken back. How many steps a match takes has no limit but that it ends.
 ///
-/// Refused only where memory is.
+/// Refused only where memory is, or where one of the stacks would have more than 4,294,967,295 cells.
 pub fn first(
     alloc: Global,
     rules: &Rules,
