@@ -32,8 +32,8 @@ impl<'a> Matcher<'a> {
         ensures choices { self.new.choices.items ≡ self.old.choices.items }
         ensures sets { self.new.sets.items ≡ self.old.sets.items }
     {
-        self.frames.truncate(choice.frame_count as usize);
-        self.pending.truncate(choice.pending_count as usize);
+        self.frames.truncate(choice.frame_count);
+        self.pending.truncate(choice.pending_count);
     }
 
     /// Tries at the place what was left to be tried.

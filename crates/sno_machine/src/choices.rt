@@ -4,18 +4,18 @@ use sno_pattern::Pattern;
 /// Where a match stands: the cursor, and the numbers of the lists of what is left to be done and of the pending assignments.
 #[derive(Clone, Copy)]
 pub struct Place {
-    pub cursor: u32,
-    pub frames: u32,
-    pub pending: u32,
+    pub cursor: usize,
+    pub frames: usize,
+    pub pending: usize,
 }
 
 /// What is tried when the match backs up.
 #[derive(Clone, Copy)]
 pub enum Other<'a> {
     /// The pattern is tried, at most so many references deep.
-    Alternative(&'a Pattern, u32),
+    Alternative(&'a Pattern, usize),
     /// A round of a repetition of this part is tried, at most so many references deep.
-    Round(&'a Pattern, u32),
+    Round(&'a Pattern, usize),
     /// The whole match fails.
     Halt,
 }
@@ -25,6 +25,6 @@ pub enum Other<'a> {
 pub struct Choice<'a> {
     pub other: Other<'a>,
     pub place: Place,
-    pub frame_count: u32,
-    pub pending_count: u32,
+    pub frame_count: usize,
+    pub pending_count: usize,
 }

@@ -9,17 +9,17 @@ use std::alloc::{AllocError, Global};
 
 impl<'a> Matcher<'a> {
     /// The last assignment of the list with this number; none where the list is empty.
-    fn last_pending(&self, number: u32) -> Option<PendingCell<'a>>
+    fn last_pending(&self, number: usize) -> Option<PendingCell<'a>>
         ensures { MatchOption result (conds_at self.now.pending.items number ≡ [])
             (λ x. (conds_at self.now.pending.items number ≡ conds_at self.now.pending.items x.below ++ (x.name.now, x.start, x.end) ∷ []) × (x.below < number)) }
     {
         if number == 0 {
             return None;
         }
-        if self.pending.len() < number as usize {
+        if self.pending.len() < number {
             return None;
         }
-        let cell = self.pending[number as usize - 1];
+        let cell = self.pending[number - 1];
         let below = if cell.below < number { cell.below } else { 0 };
         Some(PendingCell {
             name: cell.name,
@@ -30,13 +30,13 @@ impl<'a> Matcher<'a> {
     }
 
     /// The assignments of the list with this number, in the order in which their parts ended.
-    pub fn conditions(&self, alloc: Global, number: u32) -> Result<Conds, AllocError>
+    pub fn conditions(&self, alloc: Global, number: usize) -> Result<Conds, AllocError>
         ensures { IfOk result (λ v. v ≡ conds_at self.now.pending.items number) }
     {
         let mut parts = Vec::new(alloc);
         let mut left = number;
         while let Some(cell) = self.last_pending(left) {
-            parts.push((*cell.name, cell.start as usize, cell.end as usize))?;
+            parts.push((*cell.name, cell.start, cell.end))?;
             left = cell.below;
         }
         parts.reverse();

@@ -20,23 +20,13 @@ pub struct Matcher<'a> {
 #[derive(Clone, Copy)]
 pub enum Next<'a> {
     /// The pattern is tried, at most so many references deep.
-    Try(&'a Pattern, u32, Place),
+    Try(&'a Pattern, usize, Place),
     /// A part has matched, and what is left to be done is done.
     Proceed(Place),
     /// What was tried failed, and the newest choice is taken up.
     BackUp,
     /// The whole match fails.
     Halt,
-}
-
-/// A count of cells in the width in which stacks keep it. More cells than that are refused as want of memory.
-fn number_of(count: usize) -> Result<u32, AllocError>
-    ensures { IfOk result (λ n. n ≡ count) }
-{
-    if count > u32::MAX as usize {
-        return Err(AllocError);
-    }
-    Ok(count as u32)
 }
 
 impl<'a> Matcher<'a> {
@@ -52,39 +42,37 @@ impl<'a> Matcher<'a> {
     }
 
     /// Puts the frame upon the list of frames `below`, and answers the number of the new list.
-    pub fn push_frame(&mut self, frame: Frame<'a>, below: u32) -> Result<u32, AllocError>
+    pub fn push_frame(&mut self, frame: Frame<'a>, below: usize) -> Result<usize, AllocError>
         ensures frames { OnOk result (self.new.frames.items ≡ self.old.frames.items ++ record { frame = frame.entry; below = below } ∷ []) }
         ensures pending { self.new.pending.items ≡ self.old.pending.items }
         ensures choices { self.new.choices.items ≡ self.old.choices.items }
         ensures sets { self.new.sets.items ≡ self.old.sets.items }
         ensures number { IfOk result (λ n. n ≡ length self.old.frames.items + 1) }
     {
-        let number = number_of(self.frames.len() + 1)?;
         self.frames.push(FrameCell { frame, below })?;
-        Ok(number)
+        Ok(self.frames.len())
     }
 
     /// Puts the part from `start` behind the pending assignments of the place, and answers the number of the new list.
     pub fn push_pending(
         &mut self,
         name: &'a Name,
-        start: u32,
+        start: usize,
         place: Place,
-    ) -> Result<u32, AllocError>
+    ) -> Result<usize, AllocError>
         ensures pending { OnOk result (self.new.pending.items ≡ self.old.pending.items ++ record { name = name.entry; start = start; end = place.cursor; below = place.pending } ∷ []) }
         ensures frames { self.new.frames.items ≡ self.old.frames.items }
         ensures choices { self.new.choices.items ≡ self.old.choices.items }
         ensures sets { self.new.sets.items ≡ self.old.sets.items }
         ensures number { IfOk result (λ n. n ≡ length self.old.pending.items + 1) }
     {
-        let number = number_of(self.pending.len() + 1)?;
         self.pending.push(PendingCell {
             name,
             start,
             end: place.cursor,
             below: place.pending,
         })?;
-        Ok(number)
+        Ok(self.pending.len())
     }
 
     /// Leaves a choice at the place.
@@ -99,13 +87,11 @@ impl<'a> Matcher<'a> {
         ensures pending { self.new.pending.items ≡ self.old.pending.items }
         ensures sets { self.new.sets.items ≡ self.old.sets.items }
     {
-        let frame_count = number_of(self.frames.len())?;
-        let pending_count = number_of(self.pending.len())?;
         self.choices.push(Choice {
             other,
             place,
-            frame_count,
-            pending_count,
+            frame_count: self.frames.len(),
+            pending_count: self.pending.len(),
         })?;
         Ok(())
     }

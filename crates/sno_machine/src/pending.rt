@@ -5,7 +5,7 @@ use sno_pattern::Name;
 #[derive(Clone, Copy)]
 pub struct PendingCell<'a> {
     pub name: &'a Name,
-    pub start: u32,
-    pub end: u32,
-    pub below: u32,
+    pub start: usize,
+    pub end: usize,
+    pub below: usize,
 }

@@ -13,21 +13,17 @@ use std::alloc::AllocError;
 /// A primitive that has at most one end.
 pub fn single<'a>(text: &[u8], pattern: &'a Pattern, place: Place) -> Next<'a>
     requires within { place.cursor ≤ length text.now }
-    requires short { length text.now ≤ 65536 }
     requires single { IsTrue (is_single (tree_of pattern.now)) }
     ensures { (bodies : List Tree) (k : ℕ) → Passes text.now bodies k (tree_of pattern.now) place result }
 {
-    match leaf_end(text, pattern, place.cursor as usize) {
+    match leaf_end(text, pattern, place.cursor) {
         None => Next::BackUp,
-        Some(end) => Next::Proceed(Place {
-            cursor: end as u32,
-            ..place
-        }),
+        Some(cursor) => Next::Proceed(Place { cursor, ..place }),
     }
 }
 
 /// The definition with this number, looked up now; nothing where no reference may be gone through any more.
-pub fn reference<'a>(rules: &'a Rules, number: usize, depth: u32, place: Place) -> Next<'a>
+pub fn reference<'a>(rules: &'a Rules, number: usize, depth: usize, place: Place) -> Next<'a>
     ensures { (t : List ℕ) → place.cursor ≤ length t → Passes t rules.now.bodies depth (Ref number) place result }
 {
     if depth == 0 {
@@ -45,16 +41,15 @@ impl<'a> Matcher<'a> {
         &mut self,
         text: &[u8],
         pattern: &'a Pattern,
-        depth: u32,
+        depth: usize,
         place: Place,
     ) -> Result<Next<'a>, AllocError>
         requires held { IsHeld text.now self.old }
-        requires short { length text.now ≤ 65536 }
         requires within { place.cursor ≤ length text.now }
         requires is { tree_of pattern.now ≡ Arb }
         ensures { (bodies : List Tree) → IfOk result (Tries text.now bodies self.old self.new depth Arb place) }
     {
-        if place.cursor as usize == text.len() {
+        if place.cursor == text.len() {
             return Ok(Next::Proceed(place));
         }
         arbitrary_ends_follow_one_another();
@@ -71,22 +66,18 @@ impl<'a> Matcher<'a> {
         &mut self,
         text: &[u8],
         pattern: &'a Pattern,
-        depth: u32,
+        depth: usize,
         place: Place,
     ) -> Result<Next<'a>, AllocError>
         requires held { IsHeld text.now self.old }
-        requires short { length text.now ≤ 65536 }
         requires within { place.cursor ≤ length text.now }
         requires is { tree_of pattern.now ≡ Bal }
         ensures { (bodies : List Tree) → IfOk result (Tries text.now bodies self.old self.new depth Bal place) }
     {
-        match first_balanced(text, place.cursor as usize) {
+        match first_balanced(text, place.cursor) {
             None => Ok(Next::BackUp),
             Some(cursor) => {
-                let end = Place {
-                    cursor: cursor as u32,
-                    ..place
-                };
+                let end = Place { cursor, ..place };
                 self.push_choice(Other::Alternative(pattern, depth), end)?;
                 Ok(Next::Proceed(end))
             }

@@ -13,17 +13,17 @@ use std::alloc::AllocError;
 
 impl<'a> Matcher<'a> {
     /// The first frame of the list with this number; none where nothing is left to be done.
-    pub fn frame(&self, number: u32) -> Option<FrameCell<'a>>
+    pub fn frame(&self, number: usize) -> Option<FrameCell<'a>>
         ensures { (t : List ℕ) (bodies : List Tree) → MatchOption result (go_at t bodies self.now.frames.items number ≡ done)
             (λ x. go_at t bodies self.now.frames.items number ≡ go_by t bodies x.frame (go_at t bodies self.now.frames.items x.below)) }
     {
         if number == 0 {
             return None;
         }
-        if self.frames.len() < number as usize {
+        if self.frames.len() < number {
             return None;
         }
-        let cell = self.frames[number as usize - 1];
+        let cell = self.frames[number - 1];
         let below = if cell.below < number { cell.below } else { 0 };
         Some(FrameCell {
             frame: cell.frame,
@@ -48,8 +48,8 @@ impl<'a> Matcher<'a> {
     fn round_ended(
         &mut self,
         part: &'a Pattern,
-        depth: u32,
-        start: u32,
+        depth: usize,
+        start: usize,
         place: Place,
     ) -> Result<Next<'a>, AllocError>
         ensures { (t : List ℕ) (bodies : List Tree) → IsHeld t self.old → place.cursor ≤ length t →
@@ -69,7 +69,7 @@ impl<'a> Matcher<'a> {
     fn assign_later(
         &mut self,
         name: &'a Name,
-        start: u32,
+        start: usize,
         place: Place,
     ) -> Result<Next<'a>, AllocError>
         ensures { (t : List ℕ) (bodies : List Tree) → IsHeld t self.old → place.cursor ≤ length t →
@@ -85,7 +85,7 @@ impl<'a> Matcher<'a> {
     fn assign_now(
         &mut self,
         name: &'a Name,
-        start: u32,
+        start: usize,
         place: Place,
     ) -> Result<Next<'a>, AllocError>
         ensures { (t : List ℕ) (bodies : List Tree) → IsHeld t self.old → place.cursor ≤ length t →
@@ -95,7 +95,7 @@ impl<'a> Matcher<'a> {
     {
         self.sets.push(Assign {
             name: *name,
-            what: What::Part(start as usize, place.cursor as usize),
+            what: What::Part(start, place.cursor),
         })?;
         Ok(Next::Proceed(place))
     }

@@ -23,7 +23,7 @@ use std::alloc::{AllocError, Global};
 /// deeper for a longer text, for more rounds or for definitions that refer to themselves, and the stacks grow with the steps that
 /// can still be taken back. How many steps a match takes has no limit but that it ends.
 ///
-/// Refused only where memory is, or where one of the stacks would have more than 4,294,967,295 cells.
+/// Refused only where memory is.
 pub fn first(
     alloc: Global,
     rules: &Rules,
@@ -70,10 +70,10 @@ fn found(matcher: Matcher, ending: Ending) -> Found
 }
 
 // A depth that is always enough.
-fn depth(text: &Text, rules: &Rules) -> u32
+fn depth(text: &Text, rules: &Rules) -> usize
     ensures { result ≡ depth text.now rules.now.bodies }
 {
-    (text.bytes().len() as u32 + 1) * rules.len() as u32
+    (text.bytes().len() + 1) * rules.len()
 }
 
 impl<'a> Matcher<'a> {
@@ -84,11 +84,10 @@ impl<'a> Matcher<'a> {
         text: &[u8],
         rules: &'a Rules,
         pattern: &'a Pattern,
-        depth: u32,
+        depth: usize,
         literal: Option<&Finder>,
     ) -> Result<Ending, AllocError>
-        requires short { length text.now ≤ 65536 }
-        requires literal { option_copied literal ≡ first_literal (tree_of pattern.now) }
+        requires { option_copied literal ≡ first_literal (tree_of pattern.now) }
         ensures { IfOk result (λ ending.
             found_in self.old.sets.items (cut_scan (flat_map (tried_from text.now rules.now.bodies depth (tree_of pattern.now)) (starts text.now false)))
             ≡ found_after ending self.new.sets.items []) }

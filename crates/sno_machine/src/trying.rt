@@ -16,7 +16,7 @@ impl<'a> Matcher<'a> {
         &mut self,
         left: &'a Pattern,
         right: &'a Pattern,
-        depth: u32,
+        depth: usize,
         place: Place,
     ) -> Result<Next<'a>, AllocError>
         ensures { (t : List ℕ) (bodies : List Tree) → IsHeld t self.old → place.cursor ≤ length t →
@@ -31,7 +31,7 @@ impl<'a> Matcher<'a> {
         &mut self,
         left: &'a Pattern,
         right: &'a Pattern,
-        depth: u32,
+        depth: usize,
         place: Place,
     ) -> Result<Next<'a>, AllocError>
         ensures { (t : List ℕ) (bodies : List Tree) → IsHeld t self.old → place.cursor ≤ length t →
@@ -45,7 +45,7 @@ impl<'a> Matcher<'a> {
     pub fn repetition(
         &mut self,
         part: &'a Pattern,
-        depth: u32,
+        depth: usize,
         place: Place,
     ) -> Result<Next<'a>, AllocError>
         ensures { (t : List ℕ) (bodies : List Tree) → IsHeld t self.old → place.cursor ≤ length t →
@@ -61,7 +61,7 @@ impl<'a> Matcher<'a> {
         &mut self,
         part: &'a Pattern,
         name: &'a Name,
-        depth: u32,
+        depth: usize,
         place: Place,
     ) -> Result<Next<'a>, AllocError>
         ensures { (t : List ℕ) (bodies : List Tree) → IsHeld t self.old → place.cursor ≤ length t →
@@ -76,7 +76,7 @@ impl<'a> Matcher<'a> {
         &mut self,
         part: &'a Pattern,
         name: &'a Name,
-        depth: u32,
+        depth: usize,
         place: Place,
     ) -> Result<Next<'a>, AllocError>
         ensures { (t : List ℕ) (bodies : List Tree) → IsHeld t self.old → place.cursor ≤ length t →
@@ -90,7 +90,7 @@ impl<'a> Matcher<'a> {
     pub fn cursor_assigned(
         &mut self,
         name: &'a Name,
-        depth: u32,
+        depth: usize,
         place: Place,
     ) -> Result<Next<'a>, AllocError>
         ensures { (t : List ℕ) (bodies : List Tree) → IsHeld t self.old → place.cursor ≤ length t →
@@ -98,13 +98,13 @@ impl<'a> Matcher<'a> {
     {
         self.sets.push(Assign {
             name: *name,
-            what: What::Cursor(place.cursor as usize),
+            what: What::Cursor(place.cursor),
         })?;
         Ok(Next::Proceed(place))
     }
 
     /// Nothing, and when the match backs up it fails as a whole.
-    pub fn fence(&mut self, depth: u32, place: Place) -> Result<Next<'a>, AllocError>
+    pub fn fence(&mut self, depth: usize, place: Place) -> Result<Next<'a>, AllocError>
         ensures { (t : List ℕ) (bodies : List Tree) → IsHeld t self.old → place.cursor ≤ length t →
             IfOk result (Tries t bodies self.old self.new depth Fence place) }
     {
@@ -120,11 +120,10 @@ impl<'a> Matcher<'a> {
         text: &[u8],
         rules: &'a Rules,
         pattern: &'a Pattern,
-        depth: u32,
+        depth: usize,
         place: Place,
     ) -> Result<Next<'a>, AllocError>
         requires held { IsHeld text.now self.old }
-        requires short { length text.now ≤ 65536 }
         requires within { place.cursor ≤ length text.now }
         ensures { IfOk result (Tries text.now rules.now.bodies self.old self.new depth (tree_of pattern.now) place) }
     {
