@@ -1,5 +1,5 @@
 -- The literal is found nowhere before.
-use Rattle.std.proofs.Common.{◌≡◌, ◌+◌, ◌-◌, ◌≤◌, ap, sym, ◌∙◌, subst, drop, length, length-drop, arith}
+use Rattle.std.proofs.Common.{◌≡◌, ◌-◌, ◌≤◌, ap, sym, ◌∙◌, subst, length, length-drop, arith}
 use Rattle.memchr.specs.Find.{OccursAt}
 use Rattle.sno_machine.proofs.BeginningLaws.{cannot_begin}
 use Rattle.sno_machine.proofs.beginnings.next_start.Goals as goal

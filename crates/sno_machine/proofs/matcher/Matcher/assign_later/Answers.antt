@@ -1,5 +1,4 @@
 -- The assignment is the last of those that are pending.
-use Rattle.std.proofs.Common.{arith}
 use Rattle.sno_machine.proofs.StateLaws.{deferred}
 use Rattle.sno_machine.proofs.matcher.Matcher.assign_later.Goals as goal
 

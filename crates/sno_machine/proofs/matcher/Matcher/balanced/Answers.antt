@@ -1,10 +1,8 @@
 -- The ends from the first one on are left as a choice.
-use Rattle.std.proofs.Common.{◌≡◌, ◌+◌, ◌++◌, ◌≤◌, ap, sym, subst, length, arith, List}
-use Rattle.sno_pattern.specs.Tree.{Bal, tree_of, Tree}
+use Rattle.std.proofs.Common.{◌++◌, ◌≤◌, sym, subst, length, arith}
+use Rattle.sno_pattern.specs.Tree.{Bal, Tree}
 use Rattle.sno_pattern.specs.Results.{results}
-use Rattle.sno_pattern.specs.declared.events.Event.{Event}
 use Rattle.sno_machine.specs.Meaning.{carry}
-use Rattle.sno_machine.specs.Steps.{steps}
 use Rattle.sno_machine.specs.State.{go_at, conds_at}
 use Rattle.sno_machine.proofs.StateLaws.{SameCut, chosen}
 use Rattle.sno_machine.proofs.PrimitiveLaws.{passed, bal_none, bal_same, bal_steps}

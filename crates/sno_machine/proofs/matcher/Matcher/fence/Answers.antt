@@ -1,5 +1,4 @@
 -- The failure of the whole match is left as a choice.
-use Rattle.std.proofs.Common.{arith}
 use Rattle.sno_machine.specs.State.{go_at, conds_at}
 use Rattle.sno_machine.proofs.StateLaws.{chosen}
 use Rattle.sno_machine.proofs.StepLaws.{fence_same, fence_steps}

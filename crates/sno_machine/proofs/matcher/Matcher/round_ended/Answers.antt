@@ -1,5 +1,5 @@
 -- Where the round took a character, there are further rounds.
-use Rattle.std.proofs.Common.{◌≡◌, ◌+◌, List, ℕ, [], cond, nat_lt, nat_le, ap, ◌∙◌, length, true, arith, sym}
+use Rattle.std.proofs.Common.{◌≡◌, ◌+◌, [], cond, nat_lt, nat_le, ap, ◌∙◌, length, true, arith}
 use Rattle.std.proofs.lemmas.Bool.{lt-ltb, le-leb}
 use Rattle.sno_pattern.specs.Tree.{tree_of, Arbno}
 use Rattle.sno_pattern.specs.Results.{results}
