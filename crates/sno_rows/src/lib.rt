@@ -9,6 +9,7 @@
 //! - `src/recursion.rt`: which definitions are admitted, and matches with them.
 //! - `src/admission.rt`: definitions made by hand: how a name is printed, and which definitions are admitted.
 //! - `src/books.rt`: what a book accepts and refuses, and what stands after each.
+//! - `src/machine.rt`: the matcher beside the plain evaluator, and the longest rounds and recursions.
 //! - `src/limits.rt`: the longest text, the most definitions, the longest names.
 //! - `src/reading.rt`: texts that are not read.
 //! - `src/language.rt`: the examples of `docs/LANGUAGE.md`, as they stand there; `src/example.rt`: how one is read.
@@ -25,6 +26,8 @@ mod example;
 mod language;
 #[cfg(test)]
 mod limits;
+#[cfg(test)]
+mod machine;
 #[cfg(test)]
 mod matching;
 #[cfg(test)]
