@@ -4,37 +4,44 @@ use Rattle.std.specs.List.{list_any, position, position_from}
 use Rattle.std.proofs.lemmas.Iterator.Adapters.{position_from-zero}
 use Rattle.sno_pattern.specs.Events.{cut, put_before, spread, go_on, CondList}
 use Rattle.sno_pattern.specs.declared.events.Event.{Event}
-use Rattle.sno_pattern.specs.declared.events.Event.TheVariants.{Told, End, Halt}
+use Rattle.sno_pattern.specs.declared.events.Event.TheVariants.{Try, Set, End, Halt}
 use Rattle.sno_eval.specs.Steps.{is_halt}
 
 -- where nothing fails the whole match, both lists are cut alone
 pub cut_unhalted : (l m : List Event) → list_any is_halt l ≡ false → cut (l ++ m) ≡ cut l ++ cut m
 cut_unhalted [] m h = refl
-cut_unhalted (Told t ∷ l) m h = ap (λ r. Told t ∷ r) (cut_unhalted l m h)
+cut_unhalted (Try ∷ l) m h = ap (λ r. Try ∷ r) (cut_unhalted l m h)
+cut_unhalted (Set t ∷ l) m h = ap (λ r. Set t ∷ r) (cut_unhalted l m h)
 cut_unhalted (End e a ∷ l) m h = ap (λ r. End e a ∷ r) (cut_unhalted l m h)
 cut_unhalted (Halt ∷ l) m h = cc
 
 -- what stands behind a Halt is cut off
 pub cut_halted : (l m : List Event) → list_any is_halt l ≡ true → cut (l ++ m) ≡ cut l
 cut_halted [] m h = cc
-cut_halted (Told t ∷ l) m h = ap (λ r. Told t ∷ r) (cut_halted l m h)
+cut_halted (Try ∷ l) m h = ap (λ r. Try ∷ r) (cut_halted l m h)
+cut_halted (Set t ∷ l) m h = ap (λ r. Set t ∷ r) (cut_halted l m h)
 cut_halted (End e a ∷ l) m h = ap (λ r. End e a ∷ r) (cut_halted l m h)
 cut_halted (Halt ∷ l) m h = refl
 
 -- putting assignments before those of Ends neither adds nor takes away a Halt
 pub halts_before : (a : CondList) (l : List Event) → list_any is_halt (put_before a l) ≡ list_any is_halt l
 halts_before a [] = refl
-halts_before a (Told t ∷ l) = halts_before a l
+halts_before a (Try ∷ l) = halts_before a l
+halts_before a (Set t ∷ l) = halts_before a l
 halts_before a (End e b ∷ l) = halts_before a l
 halts_before a (Halt ∷ l) = refl
 
 -- where a Halt is found the list is cut behind it
 found_from : (i : ℕ) (l : List Event) (p : ℕ) → position_from is_halt i l ≡ Some p → (i ≤ p) × (take (suc p - i) l ≡ cut l)
 found_from i [] p h = cc
-found_from i (Told t ∷ l) p h =
+found_from i (Try ∷ l) p h =
     let r = found_from (i + 1) l p h in
     let e : suc p - i ≡ suc (suc p - (i + 1)) = omega (arith, r.0) in
-    (omega (arith, r.0), ap (λ k. take k (Told t ∷ l)) e ∙ ap (λ m. Told t ∷ m) r.1)
+    (omega (arith, r.0), ap (λ k. take k (Try ∷ l)) e ∙ ap (λ m. Try ∷ m) r.1)
+found_from i (Set t ∷ l) p h =
+    let r = found_from (i + 1) l p h in
+    let e : suc p - i ≡ suc (suc p - (i + 1)) = omega (arith, r.0) in
+    (omega (arith, r.0), ap (λ k. take k (Set t ∷ l)) e ∙ ap (λ m. Set t ∷ m) r.1)
 found_from i (End x a ∷ l) p h =
     let r = found_from (i + 1) l p h in
     let e : suc p - i ≡ suc (suc p - (i + 1)) = omega (arith, r.0) in
@@ -50,7 +57,8 @@ cut_found l p h = let e : p + 1 ≡ suc p - 0 = omega arith in ap (λ k. take k 
 -- where none is found the list stays
 none_from : (i : ℕ) (l : List Event) → position_from is_halt i l ≡ None → l ≡ cut l
 none_from i [] h = refl
-none_from i (Told t ∷ l) h = ap (λ m. Told t ∷ m) (none_from (i + 1) l h)
+none_from i (Try ∷ l) h = ap (λ m. Try ∷ m) (none_from (i + 1) l h)
+none_from i (Set t ∷ l) h = ap (λ m. Set t ∷ m) (none_from (i + 1) l h)
 none_from i (End x a ∷ l) h = ap (λ m. End x a ∷ m) (none_from (i + 1) l h)
 none_from i (Halt ∷ l) h = cc
 

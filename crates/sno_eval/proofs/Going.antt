@@ -8,7 +8,7 @@ use Rattle.sno_pattern.specs.Results.{rounds}
 use Rattle.sno_pattern.specs.Laws.{AllEnds}
 use Rattle.sno_pattern.specs.declared.events.Assign.{Assign}
 use Rattle.sno_pattern.specs.declared.events.Event.{Event}
-use Rattle.sno_pattern.specs.declared.events.Event.TheVariants.{Told, End, Halt}
+use Rattle.sno_pattern.specs.declared.events.Event.TheVariants.{Try, Set, End, Halt}
 use Rattle.sno_eval.specs.Steps.{is_halt}
 use Rattle.sno_eval.proofs.EventLaws.{go_on_halted, go_on_unhalted}
 
@@ -18,9 +18,14 @@ left_at l i x y h is_item is = drop_more l i x h ∙ ap (λ z. z ∷ drop (i + 1
 
 module _ (f : ℕ → List Event) (total : List Event) where
   -- an assignment is added
-  pub go_on_told : (all new l rest : List Event) (t : Assign) → l ≡ Told t ∷ rest → new ≡ all ++ Told t ∷ [] → all ++ go_on l f ≡ total → new ++ go_on rest f ≡ total
-  go_on_told all new l rest t is added e =
-      ap (λ m. m ++ go_on rest f) added ∙ append_assoc all (Told t ∷ []) (go_on rest f) ∙ sym (ap (λ m. all ++ go_on m f) is) ∙ e
+  pub go_on_set : (all new l rest : List Event) (t : Assign) → l ≡ Set t ∷ rest → new ≡ all ++ Set t ∷ [] → all ++ go_on l f ≡ total → new ++ go_on rest f ≡ total
+  go_on_set all new l rest t is added e =
+      ap (λ m. m ++ go_on rest f) added ∙ append_assoc all (Set t ∷ []) (go_on rest f) ∙ sym (ap (λ m. all ++ go_on m f) is) ∙ e
+
+  -- a trial is added
+  pub go_on_tried : (all new l rest : List Event) → l ≡ Try ∷ rest → new ≡ all ++ Try ∷ [] → all ++ go_on l f ≡ total → new ++ go_on rest f ≡ total
+  go_on_tried all new l rest is added e =
+      ap (λ m. m ++ go_on rest f) added ∙ append_assoc all (Try ∷ []) (go_on rest f) ∙ sym (ap (λ m. all ++ go_on m f) is) ∙ e
 
   -- a Halt is the last event
   pub go_on_halt : (all new l rest : List Event) → l ≡ Halt ∷ rest → new ≡ all ++ Halt ∷ [] → all ++ go_on l f ≡ total → new ≡ total
@@ -57,7 +62,8 @@ pub AllEnds-tail : (P : ℕ → Type 0) (l rest : List Event) (x : Event) → l 
 AllEnds-tail P l rest x is h = tail x (subst (AllEnds P) is h)
   where
     tail : (x : Event) → AllEnds P (x ∷ rest) → AllEnds P rest
-    tail (Told t) g = g
+    tail Try g = g
+    tail (Set t) g = g
     tail (End e a) g = g.1
     tail Halt g = g
 

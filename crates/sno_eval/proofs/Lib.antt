@@ -4,3 +4,4 @@ mod Work
 mod Going
 mod Parts
 mod StartLaws
+mod TrialLaws

@@ -5,7 +5,7 @@ use Rattle.std.proofs.lemmas.Bool.{lt-ltb, le-ltb}
 use Rattle.std.specs.List.{list_any}
 use Rattle.sno_pattern.specs.Tree.{Tree, Alt}
 use Rattle.sno_pattern.specs.Events.{cut}
-use Rattle.sno_pattern.specs.Results.{results, results_of, named_at, of_body, rounds}
+use Rattle.sno_pattern.specs.Results.{results, results_of, definition_results, of_body, rounds}
 use Rattle.sno_pattern.specs.Laws.{AllEnds, Within}
 use Rattle.sno_pattern.specs.declared.events.Event.{Event}
 use Rattle.sno_pattern.proofs.EachEnd.{AllEnds-map}
@@ -39,22 +39,22 @@ one_side t bodies k c whole left right p l n is same_left does_l halted same =
     ∙ sym (ap (λ x. results t bodies k x c) is)
 
 -- no reference may be gone through
-pub named_no_more : (t : List ℕ) (bodies : List Tree) (k i c : ℕ) (l : List Event) → l ≡ [] → k ≡ 0 → l ≡ named_at t bodies k i c
-unfolding named_at
-named_no_more t bodies k i c l none h = none ∙ sym (ap (λ n. named_at t bodies n i c) h)
+pub named_no_more : (t : List ℕ) (bodies : List Tree) (k i c : ℕ) (l : List Event) → l ≡ [] → k ≡ 0 → l ≡ definition_results t bodies k i c
+unfolding definition_results
+named_no_more t bodies k i c l none h = none ∙ sym (ap (λ n. definition_results t bodies n i c) h)
 
 -- no definition has the number
-pub named_missing : (t : List ℕ) (bodies : List Tree) (k i c : ℕ) (l : List Event) → l ≡ [] → None ≡ slice_get bodies i → l ≡ named_at t bodies k i c
-unfolding named_at
+pub named_missing : (t : List ℕ) (bodies : List Tree) (k i c : ℕ) (l : List Event) → l ≡ [] → None ≡ slice_get bodies i → l ≡ definition_results t bodies k i c
+unfolding definition_results
 named_missing t bodies zero i c l none h = none
-named_missing t bodies (suc k) i c l none h = none ∙ ap (λ b. of_body (results_of t (named_at t bodies k)) b c) h
+named_missing t bodies (suc k) i c l none h = none ∙ ap (λ b. of_body (results_of t (definition_results t bodies k)) b c) h
 
 -- the definition's body does it
-pub named_does : (t : List ℕ) (bodies : List Tree) (k i c : ℕ) (p : Tree) (l : List Event) → 0 < k → Some p ≡ slice_get bodies i → l ≡ results t bodies (k - 1) p c → l ≡ named_at t bodies k i c
-unfolding named_at
+pub named_does : (t : List ℕ) (bodies : List Tree) (k i c : ℕ) (p : Tree) (l : List Event) → 0 < k → Some p ≡ slice_get bodies i → l ≡ results t bodies (k - 1) p c → l ≡ definition_results t bodies k i c
+unfolding definition_results
 named_does t bodies zero i c p l h is does = absurd (omega arith)
 named_does t bodies (suc k) i c p l h is does =
-    does ∙ ap (λ n. results t bodies n p c) (sub-one (suc k)) ∙ ap (λ b. of_body (results_of t (named_at t bodies k)) b c) is
+    does ∙ ap (λ n. results t bodies n p c) (sub-one (suc k)) ∙ ap (λ b. of_body (results_of t (definition_results t bodies k)) b c) is
 
 -- a round that took something is followed by more
 pub round_taken : (once : ℕ → List Event) (n c e : ℕ) (l m : List Event) → c < e → l ≡ m → m ≡ rounds once (n - 1) e → l ≡ next_round once n c e

@@ -2,11 +2,11 @@
 use Rattle.std.proofs.Common.{◌≡◌, ℕ, suc, ◌+◌, ◌-◌, ◌≤◌, Bool, List, [], ◌∷◌, ◌++◌, map, Option, Some, None, ap, sym, ◌∙◌, arith}
 use Rattle.std.specs.List.{flat_map, range_with_len}
 use Rattle.sno_pattern.specs.Tree.{Tree}
-use Rattle.sno_pattern.specs.Results.{results, depth}
+use Rattle.sno_pattern.specs.Results.{results, enough_depth}
 use Rattle.sno_pattern.specs.Outcome.{Tried, starts, tried_from, cut_scan, found_in, outcome_at, outcome}
 use Rattle.sno_pattern.specs.declared.events.Assign.{Assign}
 use Rattle.sno_pattern.specs.declared.events.Event.{Event}
-use Rattle.sno_pattern.specs.declared.events.Event.TheVariants.{Told, End, Halt}
+use Rattle.sno_pattern.specs.declared.events.Event.TheVariants.{Try, Set, End, Halt}
 use Rattle.sno_pattern.specs.declared.found.Found.{Found}
 use Rattle.sno_pattern.specs.declared.found.Hit.{Hit}
 use Rattle.sno_pattern.specs.Events.{CondList}
@@ -18,11 +18,16 @@ abbrev pub found_as : List Assign → Option Hit → Found
 found_as sets end = record { sets = sets; end = end }
 
 -- an assignment that is done at once is added to those before
-pub found_told : (s : ℕ) (sets new : List Assign) (l rest : List Event) (t : Assign) (others : List Tried) → l ≡ Told t ∷ rest → new ≡ sets ++ t ∷ []
+pub found_set : (s : ℕ) (sets new : List Assign) (l rest : List Event) (t : Assign) (others : List Tried) → l ≡ Set t ∷ rest → new ≡ sets ++ t ∷ []
     → found_in sets (cut_scan (map (λ e. (s, e)) l ++ others)) ≡ found_in new (cut_scan (map (λ e. (s, e)) rest ++ others))
-found_told s sets new l rest t others is added =
+found_set s sets new l rest t others is added =
     ap (λ m. found_in sets (cut_scan (map (λ e. (s, e)) m ++ others))) is
     ∙ ap (λ z. found_in z (cut_scan (map (λ e. (s, e)) rest ++ others))) (sym added)
+
+-- a trial changes nothing of what is found
+pub found_tried : (s : ℕ) (sets : List Assign) (l rest : List Event) (others : List Tried) → l ≡ Try ∷ rest
+    → found_in sets (cut_scan (map (λ e. (s, e)) l ++ others)) ≡ found_in sets (cut_scan (map (λ e. (s, e)) rest ++ others))
+found_tried s sets l rest others is = ap (λ m. found_in sets (cut_scan (map (λ e. (s, e)) m ++ others))) is
 
 -- a Halt fails the whole match
 pub found_halt : (s : ℕ) (sets : List Assign) (l rest : List Event) (others : List Tried) → l ≡ Halt ∷ rest → found_in sets (cut_scan (map (λ e. (s, e)) l ++ others)) ≡ record { sets = sets; end = None }
@@ -38,12 +43,12 @@ pub sets_are : (new sets : List Assign) (end : Option Hit) → new ≡ sets → 
 sets_are new sets end is = ap (λ s. found_as s end) (sym is)
 
 -- all starts are still to be tried
-pub begun : (t : List ℕ) (bodies : List Tree) (p : Tree) (anchored : Bool) (most last : ℕ) (sets : List Assign) → most ≡ depth t bodies → range_with_len 0 (last + 1) ≡ starts t anchored → sets ≡ []
+pub begun : (t : List ℕ) (bodies : List Tree) (p : Tree) (anchored : Bool) (most last : ℕ) (sets : List Assign) → most ≡ enough_depth t bodies → range_with_len 0 (last + 1) ≡ starts t anchored → sets ≡ []
     → outcome t bodies p anchored ≡ found_in sets (cut_scan (flat_map (tried_from t bodies most p) (up_to 0 last)))
 unfolding outcome_at
 begun t bodies p anchored most last sets deep all none =
     let same : suc last - 0 ≡ last + 1 = omega arith in
-    ap (λ s. found_in [] (cut_scan (flat_map (tried_from t bodies (depth t bodies) p) s))) (sym all ∙ ap (range_with_len 0) (sym same))
+    ap (λ s. found_in [] (cut_scan (flat_map (tried_from t bodies (enough_depth t bodies) p) s))) (sym all ∙ ap (range_with_len 0) (sym same))
     ∙ ap (λ k. found_in [] (cut_scan (flat_map (tried_from t bodies k p) (up_to 0 last)))) (sym deep)
     ∙ ap (λ z. found_in z (cut_scan (flat_map (tried_from t bodies most p) (up_to 0 last)))) (sym none)
 

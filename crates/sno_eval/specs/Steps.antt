@@ -1,13 +1,14 @@
 -- Words for the steps in which lists of events are made.
-use Rattle.std.specs.Prelude.{Bool, true, false}
+use Rattle.std.specs.Prelude.{ℕ, suc, Bool, true, false, List, [], ◌∷◌}
 use Rattle.sno_pattern.specs.Tree.{Tree, Arbno, Ref, Seq, Alt, Cond, Imm}
 use Rattle.sno_pattern.specs.declared.events.Event.{Event}
-use Rattle.sno_pattern.specs.declared.events.Event.TheVariants.{Told, End, Halt}
+use Rattle.sno_pattern.specs.declared.events.Event.TheVariants.{Try, Set, End, Halt}
 
 -- the whole match fails
 abbrev pub is_halt : Event → Bool
 is_halt Halt = true
-is_halt (Told a) = false
+is_halt Try = false
+is_halt (Set a) = false
 is_halt (End e a) = false
 
 -- a pattern that has no part and refers to none
@@ -19,3 +20,11 @@ is_leaf (Alt p q) = false
 is_leaf (Cond p v) = false
 is_leaf (Imm p v) = false
 is_leaf _ = true
+
+-- the trials before the first End or Halt
+abbrev pub trials_of : List Event → ℕ
+trials_of [] = 0
+trials_of (Try ∷ l) = suc (trials_of l)
+trials_of (Set a ∷ l) = trials_of l
+trials_of (End e a ∷ l) = 0
+trials_of (Halt ∷ l) = 0

@@ -28,7 +28,8 @@ pub fn first_ending(
 {
     for event in events {
         match event {
-            Event::Told(assign) => sets.push(*assign)?,
+            Event::Try => {}
+            Event::Set(assign) => sets.push(*assign)?,
             Event::End(end, conds) => {
                 let conds = copied(alloc, conds)?;
                 return Ok(Ending::Success(Hit {

@@ -23,11 +23,29 @@ pub fn push_end(alloc: Global, events: &mut Vec<Event>, end: usize) -> Result<()
     Ok(())
 }
 
-// The End of a primitive that has at most one.
+// Adds a trial, and then an End without assignments.
+pub fn push_further(alloc: Global, events: &mut Vec<Event>, end: usize) -> Result<(), AllocError>
+    ensures { OnOk result (events.new.items ≡ events.old.items ++ Event.Try ∷ Event.End end [] ∷ []) }
+{
+    events.push(Event::Try)?;
+    push_end(alloc, events, end)?;
+    Ok(())
+}
+
+// A trial alone.
+pub fn one_trial(alloc: Global) -> Result<Vec<Event>, AllocError>
+    ensures { IfOk result (λ v. v.items ≡ Event.Try ∷ []) }
+{
+    let mut events = Vec::new(alloc);
+    events.push(Event::Try)?;
+    Ok(events)
+}
+
+// What a primitive does that has at most one end.
 pub fn at_most_one(alloc: Global, end: Option<usize>) -> Result<Vec<Event>, AllocError>
     ensures { IfOk result (λ v. v.items ≡ ends (option_to_list end)) }
 {
-    let mut events = Vec::new(alloc);
+    let mut events = one_trial(alloc)?;
     if let Some(end) = end {
         push_end(alloc, &mut events, end)?;
     }
@@ -106,7 +124,8 @@ pub fn add_after(
 {
     for event in later {
         match event {
-            Event::Told(assign) => all.push(Event::Told(*assign))?,
+            Event::Try => all.push(Event::Try)?,
+            Event::Set(assign) => all.push(Event::Set(*assign))?,
             Event::End(end, more) => all.push(Event::End(*end, joined(alloc, conds, more)?))?,
             Event::Halt => {
                 all.push(Event::Halt)?;
@@ -129,7 +148,8 @@ pub fn assign_later(
     let mut all = Vec::new(alloc);
     for event in events {
         match event {
-            Event::Told(assign) => all.push(Event::Told(*assign))?,
+            Event::Try => all.push(Event::Try)?,
+            Event::Set(assign) => all.push(Event::Set(*assign))?,
             Event::End(end, conds) => all.push(Event::End(
                 *end,
                 with_part(alloc, conds, name, start, *end)?,
@@ -152,9 +172,10 @@ pub fn assign_now(
     let mut all = Vec::new(alloc);
     for event in events {
         match event {
-            Event::Told(assign) => all.push(Event::Told(*assign))?,
+            Event::Try => all.push(Event::Try)?,
+            Event::Set(assign) => all.push(Event::Set(*assign))?,
             Event::End(end, conds) => {
-                all.push(Event::Told(Assign {
+                all.push(Event::Set(Assign {
                     name,
                     what: What::Part(start, *end),
                 }))?;

@@ -2,11 +2,11 @@
 ghost use Rattle.std.specs.Prelude.{◌≡◌, ◌≤◌, ℕ, ◌∷◌, [], List, length, IfOk, IsTrue};
 ghost use Rattle.sno_pattern.specs.Tree.{tree_of};
 ghost use Rattle.sno_pattern.specs.Ends.{arb_ends, bal_ends};
-ghost use Rattle.sno_pattern.specs.Results.{ends, results_of};
+ghost use Rattle.sno_pattern.specs.Results.{ends, further_ends, results_of};
 ghost use Rattle.sno_pattern.specs.declared.events.Event.{Event as HappenedEvent};
 ghost use Rattle.sno_eval.specs.Steps.{is_leaf};
 
-use crate::events::{at_most_one, push_end};
+use crate::events::{at_most_one, one_trial, push_end, push_further};
 use sno_pattern::{Assign, Event, Name, Pattern, What};
 use sno_primitives::{first_balanced, leaf_end};
 use std::alloc::{AllocError, Global};
@@ -39,7 +39,7 @@ pub fn leaf(
         Pattern::Bal => bal(alloc, text, c),
         Pattern::Fence => fence(alloc, c),
         Pattern::Abort => abort(alloc),
-        Pattern::Fail => Ok(Vec::new(alloc)),
+        Pattern::Fail => one_trial(alloc),
         Pattern::At(name) => cursor(alloc, *name, c),
         Pattern::Arbno(_)
         | Pattern::Ref(_)
@@ -56,7 +56,7 @@ fn arb(alloc: Global, text: &[u8], c: usize) -> Result<Vec<Event>, AllocError>
 {
     let mut events = Vec::new(alloc);
     for end in c..text.len() + 1 {
-        push_end(alloc, &mut events, end)?;
+        push_further(alloc, &mut events, end)?;
     }
     Ok(events)
 }
@@ -65,37 +65,49 @@ fn bal(alloc: Global, text: &[u8], c: usize) -> Result<Vec<Event>, AllocError>
     requires { c ≤ length text.now }
     ensures { IfOk result (λ v. v.items ≡ ends (bal_ends text.now c)) }
 {
+    let events = further_bal(alloc, text, c)?;
+    if events.is_empty() {
+        return one_trial(alloc);
+    }
+    Ok(events)
+}
+
+// The ends of `BAL`, each at the cost of a trial.
+fn further_bal(alloc: Global, text: &[u8], c: usize) -> Result<Vec<Event>, AllocError>
+    requires { c ≤ length text.now }
+    ensures { IfOk result (λ v. v.items ≡ further_ends (bal_ends text.now c)) }
+{
     let mut events = Vec::new(alloc);
     let mut cursor = c;
     while let Some(end) = first_balanced(text, cursor) {
-        push_end(alloc, &mut events, end)?;
+        push_further(alloc, &mut events, end)?;
         cursor = end;
     }
     Ok(events)
 }
 
 fn fence(alloc: Global, c: usize) -> Result<Vec<Event>, AllocError>
-    ensures { IfOk result (λ v. v.items ≡ Event.End c [] ∷ Event.Halt ∷ []) }
+    ensures { IfOk result (λ v. v.items ≡ Event.Try ∷ Event.End c [] ∷ Event.Halt ∷ []) }
 {
     let mut events = Vec::new(alloc);
-    push_end(alloc, &mut events, c)?;
+    push_further(alloc, &mut events, c)?;
     events.push(Event::Halt)?;
     Ok(events)
 }
 
 fn abort(alloc: Global) -> Result<Vec<Event>, AllocError>
-    ensures { IfOk result (λ v. v.items ≡ Event.Halt ∷ []) }
+    ensures { IfOk result (λ v. v.items ≡ Event.Try ∷ Event.Halt ∷ []) }
 {
-    let mut events = Vec::new(alloc);
+    let mut events = one_trial(alloc)?;
     events.push(Event::Halt)?;
     Ok(events)
 }
 
 fn cursor(alloc: Global, name: Name, c: usize) -> Result<Vec<Event>, AllocError>
-    ensures { IfOk result (λ v. v.items ≡ Event.Told (record { name = name; what = What.Cursor c }) ∷ Event.End c [] ∷ []) }
+    ensures { IfOk result (λ v. v.items ≡ Event.Try ∷ Event.Set (record { name = name; what = What.Cursor c }) ∷ Event.End c [] ∷ []) }
 {
-    let mut events = Vec::new(alloc);
-    events.push(Event::Told(Assign {
+    let mut events = one_trial(alloc)?;
+    events.push(Event::Set(Assign {
         name,
         what: What::Cursor(c),
     }))?;

@@ -2,7 +2,7 @@
 ghost use Rattle.std.specs.Prelude.{◌≡◌, ◌≤◌, length, IfOk};
 ghost use Rattle.sno_pattern.specs.Tree.{tree_of};
 ghost use Rattle.sno_pattern.specs.Events.{go_on};
-ghost use Rattle.sno_pattern.specs.Results.{results, rounds, named_at};
+ghost use Rattle.sno_pattern.specs.Results.{results, rounds, definition_results};
 ghost use Rattle.sno_pattern.specs.Laws.{AllEnds, Within};
 
 use crate::events::{add_after, assign_later, assign_now, cut, has_halt, push_end};
@@ -75,7 +75,7 @@ fn named(
     c: usize,
 ) -> Result<Vec<Event>, AllocError>
     requires { c ≤ length text.now }
-    ensures { IfOk result (λ v. v.items ≡ named_at text.now rules.now.bodies depth number c) }
+    ensures { IfOk result (λ v. v.items ≡ definition_results text.now rules.now.bodies depth number c) }
 {
     if depth == 0 {
         return Ok(Vec::new(alloc));
@@ -105,7 +105,8 @@ fn follow(
     let mut all = Vec::new(alloc);
     for event in first {
         match event {
-            Event::Told(assign) => all.push(Event::Told(*assign))?,
+            Event::Try => all.push(Event::Try)?,
+            Event::Set(assign) => all.push(Event::Set(*assign))?,
             Event::End(end, conds) => {
                 let later = results(alloc, text, rules, depth, pattern, *end)?;
                 if add_after(alloc, conds, &later, &mut all)? {
@@ -144,7 +145,8 @@ fn repeat(
     let once = results(alloc, text, rules, depth, part, c)?;
     for event in once.as_slice() {
         match event {
-            Event::Told(assign) => all.push(Event::Told(*assign))?,
+            Event::Try => all.push(Event::Try)?,
+            Event::Set(assign) => all.push(Event::Set(*assign))?,
             Event::End(end, conds) => {
                 if c < *end {
                     let later = repeat(alloc, text, rules, depth, part, count - 1, *end)?;

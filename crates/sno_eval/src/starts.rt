@@ -1,19 +1,19 @@
 //! A match: the starts in turn, the events of each up to the first End or Halt.
-ghost use Rattle.std.specs.Prelude.{◌≡◌, ◌+◌, ◌++◌, ◌≤◌, length, map, IfOk, IsTrue};
+ghost use Rattle.std.specs.Prelude.{◌≡◌, ◌+◌, ◌≤◌, ℕ, length, IfOk, IsTrue};
 ghost use Rattle.std.specs.List.{range_with_len};
 ghost use Rattle.sno_pattern.specs.Tree.{tree_of, refs_below};
-ghost use Rattle.sno_pattern.specs.Results.{depth};
-ghost use Rattle.sno_pattern.specs.Outcome.{outcome, starts};
+ghost use Rattle.sno_pattern.specs.Results.{enough_depth};
+ghost use Rattle.sno_pattern.specs.Outcome.{outcome, outcome_at, starts};
 
 use crate::endings::{Ending, first_ending};
 use crate::results::results;
-use sno_pattern::{Assigns, Found, Pattern, Rules, Text};
+use sno_pattern::{Assigns, Found, Pattern, Rules, Text, a_greater_depth_changes_no_outcome};
 use std::alloc::{AllocError, Global};
 
 /// What comes of matching the pattern with the text: anchored at cursor 0 alone, floating at each cursor in turn until one
 /// succeeds. Each reference of the pattern has to be to one of the definitions (`Rules::covers`).
 ///
-/// The assignments that were done at once come back in their order, also where they were backed over, and the first success
+/// The immediate assignments that were done come back in their order, also where they were backed over, and the first success
 /// with its conditional assignments; none where the match failed. All events of a start are listed before the first of them is
 /// looked at, so time and memory may grow as fast as the number of ways in which the pattern matches; and the depth of the
 /// calls grows with the text. It is the plain reference, for small texts.
@@ -27,6 +27,25 @@ pub fn first(
     anchored: bool,
 ) -> Result<Found, AllocError>
     requires { IsTrue (refs_below (length rules.now.bodies) (tree_of pattern.now)) }
+    // What comes back is the outcome of the match ..
+    ensures found { IfOk result (λ found. found ≡ outcome text.now rules.now.bodies (tree_of pattern.now) anchored) }
+    // .. at every depth of references that is enough.
+    ensures deep { IfOk result (λ found. (k : ℕ) → enough_depth text.now rules.now.bodies ≤ k → found ≡ outcome_at k text.now rules.now.bodies (tree_of pattern.now) anchored) }
+{
+    rules.bodies();
+    a_greater_depth_changes_no_outcome();
+    let found = search(alloc, rules, pattern, text, anchored)?;
+    Ok(found)
+}
+
+// The same at the depth that is counted here.
+fn search(
+    alloc: Global,
+    rules: &Rules,
+    pattern: &Pattern,
+    text: &Text,
+    anchored: bool,
+) -> Result<Found, AllocError>
     ensures { IfOk result (λ found. found ≡ outcome text.now rules.now.bodies (tree_of pattern.now) anchored) }
 {
     let most = depth(text, rules);
@@ -53,13 +72,14 @@ pub fn first(
 }
 
 // A depth that is always enough. It has more bits than a cursor, since nothing here says how few definitions there are.
-fn depth(text: &Text, rules: &Rules) -> u128
-    ensures { result ≡ depth text.now rules.now.bodies }
+pub fn depth(text: &Text, rules: &Rules) -> u128
+    ensures { result ≡ enough_depth text.now rules.now.bodies }
 {
     (text.bytes().len() as u128 + 1) * rules.len() as u128
 }
 
-fn last_start(text: &Text, anchored: bool) -> usize
+// The last cursor at which a match may begin.
+pub fn last_start(text: &Text, anchored: bool) -> usize
     ensures starts { range_with_len 0 (result + 1) ≡ starts text.now anchored }
     ensures within { result ≤ length text.now }
     ensures short { result ≤ 65536 }

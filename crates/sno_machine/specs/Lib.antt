@@ -1,4 +1,5 @@
 pub mod Trails
+pub mod Progress
 pub mod Meaning
 pub mod Steps
 pub mod State

@@ -13,7 +13,7 @@ impl<'a> Matcher<'a> {
     pub fn back_up(&mut self) -> Result<Option<Next<'a>>, AllocError>
         ensures going { (t : List ℕ) (bodies : List Tree) → IsHeld t self.old →
             IfOk result (λ r. MatchOption r (self.old.choices.items ≡ []) (LeadsTo t bodies self.old self.new [] 0)) }
-        ensures spent { IfOk result (λ r. MatchOption r (self.new.sets.items ≡ self.old.sets.items) (λ n. Unit {0})) }
+        ensures spent { IfOk result (λ r. MatchOption r (self.new.progress ≡ self.old.progress) (λ n. Unit {0})) }
     {
         match self.choices.pop() {
             None => Ok(None),
@@ -30,7 +30,7 @@ impl<'a> Matcher<'a> {
         ensures frames { self.new.frames.items ≡ take choice.entry.frame_count self.old.frames.items }
         ensures pending { self.new.pending.items ≡ take choice.entry.pending_count self.old.pending.items }
         ensures choices { self.new.choices.items ≡ self.old.choices.items }
-        ensures sets { self.new.sets.items ≡ self.old.sets.items }
+        ensures progress { self.new.progress ≡ self.old.progress }
     {
         self.frames.truncate(choice.frame_count);
         self.pending.truncate(choice.pending_count);
@@ -50,6 +50,7 @@ impl<'a> Matcher<'a> {
                 let frames = self.push_frame(frame, place.frames)?;
                 Ok(Next::Try(part, depth, Place { frames, ..place }))
             }
+            Other::Balanced => Ok(Next::Balanced(place)),
             Other::Halt => Ok(Next::Halt),
         }
     }

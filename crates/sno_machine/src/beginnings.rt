@@ -2,7 +2,8 @@
 ghost use Rattle.std.specs.Prelude.{◌≡◌, ◌+◌, ◌≤◌, length, MatchOption};
 ghost use Rattle.std.specs.Option.{option_copied};
 ghost use Rattle.sno_pattern.specs.Tree.{tree_of};
-ghost use Rattle.sno_machine.specs.Beginnings.{first_literal, NoneBegin};
+ghost use Rattle.sno_pattern.specs.Beginnings.{first_literal};
+ghost use Rattle.sno_machine.specs.Beginnings.{NoneBegin};
 
 use memchr::memmem::Finder;
 use sno_pattern::{Pattern, Text};

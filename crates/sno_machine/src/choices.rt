@@ -16,6 +16,8 @@ pub enum Other<'a> {
     Alternative(&'a Pattern, usize),
     /// A round of a repetition of this part is tried, at most so many references deep.
     Round(&'a Pattern, usize),
+    /// The further ends of `BAL` are tried.
+    Balanced,
     /// The whole match fails.
     Halt,
 }

@@ -1,7 +1,7 @@
 //! The matcher: what comes of a match, sought one step after the other.
 //!
-//! [`first`] answers exactly what the definitions of `sno_pattern` say of a match, `outcome` of its `specs/Outcome.antt`. Its one refusal is
-//! want of memory.
+//! [`first`] answers exactly what the definitions of `sno_pattern` say of a match, `outcome` of its `specs/Outcome.antt`. A match that takes more
+//! trials than its limit is refused, and one for which memory is.
 //!
 //! What is left to be done once a part has matched, the assignments that are pending and what is left to be tried stand on three stacks.
 //! The first two are lists that share their tails: a choice keeps the number of its lists, and how many cells there were when it was left,
@@ -12,6 +12,7 @@
 //! |---|---|
 //! | `frames`, `pending`, `choices` | what stands on the stacks |
 //! | `matcher` | the stacks, what is next, and putting something on a stack |
+//! | `progress` | what was done so far: immediate assignments and trials |
 //! | `trying` | a pattern is tried: each kind of pattern is one step |
 //! | `primitives` | the patterns without parts |
 //! | `resuming` | a part has matched, and what is left to be done is done |
@@ -22,7 +23,7 @@
 //! | `starts` | [`first`] |
 //!
 //! How it is proved: `specs/Meaning.antt` says what is still to come of a match that has come so far, as a list of events, and
-//! `specs/State.antt` says it of the stacks. Each step keeps, with the assignments that were done, what is still to come
+//! `specs/State.antt` says it of the stacks. With what was done so far (`specs/Progress.antt`), each step keeps what is still to come
 //! (`LeadsTo`), and takes one from a number of steps that `specs/Steps.antt` counts beforehand; so a match ends.
 #![tactic(auto)]
 
@@ -30,14 +31,17 @@ mod backing_up;
 mod beginnings;
 mod choices;
 mod conditions;
+mod faults;
 mod frames;
 mod matcher;
 mod pending;
 mod primitives;
+mod progress;
 mod resuming;
 mod starts;
 mod stepping;
 mod trying;
 
-pub use sno_pattern::{Assign, Assigns, Conds, Found, Hit, What};
+pub use faults::MatchFault;
+pub use sno_pattern::{Assign, Assigns, Conds, Found, Hit, Name, Pattern, Rules, Text, What};
 pub use starts::first;

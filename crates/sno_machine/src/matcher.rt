@@ -4,16 +4,17 @@ ghost use Rattle.std.specs.Prelude.{◌≡◌, ◌+◌, ◌++◌, ◌∷◌, [],
 use crate::choices::{Choice, Other, Place};
 use crate::frames::{Frame, FrameCell};
 use crate::pending::PendingCell;
-use sno_pattern::{Assign, Name, Pattern};
+use crate::progress::Progress;
+use sno_pattern::{Name, Pattern};
 use std::alloc::{AllocError, Global};
 
-/// The stacks of a match.
+/// The stacks of a match, and what it has done so far.
 #[derive(Drop)]
 pub struct Matcher<'a> {
     pub frames: Vec<FrameCell<'a>>,
     pub pending: Vec<PendingCell<'a>>,
     pub choices: Vec<Choice<'a>>,
-    pub sets: Vec<Assign>,
+    pub progress: Progress,
 }
 
 /// What the matcher does next.
@@ -23,6 +24,8 @@ pub enum Next<'a> {
     Try(&'a Pattern, usize, Place),
     /// A part has matched, and what is left to be done is done.
     Proceed(Place),
+    /// The further ends of `BAL` past the place are tried.
+    Balanced(Place),
     /// What was tried failed, and the newest choice is taken up.
     BackUp,
     /// The whole match fails.
@@ -30,14 +33,14 @@ pub enum Next<'a> {
 }
 
 impl<'a> Matcher<'a> {
-    pub fn new(alloc: Global) -> Matcher<'a>
-        ensures sets { result.sets.items ≡ [] }
+    pub fn new(alloc: Global, limit: u32) -> Matcher<'a>
+        ensures progress { result.progress ≡ record { sets = []; trials = 0; limit = limit } }
     {
         Matcher {
             frames: Vec::new(alloc),
             pending: Vec::new(alloc),
             choices: Vec::new(alloc),
-            sets: Vec::new(alloc),
+            progress: Progress::new(alloc, limit),
         }
     }
 
@@ -46,14 +49,14 @@ impl<'a> Matcher<'a> {
         ensures frames { OnOk result (self.new.frames.items ≡ self.old.frames.items ++ record { frame = frame.entry; below = below } ∷ []) }
         ensures pending { self.new.pending.items ≡ self.old.pending.items }
         ensures choices { self.new.choices.items ≡ self.old.choices.items }
-        ensures sets { self.new.sets.items ≡ self.old.sets.items }
+        ensures progress { self.new.progress ≡ self.old.progress }
         ensures number { IfOk result (λ n. n ≡ length self.old.frames.items + 1) }
     {
         self.frames.push(FrameCell { frame, below })?;
         Ok(self.frames.len())
     }
 
-    /// Puts the part from `start` behind the pending assignments of the place, and answers the number of the new list.
+    /// Puts the part from `start` after the pending assignments of the place, and answers the number of the new list.
     pub fn push_pending(
         &mut self,
         name: &'a Name,
@@ -63,7 +66,7 @@ impl<'a> Matcher<'a> {
         ensures pending { OnOk result (self.new.pending.items ≡ self.old.pending.items ++ record { name = name.entry; start = start; end = place.cursor; below = place.pending } ∷ []) }
         ensures frames { self.new.frames.items ≡ self.old.frames.items }
         ensures choices { self.new.choices.items ≡ self.old.choices.items }
-        ensures sets { self.new.sets.items ≡ self.old.sets.items }
+        ensures progress { self.new.progress ≡ self.old.progress }
         ensures number { IfOk result (λ n. n ≡ length self.old.pending.items + 1) }
     {
         self.pending.push(PendingCell {
@@ -85,7 +88,7 @@ impl<'a> Matcher<'a> {
         } ∷ []) }
         ensures frames { self.new.frames.items ≡ self.old.frames.items }
         ensures pending { self.new.pending.items ≡ self.old.pending.items }
-        ensures sets { self.new.sets.items ≡ self.old.sets.items }
+        ensures progress { self.new.progress ≡ self.old.progress }
     {
         self.choices.push(Choice {
             other,

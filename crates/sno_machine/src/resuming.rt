@@ -65,7 +65,7 @@ impl<'a> Matcher<'a> {
         }
     }
 
-    /// Puts the part from `start` behind the pending assignments.
+    /// Puts the part from `start` after the pending assignments.
     fn assign_later(
         &mut self,
         name: &'a Name,
@@ -93,7 +93,7 @@ impl<'a> Matcher<'a> {
             (now_then name.now start (go_at t bodies self.old.frames.items place.frames).0 place.cursor (conds_at self.old.pending.items place.pending))
             (1 + (go_at t bodies self.old.frames.items place.frames).1 place.cursor)) }
     {
-        self.sets.push(Assign {
+        self.progress.assign(Assign {
             name: *name,
             what: What::Part(start, place.cursor),
         })?;

@@ -1,17 +1,19 @@
 //! A pattern is tried at a place.
-ghost use Rattle.std.specs.Prelude.{◌≡◌, ◌≤◌, ℕ, List, length, IfOk};
-ghost use Rattle.sno_pattern.specs.Tree.{Tree, tree_of, Seq, Alt, Arbno, Cond, Imm, At, Fence};
-ghost use Rattle.sno_machine.specs.State.{IsHeld, Tries};
+ghost use Rattle.std.specs.Prelude.{◌≡◌, ◌≤◌, ℕ, List, length, IfOk, IsTrue, MatchResult};
+ghost use Rattle.sno_pattern.specs.Tree.{Tree, tree_of, Seq, Alt, Arbno, Cond, Imm};
+ghost use Rattle.sno_machine.specs.Meaning.{is_leaf};
+ghost use Rattle.sno_machine.specs.State.{GoesOn, IsHeld, Refuses, Tries};
 
 use crate::choices::{Other, Place};
+use crate::faults::MatchFault;
 use crate::frames::Frame;
 use crate::matcher::{Matcher, Next};
 use crate::primitives::{reference, single};
-use sno_pattern::{Assign, Name, Pattern, Rules, What, a_repetition_is_null_or_goes_on};
+use sno_pattern::{Name, Pattern, Rules, a_repetition_is_null_or_goes_on};
 use std::alloc::AllocError;
 
 impl<'a> Matcher<'a> {
-    /// The left part, and behind each of its ends the right one.
+    /// The left part, and after each of its ends the right one.
     pub fn concatenation(
         &mut self,
         left: &'a Pattern,
@@ -85,61 +87,28 @@ impl<'a> Matcher<'a> {
         let frames = self.push_frame(Frame::Now(name, place.cursor), place.frames)?;
         Ok(Next::Try(part, depth, Place { frames, ..place }))
     }
-
-    /// The cursor is assigned at once.
-    pub fn cursor_assigned(
-        &mut self,
-        name: &'a Name,
-        depth: usize,
-        place: Place,
-    ) -> Result<Next<'a>, AllocError>
-        ensures { (t : List ℕ) (bodies : List Tree) → IsHeld t self.old → place.cursor ≤ length t →
-            IfOk result (Tries t bodies self.old self.new depth (At name.now) place) }
-    {
-        self.sets.push(Assign {
-            name: *name,
-            what: What::Cursor(place.cursor),
-        })?;
-        Ok(Next::Proceed(place))
-    }
-
-    /// Nothing, and when the match backs up it fails as a whole.
-    pub fn fence(&mut self, depth: usize, place: Place) -> Result<Next<'a>, AllocError>
-        ensures { (t : List ℕ) (bodies : List Tree) → IsHeld t self.old → place.cursor ≤ length t →
-            IfOk result (Tries t bodies self.old self.new depth Fence place) }
-    {
-        self.push_choice(Other::Halt, place)?;
-        Ok(Next::Proceed(place))
-    }
 }
 
 impl<'a> Matcher<'a> {
-    /// Tries the pattern at the place, at most `depth` references deep.
-    pub fn attempt(
+    /// What a pattern without parts does, once the trial with which it begins is spent.
+    fn leaf(
         &mut self,
         text: &[u8],
-        rules: &'a Rules,
         pattern: &'a Pattern,
-        depth: usize,
         place: Place,
     ) -> Result<Next<'a>, AllocError>
         requires held { IsHeld text.now self.old }
         requires within { place.cursor ≤ length text.now }
-        ensures { IfOk result (Tries text.now rules.now.bodies self.old self.new depth (tree_of pattern.now) place) }
+        requires leaf { IsTrue (is_leaf (tree_of pattern.now)) }
+        ensures { (bodies : List Tree) → IfOk result (GoesOn text.now bodies self.old self.new (tree_of pattern.now) place) }
     {
         match pattern {
-            Pattern::Seq(left, right) => self.concatenation(left, right, depth, place),
-            Pattern::Alt(left, right) => self.alternation(left, right, depth, place),
-            Pattern::Arbno(part) => self.repetition(part, depth, place),
-            Pattern::Cond(part, name) => self.assigned_later(part, name, depth, place),
-            Pattern::Imm(part, name) => self.assigned_now(part, name, depth, place),
-            Pattern::At(name) => self.cursor_assigned(name, depth, place),
-            Pattern::Ref(number) => Ok(reference(rules, *number, depth, place)),
-            Pattern::Fence => self.fence(depth, place),
+            Pattern::At(name) => self.cursor_assigned(name, place),
+            Pattern::Fence => self.fence(place),
             Pattern::Abort => Ok(Next::Halt),
             Pattern::Fail => Ok(Next::BackUp),
-            Pattern::Arb => self.arbitrary(text, pattern, depth, place),
-            Pattern::Bal => self.balanced(text, pattern, depth, place),
+            Pattern::Arb => self.arbitrary(text, pattern, place),
+            Pattern::Bal => self.balanced(text, place),
             Pattern::Lit(_)
             | Pattern::Len(_)
             | Pattern::Pos(_)
@@ -151,6 +120,75 @@ impl<'a> Matcher<'a> {
             | Pattern::Span(_)
             | Pattern::Break(_)
             | Pattern::Rem => Ok(single(text, pattern, place)),
+            Pattern::Arbno(_)
+            | Pattern::Ref(_)
+            | Pattern::Seq(_, _)
+            | Pattern::Alt(_, _)
+            | Pattern::Cond(_, _)
+            | Pattern::Imm(_, _) => unreachable!(),
+        }
+    }
+
+    /// Tries a pattern without parts at the place, at the cost of a trial.
+    fn try_leaf(
+        &mut self,
+        text: &[u8],
+        pattern: &'a Pattern,
+        place: Place,
+    ) -> Result<Next<'a>, MatchFault>
+        requires held { IsHeld text.now self.old }
+        requires within { place.cursor ≤ length text.now }
+        requires leaf { IsTrue (is_leaf (tree_of pattern.now)) }
+        ensures { (bodies : List Tree) (k : ℕ) → MatchResult result (Tries text.now bodies self.old self.new k (tree_of pattern.now) place)
+            (Refuses text.now bodies self.old k (tree_of pattern.now) place) }
+    {
+        if !self.progress.try_spend(1) {
+            return Err(MatchFault::TooManyTrials);
+        }
+        let next = self.leaf(text, pattern, place)?;
+        Ok(next)
+    }
+
+    /// Tries the pattern at the place, at most `depth` references deep.
+    pub fn attempt(
+        &mut self,
+        text: &[u8],
+        rules: &'a Rules,
+        pattern: &'a Pattern,
+        depth: usize,
+        place: Place,
+    ) -> Result<Next<'a>, MatchFault>
+        requires held { IsHeld text.now self.old }
+        requires within { place.cursor ≤ length text.now }
+        ensures { MatchResult result (Tries text.now rules.now.bodies self.old self.new depth (tree_of pattern.now) place)
+            (Refuses text.now rules.now.bodies self.old depth (tree_of pattern.now) place) }
+    {
+        match pattern {
+            Pattern::Seq(left, right) => {
+                let next = self.concatenation(left, right, depth, place)?;
+                Ok(next)
+            }
+            Pattern::Alt(left, right) => {
+                let next = self.alternation(left, right, depth, place)?;
+                Ok(next)
+            }
+            Pattern::Arbno(part) => {
+                let next = self.repetition(part, depth, place)?;
+                Ok(next)
+            }
+            Pattern::Cond(part, name) => {
+                let next = self.assigned_later(part, name, depth, place)?;
+                Ok(next)
+            }
+            Pattern::Imm(part, name) => {
+                let next = self.assigned_now(part, name, depth, place)?;
+                Ok(next)
+            }
+            Pattern::Ref(number) => Ok(reference(rules, *number, depth, place)),
+            _ => {
+                let next = self.try_leaf(text, pattern, place)?;
+                Ok(next)
+            }
         }
     }
 }

@@ -4,7 +4,7 @@ use Rattle.std.proofs.lemmas.Bool.{cases_lt}
 use Rattle.sno_pattern.specs.Tree as tree
 use Rattle.sno_pattern.specs.Tree.{Tree}
 use Rattle.sno_pattern.specs.Events.{cut, go_on, assign_later, assign_now}
-use Rattle.sno_pattern.specs.Results.{rounds, results_of, named_at, results}
+use Rattle.sno_pattern.specs.Results.{rounds, results_of, definition_results, results}
 use Rattle.sno_pattern.specs.Laws.{AllEnds, Within}
 use Rattle.sno_pattern.specs.Guard.{Takes, Unguarded}
 use Rattle.sno_pattern.specs.declared.events.Event.{Event}
@@ -46,8 +46,8 @@ module _ (t : List ℕ) (bodies : List Tree) (k₁ k₂ : ℕ) where
       (results t bodies k₂ p c) (each_end p c i))
 
   pub same_results : (p : Tree) (c : ℕ) → c ≤ length t
-      → ((i : ℕ) → Unguarded bodies p i → named_at t bodies k₁ i c ≡ named_at t bodies k₂ i c)
-      → ((i e : ℕ) → c < e → e ≤ length t → named_at t bodies k₁ i e ≡ named_at t bodies k₂ i e)
+      → ((i : ℕ) → Unguarded bodies p i → definition_results t bodies k₁ i c ≡ definition_results t bodies k₂ i c)
+      → ((i e : ℕ) → c < e → e ≤ length t → definition_results t bodies k₁ i e ≡ definition_results t bodies k₂ i e)
       → results t bodies k₁ p c ≡ results t bodies k₂ p c
   unfolding results_of
   same_results (tree.Lit s) c inside here past = refl

@@ -9,7 +9,7 @@ use Rattle.std.proofs.lemmas.Map.Keys.{IsDistinct-cons}
 use Rattle.std.proofs.lemmas.Map.Steps.{length-le_from_distinct_below}
 use Rattle.std.proofs.lemmas.Option.{slice_get_within}
 use Rattle.sno_pattern.specs.Tree.{Tree}
-use Rattle.sno_pattern.specs.Results.{named_at, results, depth}
+use Rattle.sno_pattern.specs.Results.{definition_results, results, enough_depth}
 use Rattle.sno_pattern.specs.Guard as guard
 use Rattle.sno_pattern.specs.Guard.{Unguarded, Leads, Chain, Guarded}
 use Rattle.sno_pattern.proofs.Taking.{named_body, named_none}
@@ -69,19 +69,19 @@ module _ (bodies : List Tree) (g : Guarded bodies) (visited : List ℕ) (i : ℕ
 abbrev Agree : List ℕ → List Tree → ℕ → Type 0
 Agree t bodies n = (visited : List ℕ) (i c : ℕ) → c ≤ length t → Met bodies visited i
     → (length t - c) * length bodies + (length bodies - length visited) ≤ n
-    → (k₁ k₂ : ℕ) → n ≤ k₁ → n ≤ k₂ → named_at t bodies k₁ i c ≡ named_at t bodies k₂ i c
+    → (k₁ k₂ : ℕ) → n ≤ k₁ → n ≤ k₂ → definition_results t bodies k₁ i c ≡ definition_results t bodies k₂ i c
 
 module _ (t : List ℕ) (bodies : List Tree) (g : Guarded bodies) where
   -- where i has a body
   agree_body : (n : ℕ) → Agree t bodies n → (visited : List ℕ) (i c : ℕ) → c ≤ length t → (met : Met bodies visited i)
       → (length t - c) * length bodies + (length bodies - length visited) ≤ suc n
-      → (k₁ k₂ : ℕ) → n ≤ k₁ → n ≤ k₂ → (body : Tree) → slice_get bodies i ≡ Some body → named_at t bodies (suc k₁) i c ≡ named_at t bodies (suc k₂) i c
+      → (k₁ k₂ : ℕ) → n ≤ k₁ → n ≤ k₂ → (body : Tree) → slice_get bodies i ≡ Some body → definition_results t bodies (suc k₁) i c ≡ definition_results t bodies (suc k₂) i c
   agree_body n less visited i c in_text met bound k₁ k₂ h₁ h₂ body is =
       let inside : i < length bodies = slice_get_within bodies i body is in
       let few : length visited < length bodies = met_few bodies g visited i met inside in
-      let here : (j : ℕ) → Unguarded bodies body j → named_at t bodies k₁ j c ≡ named_at t bodies k₂ j c =
+      let here : (j : ℕ) → Unguarded bodies body j → definition_results t bodies k₁ j c ≡ definition_results t bodies k₂ j c =
       λ j u. less (i ∷ visited) j c in_text (met_more bodies g visited i met inside j (body, is, u)) (omega arith) k₁ k₂ h₁ h₂ in
-      let past : (j e : ℕ) → c < e → e ≤ length t → named_at t bodies k₁ j e ≡ named_at t bodies k₂ j e =
+      let past : (j e : ℕ) → c < e → e ≤ length t → definition_results t bodies k₁ j e ≡ definition_results t bodies k₂ j e =
       λ j e far end. less [] j e end (none_met bodies j) (omega (arith, one_row (length t - e) (length t - c) (length bodies) (omega arith))) k₁ k₂ h₁ h₂ in
       named_body t bodies k₁ i c body is ∙ same_results t bodies k₁ k₂ body c in_text here past ∙ sym (named_body t bodies k₂ i c body is)
 
@@ -91,11 +91,11 @@ module _ (t : List ℕ) (bodies : List Tree) (g : Guarded bodies) where
   agree_zero visited i c met bound body is =
       let few : length visited < length bodies = met_few bodies g visited i met (slice_get_within bodies i body is) in omega arith
 
-  agree_none : (i c k₁ k₂ : ℕ) → slice_get bodies i ≡ None → named_at t bodies k₁ i c ≡ named_at t bodies k₂ i c
+  agree_none : (i c k₁ k₂ : ℕ) → slice_get bodies i ≡ None → definition_results t bodies k₁ i c ≡ definition_results t bodies k₂ i c
   agree_none i c k₁ k₂ is = named_none t bodies k₁ i c is ∙ sym (named_none t bodies k₂ i c is)
 
   agree_by : (i c k₁ k₂ : ℕ) (found : Option Tree) → slice_get bodies i ≡ found
-      → ((body : Tree) → slice_get bodies i ≡ Some body → named_at t bodies k₁ i c ≡ named_at t bodies k₂ i c) → named_at t bodies k₁ i c ≡ named_at t bodies k₂ i c
+      → ((body : Tree) → slice_get bodies i ≡ Some body → definition_results t bodies k₁ i c ≡ definition_results t bodies k₂ i c) → definition_results t bodies k₁ i c ≡ definition_results t bodies k₂ i c
   agree_by i c k₁ k₂ None is h = agree_none i c k₁ k₂ is
   agree_by i c k₁ k₂ (Some body) is h = h body is
 
@@ -108,12 +108,12 @@ module _ (t : List ℕ) (bodies : List Tree) (g : Guarded bodies) where
       agree_by i c (suc k₁) (suc k₂) (slice_get bodies i) refl
       (λ body is. agree_body n (agree n) visited i c in_text met bound k₁ k₂ (omega arith) (omega arith) body is)
 
-  named_settled : (k i c : ℕ) → depth t bodies ≤ k → c ≤ length t → named_at t bodies k i c ≡ named_at t bodies (depth t bodies) i c
+  named_settled : (k i c : ℕ) → enough_depth t bodies ≤ k → c ≤ length t → definition_results t bodies k i c ≡ definition_results t bodies (enough_depth t bodies) i c
   named_settled k i c enough in_text =
       let rows = one_row (length t - c) (length t + 1) (length bodies) (omega arith) in
-      agree (depth t bodies) [] i c in_text (none_met bodies i) (omega (arith, rows)) k (depth t bodies) enough (omega arith)
+      agree (enough_depth t bodies) [] i c in_text (none_met bodies i) (omega (arith, rows)) k (enough_depth t bodies) enough (omega arith)
 
   -- the depth of the definitions is always enough
-  pub settled : (k : ℕ) (p : Tree) (c : ℕ) → depth t bodies ≤ k → c ≤ length t → results t bodies k p c ≡ results t bodies (depth t bodies) p c
+  pub settled : (k : ℕ) (p : Tree) (c : ℕ) → enough_depth t bodies ≤ k → c ≤ length t → results t bodies k p c ≡ results t bodies (enough_depth t bodies) p c
   settled k p c enough in_text =
-      same_results t bodies k (depth t bodies) p c in_text (λ i u. named_settled k i c enough in_text) (λ i e far end. named_settled k i e enough end)
+      same_results t bodies k (enough_depth t bodies) p c in_text (λ i u. named_settled k i c enough in_text) (λ i e far end. named_settled k i e enough end)

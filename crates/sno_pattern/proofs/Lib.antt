@@ -5,13 +5,16 @@ pub mod EachEnd
 pub mod Within
 pub mod Words
 pub mod Repetition
-pub mod ToldLies
+pub mod AssignedCursors
 pub mod Taking
 pub mod Congruence
 pub mod Depth
 pub mod Settled
+pub mod MissingLiterals
 pub mod Marks
 pub mod Ways
 pub mod Search
 pub mod Cycles
 pub mod BadRefs
+pub mod AdmissionExamples
+pub mod Repeats

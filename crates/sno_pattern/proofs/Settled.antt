@@ -1,9 +1,9 @@
--- A greater depth makes no difference to what comes of a match.
+-- A greater depth makes no difference to what comes of a match, nor to how many trials it takes.
 use Rattle.std.proofs.Common.{◌≡◌, ℕ, ◌+◌, ◌≤◌, Bool, true, false, List, [], ◌∷◌, ◌++◌, length, map, refl, arith, ap, ◌∙◌}
 use Rattle.std.specs.List.{flat_map}
 use Rattle.sno_pattern.specs.Tree.{Tree}
-use Rattle.sno_pattern.specs.Results.{depth}
-use Rattle.sno_pattern.specs.Outcome.{Tried, starts, tried_from, cut_scan, found_in, outcome_at, outcome}
+use Rattle.sno_pattern.specs.Results.{enough_depth}
+use Rattle.sno_pattern.specs.Outcome.{Tried, starts, tried_from, cut_scan, scan, found_in, outcome_at, outcome, trials_in, trials_at, trials}
 use Rattle.sno_pattern.specs.Guard.{Guarded}
 use Rattle.sno_pattern.proofs.EachEnd.{AllOf, AllOf-map}
 use Rattle.sno_pattern.proofs.Within.{range_all}
@@ -18,11 +18,20 @@ starts_in_text : (t : List ℕ) (anchored : Bool) → AllOf (λ s. s ≤ length 
 starts_in_text t true = (omega arith, tt)
 starts_in_text t false = range_all (λ s. s ≤ length t) (length t + 1) 0 (λ e low high. omega arith)
 
-pub outcome_settled : (t : List ℕ) (bodies : List Tree) → Guarded bodies → (k : ℕ) (p : Tree) (anchored : Bool) → depth t bodies ≤ k
+same_scan : (t : List ℕ) (bodies : List Tree) → Guarded bodies → (k : ℕ) (p : Tree) (anchored : Bool) → enough_depth t bodies ≤ k
+    → scan t bodies k p anchored ≡ scan t bodies (enough_depth t bodies) p anchored
+same_scan t bodies g k p anchored enough =
+    ap cut_scan
+    (same_flat_map (tried_from t bodies k p) (tried_from t bodies (enough_depth t bodies) p) (starts t anchored)
+    (AllOf-map (λ s. s ≤ length t) (λ s. tried_from t bodies k p s ≡ tried_from t bodies (enough_depth t bodies) p s)
+    (λ s inside. ap (map (λ e. (s, e))) (settled t bodies g k p s enough inside)) (starts t anchored) (starts_in_text t anchored)))
+
+pub outcome_settled : (t : List ℕ) (bodies : List Tree) → Guarded bodies → (k : ℕ) (p : Tree) (anchored : Bool) → enough_depth t bodies ≤ k
     → outcome_at k t bodies p anchored ≡ outcome t bodies p anchored
 unfolding outcome_at
-outcome_settled t bodies g k p anchored enough =
-    ap (λ l. found_in [] (cut_scan l))
-    (same_flat_map (tried_from t bodies k p) (tried_from t bodies (depth t bodies) p) (starts t anchored)
-    (AllOf-map (λ s. s ≤ length t) (λ s. tried_from t bodies k p s ≡ tried_from t bodies (depth t bodies) p s)
-    (λ s inside. ap (map (λ e. (s, e))) (settled t bodies g k p s enough inside)) (starts t anchored) (starts_in_text t anchored)))
+outcome_settled t bodies g k p anchored enough = ap (found_in []) (same_scan t bodies g k p anchored enough)
+
+pub trials_settled : (t : List ℕ) (bodies : List Tree) → Guarded bodies → (k : ℕ) (p : Tree) (anchored : Bool) → enough_depth t bodies ≤ k
+    → trials_at k t bodies p anchored ≡ trials t bodies p anchored
+unfolding trials_at
+trials_settled t bodies g k p anchored enough = ap trials_in (same_scan t bodies g k p anchored enough)

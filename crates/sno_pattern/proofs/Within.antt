@@ -8,10 +8,10 @@ use Rattle.sno_pattern.specs.Tree.{Tree}
 use Rattle.sno_pattern.specs.Classes.{has}
 use Rattle.sno_pattern.specs.Ends.{part, balanced, literal_ends, len_ends, pos_ends, rpos_ends, tab_ends, rtab_ends, one_ends, any_ends, notany_ends, span_ends, break_ends, arb_ends, bal_ends, rem_ends}
 use Rattle.sno_pattern.specs.Events.{go_on}
-use Rattle.sno_pattern.specs.Results.{rounds, results_of, of_body, named_at, results}
+use Rattle.sno_pattern.specs.Results.{rounds, results_of, of_body, definition_results, results}
 use Rattle.sno_pattern.specs.Laws.{AllEnds, Within}
 use Rattle.sno_pattern.specs.declared.events.Event.{Event}
-use Rattle.sno_pattern.proofs.EachEnd.{AllEnds-map, AllEnds-cut, AllEnds-append, AllEnds-go_on, AllEnds-assign_later, AllEnds-assign_now, AllEnds-ends, AllOf, AllOf-filter, AllOf-only}
+use Rattle.sno_pattern.proofs.EachEnd.{AllEnds-map, AllEnds-cut, AllEnds-append, AllEnds-go_on, AllEnds-assign_later, AllEnds-assign_now, AllEnds-ends, AllOf, AllOf-filter, AllOf-end_if}
 
 -- a front that stands there is no longer than what there is
 front_fits : (xs s : List ℕ) → starts_with nat_eq xs s ≡ true → length s ≤ length xs
@@ -26,38 +26,38 @@ range_all P (suc n) a h = (h a (omega arith) (omega arith), range_all P n (a + 1
 
 pub one_all : (P : ℕ → Type 0) (test : ℕ → Bool) (l : List ℕ) (c : ℕ) → (0 < length l → P (c + 1)) → AllOf P (one_ends test l c)
 one_all P test [] c h = tt
-one_all P test (x ∷ rest) c h = AllOf-only P (test x) (c + 1) (λ _. h (omega arith))
+one_all P test (x ∷ rest) c h = AllOf-end_if P (test x) (c + 1) (λ _. h (omega arith))
 
 run_le : (t : List ℕ) (c : ℕ) (test : ℕ → Bool) → length (take_while test (drop c t)) ≤ length t - c
 run_le t c test = omega (arith, length-take (prefix_len test (drop c t)) (drop c t), length-drop c t)
 
 module _ (t : List ℕ) (c : ℕ) (inside : c ≤ length t) where
   within_literal : (s : List ℕ) → AllOf (Within t c) (literal_ends t s c)
-  within_literal s = AllOf-only (Within t c) (starts_with nat_eq (drop c t) s) (c + length s) (λ h. let fits = front_fits (drop c t) s h in (omega arith, omega (arith, length-drop c t)))
+  within_literal s = AllOf-end_if (Within t c) (starts_with nat_eq (drop c t) s) (c + length s) (λ h. let fits = front_fits (drop c t) s h in (omega arith, omega (arith, length-drop c t)))
 
   within_len : (n : ℕ) → AllOf (Within t c) (len_ends t n c)
-  within_len n = AllOf-only (Within t c) (nat_le (c + n) (length t)) (c + n) (λ h. (omega arith, leb-true _ _ h))
+  within_len n = AllOf-end_if (Within t c) (nat_le (c + n) (length t)) (c + n) (λ h. (omega arith, leb-true _ _ h))
 
   within_pos : (n : ℕ) → AllOf (Within t c) (pos_ends n c)
-  within_pos n = AllOf-only (Within t c) (nat_eq c n) c (λ h. (omega arith, inside))
+  within_pos n = AllOf-end_if (Within t c) (nat_eq c n) c (λ h. (omega arith, inside))
 
   within_rpos : (n : ℕ) → AllOf (Within t c) (rpos_ends t n c)
-  within_rpos n = AllOf-only (Within t c) (nat_eq (c + n) (length t)) c (λ h. (omega arith, inside))
+  within_rpos n = AllOf-end_if (Within t c) (nat_eq (c + n) (length t)) c (λ h. (omega arith, inside))
 
   within_tab : (n : ℕ) → AllOf (Within t c) (tab_ends t n c)
-  within_tab n = AllOf-only (Within t c) (nat_le c n && nat_le n (length t)) n (λ h. let both = and_parts _ _ h in (leb-true _ _ both.0, leb-true _ _ both.1))
+  within_tab n = AllOf-end_if (Within t c) (nat_le c n && nat_le n (length t)) n (λ h. let both = and_parts _ _ h in (leb-true _ _ both.0, leb-true _ _ both.1))
 
   within_rtab : (n : ℕ) → AllOf (Within t c) (rtab_ends t n c)
-  within_rtab n = AllOf-only (Within t c) (nat_le (c + n) (length t)) (length t - n) (λ h. let fits = leb-true (c + n) (length t) h in (omega arith, omega arith))
+  within_rtab n = AllOf-end_if (Within t c) (nat_le (c + n) (length t)) (length t - n) (λ h. let fits = leb-true (c + n) (length t) h in (omega arith, omega arith))
 
   within_one : (test : ℕ → Bool) → AllOf (Within t c) (one_ends test (drop c t) c)
   within_one test = one_all (Within t c) test (drop c t) c (λ h. (omega arith, omega (arith, length-drop c t)))
 
   within_span : (s : List ℕ) → AllOf (Within t c) (span_ends t s c)
-  within_span s = AllOf-only (Within t c) _ _ (λ h. let fits = run_le t c (has s) in (omega arith, omega arith))
+  within_span s = AllOf-end_if (Within t c) _ _ (λ h. let fits = run_le t c (has s) in (omega arith, omega arith))
 
   within_break : (s : List ℕ) → AllOf (Within t c) (break_ends t s c)
-  within_break s = AllOf-only (Within t c) _ _ (λ h. let fits = run_le t c (λ x. not (has s x)) in (omega arith, omega arith))
+  within_break s = AllOf-end_if (Within t c) _ _ (λ h. let fits = run_le t c (λ x. not (has s x)) in (omega arith, omega arith))
 
   within_arb : AllOf (Within t c) (arb_ends t c)
   within_arb = range_all (Within t c) (suc (length t) - c) c (λ e low high. (low, omega arith))
@@ -125,12 +125,12 @@ within_body : (t : List ℕ) (go : Tree → ℕ → List Event) → ((p : Tree) 
 within_body t go h None c i = tt
 within_body t go h (Some p) c i = h p c i
 
-pub within_named : (t : List ℕ) (bodies : List Tree) (k i : ℕ) → IsWithin t (named_at t bodies k i)
-unfolding named_at
+pub within_named : (t : List ℕ) (bodies : List Tree) (k i : ℕ) → IsWithin t (definition_results t bodies k i)
+unfolding definition_results
 within_named t bodies zero i c inside = tt
 within_named t bodies (suc k) i c inside =
-    within_body t (results_of t (named_at t bodies k)) (within_of t (named_at t bodies k) (within_named t bodies k)) (slice_get bodies i) c inside
+    within_body t (results_of t (definition_results t bodies k)) (within_of t (definition_results t bodies k) (within_named t bodies k)) (slice_get bodies i) c inside
 
 -- a match ends nowhere before its cursor, and nowhere past the text
 pub within : (t : List ℕ) (bodies : List Tree) (k : ℕ) (p : Tree) (c : ℕ) → c ≤ length t → AllEnds (Within t c) (results t bodies k p c)
-within t bodies k p = within_of t (named_at t bodies k) (within_named t bodies k) p
+within t bodies k p = within_of t (definition_results t bodies k) (within_named t bodies k) p

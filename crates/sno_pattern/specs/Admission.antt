@@ -26,7 +26,7 @@ abbrev pub IsFirstCycle : List Tree → List ℕ → Type 0
 IsFirstCycle bodies cycle = (start : ℕ) × IsCycle bodies start cycle × ((j : ℕ) → j < start → Chain bodies j j → ⊥)
 
 -- what `Rules::admit` answers for names and as many bodies: the first definition that refers past the last; then a cycle, from the
--- first definition that lies on one; and else these definitions, which are guarded. Want of memory may come in place of the last two.
+-- first definition that lies on one; and else these definitions, which are guarded. Memory may be refused in place of the last two.
 abbrev pub IsAdmitted : Result Definitions RulesFault → List (List ℕ) → List Tree → Type 0
 IsAdmitted (Ok rules) names bodies = (first_bad_ref bodies ≡ None) × Guarded bodies × (rules ≡ record { names = names; bodies = bodies })
 IsAdmitted (Err (fault.BadRef place)) names bodies = first_bad_ref bodies ≡ Some place

@@ -6,7 +6,7 @@ use Rattle.sno_pattern.specs.declared.events.What.{What}
 use Rattle.sno_pattern.specs.declared.events.What.TheVariants.{Part, Cursor}
 use Rattle.sno_pattern.specs.declared.events.Assign.{Assign}
 use Rattle.sno_pattern.specs.declared.events.Event.{Event}
-use Rattle.sno_pattern.specs.declared.events.Event.TheVariants.{Told, End, Halt}
+use Rattle.sno_pattern.specs.declared.events.Event.TheVariants.{Try, Set, End, Halt}
 
 -- a cursor that is assigned lies within the text; of a part nothing is said
 abbrev pub CursorLies : List ℕ → What → Type 0
@@ -14,11 +14,12 @@ CursorLies t (Part from to) = Unit {0}
 CursorLies t (Cursor c) = c ≤ length t
 
 -- of each assignment done at once
-abbrev pub ToldLies : List ℕ → List Event → Type 0
-ToldLies t [] = Unit {0}
-ToldLies t (Told a ∷ l) = CursorLies t a.what × ToldLies t l
-ToldLies t (End e a ∷ l) = ToldLies t l
-ToldLies t (Halt ∷ l) = ToldLies t l
+abbrev pub CursorsLie : List ℕ → List Event → Type 0
+CursorsLie t [] = Unit {0}
+CursorsLie t (Try ∷ l) = CursorsLie t l
+CursorsLie t (Set a ∷ l) = CursorLies t a.what × CursorsLie t l
+CursorsLie t (End e a ∷ l) = CursorsLie t l
+CursorsLie t (Halt ∷ l) = CursorsLie t l
 
 abbrev pub SetsLie : List ℕ → List Assign → Type 0
 SetsLie t [] = Unit {0}

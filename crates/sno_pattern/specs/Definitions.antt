@@ -2,7 +2,7 @@
 use Rattle.std.specs.Prelude.{◌≡◌, ℕ, List, length, IsTrue, refl}
 use Rattle.std.specs.List.{list_all}
 use Rattle.std.specs.Coded.{Coded, code_by, coded×, coded_list, coded_ℕ}
-use Rattle.sno_pattern.specs.Tree.{Tree, tree_of, pattern_of, tree_of-pattern_of, refs_below}
+use Rattle.sno_pattern.specs.Tree.{Tree, tree_of, stored_pattern, tree_of-stored_pattern, refs_below}
 use Rattle.sno_pattern.specs.contracts.tree.Pattern as stored
 
 -- definitions: their names, and the trees of their bodies in the same order
@@ -12,7 +12,7 @@ pub record Definitions : Type 0 where
 
 -- a tree is stored as a pattern that has it
 abbrev pub tree_code : Coded Tree
-tree_code = code_by _ stored.the_row.coded pattern_of tree_of tree_of-pattern_of
+tree_code = code_by _ stored.the_row.coded stored_pattern tree_of tree_of-stored_pattern
 
 -- definitions are stored as the pair of their lists
 abbrev pub definitions_code : Coded Definitions

@@ -1,18 +1,20 @@
 -- Laws of matching, each of them proved by a function of `laws` that has it as its contract.
-use Rattle.std.specs.Prelude.{◌≡◌, ℕ, ◌<◌, ◌≤◌, Bool, List, [], ◌∷◌, length, nat_lt, if◌then◌else◌}
+use Rattle.std.specs.Prelude.{◌≡◌, ℕ, ◌+◌, ◌<◌, ◌≤◌, Bool, false, List, [], ◌∷◌, length, nat_lt, Some, if◌then◌else◌}
 use Rattle.sno_pattern.specs.Tree.{Tree, Arbno}
 use Rattle.sno_pattern.specs.Events.{go_on}
-use Rattle.sno_pattern.specs.Results.{results, depth}
-use Rattle.sno_pattern.specs.Outcome.{outcome, outcome_at}
+use Rattle.sno_pattern.specs.Results.{results, enough_depth}
+use Rattle.sno_pattern.specs.Outcome.{outcome, outcome_at, trials, trials_at}
+use Rattle.sno_pattern.specs.Beginnings.{first_literal, IsMissing}
 use Rattle.sno_pattern.specs.Guard.{Takes, Guarded}
 use Rattle.sno_pattern.specs.Admission.{IsFirstCycle}
 use Rattle.sno_pattern.specs.declared.events.Event.{Event}
-use Rattle.sno_pattern.specs.declared.events.Event.TheVariants.{Told, End, Halt}
+use Rattle.sno_pattern.specs.declared.events.Event.TheVariants.{Try, Set, End, Halt}
 
 -- what holds of the cursor of each End
 abbrev pub AllEnds : (ℕ → Type 0) → List Event → Type 0
 AllEnds P [] = Unit {0}
-AllEnds P (Told t ∷ l) = AllEnds P l
+AllEnds P (Try ∷ l) = AllEnds P l
+AllEnds P (Set t ∷ l) = AllEnds P l
 AllEnds P (End e a ∷ l) = P e × AllEnds P l
 AllEnds P (Halt ∷ l) = AllEnds P l
 
@@ -35,13 +37,27 @@ Repetition = (t : List ℕ) (bodies : List Tree) (k : ℕ) (p : Tree) (c : ℕ) 
 
 -- Where the definitions are guarded, a depth greater than `depth` gives nothing more, from any cursor of the text ..
 abbrev pub DepthIsEnough : Type 0
-DepthIsEnough = (t : List ℕ) (bodies : List Tree) → Guarded bodies → (k : ℕ) (p : Tree) (c : ℕ) → depth t bodies ≤ k → c ≤ length t
-    → results t bodies k p c ≡ results t bodies (depth t bodies) p c
+DepthIsEnough = (t : List ℕ) (bodies : List Tree) → Guarded bodies → (k : ℕ) (p : Tree) (c : ℕ) → enough_depth t bodies ≤ k → c ≤ length t
+    → results t bodies k p c ≡ results t bodies (enough_depth t bodies) p c
 
 -- .. and so it makes no difference to what comes of a match.
 abbrev pub OutcomeIsSettled : Type 0
-OutcomeIsSettled = (t : List ℕ) (bodies : List Tree) → Guarded bodies → (k : ℕ) (p : Tree) (anchored : Bool) → depth t bodies ≤ k
+OutcomeIsSettled = (t : List ℕ) (bodies : List Tree) → Guarded bodies → (k : ℕ) (p : Tree) (anchored : Bool) → enough_depth t bodies ≤ k
     → outcome_at k t bodies p anchored ≡ outcome t bodies p anchored
+
+-- Nor does it make a difference to how many trials the match takes.
+abbrev pub TrialsAreSettled : Type 0
+TrialsAreSettled = (t : List ℕ) (bodies : List Tree) → Guarded bodies → (k : ℕ) (p : Tree) (anchored : Bool) → enough_depth t bodies ≤ k
+    → trials_at k t bodies p anchored ≡ trials t bodies p anchored
+
+-- A pattern whose first part is a literal does nothing but one trial at a cursor where the literal doesn't stand.
+abbrev pub MissingCostsOne : Type 0
+MissingCostsOne = (t : List ℕ) (bodies : List Tree) (k : ℕ) (p : Tree) (s : List ℕ) (c : ℕ) → first_literal p ≡ Some s → IsMissing t s c → results t bodies k p c ≡ Try ∷ []
+
+-- So where it stands nowhere, the floating match takes one trial for each start: one more than there are characters.
+abbrev pub NowhereCostsEachStart : Type 0
+NowhereCostsEachStart = (t : List ℕ) (bodies : List Tree) (p : Tree) (s : List ℕ) → first_literal p ≡ Some s → ((c : ℕ) → c ≤ length t → IsMissing t s c)
+    → trials t bodies p false ≡ length t + 1
 
 -- Definitions with a cycle are not guarded: admission never refuses guarded ones as unguarded.
 abbrev pub CyclesAreUnguarded : Type 0

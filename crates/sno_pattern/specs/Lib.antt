@@ -9,7 +9,8 @@ pub mod Events
 pub mod Ends
 pub mod Results
 pub mod Outcome
-pub mod Rows
+pub mod Beginnings
+pub mod Examples
 pub mod NameList
 pub mod Definitions
 pub mod Guard

@@ -1,5 +1,5 @@
 -- The names of definitions, in order.
-use Rattle.std.specs.Prelude.{◌≡◌, ℕ, ◌+◌, ◌≤◌, List, [], ◌∷◌, ◌++◌, length, nat_lt, Option, Some, None, Result, Ok, Err, if◌then◌else◌}
+use Rattle.std.specs.Prelude.{◌≡◌, ℕ, ◌+◌, ◌≤◌, false, List, [], ◌∷◌, ◌++◌, length, nat_lt, Option, Some, None, Result, Ok, Err, if◌then◌else◌}
 use Rattle.std.specs.List.{list_any, position_from}
 use Rattle.sno_pattern.specs.Identifiers.{same, is_reserved}
 use Rattle.sno_pattern.specs.declared.name_list.NamesFault.{NamesFault}
@@ -17,6 +17,20 @@ first_repeat names = repeat_from [] 0 names
 -- the place of the first reserved word
 abbrev pub first_reserved : List (List ℕ) → Option ℕ
 first_reserved names = position_from is_reserved 0 names
+
+-- none of the names is this one
+abbrev pub IsNone : List ℕ → List (List ℕ) → Type 0
+IsNone x [] = Unit {0}
+IsNone x (name ∷ names) = (same name x ≡ false) × IsNone x names
+
+-- no name stands again after its place
+abbrev pub AreApart : List (List ℕ) → Type 0
+AreApart [] = Unit {0}
+AreApart (x ∷ names) = IsNone x names × AreApart names
+
+-- Where there is no first repeat, no name stands twice; and where no name does, there is none.
+abbrev pub RepeatsAreFound : Type 0
+RepeatsAreFound = (names : List (List ℕ)) → (first_repeat names ≡ None → AreApart names) × (AreApart names → first_repeat names ≡ None)
 
 -- names of definitions: at most 64, none of them a reserved word, none twice
 pub record AreNames (names : List (List ℕ)) : Type 0 where
@@ -36,18 +50,18 @@ abbrev pub unless_reserved : Option ℕ → List (List ℕ) → Result (List (Li
 unless_reserved None names = unless_repeated (first_repeat names) names
 unless_reserved (Some place) names = Err (fault.Reserved place)
 
--- what `Names::new` makes of a list, want of memory aside: at most 64 names, then no reserved word, then no name twice
+-- what `Names::new` makes of a list, refused memory aside: at most 64 names, then no reserved word, then no name twice
 abbrev pub names_of : List (List ℕ) → Result (List (List ℕ)) NamesFault
 names_of names = if nat_lt 64 (length names) then Err fault.TooMany else unless_reserved (first_reserved names) names
 
--- Memory is asked for once the length and the reserved words were looked at, so want of it may come in place of names
+-- Memory is asked for once the length and the reserved words were looked at, so it may be refused in place of names
 -- or of a name that stands twice, and of nothing else.
 abbrev pub MayWantMemory : Result (List (List ℕ)) NamesFault → Type 0
 MayWantMemory (Ok names) = Unit {0}
 MayWantMemory (Err (fault.Duplicate place)) = Unit {0}
 MayWantMemory (Err _) = ⊥
 
--- the answer is that of `names_of`, or want of memory where that may be
+-- the answer is that of `names_of`, or memory is refused where that may be
 abbrev pub GivesNames : Result (List (List ℕ)) NamesFault → Result (List (List ℕ)) NamesFault → Type 0
 GivesNames (Ok names) wanted = wanted ≡ Ok names
 GivesNames (Err fault.Memory) wanted = MayWantMemory wanted

@@ -9,7 +9,7 @@ use Rattle.sno_pattern.specs.declared.text_names.NameFault.TheVariants as fault
 abbrev pub is_text_name : List ℕ → Bool
 is_text_name bytes = not (nat_eq (length bytes) 0) && (nat_le (length bytes) 255 && list_all is_ascii_graphic bytes)
 
--- what `TextName::new` answers for bytes: the name, where they are one; `Bad` where they aren't; or want of memory
+-- what `TextName::new` answers for bytes: the name, where they are one; `Bad` where they aren't; or memory is refused
 abbrev pub IsTextName : Result (List ℕ) NameFault → List ℕ → Type 0
 IsTextName (Ok name) bytes = (is_text_name bytes ≡ true) × (name ≡ bytes)
 IsTextName (Err fault.Bad) bytes = is_text_name bytes ≡ false

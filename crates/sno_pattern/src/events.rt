@@ -13,7 +13,7 @@ pub enum What {
     Cursor(usize),
 }
 
-/// An assignment that is done at once.
+/// An immediate assignment: it is done at once, by `$` or `@`.
 #[derive(Clone, Copy, Debug, PartialEq, Eq)]
 pub struct Assign {
     /// The variable.
@@ -22,7 +22,7 @@ pub struct Assign {
     pub what: What,
 }
 
-/// Assignments that were done at once, in their order.
+/// Immediate assignments, in their order.
 #[derive(Debug, Drop)]
 pub struct Assigns {
     list: Vec<Assign>,
@@ -93,8 +93,10 @@ impl Conds {
 /// One event of a match.
 #[derive(Debug, Drop)]
 pub enum Event {
+    /// A trial: a leaf is met at a cursor, or backed into for a further end of it.
+    Try,
     /// A variable is assigned at once.
-    Told(Assign),
+    Set(Assign),
     /// A match ends at this cursor, with these conditional assignments.
     End(usize, Conds),
     /// The whole match fails.

@@ -84,15 +84,17 @@ fn padded(characters: &[u8]) -> [u8; 64]
     letters
 }
 
+/// Whether a character is a letter.
 #[tactic(auto, unfolding(crate::specs::Identifiers::is_letter))]
-fn is_letter(c: u8) -> bool
+pub fn is_letter(c: u8) -> bool
     ensures { result ≡ is_letter c }
 {
     c.is_ascii_alphabetic()
 }
 
+/// Whether a character may stand in a name past its first letter: a letter, a digit, a period or an underscore.
 #[tactic(auto, unfolding(crate::specs::Identifiers::is_name_char))]
-fn is_name_char(c: u8) -> bool
+pub fn is_name_char(c: u8) -> bool
     ensures { result ≡ is_name_char c }
 {
     c.is_ascii_alphanumeric() || c == b'.' || c == b'_'

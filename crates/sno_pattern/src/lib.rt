@@ -2,7 +2,7 @@
 //!
 //! The definitions on which everything stands are in `specs/`, in this order: `Tree` (patterns by value), `Ends` (where the
 //! primitives end), `Events` (lists of what happens), `Results` (what a pattern does from a cursor), `Outcome` (what comes of
-//! a match), `Guard` and `Admission` (which definitions are admitted). `Rows` has examples that are computed from them.
+//! a match, and how many trials it takes), `Beginnings` (with what a match begins), `Guard` and `Admission` (which definitions are admitted). `Examples` has examples that are computed from them.
 //!
 //! | File | What it holds, and what its functions promise |
 //! |---|---|
@@ -12,7 +12,7 @@
 //! | `classes`, `tables` | `Class`: made exactly of a non-empty list of ASCII characters; membership, by a table |
 //! | `tree` | `Pattern`: the tree, with 23 variants |
 //! | `name_list` | `Names`: at most 64, none reserved, none twice; the place of a name |
-//! | `definitions`, `admission` | `Rules`: definitions are admitted exactly where their references are to definitions and each circle of them takes a character |
+//! | `definitions`, `admission` | `Rules`: definitions are admitted exactly where their references are to definitions and each cycle of them takes a character |
 //! | `events`, `found` | what happens while a pattern is matched, and what came of it |
 //! | `laws`, `cursor_laws` | laws of the definitions, each the contract of a function that does nothing |
 #![tactic(auto)]
@@ -36,13 +36,15 @@ pub use cursor_laws::cursors_lie_within_the_text;
 pub use definitions::{Rules, RulesFault};
 pub use events::{Assign, Assigns, Conds, Event, What};
 pub use found::{Found, Hit};
-pub use identifiers::Name;
+pub use identifiers::{Name, is_letter, is_name_char};
 pub use laws::{
     a_greater_depth_changes_no_outcome, a_greater_depth_gives_nothing_more,
-    a_part_that_takes_ends_past_its_cursor, a_repetition_is_null_or_goes_on,
-    definitions_with_a_cycle_are_not_guarded, ends_lie_behind_the_cursor,
+    a_greater_depth_takes_no_more_trials, a_literal_that_stands_nowhere_costs_one_trial_a_start,
+    a_missing_literal_costs_one_trial, a_part_that_takes_ends_past_its_cursor,
+    a_repetition_is_null_or_goes_on, definitions_with_a_cycle_are_not_guarded,
+    ends_lie_behind_the_cursor,
 };
 pub use name_list::{Names, NamesFault};
 pub use text_names::{NameFault, TextName};
-pub use texts::{Text, TextFault};
+pub use texts::{MAX_TEXT, Text, TextFault, first_non_ascii};
 pub use tree::Pattern;

@@ -69,7 +69,8 @@ impl Text {
     }
 }
 
-fn first_non_ascii(characters: &[u8]) -> Option<usize>
+/// The place of the first byte above 127, if there is one.
+pub fn first_non_ascii(characters: &[u8]) -> Option<usize>
     ensures { result ≡ first_non_ascii characters.now }
 {
     characters.iter().position(|c| !c.is_ascii())

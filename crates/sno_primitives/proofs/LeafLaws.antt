@@ -1,16 +1,20 @@
--- Every end of a primitive lies at the cursor or behind it, and within the text.
+-- Every end of a primitive lies at the cursor or past it, and within the text.
 use Rattle.std.proofs.Common.{◌≡◌, ℕ, ◌≤◌, List, [], ◌∷◌, length, Option, Some, None, IfSome, option_to_list, sym, subst}
 use Rattle.sno_pattern.specs.Tree as tree
 use Rattle.sno_pattern.specs.Tree.{Tree}
-use Rattle.sno_pattern.specs.Results.{ends, results_of}
+use Rattle.sno_pattern.specs.Results.{ends, further_ends, results_of}
 use Rattle.sno_pattern.specs.Laws.{AllEnds, Within}
 use Rattle.sno_pattern.proofs.EachEnd.{AllOf}
 use Rattle.sno_pattern.proofs.Within.{within_of}
 use Rattle.sno_primitives.specs.Leaves.{leaf_ends}
 
+of_further : (P : ℕ → Type 0) (l : List ℕ) → AllEnds P (further_ends l) → AllOf P l
+of_further P [] h = tt
+of_further P (e ∷ l) h = (h.0, of_further P l h.1)
+
 of_ends : (P : ℕ → Type 0) (l : List ℕ) → AllEnds P (ends l) → AllOf P l
 of_ends P [] h = tt
-of_ends P (e ∷ l) h = (h.0, of_ends P l h.1)
+of_ends P (e ∷ l) h = (h.0, of_further P l h.1)
 
 module _ (t : List ℕ) (c : ℕ) (inside : c ≤ length t) where
   all_within : (p : Tree) → AllEnds (Within t c) (results_of t (λ i e. []) p c)

@@ -4,14 +4,14 @@ use Rattle.sno_pattern.specs.Tree.{tree_of}
 use Rattle.sno_pattern.specs.Events.{go_on}
 use Rattle.sno_pattern.specs.Results.{results}
 use Rattle.sno_pattern.specs.Laws.{Within}
-use Rattle.sno_pattern.specs.declared.events.Event.TheVariants.{Told, End}
+use Rattle.sno_pattern.specs.declared.events.Event.TheVariants.{Try, Set, End}
 use Rattle.std.specs.List.{list_any}
 use Rattle.sno_eval.specs.Steps.{is_halt}
 use Rattle.sno_eval.proofs.Parts.{inside, both_sides, one_side, named_no_more, named_missing, named_does, round_taken, round_dropped}
-use Rattle.sno_eval.proofs.Going.{left_at, go_on_told, go_on_end, go_on_last, go_on_none, AllEnds-tail, AllEnds-head, next_round, rounds_begun}
+use Rattle.sno_eval.proofs.Going.{left_at, go_on_tried, go_on_set, go_on_end, go_on_last, go_on_none, AllEnds-tail, AllEnds-head, next_round, rounds_begun}
 use Rattle.sno_eval.proofs.Work.{nodes, work_round, work_body, falls, nodes_of_seq, nodes_of_alt, nodes_of_arbno, nodes_of_cond, nodes_of_imm, some_nodes}
 use Rattle.sno_eval.proofs.results.+results.Goals as goal
-use Rattle.sno_eval.proofs.results.+results.Goals.{follow-in-Told+in_ok-push-in-Told, follow-in-End+in_ok-later-in-End+in_ok-add_after-in-End+else-branch, repeat-in-Told+in_ok-push-in-Told, repeat-in-End+then-c-end+in_ok-later-in-End+in_ok-add_after-in-End+else-branch, repeat-in-End+else-c-end, results-then-not-has_halt+in_ok-others-in-Alt+in_ok-append-in-Alt, results-else-not-has_halt}
+use Rattle.sno_eval.proofs.results.+results.Goals.{follow-in-Try+in_ok-push-in-Try, follow-in-Set+in_ok-push-in-Set, follow-in-End+in_ok-later-in-End+in_ok-add_after-in-End+else-branch, repeat-in-Try+in_ok-push-in-Try, repeat-in-Set+in_ok-push-in-Set, repeat-in-End+then-c-end+in_ok-later-in-End+in_ok-add_after-in-End+else-branch, repeat-in-End+else-c-end, results-then-not-has_halt+in_ok-others-in-Alt+in_ok-append-in-Alt, results-else-not-has_halt}
 
 pub follow-results-requires : goal.follow-results-requires
 follow-results-requires t c = (
@@ -27,9 +27,13 @@ follow-returns-then-branch t c =
 pub follow-loop-event-preserved : goal.follow-loop-event-preserved
 follow-loop-event-preserved t c =
     elim c.match-event.branch [
-      | follow-in-Told+in_ok-push-in-Told w ↦ record {
-        added = go_on_told (results c.args.text.now c.args.rules.now.bodies c.args.depth (tree_of c.args.pattern.now)) _ _ _ _ _ _ (left_at c.args.first.now c.loop-event.event-index _ (Told w.in-Told.assign) c.loop-event-test.true c.event-item.is w.in-Told.is) (ap (λ v. v.items) w.all-is ∙ w.in_ok-push-in-Told.ensures.items) c.loop-event.invariant.added;
-        inside = AllEnds-tail (Within c.args.text.now 0) _ _ _ (left_at c.args.first.now c.loop-event.event-index _ (Told w.in-Told.assign) c.loop-event-test.true c.event-item.is w.in-Told.is) c.loop-event.invariant.inside;
+      | follow-in-Try+in_ok-push-in-Try w ↦ record {
+        added = go_on_tried (results c.args.text.now c.args.rules.now.bodies c.args.depth (tree_of c.args.pattern.now)) _ _ _ _ _ (left_at c.args.first.now c.loop-event.event-index _ Try c.loop-event-test.true c.event-item.is w.in-Try.is) (ap (λ v. v.items) w.all-is ∙ w.in_ok-push-in-Try.ensures.items) c.loop-event.invariant.added;
+        inside = AllEnds-tail (Within c.args.text.now 0) _ _ _ (left_at c.args.first.now c.loop-event.event-index _ Try c.loop-event-test.true c.event-item.is w.in-Try.is) c.loop-event.invariant.inside;
+      }
+      | follow-in-Set+in_ok-push-in-Set w ↦ record {
+        added = go_on_set (results c.args.text.now c.args.rules.now.bodies c.args.depth (tree_of c.args.pattern.now)) _ _ _ _ _ _ (left_at c.args.first.now c.loop-event.event-index _ (Set w.in-Set.assign) c.loop-event-test.true c.event-item.is w.in-Set.is) (ap (λ v. v.items) w.all-is ∙ w.in_ok-push-in-Set.ensures.items) c.loop-event.invariant.added;
+        inside = AllEnds-tail (Within c.args.text.now 0) _ _ _ (left_at c.args.first.now c.loop-event.event-index _ (Set w.in-Set.assign) c.loop-event-test.true c.event-item.is w.in-Set.is) c.loop-event.invariant.inside;
       }
       | follow-in-End+in_ok-later-in-End+in_ok-add_after-in-End+else-branch w ↦ record {
         added = go_on_end (results c.args.text.now c.args.rules.now.bodies c.args.depth (tree_of c.args.pattern.now)) _ _ _ _ _ _ _ _ (left_at c.args.first.now c.loop-event.event-index _ (End w.in-End.end w.in-End.conds) c.loop-event-test.true c.event-item.is w.in-End.is) (w.deref.ensures.value ∙ w.in_ok-later-in-End.ensures)
@@ -84,9 +88,13 @@ repeat-returns-then-branch t c =
 pub repeat-loop-event-preserved : goal.repeat-loop-event-preserved
 repeat-loop-event-preserved t c =
     elim c.match-event.branch [
-      | repeat-in-Told+in_ok-push-in-Told w ↦ record {
-        added = go_on_told (next_round (results c.args.text.now c.args.rules.now.bodies c.args.depth (tree_of c.args.part.now)) c.args.count c.args.c) _ _ _ _ _ _ (left_at c.as_slice-event-items.result.now c.loop-event.event-index _ (Told w.in-Told.assign) c.loop-event-test.true c.event-item.is w.in-Told.is) (ap (λ v. v.items) w.all-is ∙ w.in_ok-push-in-Told.ensures.items) c.loop-event.invariant.added;
-        inside = AllEnds-tail (Within c.args.text.now 0) _ _ _ (left_at c.as_slice-event-items.result.now c.loop-event.event-index _ (Told w.in-Told.assign) c.loop-event-test.true c.event-item.is w.in-Told.is) c.loop-event.invariant.inside;
+      | repeat-in-Try+in_ok-push-in-Try w ↦ record {
+        added = go_on_tried (next_round (results c.args.text.now c.args.rules.now.bodies c.args.depth (tree_of c.args.part.now)) c.args.count c.args.c) _ _ _ _ _ (left_at c.as_slice-event-items.result.now c.loop-event.event-index _ Try c.loop-event-test.true c.event-item.is w.in-Try.is) (ap (λ v. v.items) w.all-is ∙ w.in_ok-push-in-Try.ensures.items) c.loop-event.invariant.added;
+        inside = AllEnds-tail (Within c.args.text.now 0) _ _ _ (left_at c.as_slice-event-items.result.now c.loop-event.event-index _ Try c.loop-event-test.true c.event-item.is w.in-Try.is) c.loop-event.invariant.inside;
+      }
+      | repeat-in-Set+in_ok-push-in-Set w ↦ record {
+        added = go_on_set (next_round (results c.args.text.now c.args.rules.now.bodies c.args.depth (tree_of c.args.part.now)) c.args.count c.args.c) _ _ _ _ _ _ (left_at c.as_slice-event-items.result.now c.loop-event.event-index _ (Set w.in-Set.assign) c.loop-event-test.true c.event-item.is w.in-Set.is) (ap (λ v. v.items) w.all-is ∙ w.in_ok-push-in-Set.ensures.items) c.loop-event.invariant.added;
+        inside = AllEnds-tail (Within c.args.text.now 0) _ _ _ (left_at c.as_slice-event-items.result.now c.loop-event.event-index _ (Set w.in-Set.assign) c.loop-event-test.true c.event-item.is w.in-Set.is) c.loop-event.invariant.inside;
       }
       | repeat-in-End+then-c-end+in_ok-later-in-End+in_ok-add_after-in-End+else-branch w ↦ record {
         added = go_on_end (next_round (results c.args.text.now c.args.rules.now.bodies c.args.depth (tree_of c.args.part.now)) c.args.count c.args.c) _ _ _ _ _ _ _ _ (left_at c.as_slice-event-items.result.now c.loop-event.event-index _ (End w.in-End.end w.in-End.conds) c.loop-event-test.true c.event-item.is w.in-End.is) (round_taken (results c.args.text.now c.args.rules.now.bodies c.args.depth (tree_of c.args.part.now)) c.args.count c.args.c w.in-End.end _ _ w.if-c-end.true w.deref.ensures.value w.in_ok-later-in-End.ensures)

@@ -1,5 +1,5 @@
 -- The law stands in a file of its own.
-use Rattle.sno_pattern.proofs.ToldLies.{outcome_lies}
+use Rattle.sno_pattern.proofs.AssignedCursors.{outcome_lies}
 use Rattle.sno_pattern.proofs.cursor_laws.cursors_lie_within_the_text.Goals as goal
 
 pub returns : goal.returns

@@ -12,6 +12,6 @@ returns c = λ t bodies held inside.
     let p = tree_of c.args.left.now in
     let q = tree_of c.args.right.now in
     let go = go_at t bodies old.frames.items c.args.place.frames in
-    chosen t bodies old _ _ _ _ _ _ did.choices did.frames did.pending did.sets held inside inside
+    chosen t bodies old _ _ _ _ _ _ did.choices did.frames did.pending did.progress held inside inside
     (alt_same t bodies c.args.depth p q c.args.place.cursor (conds_at old.pending.items c.args.place.pending) go.0)
     (alt_steps t bodies c.args.depth p q c.args.place.cursor go.1)

@@ -5,4 +5,4 @@ use Rattle.sno_machine.proofs.matcher.Matcher.assign_later.Goals as goal
 pub returns : goal.returns
 returns c = λ t bodies held inside.
     let did = c.in_ok-pending.ensures in
-    deferred t bodies c.args.self.now _ _ did.pending did.frames did.choices did.sets _ did.number held inside
+    deferred t bodies c.args.self.now _ _ did.pending did.frames did.choices did.progress _ did.number held inside

@@ -11,6 +11,6 @@ returns c = λ t bodies held inside.
     let old = c.args.self.now in
     let p = tree_of c.args.part.now in
     let go = go_at t bodies old.frames.items c.args.place.frames in
-    framed t bodies old _ _ _ _ _ _ _ did.frames did.pending did.choices did.sets did.number held inside
+    framed t bodies old _ _ _ _ _ _ _ did.frames did.pending did.choices did.progress did.number held inside
     (cond_same t bodies c.args.depth p c.args.name.now c.args.place.cursor (conds_at old.pending.items c.args.place.pending) go.0)
     (cond_steps t bodies c.args.depth p c.args.name.now c.args.place.cursor go.1)

@@ -12,6 +12,6 @@ returns c = λ t bodies held inside.
     let p = tree_of c.args.left.now in
     let q = tree_of c.args.right.now in
     let go = go_at t bodies old.frames.items c.args.place.frames in
-    framed t bodies old _ _ _ _ _ _ _ did.frames did.pending did.choices did.sets did.number held inside
+    framed t bodies old _ _ _ _ _ _ _ did.frames did.pending did.choices did.progress did.number held inside
     (seq_same t bodies c.args.depth p q c.args.place.cursor (conds_at old.pending.items c.args.place.pending) go.0)
     (seq_steps t bodies c.args.depth p q c.args.place.cursor go.1)

@@ -9,6 +9,6 @@ returns c = λ t bodies held inside.
     let did = c.in_ok-push_choice.ensures in
     let old = c.args.self.now in
     let go = go_at t bodies old.frames.items c.args.place.frames in
-    chosen t bodies old _ _ _ _ _ _ did.choices did.frames did.pending did.sets held inside inside
-    (fence_same t bodies c.args.depth c.args.place.cursor (conds_at old.pending.items c.args.place.pending) go.0)
-    (fence_steps t bodies c.args.depth c.args.place.cursor go.1)
+    chosen t bodies old _ _ _ _ _ _ did.choices did.frames did.pending did.progress held inside inside
+    (fence_same t bodies 0 c.args.place.cursor (conds_at old.pending.items c.args.place.pending) go.0)
+    (fence_steps t bodies 0 c.args.place.cursor go.1)

@@ -11,6 +11,6 @@ returns c = λ t bodies held inside.
     let old = c.args.self.now in
     let p = tree_of c.args.part.now in
     let go = go_at t bodies old.frames.items c.args.place.frames in
-    chosen t bodies old _ _ _ _ _ _ did.choices did.frames did.pending did.sets held inside inside
+    chosen t bodies old _ _ _ _ _ _ did.choices did.frames did.pending did.progress held inside inside
     (arbno_same t bodies c.args.depth c.a_repetition_is_null_or_goes_on.ensures p c.args.place.cursor (conds_at old.pending.items c.args.place.pending) go.0 inside)
     (arbno_steps t bodies c.args.depth p c.args.place.cursor go.1 inside)

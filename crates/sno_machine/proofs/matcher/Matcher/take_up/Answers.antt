@@ -6,4 +6,4 @@ use Rattle.sno_machine.proofs.matcher.Matcher.take_up.Goals as goal
 pub returns-in_ok-frames-in-Round : goal.returns-in_ok-frames-in-Round
 returns-in_ok-frames-in-Round c = λ t bodies held inside.
     let did = c.in_ok-frames-in-Round.ensures in
-    rw c.in-Round.is (framed t bodies c.args.self.now _ _ _ _ _ _ _ did.frames did.pending did.choices did.sets did.number held inside (λ rest. refl) (omega arith))
+    rw c.in-Round.is (framed t bodies c.args.self.now _ _ _ _ _ _ _ did.frames did.pending did.choices did.progress did.number held inside (λ rest. refl) (omega arith))

@@ -4,7 +4,7 @@ use Rattle.std.specs.List.{flat_map}
 use Rattle.sno_pattern.specs.Tree.{tree_of}
 use Rattle.sno_pattern.specs.Outcome.{tried_from, cut_scan, found_in, outcome}
 use Rattle.sno_eval.proofs.Ranges.{up_to}
-use Rattle.sno_eval.proofs.starts.first.Given as goal
+use Rattle.sno_eval.proofs.starts.search.Given as goal
 
 abbrev pub invariant-loop-start : goal.invariant-loop-start
 invariant-loop-start l =

@@ -6,7 +6,7 @@ use Rattle.sno_pattern.specs.Outcome.{tried_from}
 use Rattle.sno_eval.specs.Endings.{found_after}
 use Rattle.sno_eval.proofs.Ranges.{up_to}
 use Rattle.sno_eval.proofs.StartLaws.{begun, start_tried, sets_are}
-use Rattle.sno_eval.proofs.starts.first.Goals as goal
+use Rattle.sno_eval.proofs.starts.search.Goals as goal
 
 pub loop-start-init : goal.loop-start-init
 loop-start-init c =

@@ -1,0 +1,73 @@
+//! How many trials a match takes.
+ghost use Rattle.std.specs.Prelude.{◌≡◌, ◌≤◌, ℕ, length, IfOk, IsTrue};
+ghost use Rattle.std.specs.List.{flat_map};
+ghost use Rattle.sno_pattern.specs.Tree.{tree_of, refs_below};
+ghost use Rattle.sno_pattern.specs.Results.{results, enough_depth};
+ghost use Rattle.sno_pattern.specs.Outcome.{starts, trials, trials_at};
+ghost use Rattle.sno_eval.specs.Steps.{trials_of};
+
+use crate::results::results;
+use crate::starts::{depth, last_start};
+use sno_pattern::{Event, Pattern, Rules, Text, a_greater_depth_takes_no_more_trials};
+use std::alloc::{AllocError, Global};
+
+/// How many trials matching the pattern with the text takes, all starts together: one where a pattern without parts is met at a
+/// cursor, and one where it is backed into for a further end, up to the event that ends the match. Each reference of the pattern
+/// has to be to one of the definitions (`Rules::covers`).
+///
+/// All events of all starts are listed before the first of them is looked at. It is the plain count, for small texts.
+///
+/// Refused only where memory is.
+pub fn trials(
+    alloc: Global,
+    rules: &Rules,
+    pattern: &Pattern,
+    text: &Text,
+    anchored: bool,
+) -> Result<u64, AllocError>
+    requires { IsTrue (refs_below (length rules.now.bodies) (tree_of pattern.now)) }
+    // The trials of the match ..
+    ensures count { IfOk result (λ count. count ≡ trials text.now rules.now.bodies (tree_of pattern.now) anchored) }
+    // .. are as many at every depth of references that is enough.
+    ensures deep { IfOk result (λ count. (k : ℕ) → enough_depth text.now rules.now.bodies ≤ k → count ≡ trials_at k text.now rules.now.bodies (tree_of pattern.now) anchored) }
+{
+    rules.bodies();
+    a_greater_depth_takes_no_more_trials();
+    let events = all_events(alloc, rules, pattern, text, anchored)?;
+    Ok(count_trials(&events))
+}
+
+// The events of all starts.
+fn all_events(
+    alloc: Global,
+    rules: &Rules,
+    pattern: &Pattern,
+    text: &Text,
+    anchored: bool,
+) -> Result<Vec<Event>, AllocError>
+    ensures { IfOk result (λ v. v.items ≡ flat_map (results text.now rules.now.bodies (enough_depth text.now rules.now.bodies) (tree_of pattern.now)) (starts text.now anchored)) }
+{
+    let most = depth(text, rules);
+    let last = last_start(text, anchored);
+    let mut all = Vec::new(alloc);
+    for start in 0..last + 1 {
+        let mut events = results(alloc, text, rules, most, pattern, start)?;
+        all.append(&mut events)?;
+    }
+    Ok(all)
+}
+
+// The trials before the first End or Halt.
+fn count_trials(events: &[Event]) -> u64
+    ensures { result ≡ trials_of events.now }
+{
+    let mut count = 0;
+    for event in events {
+        match event {
+            Event::Try => count += 1,
+            Event::Set(_) => {}
+            Event::End(_, _) | Event::Halt => return count,
+        }
+    }
+    count
+}

@@ -1,0 +1,36 @@
+//! Why a match has no outcome.
+use std::alloc::{AllocError, AllocFailed};
+use thiserror::Error;
+
+/// Why a match has no outcome.
+#[derive(Clone, Copy, Debug, PartialEq, Eq, Error)]
+pub enum MatchFault {
+    /// The match takes more trials than its limit.
+    #[error("too many trials")]
+    TooManyTrials,
+    /// Memory was refused, at whatever growth it was.
+    #[error("out of memory")]
+    Memory,
+}
+
+impl From<AllocError> for MatchFault {
+    ghost use Rattle.std.specs.Prelude.{◌≡◌};
+    ghost use Rattle.sno_machine.specs.declared.faults.MatchFault.TheVariants.{Memory};
+
+    ghost from_gives = { λ _ e. e ≡ Memory };
+
+    fn from(_refused: AllocError) -> MatchFault {
+        MatchFault::Memory
+    }
+}
+
+impl<T: Drop> From<AllocFailed<T>> for MatchFault {
+    ghost use Rattle.std.specs.Prelude.{◌≡◌};
+    ghost use Rattle.sno_machine.specs.declared.faults.MatchFault.TheVariants.{Memory};
+
+    ghost from_gives = { λ _ e. e ≡ Memory };
+
+    fn from(_refused: AllocFailed<T>) -> MatchFault {
+        MatchFault::Memory
+    }
+}
