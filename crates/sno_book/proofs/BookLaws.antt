@@ -6,28 +6,28 @@ use Rattle.std.proofs.Math.ListN.{length-map}
 use Rattle.std.specs.Arc.{arc_value}
 use Rattle.sno_pattern.specs.Identifiers.{same}
 use Rattle.sno_statement.specs.Perform.{perform}
-use Rattle.sno_book.specs.States.{Held, State, find, renew_by}
+use Rattle.sno_book.specs.States.{VersionedText, State, find, renew_by}
 use Rattle.sno_book.specs.Entries.{after_of}
 use Rattle.sno_book.specs.Journals.{HasStep}
 use Rattle.sno_book.specs.Openings.{Opening, IsOpening, names_in, start}
 use Rattle.sno_book.specs.Views.{View, state_of, and_then}
 use Rattle.sno_book.specs.Proposals.{Proposed, entry_of}
 use Rattle.sno_book.specs.Commits.{place_in, full, beside, at_place, refusal}
-use Rattle.sno_book.specs.Shelves.{Keeps, held_of}
-use Rattle.sno_book.specs.Beginnings.{stood, stood_at_first}
+use Rattle.sno_book.specs.VersionedTexts.{Keeps, with_names}
+use Rattle.sno_book.specs.Starts.{contents, first_contents}
 use Rattle.sno_book.specs.declared.faults.CommitFault.{CommitFault}
 use Rattle.sno_book.specs.declared.faults.CommitFault.TheVariants.{NoText}
-use Rattle.sno_book.specs.declared.shelves.Standing.{Standing}
+use Rattle.sno_book.specs.declared.versioned_texts.VersionedText.{VersionedText as StoredText}
 use Rattle.sno_book.proofs.Places.{same_is, stands_at, stands_inside, find_held, find_none, get_at, held_small}
 use Rattle.sno_book.proofs.Steps.{replay_snoc, legal_snoc, below_replayed, below_started, VersionsBelow}
 
 -- what holds where nothing refuses the proposal
 pub record IsFree (v : View) (p : Proposed) : Type 0 where
-  pub held : Held
+  pub versioned : VersionedText
   pub placed : place_in v p.statement.text ≡ Some p.place
-  pub there : slice_get (state_of v) p.place ≡ Some held
-  pub version : p.version ≡ held.version
-  pub text : p.text ≡ held.text
+  pub there : slice_get (state_of v) p.place ≡ Some versioned
+  pub version : p.version ≡ versioned.version
+  pub text : p.text ≡ versioned.text
   pub room : length v.journal ≢ v.opening.room
 
 some_never : {A : Type 0} (b : Bool) (x : A) → cond b (Some x) None ≡ None → b ≡ false
@@ -42,16 +42,16 @@ beside_if v true true e g h = (refl, refl, h)
 beside_if v true false e g h = cc
 beside_if v false b e g h = cc
 
-beside_free : (v : View) (p : Proposed) (o : Option Held) → place_in v p.statement.text ≡ Some p.place → slice_get (state_of v) p.place ≡ o → beside v p o ≡ None → IsFree v p
+beside_free : (v : View) (p : Proposed) (o : Option VersionedText) → place_in v p.statement.text ≡ Some p.place → slice_get (state_of v) p.place ≡ o → beside v p o ≡ None → IsFree v p
 beside_free v p None placed there h = cc
-beside_free v p (Some held) placed there h =
-    let bs = beside_if v (nat_eq p.version held.version) (same p.text held.text) _ _ h in
+beside_free v p (Some versioned) placed there h =
+    let bs = beside_if v (nat_eq p.version versioned.version) (same p.text versioned.text) _ _ h in
     record {
-      held = held;
+      versioned = versioned;
       placed = placed;
       there = there;
-      version = eqb-true p.version held.version bs.0;
-      text = same_is p.text held.text bs.1;
+      version = eqb-true p.version versioned.version bs.0;
+      text = same_is p.text versioned.text bs.1;
       room = room_free v bs.2;
     }
 
@@ -71,22 +71,22 @@ pub free : (v : View) (p : Proposed) → refusal v p ≡ None → IsFree v p
 free v p h = place_free v p (place_in v p.statement.text) refl h
 
 -- the entry has a step from the book's texts
-pub free_step : (v : View) (p : Proposed) (standings : List Standing) → Keeps v standings → perform p.statement p.text ≡ Ok p.done → IsFree v p → HasStep (state_of v) (entry_of p)
-free_step v p standings keeps performed is_free =
+pub free_step : (v : View) (p : Proposed) (stored : List StoredText) → Keeps v stored → perform p.statement p.text ≡ Ok p.done → IsFree v p → HasStep (state_of v) (entry_of p)
+free_step v p stored keeps performed is_free =
     let names = names_in v.opening.texts in
     let at = stands_at p.statement.text p.place names is_free.placed in
-    let there : slice_get (held_of names standings) p.place ≡ Some is_free.held = ap (λ (s : State). slice_get s p.place) keeps.texts ∙ is_free.there in
-    let found : find p.statement.text (held_of names standings) ≡ Some is_free.held = find_held p.statement.text p.place names standings is_free.held at there in
+    let there : slice_get (with_names names stored) p.place ≡ Some is_free.versioned = ap (λ (s : State). slice_get s p.place) keeps.texts ∙ is_free.there in
+    let found : find p.statement.text (with_names names stored) ≡ Some is_free.versioned = find_held p.statement.text p.place names stored is_free.versioned at there in
     record {
-      held = is_free.held;
+      versioned = is_free.versioned;
       found = ap (λ (s : State). find p.statement.text s) (sym keeps.texts) ∙ found;
       at_version = sym is_free.version;
       performed = ap (λ (t : List ℕ). perform p.statement t) (sym is_free.text) ∙ performed;
     }
 
 -- the book with one more entry
-pub keeps_more : (v : View) (p : Proposed) (old new : List Standing) → Keeps v old → perform p.statement p.text ≡ Ok p.done → refusal v p ≡ None
-    → held_of (names_in v.opening.texts) new ≡ renew_by p.statement.text (after_of p.done) (held_of (names_in v.opening.texts) old) → length new ≡ length old
+pub keeps_more : (v : View) (p : Proposed) (old new : List StoredText) → Keeps v old → perform p.statement p.text ≡ Ok p.done → refusal v p ≡ None
+    → with_names (names_in v.opening.texts) new ≡ renew_by p.statement.text (after_of p.done) (with_names (names_in v.opening.texts) old) → length new ≡ length old
     → Keeps (and_then v (entry_of p)) new
 keeps_more v p old new keeps performed h put as_many =
     let f = free v p h in
@@ -102,116 +102,116 @@ keeps_more v p old new keeps performed h put as_many =
     }
 
 -- the place of a name lies among the texts
-pub place_inside : (v : View) (standings : List Standing) (name : List ℕ) (k : ℕ) → Keeps v standings → place_in v name ≡ Some k → k < length standings
-place_inside v standings name k keeps placed =
+pub place_inside : (v : View) (stored : List StoredText) (name : List ℕ) (k : ℕ) → Keeps v stored → place_in v name ≡ Some k → k < length stored
+place_inside v stored name k keeps placed =
     let inside = stands_inside name k (names_in v.opening.texts) (stands_at name k (names_in v.opening.texts) placed) in
     omega (arith, inside, keeps.as_many, length-map v.opening.texts (λ (t : List ℕ × List ℕ). t.0))
 
 -- what stands there is the text of that name
-pub stands_there : (v : View) (standings : List Standing) (name : List ℕ) (k : ℕ) (s : Standing) → Keeps v standings → place_in v name ≡ Some k
-    → slice_get standings k ≡ Some s → slice_get (state_of v) k ≡ Some (record { name = name; text = arc_value s.text; version = s.version })
-stands_there v standings name k s keeps placed there =
-    ap (λ (l : State). slice_get l k) (sym keeps.texts) ∙ get_at name k (names_in v.opening.texts) standings s (stands_at name k (names_in v.opening.texts) placed) there
+pub stands_there : (v : View) (stored : List StoredText) (name : List ℕ) (k : ℕ) (s : StoredText) → Keeps v stored → place_in v name ≡ Some k
+    → slice_get stored k ≡ Some s → slice_get (state_of v) k ≡ Some (record { name = name; text = arc_value s.text; version = s.version })
+stands_there v stored name k s keeps placed there =
+    ap (λ (l : State). slice_get l k) (sym keeps.texts) ∙ get_at name k (names_in v.opening.texts) stored s (stands_at name k (names_in v.opening.texts) placed) there
 
 -- and it is what is found by the name
-pub found_there : (v : View) (standings : List Standing) (name : List ℕ) (k : ℕ) (s : Standing) → Keeps v standings → place_in v name ≡ Some k
-    → slice_get standings k ≡ Some s → find name (state_of v) ≡ Some (record { name = name; text = arc_value s.text; version = s.version })
-found_there v standings name k s keeps placed there =
+pub found_there : (v : View) (stored : List StoredText) (name : List ℕ) (k : ℕ) (s : StoredText) → Keeps v stored → place_in v name ≡ Some k
+    → slice_get stored k ≡ Some s → find name (state_of v) ≡ Some (record { name = name; text = arc_value s.text; version = s.version })
+found_there v stored name k s keeps placed there =
     let names = names_in v.opening.texts in
     let at = stands_at name k names placed in
-    ap (λ (l : State). find name l) (sym keeps.texts) ∙ find_held name k names standings _ at (get_at name k names standings s at there)
+    ap (λ (l : State). find name l) (sym keeps.texts) ∙ find_held name k names stored _ at (get_at name k names stored s at there)
 
 -- where no text has the name, none is found by it
-pub found_none : (v : View) (standings : List Standing) (name : List ℕ) → Keeps v standings → place_in v name ≡ None → find name (state_of v) ≡ None
-found_none v standings name keeps none =
-    ap (λ (l : State). find name l) (sym keeps.texts) ∙ find_none name 0 (names_in v.opening.texts) standings none
+pub found_none : (v : View) (stored : List StoredText) (name : List ℕ) → Keeps v stored → place_in v name ≡ None → find name (state_of v) ≡ None
+found_none v stored name keeps none =
+    ap (λ (l : State). find name l) (sym keeps.texts) ∙ find_none name 0 (names_in v.opening.texts) stored none
 
 -- no version of a lawful book is higher than there are entries
-pub version_small : (v : View) (standings : List Standing) (k : ℕ) (s : Standing) → Keeps v standings → slice_get standings k ≡ Some s → s.version ≤ length v.journal
-version_small v standings k s keeps there =
+pub version_small : (v : View) (stored : List StoredText) (k : ℕ) (s : StoredText) → Keeps v stored → slice_get stored k ≡ Some s → s.version ≤ length v.journal
+version_small v stored k s keeps there =
     let start_below : VersionsBelow 0 (start v.opening) = below_started v.opening.texts v.opening.room in
     let below = below_replayed 0 (start v.opening) v.journal start_below in
-    let held : VersionsBelow (0 + length v.journal) (held_of (names_in v.opening.texts) standings) = subst (λ l. VersionsBelow (0 + length v.journal) l) (sym keeps.texts) below in
-    let few : length standings ≤ length (names_in v.opening.texts) = omega (arith, keeps.as_many, length-map v.opening.texts (λ (t : List ℕ × List ℕ). t.0)) in
-    let small = held_small (0 + length v.journal) k (names_in v.opening.texts) standings s there few held in omega (arith, small)
+    let versioned : VersionsBelow (0 + length v.journal) (with_names (names_in v.opening.texts) stored) = subst (λ l. VersionsBelow (0 + length v.journal) l) (sym keeps.texts) below in
+    let few : length stored ≤ length (names_in v.opening.texts) = omega (arith, keeps.as_many, length-map v.opening.texts (λ (t : List ℕ × List ℕ). t.0)) in
+    let small = held_small (0 + length v.journal) k (names_in v.opening.texts) stored s there few versioned in omega (arith, small)
 
 -- the version of what stands may be raised
-pub version_rises : (v : View) (standings : List Standing) (k : ℕ) (s : Standing) → Keeps v standings → slice_get standings k ≡ Some s → s.version + 1 < 2 ^ 64
-version_rises v standings k s keeps there =
-    let small = version_small v standings k s keeps there in omega (arith, small, keeps.lawful.within, keeps.lawful.opening.room)
+pub version_rises : (v : View) (stored : List StoredText) (k : ℕ) (s : StoredText) → Keeps v stored → slice_get stored k ≡ Some s → s.version + 1 < 2 ^ 64
+version_rises v stored k s keeps there =
+    let small = version_small v stored k s keeps there in omega (arith, small, keeps.lawful.within, keeps.lawful.opening.room)
 
 place_is : (v : View) (p : Proposed) (place : ℕ) (b : Bool) → b ≡ true → cond b (beside v p (slice_get (state_of v) place)) (Some NoText) ≡ beside v p (slice_get (state_of v) place)
 place_is v p place true h = refl
 place_is v p place false h = cc
 
 -- why a proposal is refused whose text stands at its place
-pub refusal_there : (v : View) (p : Proposed) (place : ℕ) (held : Held) → place_in v p.statement.text ≡ Some place → place ≡ p.place
-    → slice_get (state_of v) place ≡ Some held → refusal v p ≡ beside v p (Some held)
-refusal_there v p place held placed same there =
-    ap (λ (o : Option ℕ). at_place v p o) placed ∙ place_is v p place (nat_eq place p.place) (eq-eqb place p.place same) ∙ ap (λ (o : Option Held). beside v p o) there
+pub refusal_there : (v : View) (p : Proposed) (place : ℕ) (versioned : VersionedText) → place_in v p.statement.text ≡ Some place → place ≡ p.place
+    → slice_get (state_of v) place ≡ Some versioned → refusal v p ≡ beside v p (Some versioned)
+refusal_there v p place versioned placed same there =
+    ap (λ (o : Option ℕ). at_place v p o) placed ∙ place_is v p place (nat_eq place p.place) (eq-eqb place p.place same) ∙ ap (λ (o : Option VersionedText). beside v p o) there
 
 -- ---- a book with no entry
-held_first : (texts : List (List ℕ × List ℕ)) (room : ℕ) (standings : List Standing) → stood standings ≡ stood_at_first texts
-    → held_of (names_in texts) standings ≡ start (record { texts = texts; room = room })
+held_first : (texts : List (List ℕ × List ℕ)) (room : ℕ) (stored : List StoredText) → contents stored ≡ first_contents texts
+    → with_names (names_in texts) stored ≡ start (record { texts = texts; room = room })
 held_first [] room [] h = refl
-held_first [] room (s ∷ standings) h = cc
+held_first [] room (s ∷ stored) h = cc
 held_first (t ∷ texts) room [] h = cc
-held_first (t ∷ texts) room (s ∷ standings) h =
+held_first (t ∷ texts) room (s ∷ stored) h =
     let head : ◌≡◌ {A = List ℕ × ℕ} (arc_value s.text, s.version) (t.1, 0) = cc in
-    let rest : stood standings ≡ stood_at_first texts = cc in
-    let tail = held_first texts room standings rest in
+    let rest : contents stored ≡ first_contents texts = cc in
+    let tail = held_first texts room stored rest in
     λ i. record { name = t.0; text = (head i).0; version = (head i).1 } ∷ tail i
 
-first_many : (texts : List (List ℕ × List ℕ)) (standings : List Standing) → stood standings ≡ stood_at_first texts → length standings ≡ length texts
-first_many texts standings h =
-    sym (length-map {B = List ℕ × ℕ} standings (λ (s : Standing). (arc_value s.text, s.version))) ∙ ap (λ (l : List (List ℕ × ℕ)). length l) h
+first_many : (texts : List (List ℕ × List ℕ)) (stored : List StoredText) → contents stored ≡ first_contents texts → length stored ≡ length texts
+first_many texts stored h =
+    sym (length-map {B = List ℕ × ℕ} stored (λ (s : StoredText). (arc_value s.text, s.version))) ∙ ap (λ (l : List (List ℕ × ℕ)). length l) h
     ∙ length-map {B = List ℕ × ℕ} texts (λ (t : List ℕ × List ℕ). (t.1, 0))
 
-pub keeps_first : (opening : Opening) (standings : List Standing) → IsOpening opening → stood standings ≡ stood_at_first opening.texts
-    → Keeps (record { opening = opening; journal = [] }) standings
-keeps_first opening standings is_opening h = record {
+pub keeps_first : (opening : Opening) (stored : List StoredText) → IsOpening opening → contents stored ≡ first_contents opening.texts
+    → Keeps (record { opening = opening; journal = [] }) stored
+keeps_first opening stored is_opening h = record {
   lawful = record { opening = is_opening; legal = tt; within = omega arith };
-  texts = held_first opening.texts opening.room standings h;
-  as_many = first_many opening.texts standings h;
+  texts = held_first opening.texts opening.room stored h;
+  as_many = first_many opening.texts stored h;
 }
 
 -- ---- a text by its place
-row_held : (k : ℕ) (texts : List (List ℕ × List ℕ)) (standings : List Standing) (t : List ℕ × List ℕ) (s : Standing) → slice_get texts k ≡ Some t → slice_get standings k ≡ Some s
-    → slice_get (held_of (names_in texts) standings) k ≡ Some (record { name = t.0; text = arc_value s.text; version = s.version })
-row_held k [] standings t s row there = cc
+row_held : (k : ℕ) (texts : List (List ℕ × List ℕ)) (stored : List StoredText) (t : List ℕ × List ℕ) (s : StoredText) → slice_get texts k ≡ Some t → slice_get stored k ≡ Some s
+    → slice_get (with_names (names_in texts) stored) k ≡ Some (record { name = t.0; text = arc_value s.text; version = s.version })
+row_held k [] stored t s row there = cc
 row_held k (u ∷ texts) [] t s row there = cc
-row_held zero (u ∷ texts) (x ∷ standings) t s row there = let a : u ≡ t = cc in let b : x ≡ s = cc in λ i. Some (record { name = (a i).0; text = arc_value (b i).text; version = (b i).version })
-row_held (suc k) (u ∷ texts) (x ∷ standings) t s row there = row_held k texts standings t s row there
+row_held zero (u ∷ texts) (x ∷ stored) t s row there = let a : u ≡ t = cc in let b : x ≡ s = cc in λ i. Some (record { name = (a i).0; text = arc_value (b i).text; version = (b i).version })
+row_held (suc k) (u ∷ texts) (x ∷ stored) t s row there = row_held k texts stored t s row there
 
-pub row_there : (v : View) (standings : List Standing) (k : ℕ) (t : List ℕ × List ℕ) (s : Standing) → Keeps v standings → slice_get v.opening.texts k ≡ Some t
-    → slice_get standings k ≡ Some s → slice_get (state_of v) k ≡ Some (record { name = t.0; text = arc_value s.text; version = s.version })
-row_there v standings k t s keeps row there = ap (λ (l : State). slice_get l k) (sym keeps.texts) ∙ row_held k v.opening.texts standings t s row there
+pub row_there : (v : View) (stored : List StoredText) (k : ℕ) (t : List ℕ × List ℕ) (s : StoredText) → Keeps v stored → slice_get v.opening.texts k ≡ Some t
+    → slice_get stored k ≡ Some s → slice_get (state_of v) k ≡ Some (record { name = t.0; text = arc_value s.text; version = s.version })
+row_there v stored k t s keeps row there = ap (λ (l : State). slice_get l k) (sym keeps.texts) ∙ row_held k v.opening.texts stored t s row there
 
-row_short : (k : ℕ) (texts : List (List ℕ × List ℕ)) (standings : List Standing) → slice_get texts k ≡ None → slice_get (held_of (names_in texts) standings) k ≡ None
-row_short k [] standings row = refl
+row_short : (k : ℕ) (texts : List (List ℕ × List ℕ)) (stored : List StoredText) → slice_get texts k ≡ None → slice_get (with_names (names_in texts) stored) k ≡ None
+row_short k [] stored row = refl
 row_short k (t ∷ texts) [] row = refl
-row_short zero (t ∷ texts) (s ∷ standings) row = cc
-row_short (suc k) (t ∷ texts) (s ∷ standings) row = row_short k texts standings row
+row_short zero (t ∷ texts) (s ∷ stored) row = cc
+row_short (suc k) (t ∷ texts) (s ∷ stored) row = row_short k texts stored row
 
-pub row_none : (v : View) (standings : List Standing) (k : ℕ) → Keeps v standings → slice_get v.opening.texts k ≡ None → slice_get (state_of v) k ≡ None
-row_none v standings k keeps row = ap (λ (l : State). slice_get l k) (sym keeps.texts) ∙ row_short k v.opening.texts standings row
+pub row_none : (v : View) (stored : List StoredText) (k : ℕ) → Keeps v stored → slice_get v.opening.texts k ≡ None → slice_get (state_of v) k ≡ None
+row_none v stored k keeps row = ap (λ (l : State). slice_get l k) (sym keeps.texts) ∙ row_short k v.opening.texts stored row
 
 inside_row : (k : ℕ) (texts : List (List ℕ × List ℕ)) (t : List ℕ × List ℕ) → slice_get texts k ≡ Some t → k < length texts
 inside_row k [] t row = cc
 inside_row zero (u ∷ texts) t row = omega arith
 inside_row (suc k) (u ∷ texts) t row = let h = inside_row k texts t row in omega (arith, h)
 
-pub row_inside : (v : View) (standings : List Standing) (k : ℕ) (t : List ℕ × List ℕ) → Keeps v standings → slice_get v.opening.texts k ≡ Some t → k < length standings
-row_inside v standings k t keeps row = let h = inside_row k v.opening.texts t row in omega (arith, h, keeps.as_many)
+pub row_inside : (v : View) (stored : List StoredText) (k : ℕ) (t : List ℕ × List ℕ) → Keeps v stored → slice_get v.opening.texts k ≡ Some t → k < length stored
+row_inside v stored k t keeps row = let h = inside_row k v.opening.texts t row in omega (arith, h, keeps.as_many)
 
-held_many : (names : List (List ℕ)) (standings : List Standing) → length standings ≡ length names → length standings ≡ length (held_of names standings)
+held_many : (names : List (List ℕ)) (stored : List StoredText) → length stored ≡ length names → length stored ≡ length (with_names names stored)
 held_many [] [] h = refl
-held_many [] (s ∷ standings) h = absurd (omega (arith, h))
+held_many [] (s ∷ stored) h = absurd (omega (arith, h))
 held_many (n ∷ names) [] h = refl
-held_many (n ∷ names) (s ∷ standings) h = let rest = held_many names standings (omega (arith, h)) in omega (arith, rest)
+held_many (n ∷ names) (s ∷ stored) h = let rest = held_many names stored (omega (arith, h)) in omega (arith, rest)
 
 -- as many texts stand as there are
-pub state_many : (v : View) (standings : List Standing) → Keeps v standings → length standings ≡ length (state_of v)
-state_many v standings keeps =
-    held_many (names_in v.opening.texts) standings (keeps.as_many ∙ sym (length-map {B = List ℕ} v.opening.texts (λ (t : List ℕ × List ℕ). t.0)))
+pub state_many : (v : View) (stored : List StoredText) → Keeps v stored → length stored ≡ length (state_of v)
+state_many v stored keeps =
+    held_many (names_in v.opening.texts) stored (keeps.as_many ∙ sym (length-map {B = List ℕ} v.opening.texts (λ (t : List ℕ × List ℕ). t.0)))
     ∙ ap (λ (l : State). length l) keeps.texts

@@ -4,7 +4,7 @@ use Rattle.std.specs.Arc.{arc_value}
 use Rattle.std.proofs.lemmas.Bool.{eq-eqb, eqb-true, and_from}
 use Rattle.sno_pattern.specs.Identifiers.{same}
 use Rattle.sno_statement.specs.Task.{Task}
-use Rattle.sno_book.specs.States.{Held}
+use Rattle.sno_book.specs.States.{VersionedText}
 use Rattle.sno_book.specs.Commits.{place_in, full}
 use Rattle.sno_book.specs.Laws.{FreshIsFree}
 use Rattle.sno_book.specs.declared.faults.CommitFault.{CommitFault}
@@ -29,9 +29,9 @@ chosen false b x e g h k = cc
 
 pub fresh_is_free : FreshIsFree
 fresh_is_free v snapshot s p taken proposed room =
-    let held : Held = record { name = s.text; text = arc_value snapshot.text; version = snapshot.version } in
+    let versioned : VersionedText = record { name = s.text; text = arc_value snapshot.text; version = snapshot.version } in
     let placed : place_in v p.statement.text ≡ Some snapshot.place = ap (λ (t : Task). place_in v t.text) proposed.statement ∙ taken.place in
-    refusal_there v p snapshot.place held placed (sym proposed.place) taken.there
-    ∙ chosen (nat_eq p.version held.version) (same p.text held.text) (full v) Foreign (Changed p.version held.version) (eq-eqb p.version held.version proposed.version)
-    (same_equal p.text held.text proposed.text)
+    refusal_there v p snapshot.place versioned placed (sym proposed.place) taken.there
+    ∙ chosen (nat_eq p.version versioned.version) (same p.text versioned.text) (full v) Foreign (Changed p.version versioned.version) (eq-eqb p.version versioned.version proposed.version)
+    (same_equal p.text versioned.text proposed.text)
     ∙ not_full (length v.journal) v.opening.room (nat_eq (length v.journal) v.opening.room) refl room

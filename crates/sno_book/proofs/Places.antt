@@ -8,9 +8,9 @@ use Rattle.std.specs.Option.{option_map}
 use Rattle.std.proofs.lemmas.Bool.{eqb-true, and_parts}
 use Rattle.sno_pattern.specs.Identifiers.{same}
 use Rattle.sno_pattern.specs.NameList.{place_of}
-use Rattle.sno_book.specs.States.{Held, State, find, raised, renew, renew_by}
-use Rattle.sno_book.specs.Shelves.{held_of}
-use Rattle.sno_book.specs.declared.shelves.Standing.{Standing}
+use Rattle.sno_book.specs.States.{VersionedText, State, find, renew, renew_by}
+use Rattle.sno_book.specs.VersionedTexts.{with_names}
+use Rattle.sno_book.specs.declared.versioned_texts.VersionedText.{VersionedText as StoredText}
 use Rattle.sno_book.proofs.Steps.{VersionsBelow}
 
 -- names of the same characters are equal
@@ -61,63 +61,63 @@ stands_inside name k [] h = absurd h
 stands_inside name zero (n ∷ names) h = omega arith
 stands_inside name (suc k) (n ∷ names) h = let i = stands_inside name k names h.1 in omega (arith, i)
 
-abbrev seen : List ℕ → Standing → Held
+abbrev seen : List ℕ → StoredText → VersionedText
 seen name s = record { name = name; text = arc_value s.text; version = s.version }
 
 -- what stands at the place of a name is what is found by the name
-pub find_held : (name : List ℕ) (k : ℕ) (names : List (List ℕ)) (standings : List Standing) (held : Held) → StandsAt name names k → slice_get (held_of names standings) k ≡ Some held
-    → find name (held_of names standings) ≡ Some held
-find_held name k [] standings held at there = absurd at
-find_held name k (n ∷ names) [] held at there = cc
-find_held name zero (n ∷ names) (x ∷ standings) held at there = rw at there
-find_held name (suc k) (n ∷ names) (x ∷ standings) held at there = rw at.0 (find_held name k names standings held at.1 there)
+pub find_held : (name : List ℕ) (k : ℕ) (names : List (List ℕ)) (stored : List StoredText) (versioned : VersionedText) → StandsAt name names k → slice_get (with_names names stored) k ≡ Some versioned
+    → find name (with_names names stored) ≡ Some versioned
+find_held name k [] stored versioned at there = absurd at
+find_held name k (n ∷ names) [] versioned at there = cc
+find_held name zero (n ∷ names) (x ∷ stored) versioned at there = rw at there
+find_held name (suc k) (n ∷ names) (x ∷ stored) versioned at there = rw at.0 (find_held name k names stored versioned at.1 there)
 
-none_if : (b : Bool) (i : ℕ) (later : Option ℕ) (x : Held) (rest : Option Held) → cond b (Some i) later ≡ None → (later ≡ None → rest ≡ None) → cond b (Some x) rest ≡ None
+none_if : (b : Bool) (i : ℕ) (later : Option ℕ) (x : VersionedText) (rest : Option VersionedText) → cond b (Some i) later ≡ None → (later ≡ None → rest ≡ None) → cond b (Some x) rest ≡ None
 none_if true i later x rest h more = cc
 none_if false i later x rest h more = more h
 
 -- where no name is this one, nothing is found by it
-pub find_none : (name : List ℕ) (i : ℕ) (names : List (List ℕ)) (standings : List Standing) → position_from (same name) i names ≡ None → find name (held_of names standings) ≡ None
-find_none name i [] standings h = refl
+pub find_none : (name : List ℕ) (i : ℕ) (names : List (List ℕ)) (stored : List StoredText) → position_from (same name) i names ≡ None → find name (with_names names stored) ≡ None
+find_none name i [] stored h = refl
 find_none name i (n ∷ names) [] h = refl
-find_none name i (n ∷ names) (s ∷ standings) h =
-    none_if (same name n) i (position_from (same name) (i + 1) names) (seen n s) (find name (held_of names standings)) h (find_none name (i + 1) names standings)
+find_none name i (n ∷ names) (s ∷ stored) h =
+    none_if (same name n) i (position_from (same name) (i + 1) names) (seen n s) (find name (with_names names stored)) h (find_none name (i + 1) names stored)
 
-pub get_at : (name : List ℕ) (k : ℕ) (names : List (List ℕ)) (standings : List Standing) (s : Standing) → StandsAt name names k → slice_get standings k ≡ Some s
-    → slice_get (held_of names standings) k ≡ Some (record { name = name; text = arc_value s.text; version = s.version })
-get_at name k [] standings s at there = absurd at
+pub get_at : (name : List ℕ) (k : ℕ) (names : List (List ℕ)) (stored : List StoredText) (s : StoredText) → StandsAt name names k → slice_get stored k ≡ Some s
+    → slice_get (with_names names stored) k ≡ Some (record { name = name; text = arc_value s.text; version = s.version })
+get_at name k [] stored s at there = absurd at
 get_at name k (n ∷ names) [] s at there = cc
-get_at name zero (n ∷ names) (x ∷ standings) s at there =
+get_at name zero (n ∷ names) (x ∷ stored) s at there =
     let is : x ≡ s = cc in let called = sym (same_is name n at) in (λ i. Some (seen (called i) (is i)))
-get_at name (suc k) (n ∷ names) (x ∷ standings) s at there = get_at name k names standings s at.1 there
+get_at name (suc k) (n ∷ names) (x ∷ stored) s at there = get_at name k names stored s at.1 there
 
 -- what is put at the place of a name takes the place of the text of that name
-pub renew_at : (name text : List ℕ) (k : ℕ) (names : List (List ℕ)) (standings : List Standing) (s new : Standing) → StandsAt name names k → slice_get standings k ≡ Some s
-    → arc_value new.text ≡ text → new.version ≡ s.version + 1 → held_of names (set standings k new) ≡ renew name text (held_of names standings)
-renew_at name text k [] standings s new at there is raised = absurd at
+pub renew_at : (name text : List ℕ) (k : ℕ) (names : List (List ℕ)) (stored : List StoredText) (s new : StoredText) → StandsAt name names k → slice_get stored k ≡ Some s
+    → arc_value new.text ≡ text → new.version ≡ s.version + 1 → with_names names (set stored k new) ≡ renew name text (with_names names stored)
+renew_at name text k [] stored s new at there is raised = absurd at
 renew_at name text k (n ∷ names) [] s new at there is raised = cc
-renew_at name text zero (n ∷ names) (x ∷ standings) s new at there is raised =
+renew_at name text zero (n ∷ names) (x ∷ stored) s new at there is raised =
     let same : s ≡ x = cc in
-    let version : new.version ≡ x.version + 1 = raised ∙ ap (λ (y : Standing). y.version + 1) same in
-    rw at (λ i. record { name = n; text = is i; version = version i } ∷ held_of names standings)
-renew_at name text (suc k) (n ∷ names) (x ∷ standings) s new at there is raised =
-    rw at.0 (ap (λ (l : State). seen n x ∷ l) (renew_at name text k names standings s new at.1 there is raised))
+    let version : new.version ≡ x.version + 1 = raised ∙ ap (λ (y : StoredText). y.version + 1) same in
+    rw at (λ i. record { name = n; text = is i; version = version i } ∷ with_names names stored)
+renew_at name text (suc k) (n ∷ names) (x ∷ stored) s new at there is raised =
+    rw at.0 (ap (λ (l : State). seen n x ∷ l) (renew_at name text k names stored s new at.1 there is raised))
 
 -- the same, of a new text that is there
-pub renewed : (name : List ℕ) (k : ℕ) (names : List (List ℕ)) (standings : List Standing) (s : Standing) (text : Arc (List ℕ) Global) (after : Option (Arc (List ℕ) Global))
-    → place_of names name ≡ Some k → slice_get standings k ≡ Some s → after ≡ Some text
-    → held_of names (set standings k (record { text = text; version = s.version + 1 })) ≡ renew_by name (option_map arc_value after) (held_of names standings)
-renewed name k names standings s text after at there is =
-    rw is (renew_at name (arc_value text) k names standings s (record { text = text; version = s.version + 1 }) (stands_at name k names at) there refl refl)
+pub renewed : (name : List ℕ) (k : ℕ) (names : List (List ℕ)) (stored : List StoredText) (s : StoredText) (text : Arc (List ℕ) Global) (after : Option (Arc (List ℕ) Global))
+    → place_of names name ≡ Some k → slice_get stored k ≡ Some s → after ≡ Some text
+    → with_names names (set stored k (record { text = text; version = s.version + 1 })) ≡ renew_by name (option_map arc_value after) (with_names names stored)
+renewed name k names stored s text after at there is =
+    rw is (renew_at name (arc_value text) k names stored s (record { text = text; version = s.version + 1 }) (stands_at name k names at) there refl refl)
 
-abbrev version_in : Option Standing → ℕ
+abbrev version_in : Option StoredText → ℕ
 version_in None = 0
 version_in (Some s) = s.version
 
 -- what stands at a place has no version above that of all the texts
-pub held_small : (n k : ℕ) (names : List (List ℕ)) (standings : List Standing) (s : Standing) → slice_get standings k ≡ Some s → length standings ≤ length names
-    → VersionsBelow n (held_of names standings) → s.version ≤ n
+pub held_small : (n k : ℕ) (names : List (List ℕ)) (stored : List StoredText) (s : StoredText) → slice_get stored k ≡ Some s → length stored ≤ length names
+    → VersionsBelow n (with_names names stored) → s.version ≤ n
 held_small n k names [] s there few h = cc
-held_small n k [] (x ∷ standings) s there few h = absurd (omega (arith, few))
-held_small n zero (name ∷ names) (x ∷ standings) s there few h = let same : x.version ≡ s.version = ap (λ (o : Option Standing). version_in o) there in omega (arith, h.0, same)
-held_small n (suc k) (name ∷ names) (x ∷ standings) s there few h = held_small n k names standings s there (omega (arith, few)) h.1
+held_small n k [] (x ∷ stored) s there few h = absurd (omega (arith, few))
+held_small n zero (name ∷ names) (x ∷ stored) s there few h = let same : x.version ≡ s.version = ap (λ (o : Option StoredText). version_in o) there in omega (arith, h.0, same)
+held_small n (suc k) (name ∷ names) (x ∷ stored) s there few h = held_small n k names stored s there (omega (arith, few)) h.1

@@ -1,7 +1,7 @@
 -- Versions only rise, and each time with an entry.
 use Rattle.std.proofs.Common.{◌≡◌, ◌≤◌, ℕ, zero, suc, ◌+◌, ◌⊎◌, inl, inr, Bool, true, false, cond, List, [], ◌∷◌, ◌++◌, length, Option, Some, None, slice_get, refl, ap, sym, ◌∙◌, arith}
 use Rattle.sno_pattern.specs.Identifiers.{same}
-use Rattle.sno_book.specs.States.{Held, State, find, raised, renew, renew_by}
+use Rattle.sno_book.specs.States.{VersionedText, State, find, raise, renew, renew_by}
 use Rattle.sno_book.specs.Entries.{Entry, after_of}
 use Rattle.sno_book.specs.Journals.{step, replay}
 use Rattle.sno_book.specs.Openings.{Opening, start}
@@ -10,35 +10,35 @@ use Rattle.sno_book.specs.Laws.{OnlyRises, VersionsOnlyRise, VersionsCountEntrie
 use Rattle.sno_book.proofs.Steps.{VersionsBelow, below_replayed, below_started}
 
 -- what is found after a step: what was found before it, or a text of a version one higher
-record Goes (found : Option Held) (held : Held) : Type 0 where
-  next : Held
+record Goes (found : Option VersionedText) (versioned : VersionedText) : Type 0 where
+  next : VersionedText
   is : found ≡ Some next
-  rises : (next ≡ held) ⊎ (next.version ≡ held.version + 1)
+  rises : (next ≡ versioned) ⊎ (next.version ≡ versioned.version + 1)
 
-stays : (found : Option Held) (held : Held) → found ≡ Some held → Goes found held
-stays found held h = record { next = held; is = h; rises = inl refl }
+stays : (found : Option VersionedText) (versioned : VersionedText) → found ≡ Some versioned → Goes found versioned
+stays found versioned h = record { next = versioned; is = h; rises = inl refl }
 
-renew_case : (b a : Bool) (name text : List ℕ) (here held : Held) (state rest : State) → same name here.name ≡ a → cond a (Some here) (find name state) ≡ Some held
-    → (find name state ≡ Some held → Goes (find name rest) held) → Goes (find name (cond b (raised here text ∷ state) (here ∷ rest))) held
-renew_case true true name text here held state rest is h later =
-    let same : here ≡ held = cc in record { next = raised here text; is = rw is; rises = inr (ap (λ (x : Held). x.version + 1) same) }
-renew_case true false name text here held state rest is h later = stays _ held (rw is h)
-renew_case false true name text here held state rest is h later = stays _ held (rw is h)
-renew_case false false name text here held state rest is h later = let r = later h in record { next = r.next; is = rw is r.is; rises = r.rises }
+renew_case : (b a : Bool) (name text : List ℕ) (here versioned : VersionedText) (state rest : State) → same name here.name ≡ a → cond a (Some here) (find name state) ≡ Some versioned
+    → (find name state ≡ Some versioned → Goes (find name rest) versioned) → Goes (find name (cond b (raise here text ∷ state) (here ∷ rest))) versioned
+renew_case true true name text here versioned state rest is h later =
+    let same : here ≡ versioned = cc in record { next = raise here text; is = rw is; rises = inr (ap (λ (x : VersionedText). x.version + 1) same) }
+renew_case true false name text here versioned state rest is h later = stays _ versioned (rw is h)
+renew_case false true name text here versioned state rest is h later = stays _ versioned (rw is h)
+renew_case false false name text here versioned state rest is h later = let r = later h in record { next = r.next; is = rw is r.is; rises = r.rises }
 
-renewed : (name n text : List ℕ) (state : State) (held : Held) → find name state ≡ Some held → Goes (find name (renew n text state)) held
-renewed name n text [] held h = cc
-renewed name n text (here ∷ state) held h = renew_case (same n here.name) (same name here.name) name text here held state (renew n text state) refl h (renewed name n text state held)
+renewed : (name n text : List ℕ) (state : State) (versioned : VersionedText) → find name state ≡ Some versioned → Goes (find name (renew n text state)) versioned
+renewed name n text [] versioned h = cc
+renewed name n text (here ∷ state) versioned h = renew_case (same n here.name) (same name here.name) name text here versioned state (renew n text state) refl h (renewed name n text state versioned)
 
-renewed_by : (name n : List ℕ) (text : Option (List ℕ)) (state : State) (held : Held) → find name state ≡ Some held → Goes (find name (renew_by n text state)) held
-renewed_by name n None state held h = stays _ held h
-renewed_by name n (Some text) state held h = renewed name n text state held h
+renewed_by : (name n : List ℕ) (text : Option (List ℕ)) (state : State) (versioned : VersionedText) → find name state ≡ Some versioned → Goes (find name (renew_by n text state)) versioned
+renewed_by name n None state versioned h = stays _ versioned h
+renewed_by name n (Some text) state versioned h = renewed name n text state versioned h
 
-onward : (before next after : Held) → (next ≡ before) ⊎ (next.version ≡ before.version + 1) → OnlyRises next after → OnlyRises before after
+onward : (before next after : VersionedText) → (next ≡ before) ⊎ (next.version ≡ before.version + 1) → OnlyRises next after → OnlyRises before after
 onward before next after (inl same) r = rw (← same) r
 onward before next after (inr higher) r = record { version = omega (arith, higher, r.version); text = λ equal. absurd (omega (arith, higher, r.version, equal)) }
 
-rises : (name : List ℕ) (state : State) (journal : List Entry) (before after : Held) → find name state ≡ Some before → find name (replay state journal) ≡ Some after → OnlyRises before after
+rises : (name : List ℕ) (state : State) (journal : List Entry) (before after : VersionedText) → find name state ≡ Some before → find name (replay state journal) ≡ Some after → OnlyRises before after
 rises name state [] before after h g =
     let same : before ≡ after = cc in rw same (record { version = omega arith; text = λ _. refl })
 rises name state (e ∷ journal) before after h g =
@@ -55,14 +55,14 @@ versions_only_rise earlier later prefix name before after h g =
     ∙ replay_append (start earlier.opening) earlier.journal prefix.more in
     rises name (state_of earlier) prefix.more before after h (ap (λ (s : State). find name s) (sym same) ∙ g)
 
-below_at : (n k : ℕ) (state : State) (held : Held) → slice_get state k ≡ Some held → VersionsBelow n state → held.version ≤ n
-below_at n k [] held there h = cc
-below_at n zero (x ∷ state) held there h =
-    let is : x ≡ held = cc in
-    let same = ap (λ (y : Held). y.version) is in omega (arith, h.0, same)
-below_at n (suc k) (x ∷ state) held there h = below_at n k state held there h.1
+below_at : (n k : ℕ) (state : State) (versioned : VersionedText) → slice_get state k ≡ Some versioned → VersionsBelow n state → versioned.version ≤ n
+below_at n k [] versioned there h = cc
+below_at n zero (x ∷ state) versioned there h =
+    let is : x ≡ versioned = cc in
+    let same = ap (λ (y : VersionedText). y.version) is in omega (arith, h.0, same)
+below_at n (suc k) (x ∷ state) versioned there h = below_at n k state versioned there h.1
 
 pub versions_count_entries : VersionsCountEntries
-versions_count_entries v place held there =
+versions_count_entries v place versioned there =
     let below = below_replayed 0 (start v.opening) v.journal (below_started v.opening.texts v.opening.room) in
-    let small = below_at (0 + length v.journal) place (state_of v) held there below in omega (arith, small)
+    let small = below_at (0 + length v.journal) place (state_of v) versioned there below in omega (arith, small)

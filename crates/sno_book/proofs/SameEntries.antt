@@ -49,26 +49,29 @@ definitions_decide d e =
 task_decides : (s t : Task) → Decides (same_task s t) (s ≡ t)
 task_decides s t =
     let number = nat_eq s.number t.number in
+    let limit = nat_eq s.limit t.limit in
     let anchored = beq s.anchored t.anchored in
     let text = same s.text t.text in
     let object = same_object s.object t.object in
     let pattern = same_tree s.pattern t.pattern in
     let rules = same_definitions s.rules t.rules in
-    Decides-like (number && (anchored && (text && (object && (pattern && rules)))))
-    (λ (h : (s.number ≡ t.number) × ((s.anchored ≡ t.anchored) × ((s.text ≡ t.text) × ((s.object ≡ t.object) × ((s.pattern ≡ t.pattern) × (s.rules ≡ t.rules)))))). (λ i. record {
+    Decides-like (number && (limit && (anchored && (text && (object && (pattern && rules))))))
+    (λ (h : (s.number ≡ t.number) × ((s.limit ≡ t.limit) × ((s.anchored ≡ t.anchored) × ((s.text ≡ t.text) × ((s.object ≡ t.object) × ((s.pattern ≡ t.pattern) × (s.rules ≡ t.rules))))))). (λ i. record {
       number = h.0 i;
-      anchored = h.1.0 i;
-      text = h.1.1.0 i;
-      object = h.1.1.1.0 i;
-      pattern = h.1.1.1.1.0 i;
-      rules = h.1.1.1.1.1 i;
+      limit = h.1.0 i;
+      anchored = h.1.1.0 i;
+      text = h.1.1.1.0 i;
+      object = h.1.1.1.1.0 i;
+      pattern = h.1.1.1.1.1.0 i;
+      rules = h.1.1.1.1.1.1 i;
     }))
-    (λ (h : s ≡ t). (ap (λ (x : Task). x.number) h, (ap (λ (x : Task). x.anchored) h, (ap (λ (x : Task). x.text) h, (ap (λ (x : Task). x.object) h, (ap (λ (x : Task). x.pattern) h, ap (λ (x : Task). x.rules) h))))))
-    (Decides-and number (anchored && (text && (object && (pattern && rules)))) (unsigned_Decides s.number t.number)
+    (λ (h : s ≡ t). (ap (λ (x : Task). x.number) h, (ap (λ (x : Task). x.limit) h, (ap (λ (x : Task). x.anchored) h, (ap (λ (x : Task). x.text) h, (ap (λ (x : Task). x.object) h, (ap (λ (x : Task). x.pattern) h, ap (λ (x : Task). x.rules) h)))))))
+    (Decides-and number (limit && (anchored && (text && (object && (pattern && rules))))) (unsigned_Decides s.number t.number)
+    (Decides-and limit (anchored && (text && (object && (pattern && rules)))) (unsigned_Decides s.limit t.limit)
     (Decides-and anchored (text && (object && (pattern && rules))) (booleans_Decides s.anchored t.anchored)
     (Decides-and text (object && (pattern && rules)) (bytes_eq-Decides s.text t.text)
     (Decides-and object (pattern && rules) (options (pointwise same_part) (lists same_part part_decides) s.object t.object)
-    (Decides-and pattern rules (tree_decides s.pattern t.pattern) (definitions_decide s.rules t.rules))))))
+    (Decides-and pattern rules (tree_decides s.pattern t.pattern) (definitions_decide s.rules t.rules)))))))
 
 -- outcomes
 datum_decides : (d e : Datum) → Decides (same_datum d e) (d ≡ e)

@@ -1,7 +1,7 @@
 -- Journals one entry longer, and versions over the steps of a journal.
 use Rattle.std.proofs.Common.{◌≡◌, ℕ, suc, ◌+◌, ◌≤◌, Bool, true, false, cond, List, [], ◌∷◌, ◌++◌, length, Option, Some, None, refl, subst, arith}
 use Rattle.sno_pattern.specs.Identifiers.{same}
-use Rattle.sno_book.specs.States.{Held, State, raised, renew, renew_by}
+use Rattle.sno_book.specs.States.{VersionedText, State, raise, renew, renew_by}
 use Rattle.sno_book.specs.Entries.{Entry, after_of}
 use Rattle.sno_book.specs.Journals.{HasStep, step, replay, Legal}
 use Rattle.sno_book.specs.Openings.{start}
@@ -9,20 +9,20 @@ use Rattle.sno_book.specs.Openings.{start}
 -- no version is above n
 abbrev pub VersionsBelow : ℕ → State → Type 0
 VersionsBelow n [] = Unit {0}
-VersionsBelow n (held ∷ state) = (held.version ≤ n) × VersionsBelow n state
+VersionsBelow n (versioned ∷ state) = (versioned.version ≤ n) × VersionsBelow n state
 
 more : (n : ℕ) (state : State) → VersionsBelow n state → VersionsBelow (n + 1) state
 more n [] h = tt
-more n (held ∷ state) h = (omega (arith, h.0), more n state h.1)
+more n (versioned ∷ state) h = (omega (arith, h.0), more n state h.1)
 
-below_if : (b : Bool) (n : ℕ) (text : List ℕ) (held : Held) (state new : State) → held.version ≤ n → VersionsBelow n state → VersionsBelow (n + 1) new
-    → VersionsBelow (n + 1) (cond b (raised held text ∷ state) (held ∷ new))
-below_if true n text held state new here h later = (omega (arith, here), more n state h)
-below_if false n text held state new here h later = (omega (arith, here), later)
+below_if : (b : Bool) (n : ℕ) (text : List ℕ) (versioned : VersionedText) (state new : State) → versioned.version ≤ n → VersionsBelow n state → VersionsBelow (n + 1) new
+    → VersionsBelow (n + 1) (cond b (raise versioned text ∷ state) (versioned ∷ new))
+below_if true n text versioned state new here h later = (omega (arith, here), more n state h)
+below_if false n text versioned state new here h later = (omega (arith, here), later)
 
 below_renewed : (n : ℕ) (name text : List ℕ) (state : State) → VersionsBelow n state → VersionsBelow (n + 1) (renew name text state)
 below_renewed n name text [] h = tt
-below_renewed n name text (held ∷ state) h = below_if (same name held.name) n text held state (renew name text state) h.0 h.1 (below_renewed n name text state h.1)
+below_renewed n name text (versioned ∷ state) h = below_if (same name versioned.name) n text versioned state (renew name text state) h.0 h.1 (below_renewed n name text state h.1)
 
 below_by : (n : ℕ) (name : List ℕ) (text : Option (List ℕ)) (state : State) → VersionsBelow n state → VersionsBelow (n + 1) (renew_by name text state)
 below_by n name None state h = more n state h

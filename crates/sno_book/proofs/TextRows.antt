@@ -13,7 +13,7 @@ use Rattle.sno_pattern.specs.Identifiers.{same}
 use Rattle.sno_pattern.specs.NameList.{repeat_from, first_repeat}
 use Rattle.sno_book.specs.Openings.{IsOpening, names_in, texts_seen, opening_of, unless_repeated}
 use Rattle.sno_book.specs.declared.faults.BookFault.TheVariants as fault
-use Rattle.sno_book.specs.Beginnings.{stood_at_first}
+use Rattle.sno_book.specs.Starts.{first_contents}
 
 abbrev pub Shared : Type 0
 Shared = List (List ℕ × Arc (List ℕ) Global)
@@ -127,7 +127,7 @@ first_same so_far more left rest t first added es fs grown is fs_seen es_seen as
     ∙ sym step ∙ ap (λ (l : List (List ℕ × List ℕ)). repeat_from (names_in so_far) (length es) (names_in l)) (sym is) ∙ invariant
 
 -- what stands at the place of the text that was added
-pub stood_more : (so_far more : List (List ℕ × List ℕ)) (old new : List (List ℕ × ℕ)) (t : List ℕ × List ℕ) → more ≡ so_far ++ t ∷ [] → new ≡ old ++ (t.1, 0) ∷ []
-    → old ≡ stood_at_first so_far → new ≡ stood_at_first more
-stood_more so_far more old new t grown put is =
-    put ∙ ap (λ (l : List (List ℕ × ℕ)). l ++ (t.1, 0) ∷ []) is ∙ sym (map-append (λ (t : List ℕ × List ℕ). (t.1, 0)) so_far (t ∷ [])) ∙ ap stood_at_first (sym grown)
+pub contents_more : (so_far more : List (List ℕ × List ℕ)) (old new : List (List ℕ × ℕ)) (t : List ℕ × List ℕ) → more ≡ so_far ++ t ∷ [] → new ≡ old ++ (t.1, 0) ∷ []
+    → old ≡ first_contents so_far → new ≡ first_contents more
+contents_more so_far more old new t grown put is =
+    put ∙ ap (λ (l : List (List ℕ × ℕ)). l ++ (t.1, 0) ∷ []) is ∙ sym (map-append (λ (t : List ℕ × List ℕ). (t.1, 0)) so_far (t ∷ [])) ∙ ap first_contents (sym grown)

@@ -2,7 +2,7 @@
 use Rattle.std.specs.Prelude.{◌≡◌, ◌≢◌, ℕ, List, length, nat_eq, Option, Some, None, Result, Ok, Err, slice_get, if◌then◌else◌}
 use Rattle.sno_pattern.specs.Identifiers.{same}
 use Rattle.sno_pattern.specs.NameList.{place_of}
-use Rattle.sno_book.specs.States.{Held, find}
+use Rattle.sno_book.specs.States.{VersionedText, find}
 use Rattle.sno_book.specs.Journals.{HasStep, step}
 use Rattle.sno_book.specs.Openings.{names_in}
 use Rattle.sno_book.specs.Views.{View, state_of, and_then}
@@ -23,21 +23,21 @@ abbrev pub full : View → Option CommitFault
 full v = if nat_eq (length v.journal) v.opening.room then Some fault.Full else None
 
 -- the text has the proposal's version, and then its characters
-abbrev pub beside : View → Proposed → Option Held → Option CommitFault
+abbrev pub beside : View → Proposed → Option VersionedText → Option CommitFault
 beside v p None = Some fault.NoText
-beside v p (Some held) = if nat_eq p.version held.version then (if same p.text held.text then full v else Some fault.Foreign) else Some (fault.Changed p.version held.version)
+beside v p (Some versioned) = if nat_eq p.version versioned.version then (if same p.text versioned.text then full v else Some fault.Foreign) else Some (fault.Changed p.version versioned.version)
 
 -- the text of the statement's name stands at the snapshot's place
 abbrev pub at_place : View → Proposed → Option ℕ → Option CommitFault
 at_place v p None = Some fault.NoText
 at_place v p (Some place) = if nat_eq place p.place then beside v p (slice_get (state_of v) place) else Some fault.NoText
 
--- the first refusal that holds, want of memory aside: no text of that name at that place, another version, other characters, a full
+-- the first refusal that holds, unless memory is refused: no text of that name at that place, another version, other characters, a full
 -- journal
 abbrev pub refusal : View → Proposed → Option CommitFault
 refusal v p = at_place v p (place_in v p.statement.text)
 
--- no refusal holds; the entry is behind the others, at the index that the receipt names, and it is one step: it has a step from the texts
+-- no refusal holds; the entry is appended, at the index that the receipt names, and it is one step: it has a step from the texts
 -- as they were, and they are now what the step makes of them
 pub record IsAccepted (before after : View) (p : Proposed) (given : Received) : Type 0 where
   pub free : refusal before p ≡ None
@@ -46,7 +46,7 @@ pub record IsAccepted (before after : View) (p : Proposed) (given : Received) : 
   pub stepped : state_of after ≡ step (state_of before) (entry_of p)
   pub received : given ≡ record { index = length before.journal; entry = entry_of p; text = p.text }
 
--- the refusal is the first that holds, or where none does want of memory; nothing is changed, and the proposal comes back
+-- the refusal is the first that holds, or `Memory` where none does; nothing is changed, and the proposal comes back
 pub record IsRefused (before after : View) (p back : Proposed) (e : CommitFault) : Type 0 where
   pub cause : e ≢ fault.Memory → refusal before p ≡ Some e
   pub memory : e ≡ fault.Memory → refusal before p ≡ None
@@ -59,7 +59,7 @@ pub record IsSnapshot (v : View) (name : List ℕ) (snapshot : Snapshot) : Type 
   pub there : slice_get (state_of v) snapshot.place ≡ Some (record { name = name; text = arc_value snapshot.text; version = snapshot.version })
   pub found : find name (state_of v) ≡ Some (record { name = name; text = arc_value snapshot.text; version = snapshot.version })
 
--- a snapshot exactly where there is a text of that name, want of memory aside
+-- a snapshot exactly where there is a text of that name, unless memory is refused
 abbrev pub GivesSnapshot : Result Snapshot SnapshotFault → View → List ℕ → Type 0
 GivesSnapshot (Ok snapshot) v name = IsSnapshot v name snapshot
 GivesSnapshot (Err snapshots.NoText) v name = (place_in v name ≡ None) × (find name (state_of v) ≡ None)

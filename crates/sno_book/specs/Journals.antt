@@ -1,16 +1,16 @@
--- Journals: entries one behind the other, each a step of the texts as those before it leave them.
+-- Journals: entries in order, each a step of the texts as those before it leave them.
 use Rattle.std.specs.Prelude.{◌≡◌, List, [], ◌∷◌, Some, Ok}
 use Rattle.sno_statement.specs.Perform.{perform}
-use Rattle.sno_book.specs.States.{Held, State, find, renew_by}
+use Rattle.sno_book.specs.States.{VersionedText, State, find, renew_by}
 use Rattle.sno_book.specs.Entries.{Entry, after_of}
 
 -- an entry has a step from texts among which the statement's text has the entry's version, and where the entry's outcome is what the
 -- statement does to that text
 pub record HasStep (state : State) (entry : Entry) : Type 0 where
-  pub held : Held
-  pub found : find entry.statement.text state ≡ Some held
-  pub at_version : held.version ≡ entry.version
-  pub performed : perform entry.statement held.text ≡ Ok entry.done
+  pub versioned : VersionedText
+  pub found : find entry.statement.text state ≡ Some versioned
+  pub at_version : versioned.version ≡ entry.version
+  pub performed : perform entry.statement versioned.text ≡ Ok entry.done
 
 -- the texts after the step: the new text in place of the statement's text, where the outcome has one
 abbrev pub step : State → Entry → State

@@ -7,8 +7,7 @@ pub mod Proposals
 pub mod Commits
 pub mod Audits
 pub mod Laws
-pub mod Beginnings
-pub mod Begun
-pub mod Shelves
+pub mod Starts
+pub mod VersionedTexts
 pub mod SamePatterns
 pub mod SameEntries

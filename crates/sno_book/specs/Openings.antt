@@ -37,7 +37,7 @@ abbrev pub unless_repeated : Option ℕ → List (List ℕ × List ℕ) → ℕ 
 unless_repeated None texts room = Ok (record { texts = texts; room = room })
 unless_repeated (Some place) texts room = Err (fault.Duplicate place)
 
--- what becomes of texts, want of memory aside: no more than 1,024, then no name that stands earlier
+-- what becomes of texts, unless memory is refused: no more than 1,024, then no name that stands earlier
 abbrev pub opening_of : List (List ℕ × List ℕ) → ℕ → Result Opening BookFault
 opening_of texts room = if nat_lt 1024 (length texts) then Err fault.TooMany else unless_repeated (first_repeat (names_in texts)) texts room
 

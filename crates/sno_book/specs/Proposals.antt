@@ -53,3 +53,4 @@ abbrev pub GivesProposal : Result Proposed StatementFault → Task → Snapshot 
 GivesProposal (Ok p) s snapshot = Proposes p s snapshot
 GivesProposal (Err fault.TextTooLong) s snapshot = perform s (arc_value snapshot.text) ≡ Err fault.TextTooLong
 GivesProposal (Err fault.Memory) s snapshot = Unit {0}
+GivesProposal (Err fault.TooManyTrials) s snapshot = perform s (arc_value snapshot.text) ≡ Err fault.TooManyTrials

@@ -31,8 +31,9 @@ same_definitions d e = pointwise same d.names e.names && pointwise same_tree d.b
 abbrev pub same_task : Task → Task → Bool
 same_task s t =
     nat_eq s.number t.number
+    && (nat_eq s.limit t.limit
     && (beq s.anchored t.anchored
-    && (same s.text t.text && (same_object s.object t.object && (same_tree s.pattern t.pattern && same_definitions s.rules t.rules))))
+    && (same s.text t.text && (same_object s.object t.object && (same_tree s.pattern t.pattern && same_definitions s.rules t.rules)))))
 
 -- values of variables
 abbrev pub same_datum : Datum → Datum → Bool

@@ -3,28 +3,28 @@ use Rattle.std.specs.Prelude.{ℕ, ◌+◌, List, [], ◌∷◌, Option, Some, N
 use Rattle.sno_pattern.specs.Identifiers.{same}
 
 -- a text with its name and its version
-pub record Held : Type 0 where
+pub record VersionedText : Type 0 where
   pub name : List ℕ
   pub text : List ℕ
   pub version : ℕ
 
 -- the texts, in the order in which they were given
 abbrev pub State : Type 0
-State = List Held
+State = List VersionedText
 
 -- the text of this name
-abbrev pub find : List ℕ → State → Option Held
+abbrev pub find : List ℕ → State → Option VersionedText
 find name [] = None
-find name (held ∷ state) = if same name held.name then Some held else find name state
+find name (versioned ∷ state) = if same name versioned.name then Some versioned else find name state
 
 -- a new text raises the version by one, also where its characters are those of the old one
-abbrev pub raised : Held → List ℕ → Held
-raised held text = record { name = held.name; text = text; version = held.version + 1 }
+abbrev pub raise : VersionedText → List ℕ → VersionedText
+raise versioned text = record { name = versioned.name; text = text; version = versioned.version + 1 }
 
 -- the new text in place of the text of this name; all else stays
 abbrev pub renew : List ℕ → List ℕ → State → State
 renew name text [] = []
-renew name text (held ∷ state) = if same name held.name then raised held text ∷ state else held ∷ renew name text state
+renew name text (versioned ∷ state) = if same name versioned.name then raise versioned text ∷ state else versioned ∷ renew name text state
 
 -- the same where there is a new text; where there is none all stays
 abbrev pub renew_by : List ℕ → Option (List ℕ) → State → State

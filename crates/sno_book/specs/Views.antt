@@ -26,7 +26,7 @@ pub record IsLawful (v : View) : Type 0 where
   pub legal : Legal (start v.opening) v.journal
   pub within : length v.journal ≤ v.opening.room
 
--- the entry behind the others
+-- one entry more
 abbrev pub and_then : View → Entry → View
 and_then v entry = record { opening = v.opening; journal = v.journal ++ entry ∷ [] }
 

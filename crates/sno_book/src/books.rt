@@ -7,9 +7,9 @@ ghost use Rattle.sno_book.specs.Proposals.{entry_of};
 ghost use Rattle.sno_book.specs.Views.{IsLawful, OpensView, state_of};
 ghost use Rattle.sno_book.specs.Commits.{place_in, GivesSnapshot, IsAccepted, IsRefused, beside, refusal};
 
-use crate::beginning::{Begun, begin};
 use crate::ready::Ready;
-use crate::shelves::{Standing, put, standing_at};
+use crate::start::{Start, start_of};
+use crate::versioned_texts::{VersionedText, put, text_at};
 use crate::{BookFault, CommitFault, Entry, Opening, Proposal, Receipt, Snapshot, SnapshotFault};
 use sno_pattern::{Text, TextName};
 use std::alloc::Global;
@@ -21,14 +21,14 @@ use std::sync::Arc;
 #[derive(Drop)]
 pub struct Book {
     opening: Arc<Opening>,
-    standings: Vec<Standing>,
+    versioned_texts: Vec<VersionedText>,
     journal: Vec<Entry>,
 }
 
 impl Model for Book {
     ghost use Rattle.std.specs.Arc.{arc_value};
     ghost use Rattle.sno_book.specs.Views.{View, view_code};
-    ghost use Rattle.sno_book.specs.Shelves.{Keeps};
+    ghost use Rattle.sno_book.specs.VersionedTexts.{Keeps};
 
     ghost Value = { View };
 
@@ -36,7 +36,7 @@ impl Model for Book {
 
     ghost view = { λ s. record { opening = arc_value s.opening; journal = s.journal.items } };
 
-    ghost invariant = { λ s. Keeps (record { opening = arc_value s.opening; journal = s.journal.items }) s.standings.items };
+    ghost invariant = { λ s. Keeps (record { opening = arc_value s.opening; journal = s.journal.items }) s.versioned_texts.items };
 }
 
 impl Book {
@@ -49,10 +49,13 @@ impl Book {
         requires { room ≤ 1000000 }
         ensures { OpensView result texts.items room }
     {
-        let Begun { opening, standings } = begin(alloc, texts, room)?;
+        let Start {
+            opening,
+            versioned_texts,
+        } = start_of(alloc, texts, room)?;
         Ok(Book {
             opening: Arc::new(alloc, opening)?,
-            standings,
+            versioned_texts,
             journal: Vec::new(alloc),
         })
     }
@@ -78,14 +81,14 @@ impl Book {
         ensures opening { result ≡ length self.now.opening.texts }
         ensures state { result ≡ length (state_of self.now) }
     {
-        self.standings.len()
+        self.versioned_texts.len()
     }
 
     /// Whether there is no text.
     pub fn is_empty(&self) -> bool
         ensures { result ≡ nat_eq (length self.now.opening.texts) 0 }
     {
-        self.standings.is_empty()
+        self.versioned_texts.is_empty()
     }
 
     /// The text at a place, from 0, with its name and its version, as all entries of the journal leave it; none from [`Book::len`] on.
@@ -95,20 +98,20 @@ impl Book {
         ensures none { IfNone result (slice_get (state_of self.now) place ≡ None) }
     {
         let (name, _) = self.opening.row(place)?;
-        let standing = standing_at(&self.standings, place);
-        Some((name, &standing.text, standing.version))
+        let versioned = text_at(&self.versioned_texts, place);
+        Some((name, &versioned.text, versioned.version))
     }
 
-    /// What stands at the place of this name, and the place.
+    /// The place of this name, and the text there.
     #[tactic(auto, using(crate::proofs::BookLaws::place_inside, crate::proofs::BookLaws::stands_there, crate::proofs::BookLaws::found_there, crate::proofs::BookLaws::found_none))]
-    fn standing(&self, name: &TextName) -> Option<(usize, &Standing)>
+    fn versioned_text(&self, name: &TextName) -> Option<(usize, &VersionedText)>
         ensures found { IfSome result (λ r. (place_in self.now name.now ≡ Some r.0) × (slice_get (state_of self.now) r.0
             ≡ Some (record { name = name.now; text = arc_value r.1.now.text; version = r.1.now.version }))
             × (find name.now (state_of self.now) ≡ Some (record { name = name.now; text = arc_value r.1.now.text; version = r.1.now.version }))) }
         ensures none { IfNone result ((place_in self.now name.now ≡ None) × (find name.now (state_of self.now) ≡ None)) }
     {
         let place = self.opening.place(name)?;
-        Some((place, standing_at(&self.standings, place)))
+        Some((place, text_at(&self.versioned_texts, place)))
     }
 
     /// The text of this name as it stands, shared.
@@ -117,13 +120,13 @@ impl Book {
     pub fn snapshot(&self, name: &TextName) -> Result<Snapshot, SnapshotFault>
         ensures { GivesSnapshot result self.now name.now }
     {
-        let Some((place, standing)) = self.standing(name) else {
+        let Some((place, versioned)) = self.versioned_text(name) else {
             return Err(SnapshotFault::NoText);
         };
-        match Arc::try_clone(&standing.text) {
+        match Arc::try_clone(&versioned.text) {
             Ok(text) => Ok(Snapshot {
                 place,
-                version: standing.version,
+                version: versioned.version,
                 text,
             }),
             Err(_) => Err(SnapshotFault::Memory),
@@ -131,16 +134,16 @@ impl Book {
     }
 
     /// Why the text that stands at the proposal's place is not the one that the proposal is for, or why nothing more is accepted.
-    fn refusal_beside(&self, standing: &Standing, proposal: &Proposal) -> Option<CommitFault>
-        ensures { result ≡ beside self.now proposal.now (Some (record { name = []; text = arc_value standing.now.text; version = standing.now.version })) }
+    fn refusal_beside(&self, versioned: &VersionedText, proposal: &Proposal) -> Option<CommitFault>
+        ensures { result ≡ beside self.now proposal.now (Some (record { name = []; text = arc_value versioned.now.text; version = versioned.now.version })) }
     {
-        if proposal.version() != standing.version {
+        if proposal.version() != versioned.version {
             return Some(CommitFault::Changed {
                 seen: proposal.version(),
-                now: standing.version,
+                now: versioned.version,
             });
         }
-        if proposal.text().bytes() != standing.text.bytes() {
+        if proposal.text().bytes() != versioned.text.bytes() {
             return Some(CommitFault::Foreign);
         }
         if self.journal.len() == self.opening.room() as usize {
@@ -149,21 +152,21 @@ impl Book {
         None
     }
 
-    /// Why the proposal is not accepted, if it is not, want of memory aside.
+    /// Why the proposal is not accepted, if it is not, unless memory is refused.
     #[tactic(auto, using(crate::proofs::BookLaws::refusal_there))]
     fn refusal(&self, proposal: &Proposal) -> Option<CommitFault>
         ensures { result ≡ refusal self.now proposal.now }
     {
-        let Some((place, standing)) = self.standing(proposal.statement().text()) else {
+        let Some((place, versioned)) = self.versioned_text(proposal.statement().text()) else {
             return Some(CommitFault::NoText);
         };
         if place != proposal.place() {
             return Some(CommitFault::NoText);
         }
-        self.refusal_beside(standing, proposal)
+        self.refusal_beside(versioned, proposal)
     }
 
-    /// The entry behind the others, and the new text in place of the old one.
+    /// Appends the entry, and puts the new text in place of the old one.
     fn accept(&mut self, ready: Ready) -> Result<Receipt, (CommitFault, Proposal)>
         requires { refusal self.old ready.proposal ≡ None }
         ensures accepted { IfOk result (λ receipt. IsAccepted self.old self.new ready.proposal receipt) }
@@ -180,11 +183,11 @@ impl Book {
             Ok(()) => {}
             Err(_) => return Err((CommitFault::Memory, proposal)),
         }
-        put(&mut self.standings, place, after);
-        Ok(proposal.received(index))
+        put(&mut self.versioned_texts, place, after);
+        Ok(proposal.receipt(index))
     }
 
-    /// Accepts a proposal: its entry is behind the others in the journal, and its new text, where it has one, is in place, with a version
+    /// Accepts a proposal: its entry is the last of the journal, and its new text, where it has one, is in place, with a version
     /// one higher, also where the characters are the same.
     ///
     /// Refused, in this order: `NoText` where the book has no text of the statement's name, or has it at another place than the

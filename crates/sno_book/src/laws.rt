@@ -13,7 +13,7 @@ pub fn versions_count_entries()
     ensures { VersionsCountEntries }
 {}
 
-/// Where the text is still as the snapshot has it, and the journal is not full, the proposal is accepted but for want of memory.
+/// Where the text is still as the snapshot has it, and the journal is not full, the proposal is accepted unless memory is refused.
 #[tactic(auto, using(crate::proofs::Fresh::fresh_is_free))]
 pub fn fresh_is_free()
     ensures { FreshIsFree }

@@ -2,7 +2,7 @@
 //!
 //! A [`Book`] begins with texts at version 0 and an empty journal. A [`Snapshot`] shares a text as it stands. [`propose`] performs a
 //! statement on a snapshot and makes a [`Proposal`]; it takes no lock and the book needn't be at hand. [`Book::commit`] accepts the
-//! proposal only where the text still stands as the snapshot has it. It then puts one [`Entry`] behind the others, puts the new text in
+//! proposal only where the text still stands as the snapshot has it. It then appends one [`Entry`] to the journal, puts the new text in
 //! place, where the statement replaced something, and raises that text's version by one. A [`Receipt`] says where the entry stands.
 //!
 //! # What is promised, and where
@@ -12,7 +12,7 @@
 //!   statement does to that text. The texts and versions are the `replay` of the journal. [`Book::journal`] and [`Book::text`] say so.
 //! - **A commit is one step, a refusal none** (`Book::commit`, `specs/Commits.antt`). `accepted`: the proposal's entry is appended, it
 //!   has a step from the texts as they were, and the texts are what the step leaves. `refused`: which refusal comes is exact, the book is
-//!   what it was, and the same proposal comes back. Want of memory comes only where no other refusal holds.
+//!   what it was, and the same proposal comes back. `Memory` is answered only where no other refusal holds.
 //! - **Nothing is made up.** A [`Proposal`] keeps by its type that its outcome is what its statement does to its text, and a
 //!   [`Receipt`] that its entry's outcome is.
 //! - **Receipts can be audited.** [`Book::audit`] compares entries by value, wherever they lie in memory.
@@ -20,10 +20,10 @@
 //!
 //! What each file has:
 //!
-//! - `src/books.rt`: [`Book`] and its calls. `src/beginning.rt`: how it begins. `src/audits.rt`: the audit.
+//! - `src/books.rt`: [`Book`] and its calls. `src/start.rt`: how it begins. `src/audits.rt`: the audit.
 //! - `src/openings.rt`: [`Opening`], the texts and the room that a book was given.
 //! - `src/snapshots.rt`, `src/proposals.rt`, `src/entries.rt`: [`Snapshot`], [`Proposal`], [`Entry`] and [`Receipt`].
-//! - `src/ready.rt`: what a commit needs, made before it changes anything. `src/shelves.rt`: the texts at their places.
+//! - `src/ready.rt`: what a commit needs, made before it changes anything. `src/versioned_texts.rt`: the texts at their places.
 //! - `src/same_patterns.rt`, `src/same_statements.rt`, `src/same_outcomes.rt`: equality by value.
 //! - `src/faults.rt`: the refusals. `src/laws.rt`: the laws.
 //!
@@ -34,7 +34,6 @@
 #![tactic(auto)]
 
 mod audits;
-mod beginning;
 mod books;
 mod entries;
 mod faults;
@@ -45,8 +44,9 @@ mod ready;
 mod same_outcomes;
 mod same_patterns;
 mod same_statements;
-mod shelves;
 mod snapshots;
+mod start;
+mod versioned_texts;
 
 pub use books::Book;
 pub use entries::{Entry, Receipt};
@@ -55,3 +55,5 @@ pub use laws::{fresh_is_free, versions_count_entries, versions_only_rise};
 pub use openings::Opening;
 pub use proposals::{Proposal, propose};
 pub use snapshots::Snapshot;
+pub use sno_pattern::{Text, TextName};
+pub use sno_statement::{Outcome, Statement, StatementFault};

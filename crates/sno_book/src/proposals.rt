@@ -93,7 +93,7 @@ impl Proposal {
     }
 
     /// The receipt of an entry at this index.
-    pub(crate) fn received(self, index: usize) -> Receipt
+    pub(crate) fn receipt(self, index: usize) -> Receipt
         ensures { result ≡ record { index = index; entry = entry_of self; text = self.text } }
     {
         let Proposal {
@@ -115,7 +115,8 @@ impl Proposal {
 
 /// Performs a statement on a snapshot's text. No lock is taken and nobody is waited for.
 ///
-/// Refused as `perform` refuses: `TextTooLong` exactly where the new text would have more than 65,536 characters, and `Memory`.
+/// Refused as `perform` refuses: `TooManyTrials` exactly where the match takes more trials than the statement's limit, `TextTooLong`
+/// exactly where the new text would have more than 65,536 characters, and `Memory`.
 /// Statement and snapshot are dropped then; the caller's own share of the statement stays.
 pub fn propose(
     alloc: Global,

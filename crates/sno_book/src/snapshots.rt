@@ -2,7 +2,7 @@
 use sno_pattern::Text;
 use std::sync::Arc;
 
-/// A text as it stood when the snapshot was taken. It shares the characters, and stays as it is whatever becomes of the text.
+/// A text as it contents when the snapshot was taken. It shares the characters, and stays as it is whatever becomes of the text.
 #[derive(Drop)]
 pub struct Snapshot {
     /// The place of the text in its book, from 0.

@@ -17,7 +17,7 @@ use Rattle.sno_read.specs.Keywords.{keyword_of, number_tree, set_tree}
 use Rattle.sno_read.specs.Characters.{is_blank, begins, start_of, what_follows, sign_of}
 use Rattle.sno_read.specs.Grammar.{AreBlanks, SomeBlanks, IsNumber, IsLiteral, IsVariable, parenthesized, signed_by, IsElement, IsItem, IsConcatenation, IsAlternation}
 use Rattle.sno_read.specs.Grammar as grammar
-use Rattle.sno_read.specs.Reading.{Env, Read, place, below, cursor_at, starred_at, plain_of, counted_at, chosen_at, group_at, repeated_at, named_by, named_at, quoted_at, element_at, target_by, targets_at, item_at, item_by, items_at, parts_at, concatenation_at, alternation_at, inside}
+use Rattle.sno_read.specs.Reading.{Env, Read, place, below, cursor_at, reference_at, plain_of, number_call_at, set_call_at, group_at, repetition_at, from_name, from_name_at, quotation_at, element_at, target_by, targets_at, item_at, item_by, items_at, parts_at, concatenation_at, alternation_at, inside}
 use Rattle.sno_read.proofs.Sound.{paren_split, signed_split}
 use Rattle.sno_read.proofs.Steps.{targets_step, items_step, parts_step}
 use Rattle.sno_read.proofs.Reserved.{keyword_none, keyword_name}
@@ -35,13 +35,13 @@ digits_no_blank : (ds m : List ℕ) (n : ℕ) → IsNumber ds n → begins is_bl
 digits_no_blank [] m n d = absurd (omega (arith, d.some))
 digits_no_blank (c ∷ ds) m n d = digit_no_blank c (and_parts (is_ascii_digit c) (list_all is_ascii_digit ds) d.all_digits).0
 
-number_reads : (env : Env) (k : ℕ) (call : NumberCall) (b ds c : List ℕ) (n : ℕ) (r : List ℕ) → AreBlanks b → IsNumber ds n → AreBlanks c → counted_at env (suc k) call (parenthesized b ds c ++ r) ≡ Ok (number_tree call n, r)
-unfolding counted_at
+number_reads : (env : Env) (k : ℕ) (call : NumberCall) (b ds c : List ℕ) (n : ℕ) (r : List ℕ) → AreBlanks b → IsNumber ds n → AreBlanks c → number_call_at env (suc k) call (parenthesized b ds c ++ r) ≡ Ok (number_tree call n, r)
+unfolding number_call_at
 number_reads env k call b ds c n r bb d cb =
     rw (paren_split b ds c r, opened_again env k b (ds ++ (c ++ (41 ∷ r))) bb (digits_no_blank ds (c ++ (41 ∷ r)) n d), number_again env ds n (c ++ (41 ∷ r)) d (digits_stop c r cb), closed_paren_again env c r cb) refl
 
-set_reads : (env : Env) (k : ℕ) (call : SetCall) (b x s c r : List ℕ) → AreBlanks b → IsLiteral x s → 0 < length s → AreBlanks c → chosen_at env (suc k) call (parenthesized b x c ++ r) ≡ Ok (set_tree call s, r)
-unfolding chosen_at
+set_reads : (env : Env) (k : ℕ) (call : SetCall) (b x s c r : List ℕ) → AreBlanks b → IsLiteral x s → 0 < length s → AreBlanks c → set_call_at env (suc k) call (parenthesized b x c ++ r) ≡ Ok (set_tree call s, r)
+unfolding set_call_at
 set_reads env k call b x s c r bb l o cb =
     rw (paren_split b x c r, opened_again env k b (x ++ (c ++ (41 ∷ r))) bb (starts_no_blank x (c ++ (41 ∷ r)) (literal_starts x s l)), set_again env x s (c ++ (41 ∷ r)) l o, closed_paren_again env c r cb) refl
 
@@ -51,7 +51,7 @@ group_reads env k inner b x c t r again bb a cb =
     rw (paren_split b x c r, opened_again env k b (x ++ (c ++ (41 ∷ r))) bb (starts_no_blank x (c ++ (41 ∷ r)) (alternation_starts env.names env.earlier k x t a)), again k refl x t c r a cb, closed_paren_again env c r cb) refl
 
 -- what begins with a name
-named_element : (env : Env) (room : ℕ) (inner : List ℕ → Read Tree) (w m : List ℕ) → IsTrue (is_name w) → element_at env room inner (w ++ m) ≡ named_at env room inner (w ++ m)
+named_element : (env : Env) (room : ℕ) (inner : List ℕ → Read Tree) (w m : List ℕ) → IsTrue (is_name w) → element_at env room inner (w ++ m) ≡ from_name_at env room inner (w ++ m)
 unfolding element_at
 named_element env room inner w m n =
     let s = name_starts w n in
@@ -70,18 +70,18 @@ unfolding start_of
 quoted_starts x r s l = rw (l.spelled, l.is_quote) refl
 
 -- a call, behind its name
-called_again : (env : Env) (room : ℕ) (inner : List ℕ → Read Tree) (w p r : List ℕ) (key : Keyword) (t : Tree) → keyword_of w ≡ Some key → begins is_name_char (p ++ r) ≡ false → named_by env room inner (fault.UnknownName (place env (w ++ (p ++ r)))) (w, p ++ r) (Some key) ≡ Ok (t, r) → element_at env room inner ((w ++ p) ++ r) ≡ Ok (t, r)
-unfolding named_at
+called_again : (env : Env) (room : ℕ) (inner : List ℕ → Read Tree) (w p r : List ℕ) (key : Keyword) (t : Tree) → keyword_of w ≡ Some key → begins is_name_char (p ++ r) ≡ false → from_name env room inner (fault.UnknownName (place env (w ++ (p ++ r)))) (w, p ++ r) (Some key) ≡ Ok (t, r) → element_at env room inner ((w ++ p) ++ r) ≡ Ok (t, r)
+unfolding from_name_at
 called_again env room inner w p r key t k h g =
     let n = keyword_name w key k in
     ap (λ l. element_at env room inner l) (append_assoc w p r) ∙ named_element env room inner w (p ++ r) n ∙ rw (name_again env w (p ++ r) n h, k) g
 
-repeated_again : (env : Env) (room : ℕ) (inner : List ℕ → Read Tree) (m r : List ℕ) (t : Tree) → group_at env room inner m ≡ Ok (t, r) → repeated_at env room inner m ≡ Ok (tree.Arbno t, r)
-unfolding repeated_at
+repeated_again : (env : Env) (room : ℕ) (inner : List ℕ → Read Tree) (m r : List ℕ) (t : Tree) → group_at env room inner m ≡ Ok (t, r) → repetition_at env room inner m ≡ Ok (tree.Arbno t, r)
+unfolding repetition_at
 repeated_again env room inner m r t h = rw h refl
 
 element_again : (env : Env) (room : ℕ) (x : List ℕ) (t : Tree) → IsElement env.names env.earlier room x t → (inner : List ℕ → Read Tree) → InnerAgain env room inner → (r : List ℕ) → begins is_name_char r ≡ false → element_at env room inner (x ++ r) ≡ Ok (t, r)
-unfolding element_at quoted_at cursor_at starred_at named_at plain_of start_of
+unfolding element_at quotation_at cursor_at reference_at from_name_at plain_of start_of
 element_again env room x t (grammar.quoted y s l) inner again r h = rw (quoted_starts y r s l, literal_again env y s r l) refl
 element_again env room x t (grammar.cursor v i) inner again r h = rw (variable_again env v r i h) refl
 element_again env room x t (grammar.starred w i n e) inner again r h = rw (name_again env w r n h, e) refl

@@ -2,14 +2,14 @@
 use Rattle.std.proofs.Common.{◌≡◌, ℕ, suc, true, List, [], length, nat_eq, Result, Ok, Err, ap, ◌∙◌, arith}
 use Rattle.sno_read.specs.declared.faults.ReadFault.{ReadFault}
 use Rattle.sno_read.specs.declared.faults.ReadFault.TheVariants as fault
-use Rattle.sno_read.specs.Gives.{◌>>=◌, OnWant}
+use Rattle.sno_read.specs.Gives.{◌>>=◌, OnOutOfMemory}
 use Rattle.sno_read.specs.Characters.{skip}
-use Rattle.sno_read.specs.Reading.{Env, checked}
+use Rattle.sno_read.specs.Reading.{Env, short_ascii}
 use Rattle.sno_read.specs.Objects.{parts_of, object_of}
 use Rattle.sno_read.proofs.Parts.{end_step}
 
--- a fault that the reading finds is no want of memory
-pub fault_is_found : (X : Type 0) {Y : Type 0} (holds : Type 0) (reading : Result Y ReadFault) (e : ReadFault) → (reading ≡ Err fault.Memory → ⊥) → reading ≡ Err e → OnWant {X = X} (Err e) holds
+-- a fault that the reading finds isn't `Memory`
+pub fault_is_found : (X : Type 0) {Y : Type 0} (holds : Type 0) (reading : Result Y ReadFault) (e : ReadFault) → (reading ≡ Err fault.Memory → ⊥) → reading ≡ Err e → OnOutOfMemory {X = X} (Err e) holds
 fault_is_found X holds reading fault.Memory h g = absurd (h g)
 fault_is_found X holds reading (fault.Empty i) h g = tt
 fault_is_found X holds reading (fault.OpenQuote i) h g = tt
@@ -23,7 +23,7 @@ fault_is_found X holds reading (fault.ReservedTarget i) h g = tt
 fault_is_found X holds reading (fault.NonAscii i) h g = tt
 
 -- blanks alone are the object of no parts
-pub blank_object : (names : List (List ℕ)) (text t : List ℕ) → checked text ≡ Ok t → nat_eq (length (skip t)) 0 ≡ true → object_of names text ≡ Ok []
+pub blank_object : (names : List (List ℕ)) (text t : List ℕ) → short_ascii text ≡ Ok t → nat_eq (length (skip t)) 0 ≡ true → object_of names text ≡ Ok []
 unfolding object_of
 blank_object names text t h g =
     let env : Env = record { names = names; earlier = 0; total = length text } in

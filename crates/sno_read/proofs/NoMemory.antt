@@ -1,4 +1,4 @@
--- Want of memory is no fault of a text.
+-- No text has the fault `Memory`.
 use Rattle.std.proofs.Common.{◌≡◌, ℕ, zero, suc, Bool, true, false, cond, ◌||◌, List, length, drop, nat_eq, nat_lt, Option, Some, None, Result, Ok, Err, ap}
 use Rattle.std.specs.Option.{is_some}
 use Rattle.std.specs.List.{prefix_len}
@@ -22,11 +22,11 @@ use Rattle.sno_read.specs.Gives.{◌>>=◌, found_or}
 use Rattle.sno_read.specs.Keywords.{keyword_of}
 use Rattle.sno_read.specs.Characters.{is_blank, is_other, quote_of, front, skip, begins, value_of, start_of, what_follows}
 use Rattle.sno_read.specs.Laws.{MemoryIsNoFault}
-use Rattle.sno_read.specs.Reading.{Env, Read, place, below, literal_at, set_at, number_at, name_at, variable_at, opened, closed, parted, signed, cursor_at, starred_at, plain_of, counted_at, chosen_at, group_at, repeated_at, named_by, named_at, quoted_at, element_by, element_at, target_by, targets_at, item_at, item_by, items_at, part_by, parts_at, concatenation_at, alternation_at, inside, ended, shallow, whole_of, ascii_only, checked, pattern_of}
+use Rattle.sno_read.specs.Reading.{Env, Read, place, below, literal_at, set_at, number_at, name_at, variable_at, opening_at, closing_at, blanks_at, sign_at, cursor_at, reference_at, plain_of, number_call_at, set_call_at, group_at, repetition_at, from_name, from_name_at, quotation_at, element_by, element_at, target_by, targets_at, item_at, item_by, items_at, part_by, parts_at, concatenation_at, alternation_at, inside, end_at, shallow, whole_of, ascii_only, short_ascii, pattern_of}
 use Rattle.sno_read.specs.Objects.{gap_at, parts_of, object_of}
 use Rattle.sno_read.specs.Objects as objects
 
--- it isn't want of memory
+-- it isn't `Memory`
 abbrev Safe : {A : Type 0} → Result A ReadFault → Type 0
 Safe r = r ≡ Err fault.Memory → ⊥
 
@@ -65,49 +65,49 @@ variable_safe : (env : Env) (text : List ℕ) → Safe (variable_at env text)
 unfolding variable_at
 variable_safe env text = safe_bind (name_at env text) _ (name_safe env text) (λ n. safe_if (is_reserved n.0 || is_some (place_of env.names n.0)) _ _ (λ e. (cc)) (λ e. (cc)))
 
-opened_safe : (env : Env) (room : ℕ) (text : List ℕ) → Safe (opened env room text)
-unfolding opened
+opened_safe : (env : Env) (room : ℕ) (text : List ℕ) → Safe (opening_at env room text)
+unfolding opening_at
 opened_safe env room text = safe_if (begins (λ c. nat_eq c 40) text) _ _ (safe_if (nat_eq room 0) _ _ (λ e. (cc)) (λ e. (cc))) (λ e. (cc))
 
-closed_safe : (env : Env) (text : List ℕ) → Safe (closed env text)
-unfolding closed
+closed_safe : (env : Env) (text : List ℕ) → Safe (closing_at env text)
+unfolding closing_at
 closed_safe env text = safe_if (begins (λ c. nat_eq c 41) (skip text)) _ _ (λ e. (cc)) (λ e. (cc))
 
-parted_safe : (env : Env) (text : List ℕ) → Safe (parted env text)
-unfolding parted
+parted_safe : (env : Env) (text : List ℕ) → Safe (blanks_at env text)
+unfolding blanks_at
 parted_safe env text = safe_if (begins is_blank text) _ _ (λ e. (cc)) (λ e. (cc))
 
-signed_safe : (env : Env) (text : List ℕ) → Safe (signed env text)
-unfolding signed
+signed_safe : (env : Env) (text : List ℕ) → Safe (sign_at env text)
+unfolding sign_at
 signed_safe env text = parted_safe env (drop 1 (skip text))
 
-counted_safe : (env : Env) (room : ℕ) (call : NumberCall) (text : List ℕ) → Safe (counted_at env room call text)
-unfolding counted_at
-counted_safe env room call text = safe_bind (opened env room text) _ (opened_safe env room text) (λ a. safe_bind (number_at env a) _ (number_safe env a) (λ n. safe_bind (closed env n.1) _ (closed_safe env n.1) (λ b e. (cc))))
+counted_safe : (env : Env) (room : ℕ) (call : NumberCall) (text : List ℕ) → Safe (number_call_at env room call text)
+unfolding number_call_at
+counted_safe env room call text = safe_bind (opening_at env room text) _ (opened_safe env room text) (λ a. safe_bind (number_at env a) _ (number_safe env a) (λ n. safe_bind (closing_at env n.1) _ (closed_safe env n.1) (λ b e. (cc))))
 
-chosen_safe : (env : Env) (room : ℕ) (call : SetCall) (text : List ℕ) → Safe (chosen_at env room call text)
-unfolding chosen_at
-chosen_safe env room call text = safe_bind (opened env room text) _ (opened_safe env room text) (λ a. safe_bind (set_at env a) _ (set_safe env a) (λ n. safe_bind (closed env n.1) _ (closed_safe env n.1) (λ b e. (cc))))
+chosen_safe : (env : Env) (room : ℕ) (call : SetCall) (text : List ℕ) → Safe (set_call_at env room call text)
+unfolding set_call_at
+chosen_safe env room call text = safe_bind (opening_at env room text) _ (opened_safe env room text) (λ a. safe_bind (set_at env a) _ (set_safe env a) (λ n. safe_bind (closing_at env n.1) _ (closed_safe env n.1) (λ b e. (cc))))
 
 module _ (env : Env) (room : ℕ) (inner : List ℕ → Read Tree) (within : (text : List ℕ) → Safe (inner text)) where
   group_safe : (text : List ℕ) → Safe (group_at env room inner text)
   unfolding group_at
-  group_safe text = safe_bind (opened env room text) _ (opened_safe env room text) (λ a. safe_bind (inner a) _ (within a) (λ x. safe_bind (closed env x.1) _ (closed_safe env x.1) (λ b e. (cc))))
+  group_safe text = safe_bind (opening_at env room text) _ (opened_safe env room text) (λ a. safe_bind (inner a) _ (within a) (λ x. safe_bind (closing_at env x.1) _ (closed_safe env x.1) (λ b e. (cc))))
 
-  named_by_safe : (unknown : ReadFault) (name : List ℕ × List ℕ) (o : Option Keyword) → (unknown ≡ fault.Memory → ⊥) → Safe (named_by env room inner unknown name o)
-  unfolding plain_of repeated_at
+  named_by_safe : (unknown : ReadFault) (name : List ℕ × List ℕ) (o : Option Keyword) → (unknown ≡ fault.Memory → ⊥) → Safe (from_name env room inner unknown name o)
+  unfolding plain_of repetition_at
   named_by_safe unknown name None h = safe_bind (found_or unknown (below env.earlier (place_of env.names name.0))) _ (safe_found unknown (below env.earlier (place_of env.names name.0)) h) (λ i e. (cc))
   named_by_safe unknown name (Some (Primitive w)) h = λ e. (cc)
   named_by_safe unknown name (Some (Counted call)) h = counted_safe env room call name.1
   named_by_safe unknown name (Some (Chosen call)) h = chosen_safe env room call name.1
   named_by_safe unknown name (Some Repeated) h = safe_bind (group_at env room inner name.1) _ (group_safe name.1) (λ x e. (cc))
 
-  named_safe : (text : List ℕ) → Safe (named_at env room inner text)
-  unfolding named_at
+  named_safe : (text : List ℕ) → Safe (from_name_at env room inner text)
+  unfolding from_name_at
   named_safe text = safe_bind (name_at env text) _ (name_safe env text) (λ n. named_by_safe (fault.UnknownName (place env text)) n (keyword_of n.0) (λ e. (cc)))
 
   element_by_safe : (text : List ℕ) (st : Start) → Safe (element_by env room inner text st)
-  unfolding quoted_at cursor_at starred_at
+  unfolding quotation_at cursor_at reference_at
   element_by_safe text start.Quote = safe_bind (literal_at env text) _ (literal_safe env text) (λ s e. (cc))
   element_by_safe text start.At = safe_bind (variable_at env (drop 1 text)) _ (variable_safe env (drop 1 text)) (λ v e. (cc))
   element_by_safe text start.Star = safe_bind (name_at env (drop 1 text)) _ (name_safe env (drop 1 text)) (λ n. safe_bind (found_or (fault.UnknownName (place env (drop 1 text))) (place_of env.names n.0)) _ (safe_found _ (place_of env.names n.0) (λ e. (cc))) (λ i e. (cc)))
@@ -121,8 +121,8 @@ module _ (env : Env) (room : ℕ) (inner : List ℕ → Read Tree) (within : (te
   targets_safe (suc n) t text = by_sign (targets_at env n) (λ u a. targets_safe n u a) (what_follows text)
     where
       by_sign : (more : Tree → List ℕ → Read Tree) → ((u : Tree) (a : List ℕ) → Safe (more u a)) → (f : Following) → Safe (target_by env more t text f)
-      by_sign more h follows.Dot = safe_bind (signed env text) _ (signed_safe env text) (λ a. safe_bind (variable_at env a) _ (variable_safe env a) (λ v. h _ v.1))
-      by_sign more h follows.Dollar = safe_bind (signed env text) _ (signed_safe env text) (λ a. safe_bind (variable_at env a) _ (variable_safe env a) (λ v. h _ v.1))
+      by_sign more h follows.Dot = safe_bind (sign_at env text) _ (signed_safe env text) (λ a. safe_bind (variable_at env a) _ (variable_safe env a) (λ v. h _ v.1))
+      by_sign more h follows.Dollar = safe_bind (sign_at env text) _ (signed_safe env text) (λ a. safe_bind (variable_at env a) _ (variable_safe env a) (λ v. h _ v.1))
       by_sign more h follows.Nothing = λ e. (cc)
       by_sign more h follows.Bar = λ e. (cc)
       by_sign more h follows.Item = λ e. (cc)
@@ -149,7 +149,7 @@ module _ (env : Env) (room : ℕ) (inner : List ℕ → Read Tree) (within : (te
   parts_safe (suc n) text = safe_bind (concatenation_at env room inner text) _ (items_safe (suc (length text)) text) (λ x. by_next (parts_at env (concatenation_at env room inner) n) (λ a. parts_safe n a) x (what_follows x.1))
     where
       by_next : (more : List ℕ → Read Tree) → ((a : List ℕ) → Safe (more a)) → (x : Tree × List ℕ) (f : Following) → Safe (part_by env more x f)
-      by_next more h x follows.Bar = safe_bind (signed env x.1) _ (signed_safe env x.1) (λ a. safe_bind (more a) _ (h a) (λ y e. (cc)))
+      by_next more h x follows.Bar = safe_bind (sign_at env x.1) _ (signed_safe env x.1) (λ a. safe_bind (more a) _ (h a) (λ y e. (cc)))
       by_next more h x follows.Nothing = λ e. (cc)
       by_next more h x follows.Dot = λ e. (cc)
       by_next more h x follows.Dollar = λ e. (cc)
@@ -165,15 +165,15 @@ unfolding alternation_at
 alternation_safe env room text = parts_safe env room (inside env room) (inside_safe env room) (suc (length text)) text
 
 whole_safe : (env : Env) (text : List ℕ) → Safe (whole_of env text)
-unfolding whole_of ended shallow
+unfolding whole_of end_at shallow
 whole_safe env text =
-    safe_if (nat_eq (length (skip text)) 0) _ _ (λ e. (cc)) (safe_bind (alternation_at env 100 (inside env 100) (skip text)) _ (alternation_safe env 100 (skip text)) (λ x. safe_bind (ended env (skip x.1)) _ (safe_if (nat_eq (length (skip x.1)) 0) _ _ (λ e. (cc)) (λ e. (cc))) (λ n. safe_if (nat_lt 1000 (depth x.0)) _ _ (λ e. (cc)) (λ e. (cc)))))
+    safe_if (nat_eq (length (skip text)) 0) _ _ (λ e. (cc)) (safe_bind (alternation_at env 100 (inside env 100) (skip text)) _ (alternation_safe env 100 (skip text)) (λ x. safe_bind (end_at env (skip x.1)) _ (safe_if (nat_eq (length (skip x.1)) 0) _ _ (λ e. (cc)) (λ e. (cc))) (λ n. safe_if (nat_lt 1000 (depth x.0)) _ _ (λ e. (cc)) (λ e. (cc)))))
 
 ascii_safe : (o : Option ℕ) (text : List ℕ) → Safe (ascii_only o text)
 ascii_safe None text = λ e. (cc)
 ascii_safe (Some i) text = λ e. (cc)
 
-checked_safe : (text : List ℕ) → Safe (checked text)
+checked_safe : (text : List ℕ) → Safe (short_ascii text)
 checked_safe text = safe_if (nat_lt 4096 (length text)) _ _ (λ e. (cc)) (ascii_safe (first_non_ascii text) text)
 
 part_by_safe : (env : Env) (text : List ℕ) (st : Start) → Safe (objects.part_by env text st)
@@ -197,6 +197,6 @@ object_parts_safe env (suc n) text =
 pub memory_is_no_fault : MemoryIsNoFault
 unfolding pattern_of object_of
 memory_is_no_fault = (
-  λ names earlier text. safe_bind (checked text) _ (checked_safe text) (λ t. whole_safe (record { names = names; earlier = earlier; total = length text }) t),
-  λ names text. safe_bind (checked text) _ (checked_safe text) (λ t. object_parts_safe (record { names = names; earlier = 0; total = length text }) (suc (length (skip t))) (skip t)),
+  λ names earlier text. safe_bind (short_ascii text) _ (checked_safe text) (λ t. whole_safe (record { names = names; earlier = earlier; total = length text }) t),
+  λ names text. safe_bind (short_ascii text) _ (checked_safe text) (λ t. object_parts_safe (record { names = names; earlier = 0; total = length text }) (suc (length (skip t))) (skip t)),
 )

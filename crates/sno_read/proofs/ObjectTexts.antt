@@ -13,7 +13,7 @@ use Rattle.sno_read.specs.Grammar.{AreBlanks, SomeBlanks}
 use Rattle.sno_read.specs.ObjectGrammar.{IsPart, AreParts, SpellsObject}
 use Rattle.sno_read.specs.ObjectGrammar as grammar
 use Rattle.sno_read.specs.Laws.{OneObject}
-use Rattle.sno_read.specs.Reading.{Env, literal_at, variable_at, parted, checked}
+use Rattle.sno_read.specs.Reading.{Env, literal_at, variable_at, blanks_at, short_ascii}
 use Rattle.sno_read.specs.Objects.{part_by, part_at, gap_at, parts_of, object_of}
 use Rattle.sno_read.proofs.Fronts.{front_passes, front_behind}
 use Rattle.sno_read.proofs.Results.{bind_ok, ok_same, pair_ok}
@@ -60,7 +60,7 @@ gap_sound : (env : Env) (text rest : List ℕ) → gap_at env text ≡ Ok rest �
 unfolding gap_at
 gap_sound env text rest h = by_case (nat_eq (length text) 0) refl h
   where
-    by_case : (v : Bool) → nat_eq (length text) 0 ≡ v → cond v (Ok text) (parted env text) ≡ Ok rest → (b : List ℕ) × AreBlanks b × (text ≡ b ++ rest) × (0 < length rest → 0 < length b)
+    by_case : (v : Bool) → nat_eq (length text) 0 ≡ v → cond v (Ok text) (blanks_at env text) ≡ Ok rest → (b : List ℕ) × AreBlanks b × (text ≡ b ++ rest) × (0 < length rest → 0 < length b)
     by_case true e g =
         let same = ok_same text rest g in
         let empty = eqb-true (length text) 0 e in
@@ -101,7 +101,7 @@ parts_sound env (suc n) text ps h = by_case (nat_eq (length text) 0) refl (parts
 pub object_sound : (names : List (List ℕ)) (text : List ℕ) (ps : List Part) → object_of names text ≡ Ok ps → SpellsObject names text ps
 unfolding object_of
 object_sound names text ps h =
-    let c = bind_ok (checked text) _ ps h in
+    let c = bind_ok (short_ascii text) _ ps h in
     let k = checked_ok text c.0 c.1 in
     record {
       short = k.0;

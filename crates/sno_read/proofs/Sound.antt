@@ -20,7 +20,7 @@ use Rattle.sno_read.specs.Keywords.{keyword_of, word_tree, number_tree, set_tree
 use Rattle.sno_read.specs.Characters.{is_blank, is_quote, front, skip, start_of, what_follows}
 use Rattle.sno_read.specs.Grammar.{AreBlanks, SomeBlanks, IsNumber, IsLiteral, IsVariable, parenthesized, signed_by, IsElement, IsItem, IsConcatenation, IsAlternation, Spells}
 use Rattle.sno_read.specs.Grammar as grammar
-use Rattle.sno_read.specs.Reading.{Env, Read, place, below, literal_at, set_at, number_at, name_at, variable_at, opened, closed, signed, cursor_at, starred_at, plain_of, counted_at, chosen_at, group_at, repeated_at, named_by, named_at, quoted_at, element_by, element_at, target_by, targets_at, item_at, item_by, items_at, part_by, parts_at, concatenation_at, alternation_at, inside}
+use Rattle.sno_read.specs.Reading.{Env, Read, place, below, literal_at, set_at, number_at, name_at, variable_at, opening_at, closing_at, sign_at, cursor_at, reference_at, plain_of, number_call_at, set_call_at, group_at, repetition_at, from_name, from_name_at, quotation_at, element_by, element_at, target_by, targets_at, item_at, item_by, items_at, part_by, parts_at, concatenation_at, alternation_at, inside}
 use Rattle.sno_read.proofs.Results.{bind_ok, found_ok, if_some, pair_ok}
 use Rattle.sno_read.proofs.Reserved.{reserved_not}
 use Rattle.sno_read.proofs.TokensRead.{literal_sound, set_sound, number_sound, name_sound, variable_sound, opened_sound, closed_sound, Signed, dot_sound, dollar_sound, bar_sound, follows_shape}
@@ -63,7 +63,7 @@ star_shape (c ∷ cs) h = ap (λ k. k ∷ cs) (eqb-true c 42 (star_is (is_quote 
 abbrev Inside : ℕ → List ℕ → List ℕ → (ℕ → List ℕ → Type 0) → Type 0
 Inside room text rest P = (k : ℕ) × (room ≡ suc k) × (b : List ℕ) × AreBlanks b × (x : List ℕ) × P k x × (c : List ℕ) × AreBlanks c × (text ≡ parenthesized b x c ++ rest)
 
-parens_sound : (env : Env) (room : ℕ) (P : ℕ → List ℕ → Type 0) (text a m rest : List ℕ) → opened env room text ≡ Ok a → ((k : ℕ) → room ≡ suc k → (x : List ℕ) × P k x × (a ≡ x ++ m)) → closed env m ≡ Ok rest → Inside room text rest P
+parens_sound : (env : Env) (room : ℕ) (P : ℕ → List ℕ → Type 0) (text a m rest : List ℕ) → opening_at env room text ≡ Ok a → ((k : ℕ) → room ≡ suc k → (x : List ℕ) × P k x × (a ≡ x ++ m)) → closing_at env m ≡ Ok rest → Inside room text rest P
 parens_sound env room P text a m rest o mid e =
     let p = opened_sound env room text a o in
     let q = mid p.0 p.1 in
@@ -79,21 +79,21 @@ parens_sound env room P text a m rest o mid e =
       p.4 ∙ ap (λ l. 40 ∷ (p.2 ++ l)) (q.2 ∙ ap (λ l. q.0 ++ l) r.2) ∙ sym (paren_split p.2 q.0 r.0 rest),
     )
 
-counted_sound : (env : Env) (room : ℕ) (call : NumberCall) (text : List ℕ) (t : Tree) (rest : List ℕ) → counted_at env room call text ≡ Ok (t, rest) → (n : ℕ) × (number_tree call n ≡ t) × Inside room text rest (λ k ds. IsNumber ds n)
-unfolding counted_at
+counted_sound : (env : Env) (room : ℕ) (call : NumberCall) (text : List ℕ) (t : Tree) (rest : List ℕ) → number_call_at env room call text ≡ Ok (t, rest) → (n : ℕ) × (number_tree call n ≡ t) × Inside room text rest (λ k ds. IsNumber ds n)
+unfolding number_call_at
 counted_sound env room call text t rest h =
-    let a = bind_ok (opened env room text) _ (t, rest) h in
+    let a = bind_ok (opening_at env room text) _ (t, rest) h in
     let n = bind_ok (number_at env a.0) _ (t, rest) a.2 in
-    let e = bind_ok (closed env n.0.1) _ (t, rest) n.2 in
+    let e = bind_ok (closing_at env n.0.1) _ (t, rest) n.2 in
     let same = pair_ok (number_tree call n.0.0, e.0) t rest e.2 in
     (n.0.0, same.0, parens_sound env room (λ k ds. IsNumber ds n.0.0) text a.0 n.0.1 rest a.1 (λ k _. number_sound env a.0 n.0.0 n.0.1 n.1) (e.1 ∙ ap (λ l. Ok l) same.1))
 
-chosen_sound : (env : Env) (room : ℕ) (call : SetCall) (text : List ℕ) (t : Tree) (rest : List ℕ) → chosen_at env room call text ≡ Ok (t, rest) → (s : List ℕ) × (set_tree call s ≡ t) × Inside room text rest (λ k x. IsLiteral x s × (0 < length s))
-unfolding chosen_at
+chosen_sound : (env : Env) (room : ℕ) (call : SetCall) (text : List ℕ) (t : Tree) (rest : List ℕ) → set_call_at env room call text ≡ Ok (t, rest) → (s : List ℕ) × (set_tree call s ≡ t) × Inside room text rest (λ k x. IsLiteral x s × (0 < length s))
+unfolding set_call_at
 chosen_sound env room call text t rest h =
-    let a = bind_ok (opened env room text) _ (t, rest) h in
+    let a = bind_ok (opening_at env room text) _ (t, rest) h in
     let n = bind_ok (set_at env a.0) _ (t, rest) a.2 in
-    let e = bind_ok (closed env n.0.1) _ (t, rest) n.2 in
+    let e = bind_ok (closing_at env n.0.1) _ (t, rest) n.2 in
     let same = pair_ok (set_tree call n.0.0, e.0) t rest e.2 in
     let l = set_sound env a.0 n.0.0 n.0.1 n.1 in
     (n.0.0, same.0, parens_sound env room (λ k x. IsLiteral x n.0.0 × (0 < length n.0.0)) text a.0 n.0.1 rest a.1 (λ k _. (l.0, (l.1, l.2), l.3)) (e.1 ∙ ap (λ l. Ok l) same.1))
@@ -106,9 +106,9 @@ module _ (env : Env) (room : ℕ) (inner : List ℕ → Read Tree) where
   group_sound : Reads → (text : List ℕ) (t : Tree) (rest : List ℕ) → group_at env room inner text ≡ Ok (t, rest) → Inside room text rest (λ k x. IsAlternation env.names env.earlier k x t)
   unfolding group_at
   group_sound reads text t rest h =
-      let a = bind_ok (opened env room text) _ (t, rest) h in
+      let a = bind_ok (opening_at env room text) _ (t, rest) h in
       let n = bind_ok (inner a.0) _ (t, rest) a.2 in
-      let e = bind_ok (closed env n.0.1) _ (t, rest) n.2 in
+      let e = bind_ok (closing_at env n.0.1) _ (t, rest) n.2 in
       let same = pair_ok (n.0.0, e.0) t rest e.2 in
       parens_sound env room (λ k x. IsAlternation env.names env.earlier k x t) text a.0 n.0.1 rest a.1 (λ k i. reads a.0 t n.0.1 (n.1 ∙ ap (λ u. Ok (u, n.0.1)) same.0) k i) (e.1 ∙ ap (λ l. Ok l) same.1)
 
@@ -129,8 +129,8 @@ module _ (env : Env) (room : ℕ) (inner : List ℕ → Read Tree) where
       let d = make p.0 p.2 p.4 p.6 p.3 p.5 p.7 in
       (w ++ parenthesized p.2 p.4 p.6, rw (p.1, ← same) d, split ∙ ap (λ l. w ++ l) p.8 ∙ sym (append_assoc w (parenthesized p.2 p.4 p.6) rest))
 
-  named_by_sound : Reads → (text : List ℕ) (unknown : ReadFault) (w m : List ℕ) (t : Tree) (rest : List ℕ) (o : Option Keyword) → IsTrue (is_name w) → text ≡ w ++ m → keyword_of w ≡ o → named_by env room inner unknown (w, m) o ≡ Ok (t, rest) → Element text t rest
-  unfolding plain_of repeated_at
+  named_by_sound : Reads → (text : List ℕ) (unknown : ReadFault) (w m : List ℕ) (t : Tree) (rest : List ℕ) (o : Option Keyword) → IsTrue (is_name w) → text ≡ w ++ m → keyword_of w ≡ o → from_name env room inner unknown (w, m) o ≡ Ok (t, rest) → Element text t rest
+  unfolding plain_of repetition_at
   named_by_sound reads text unknown w m t rest None n split k h =
       let a = bind_ok (found_or unknown (below env.earlier (place_of env.names w))) _ (t, rest) h in
       let i = below_ok env.earlier a.0 (place_of env.names w) (found_ok _ _ _ a.1) in
@@ -151,15 +151,15 @@ module _ (env : Env) (room : ℕ) (inner : List ℕ → Read Tree) where
       let p = group_sound reads m a.0.0 rest (a.1 ∙ ap (λ l. Ok (a.0.0, l)) same.1) in
       called text w m rest t (tree.Arbno a.0.0) (λ k x. IsAlternation env.names env.earlier k x a.0.0) split same.0 p (λ j b x c bb d cb. grammar.repeated w b x c a.0.0 k bb d cb)
 
-  named_sound : Reads → (text : List ℕ) (t : Tree) (rest : List ℕ) → named_at env room inner text ≡ Ok (t, rest) → Element text t rest
-  unfolding named_at
+  named_sound : Reads → (text : List ℕ) (t : Tree) (rest : List ℕ) → from_name_at env room inner text ≡ Ok (t, rest) → Element text t rest
+  unfolding from_name_at
   named_sound reads text t rest h =
       let a = bind_ok (name_at env text) _ (t, rest) h in
       let n = name_sound env text a.0.0 a.0.1 a.1 in
       named_by_sound reads text (fault.UnknownName (place env text)) a.0.0 a.0.1 t rest (keyword_of a.0.0) n.0 n.1 refl a.2
 
   element_by_sound : Reads → (text : List ℕ) (t : Tree) (rest : List ℕ) (st : Start) → start_of text ≡ st → element_by env room inner text st ≡ Ok (t, rest) → Element text t rest
-  unfolding quoted_at cursor_at starred_at
+  unfolding quotation_at cursor_at reference_at
   element_by_sound reads text t rest start.Quote s h =
       let a = bind_ok (literal_at env text) _ (t, rest) h in
       let same = pair_ok (tree.Lit a.0.0, a.0.1) t rest a.2 in
@@ -211,13 +211,13 @@ module _ (env : Env) (room : ℕ) (inner : List ℕ → Read Tree) where
     where
       by_sign : (more : Tree → List ℕ → Read Tree) → ((y : List ℕ) (v : Tree) (a : List ℕ) → IsItem env.names env.earlier room y v → more v a ≡ Ok (u, rest) → Item y a u rest) → (f : Following) → what_follows text ≡ f → target_by env more t text f ≡ Ok (u, rest) → Item x text u rest
       by_sign more sound follows.Dot e g =
-          let a = bind_ok (signed env text) _ (u, rest) g in
+          let a = bind_ok (sign_at env text) _ (u, rest) g in
           let v = bind_ok (variable_at env a.0) _ (u, rest) a.2 in
           let s = dot_sound env text a.0 e a.1 in
           let q = variable_sound env a.0 v.0.0 v.0.1 v.1 in
           grown x text a.0 v.0.0 v.0.1 46 u rest s q.1 (sound (x ++ signed_by 46 s.0 s.2 v.0.0) (tree.Cond t v.0.0) v.0.1 (grammar.later x s.0 s.2 v.0.0 t i s.1 s.3 q.0) v.2)
       by_sign more sound follows.Dollar e g =
-          let a = bind_ok (signed env text) _ (u, rest) g in
+          let a = bind_ok (sign_at env text) _ (u, rest) g in
           let v = bind_ok (variable_at env a.0) _ (u, rest) a.2 in
           let s = dollar_sound env text a.0 e a.1 in
           let q = variable_sound env a.0 v.0.0 v.0.1 v.1 in
@@ -283,7 +283,7 @@ module _ (env : Env) (room : ℕ) (inner : List ℕ → Read Tree) where
     where
       by_next : (more : List ℕ → Read Tree) → ((m : List ℕ) (u : Tree) → more m ≡ Ok (u, rest) → Alternation m u rest) → (p : Tree × List ℕ) (x : List ℕ) → IsConcatenation env.names env.earlier room x p.0 → text ≡ x ++ p.1 → (f : Following) → what_follows p.1 ≡ f → part_by env more p f ≡ Ok (t, rest) → Alternation text t rest
       by_next more sound p x i split follows.Bar e g =
-          let a = bind_ok (signed env p.1) _ (t, rest) g in
+          let a = bind_ok (sign_at env p.1) _ (t, rest) g in
           let b = bind_ok (more a.0) _ (t, rest) a.2 in
           let s = bar_sound env p.1 a.0 e a.1 in
           let same = pair_ok (tree.Alt p.0 b.0.0, b.0.1) t rest b.2 in

@@ -9,7 +9,7 @@ use Rattle.sno_read.specs.declared.faults.ReadFault.TheVariants as fault
 use Rattle.sno_read.specs.Characters.{is_blank, front, skip}
 use Rattle.sno_read.specs.Depth.{depth}
 use Rattle.sno_read.specs.Grammar.{IsAlternation, Spells}
-use Rattle.sno_read.specs.Reading.{Env, ended, shallow, whole_of, checked, ascii_only, pattern_of, alternation_at, inside}
+use Rattle.sno_read.specs.Reading.{Env, end_at, shallow, whole_of, short_ascii, ascii_only, pattern_of, alternation_at, inside}
 use Rattle.sno_pattern.proofs.TextLemmas.{all_ascii}
 use Rattle.sno_read.proofs.Fronts.{front_passes, front_behind}
 use Rattle.sno_read.proofs.Results.{bind_ok, if_ok, unless_ok, ok_same}
@@ -19,7 +19,7 @@ ascii_ok : (o : Option ℕ) (text t : List ℕ) → ascii_only o text ≡ Ok t �
 ascii_ok None text t h = (refl, ok_same text t h)
 ascii_ok (Some i) text t h = cc
 
-pub checked_ok : (text t : List ℕ) → checked text ≡ Ok t → (length text ≤ 4096) × IsTrue (list_all is_ascii text) × (text ≡ t)
+pub checked_ok : (text t : List ℕ) → short_ascii text ≡ Ok t → (length text ≤ 4096) × IsTrue (list_all is_ascii text) × (text ≡ t)
 checked_ok text t h =
     let p = unless_ok (nat_lt 4096 (length text)) (ascii_only (first_non_ascii text) text) (fault.TooLong 4096) t h in
     let q = ascii_ok (first_non_ascii text) text t p.1 in
@@ -29,8 +29,8 @@ pub nothing_left : (l : List ℕ) → length l ≡ 0 → l ≡ []
 nothing_left [] h = refl
 nothing_left (c ∷ cs) h = absurd (omega arith)
 
-pub ended_ok : (env : Env) (text : List ℕ) (n : ℕ) → ended env text ≡ Ok n → text ≡ []
-unfolding ended
+pub ended_ok : (env : Env) (text : List ℕ) (n : ℕ) → end_at env text ≡ Ok n → text ≡ []
+unfolding end_at
 ended_ok env text n h = nothing_left text (eqb-true _ _ (if_ok (nat_eq (length text) 0) (Ok 0) _ n h).0)
 
 shallow_ok : (env : Env) (t u : Tree) → shallow env t ≡ Ok u → (depth u ≤ 1000) × (t ≡ u)
@@ -43,12 +43,12 @@ shallow_ok env t u h =
 pub pattern_sound : (names : List (List ℕ)) (earlier : ℕ) (text : List ℕ) (t : Tree) → pattern_of names earlier text ≡ Ok t → Spells names earlier text t
 unfolding pattern_of whole_of
 pattern_sound names earlier text t h =
-    let c = bind_ok (checked text) _ t h in
+    let c = bind_ok (short_ascii text) _ t h in
     let k = checked_ok text c.0 c.1 in
     let env : Env = record { names = names; earlier = earlier; total = length text } in
     let w = unless_ok (nat_eq (length (skip c.0)) 0) _ (fault.Empty env.total) t c.2 in
     let a = bind_ok (alternation_at env 100 (inside env 100) (skip c.0)) _ t w.1 in
-    let e = bind_ok (ended env (skip a.0.1)) _ t a.2 in
+    let e = bind_ok (end_at env (skip a.0.1)) _ t a.2 in
     let s = shallow_ok env a.0.0 t e.2 in
     let x = alternation_sound env 100 (skip c.0) a.0.0 a.0.1 a.1 in
     let rest : a.0.1 ≡ front is_blank a.0.1 = front_behind is_blank a.0.1 ∙ ap (λ l. front is_blank a.0.1 ++ l) (ended_ok env (skip a.0.1) e.0 e.1) ∙ append-nil (front is_blank a.0.1) in

@@ -7,11 +7,11 @@ use Rattle.sno_pattern.specs.Identifiers.{is_letter, is_name_char, is_name}
 use Rattle.sno_read.specs.declared.faults.ReadFault.{ReadFault}
 use Rattle.sno_read.specs.Characters.{is_blank, is_other, begins, number_from}
 use Rattle.sno_read.specs.Grammar.{AreBlanks, SomeBlanks, decimal, IsNumber, IsLiteral, IsVariable}
-use Rattle.sno_read.specs.Reading.{Env, closed_by, literal_at, set_at, number_at, name_at, variable_at, opened, closed, parted, signed}
+use Rattle.sno_read.specs.Reading.{Env, literal_by, literal_at, set_at, number_at, name_at, variable_at, opening_at, closing_at, blanks_at, sign_at}
 use Rattle.sno_read.proofs.Fronts.{prefix_run, front_run, behind_run}
 use Rattle.sno_read.proofs.Marks.{name_starts, letter_in_name, blanks_begin, skip_blanks}
 
-closed_again : (e : ReadFault) (q : ℕ) (s r : List ℕ) → IsTrue (list_all (is_other q) s) → closed_by e q (s ++ (q ∷ r)) ≡ Ok (s, r)
+closed_again : (e : ReadFault) (q : ℕ) (s r : List ℕ) → IsTrue (list_all (is_other q) s) → literal_by e q (s ++ (q ∷ r)) ≡ Ok (s, r)
 closed_again e q s r h =
     let same : is_other q q ≡ false = ap not (eq-eqb q q refl) in
     let within : prefix_len (is_other q) (s ++ (q ∷ r)) < length (s ++ (q ∷ r)) = rw (prefix_run (is_other q) s (q ∷ r) h same, length-append s (q ∷ r)) (omega arith) in
@@ -66,20 +66,20 @@ pub variable_again : (env : Env) (v r : List ℕ) → IsVariable env.names v →
 unfolding variable_at
 variable_again env v r i h = rw (name_again env v r i.is_name h, i.not_reserved, i.no_definition) refl
 
-pub opened_again : (env : Env) (k : ℕ) (b r : List ℕ) → AreBlanks b → begins is_blank r ≡ false → opened env (suc k) (40 ∷ (b ++ r)) ≡ Ok r
-unfolding opened
+pub opened_again : (env : Env) (k : ℕ) (b r : List ℕ) → AreBlanks b → begins is_blank r ≡ false → opening_at env (suc k) (40 ∷ (b ++ r)) ≡ Ok r
+unfolding opening_at
 opened_again env k b r h e =
     let some : nat_eq (suc k) 0 ≡ false = ne_eqb (suc k) 0 (λ i. omega arith) in
     rw (skip_blanks b r h e, some) refl
 
-pub closed_paren_again : (env : Env) (c r : List ℕ) → AreBlanks c → closed env (c ++ (41 ∷ r)) ≡ Ok r
-unfolding closed
+pub closed_paren_again : (env : Env) (c r : List ℕ) → AreBlanks c → closing_at env (c ++ (41 ∷ r)) ≡ Ok r
+unfolding closing_at
 closed_paren_again env c r h = rw (skip_blanks c (41 ∷ r) h refl) refl
 
-pub parted_again : (env : Env) (b r : List ℕ) → SomeBlanks b → begins is_blank r ≡ false → parted env (b ++ r) ≡ Ok r
-unfolding parted
+pub parted_again : (env : Env) (b r : List ℕ) → SomeBlanks b → begins is_blank r ≡ false → blanks_at env (b ++ r) ≡ Ok r
+unfolding blanks_at
 parted_again env b r h e = rw (blanks_begin b r h, skip_blanks b r h.0 e) refl
 
-pub signed_again : (env : Env) (sign : ℕ) (b c r : List ℕ) → is_blank sign ≡ false → SomeBlanks b → SomeBlanks c → begins is_blank r ≡ false → signed env (b ++ (sign ∷ (c ++ r))) ≡ Ok r
-unfolding signed
+pub signed_again : (env : Env) (sign : ℕ) (b c r : List ℕ) → is_blank sign ≡ false → SomeBlanks b → SomeBlanks c → begins is_blank r ≡ false → sign_at env (b ++ (sign ∷ (c ++ r))) ≡ Ok r
+unfolding sign_at
 signed_again env sign b c r s bb cb e = rw (skip_blanks b (sign ∷ (c ++ r)) bb.0 s) (parted_again env c r cb e)

@@ -13,7 +13,7 @@ use Rattle.sno_read.specs.declared.characters.Following.TheVariants as follows
 use Rattle.sno_read.specs.Gives.{found_or}
 use Rattle.sno_read.specs.Characters.{is_blank, is_quote, is_other, quote_of, front, behind, skip, begins, value_of, number_from, what_follows, sign_of}
 use Rattle.sno_read.specs.Grammar.{AreBlanks, SomeBlanks, decimal, IsNumber, IsLiteral, IsVariable}
-use Rattle.sno_read.specs.Reading.{Env, place, closed_by, literal_at, set_at, number_at, name_at, variable_at, opened, closed, parted, signed}
+use Rattle.sno_read.specs.Reading.{Env, place, literal_by, literal_at, set_at, number_at, name_at, variable_at, opening_at, closing_at, blanks_at, sign_at}
 use Rattle.sno_read.proofs.Fronts.{front_passes, behind_stops, front_behind, begins_shape, other_shape}
 use Rattle.sno_read.proofs.Results.{bind_ok, found_ok, if_ok, unless_ok, if_some, unless_some, ok_same, pair_ok, or_false, none_is}
 
@@ -24,7 +24,7 @@ quote_shape (c ∷ cs) q h =
     let e : c ≡ q = cc in
     (rw e at p.0, ap (λ k. k ∷ cs) e)
 
-closed_shape : (e : ReadFault) (q : ℕ) (text s rest : List ℕ) → closed_by e q text ≡ Ok (s, rest) → IsTrue (list_all (is_other q) s) × (text ≡ s ++ (q ∷ rest))
+closed_shape : (e : ReadFault) (q : ℕ) (text s rest : List ℕ) → literal_by e q text ≡ Ok (s, rest) → IsTrue (list_all (is_other q) s) × (text ≡ s ++ (q ∷ rest))
 closed_shape e q text s rest h =
     let p = if_ok (nat_lt (prefix_len (is_other q) text) (length text)) _ e (s, rest) h in
     let same = pair_ok (front (is_other q) text, drop 1 (behind (is_other q) text)) s rest p.1 in
@@ -98,8 +98,8 @@ variable_sound env text v rest h =
     let o = or_false (is_reserved a.0.0) (is_some (place_of env.names a.0.0)) b.0 in
     (record { is_name = n.0; not_reserved = rw same at o.0; no_definition = rw same at (none_is _ o.1) }, n.1)
 
-pub opened_sound : (env : Env) (room : ℕ) (text rest : List ℕ) → opened env room text ≡ Ok rest → (k : ℕ) × (room ≡ suc k) × (b : List ℕ) × AreBlanks b × (text ≡ 40 ∷ (b ++ rest))
-unfolding opened
+pub opened_sound : (env : Env) (room : ℕ) (text rest : List ℕ) → opening_at env room text ≡ Ok rest → (k : ℕ) × (room ≡ suc k) × (b : List ℕ) × AreBlanks b × (text ≡ 40 ∷ (b ++ rest))
+unfolding opening_at
 opened_sound env room text rest h =
     let p = if_ok (begins (λ c. nat_eq c 40) text) _ _ rest h in
     let q = unless_ok (nat_eq room 0) _ _ rest p.1 in
@@ -112,8 +112,8 @@ opened_sound env room text rest h =
       begins_shape 40 text p.0 ∙ ap (λ l. 40 ∷ l) (front_behind is_blank (drop 1 text) ∙ ap (λ l. front is_blank (drop 1 text) ++ l) same),
     )
 
-pub closed_sound : (env : Env) (text rest : List ℕ) → closed env text ≡ Ok rest → (c : List ℕ) × AreBlanks c × (text ≡ c ++ (41 ∷ rest))
-unfolding closed
+pub closed_sound : (env : Env) (text rest : List ℕ) → closing_at env text ≡ Ok rest → (c : List ℕ) × AreBlanks c × (text ≡ c ++ (41 ∷ rest))
+unfolding closing_at
 closed_sound env text rest h =
     let p = if_ok (begins (λ c. nat_eq c 41) (skip text)) _ _ rest h in
     let same = ok_same _ rest p.1 in (
@@ -131,8 +131,8 @@ some_front p (c ∷ cs) h = some_taken p c cs (prefix_len p cs) (p c) h
     some_taken p c cs n true h = rw (one-add n) (omega arith)
     some_taken p c cs n false h = cc
 
-pub parted_sound : (env : Env) (text rest : List ℕ) → parted env text ≡ Ok rest → (b : List ℕ) × SomeBlanks b × (text ≡ b ++ rest)
-unfolding parted
+pub parted_sound : (env : Env) (text rest : List ℕ) → blanks_at env text ≡ Ok rest → (b : List ℕ) × SomeBlanks b × (text ≡ b ++ rest)
+unfolding blanks_at
 parted_sound env text rest h =
     let p = if_ok (begins is_blank text) _ _ rest h in
     (front is_blank text, (front_passes is_blank text, some_front is_blank text p.0), front_behind is_blank text ∙ ap (λ l. front is_blank text ++ l) (ok_same _ rest p.1))
@@ -190,18 +190,18 @@ follows_shape text f h n =
 abbrev pub Signed : ℕ → List ℕ → List ℕ → Type 0
 Signed sign text rest = (b : List ℕ) × SomeBlanks b × (c : List ℕ) × SomeBlanks c × (text ≡ b ++ (sign ∷ (c ++ rest)))
 
-signed_sound : (env : Env) (text rest : List ℕ) (f : Following) (sign : ℕ) → what_follows text ≡ f → (f ≡ follows.Nothing → ⊥) → (sign_of (skip text) ≡ f → skip text ≡ sign ∷ drop 1 (skip text)) → signed env text ≡ Ok rest → Signed sign text rest
-unfolding signed
+signed_sound : (env : Env) (text rest : List ℕ) (f : Following) (sign : ℕ) → what_follows text ≡ f → (f ≡ follows.Nothing → ⊥) → (sign_of (skip text) ≡ f → skip text ≡ sign ∷ drop 1 (skip text)) → sign_at env text ≡ Ok rest → Signed sign text rest
+unfolding sign_at
 signed_sound env text rest f sign h n shape s =
     let p = follows_shape text f h n in
     let q = parted_sound env (drop 1 (skip text)) rest s in
     (front is_blank text, p.0, q.0, q.1, p.1 ∙ ap (λ l. front is_blank text ++ l) (shape p.2 ∙ ap (λ l. sign ∷ l) q.2))
 
-pub dot_sound : (env : Env) (text rest : List ℕ) → what_follows text ≡ follows.Dot → signed env text ≡ Ok rest → Signed 46 text rest
+pub dot_sound : (env : Env) (text rest : List ℕ) → what_follows text ≡ follows.Dot → sign_at env text ≡ Ok rest → Signed 46 text rest
 dot_sound env text rest h s = signed_sound env text rest follows.Dot 46 h (λ e. (cc)) (dot_shape (skip text)) s
 
-pub dollar_sound : (env : Env) (text rest : List ℕ) → what_follows text ≡ follows.Dollar → signed env text ≡ Ok rest → Signed 36 text rest
+pub dollar_sound : (env : Env) (text rest : List ℕ) → what_follows text ≡ follows.Dollar → sign_at env text ≡ Ok rest → Signed 36 text rest
 dollar_sound env text rest h s = signed_sound env text rest follows.Dollar 36 h (λ e. (cc)) (dollar_shape (skip text)) s
 
-pub bar_sound : (env : Env) (text rest : List ℕ) → what_follows text ≡ follows.Bar → signed env text ≡ Ok rest → Signed 124 text rest
+pub bar_sound : (env : Env) (text rest : List ℕ) → what_follows text ≡ follows.Bar → sign_at env text ≡ Ok rest → Signed 124 text rest
 bar_sound env text rest h s = signed_sound env text rest follows.Bar 124 h (λ e. (cc)) (bar_shape (skip text)) s

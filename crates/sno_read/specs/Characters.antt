@@ -2,6 +2,7 @@
 use Rattle.std.specs.Prelude.{ℕ, Bool, false, not, ◌||◌, ◌+◌, ◌-◌, ◌*◌, List, [], ◌∷◌, length, take, drop, nat_eq, nat_lt, Option, Some, None, if◌then◌else◌}
 use Rattle.std.specs.List.{prefix_len}
 use Rattle.sno_pattern.specs.Identifiers.{is_letter}
+use Rattle.sno_read.specs.Signs.{tab, space, double_quote, dollar, single_quote, open_parenthesis, close_parenthesis, asterisk, period, digit_zero, at_sign, bar}
 use Rattle.sno_read.specs.declared.characters.Start.{Start}
 use Rattle.sno_read.specs.declared.characters.Start.TheVariants as start
 use Rattle.sno_read.specs.declared.characters.Following.{Following}
@@ -9,11 +10,11 @@ use Rattle.sno_read.specs.declared.characters.Following.TheVariants as follows
 
 -- a space or a tab
 abbrev pub is_blank : ℕ → Bool
-is_blank c = nat_eq c 32 || nat_eq c 9
+is_blank c = nat_eq c space || nat_eq c tab
 
 -- a single or a double quote
 abbrev pub is_quote : ℕ → Bool
-is_quote c = nat_eq c 39 || nat_eq c 34
+is_quote c = nat_eq c single_quote || nat_eq c double_quote
 
 -- the quote that the text begins with
 abbrev pub quote_of : List ℕ → Option ℕ
@@ -24,14 +25,14 @@ quote_of (c ∷ cs) = if is_quote c then Some c else None
 abbrev pub is_other : ℕ → ℕ → Bool
 is_other q c = not (nat_eq c q)
 
--- the longest front of characters that pass, and what stands behind it
+-- the longest run of characters that pass, from the start of the text, and the text behind it
 abbrev pub front : (ℕ → Bool) → List ℕ → List ℕ
 front p text = take (prefix_len p text) text
 
 abbrev pub behind : (ℕ → Bool) → List ℕ → List ℕ
 behind p text = drop (prefix_len p text) text
 
--- what stands behind the blanks
+-- the text behind its blanks
 abbrev pub skip : List ℕ → List ℕ
 skip text = behind is_blank text
 
@@ -40,10 +41,10 @@ abbrev pub begins : (ℕ → Bool) → List ℕ → Bool
 begins p [] = false
 begins p (c ∷ cs) = p c
 
--- the value of digits behind digits of value n, if it is at most 65,536
+-- the value of digits that go on from digits of value n, if it is at most 65,536
 unfoldable pub number_from : ℕ → List ℕ → Option ℕ
 number_from n [] = Some n
-number_from n (d ∷ ds) = if nat_lt 65536 (n * 10 + (d - 48)) then None else number_from (n * 10 + (d - 48)) ds
+number_from n (d ∷ ds) = if nat_lt 65536 (n * 10 + (d - digit_zero)) then None else number_from (n * 10 + (d - digit_zero)) ds
 
 -- the value of digits, if there is one and it is at most 65,536
 abbrev pub value_of : List ℕ → Option ℕ
@@ -54,20 +55,20 @@ unfoldable pub start_of : List ℕ → Start
 start_of [] = start.Other
 start_of (c ∷ cs) =
     if is_quote c then start.Quote
-    else (if nat_eq c 64 then start.At
-    else (if nat_eq c 42 then start.Star
-    else (if nat_eq c 40 then start.Open
+    else (if nat_eq c at_sign then start.At
+    else (if nat_eq c asterisk then start.Star
+    else (if nat_eq c open_parenthesis then start.Open
     else (if is_letter c then start.Letter
     else start.Other))))
 
--- what the first character behind blanks says of what follows
+-- what the first character past blanks says of what follows
 unfoldable pub sign_of : List ℕ → Following
 sign_of [] = follows.Nothing
 sign_of (c ∷ cs) =
-    if nat_eq c 41 then follows.Nothing
-    else (if nat_eq c 46 then follows.Dot
-    else (if nat_eq c 36 then follows.Dollar
-    else (if nat_eq c 124 then follows.Bar
+    if nat_eq c close_parenthesis then follows.Nothing
+    else (if nat_eq c period then follows.Dot
+    else (if nat_eq c dollar then follows.Dollar
+    else (if nat_eq c bar then follows.Bar
     else follows.Item)))
 
 -- what follows an item: it needs blanks before it

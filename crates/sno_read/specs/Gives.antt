@@ -26,7 +26,7 @@ abbrev pub Gives : {X Y : Type 0} → (X → Y) → Result X Stop → Result Y R
 Gives view (Ok x) reading = reading ≡ Ok (view x)
 Gives view (Err s) reading = Stops s reading
 
--- what holds where a function stopped for want of memory
+-- what holds where a function stopped as memory was refused
 abbrev pub OnMemory : {X : Type 0} → Result X Stop → Type 0 → Type 0
 OnMemory (Ok x) holds = Unit {0}
 OnMemory (Err stop.Memory) holds = holds
@@ -38,8 +38,8 @@ Answers view (Ok x) reading = reading ≡ Ok (view x)
 Answers view (Err fault.Memory) reading = Unit {0}
 Answers view (Err e) reading = reading ≡ Err e
 
--- what holds where a public function answered want of memory
-abbrev pub OnWant : {X : Type 0} → Result X ReadFault → Type 0 → Type 0
-OnWant (Ok x) holds = Unit {0}
-OnWant (Err fault.Memory) holds = holds
-OnWant (Err e) holds = Unit {0}
+-- what holds where a public function answered that memory is refused
+abbrev pub OnOutOfMemory : {X : Type 0} → Result X ReadFault → Type 0 → Type 0
+OnOutOfMemory (Ok x) holds = Unit {0}
+OnOutOfMemory (Err fault.Memory) holds = holds
+OnOutOfMemory (Err e) holds = Unit {0}

@@ -1,5 +1,5 @@
 -- The grammar of patterns: which texts spell which trees. A text is joined from parts; k is how many parentheses may be
--- open inside one.
+-- open inside one. In the line of the grammar above each constructor, _ stands for one or more blanks and ~ for none or more.
 use Rattle.std.specs.Prelude.{◌≡◌, ℕ, suc, ◌+◌, ◌-◌, ◌*◌, ◌≤◌, ◌<◌, false, List, [], ◌∷◌, ◌++◌, length, Some, None, IsTrue}
 use Rattle.std.specs.List.{list_all}
 use Rattle.std.specs.Char.{is_ascii, is_ascii_digit}
@@ -10,6 +10,7 @@ use Rattle.sno_read.specs.declared.keywords.Word.{Word}
 use Rattle.sno_read.specs.declared.keywords.NumberCall.{NumberCall}
 use Rattle.sno_read.specs.declared.keywords.SetCall.{SetCall}
 use Rattle.sno_read.specs.declared.keywords.Keyword.TheVariants.{Primitive, Counted, Chosen, Repeated}
+use Rattle.sno_read.specs.Signs.{open_parenthesis, close_parenthesis, asterisk, period, dollar, at_sign, bar, digit_zero}
 use Rattle.sno_read.specs.Characters.{is_blank, is_quote, is_other}
 use Rattle.sno_read.specs.Depth.{depth}
 use Rattle.sno_read.specs.Keywords.{keyword_of, word_tree, number_tree, set_tree}
@@ -22,10 +23,10 @@ AreBlanks b = IsTrue (list_all is_blank b)
 abbrev pub SomeBlanks : List ℕ → Type 0
 SomeBlanks b = AreBlanks b × (0 < length b)
 
--- the decimal value of digits behind those of value n
+-- the value of digits that go on from digits of value n
 abbrev pub decimal : ℕ → List ℕ → ℕ
 decimal n [] = n
-decimal n (d ∷ ds) = decimal (n * 10 + (d - 48)) ds
+decimal n (d ∷ ds) = decimal (n * 10 + (d - digit_zero)) ds
 
 -- digits that spell the number
 pub record IsNumber (digits : List ℕ) (n : ℕ) : Type 0 where
@@ -49,7 +50,7 @@ pub record IsVariable (names : List (List ℕ)) (name : List ℕ) : Type 0 where
 
 -- x in parentheses, with blanks inside them
 abbrev pub parenthesized : List ℕ → List ℕ → List ℕ → List ℕ
-parenthesized b x c = 40 ∷ (b ++ (x ++ (c ++ (41 ∷ []))))
+parenthesized b x c = open_parenthesis ∷ (b ++ (x ++ (c ++ (close_parenthesis ∷ []))))
 
 -- a sign between blanks, and a variable
 abbrev pub signed_by : ℕ → List ℕ → List ℕ → List ℕ → List ℕ
@@ -58,29 +59,46 @@ signed_by sign b c v = b ++ (sign ∷ (c ++ v))
 module _ (names : List (List ℕ)) (earlier : ℕ) where
   mutual
     pub data IsElement : ℕ → List ℕ → Tree → Type 0 where
+      -- element: literal
       quoted : {k : ℕ} (x s : List ℕ) → IsLiteral x s → IsElement k x (Lit s)
-      cursor : {k : ℕ} (v : List ℕ) → IsVariable names v → IsElement k (64 ∷ v) (At v)
-      starred : {k : ℕ} (w : List ℕ) (i : ℕ) → IsTrue (is_name w) → place_of names w ≡ Some i → IsElement k (42 ∷ w) (Ref i)
+      -- element: @variable
+      cursor : {k : ℕ} (v : List ℕ) → IsVariable names v → IsElement k (at_sign ∷ v) (At v)
+      -- element: *definition
+      starred : {k : ℕ} (w : List ℕ) (i : ℕ) → IsTrue (is_name w) → place_of names w ≡ Some i → IsElement k (asterisk ∷ w) (Ref i)
+      -- element: definition, one of the earlier ones
       plain : {k : ℕ} (w : List ℕ) (i : ℕ) → IsTrue (is_name w) → is_reserved w ≡ false → place_of names w ≡ Some i → i < earlier → IsElement k w (Ref i)
+      -- element: ARB, BAL, REM, FENCE, ABORT or FAIL
       word : {k : ℕ} (w : List ℕ) (it : Word) → keyword_of w ≡ Some (Primitive it) → IsElement k w (word_tree it)
+      -- element: LEN(~ number ~), and likewise POS, RPOS, TAB, RTAB
       counted : {k : ℕ} (w b ds c : List ℕ) (call : NumberCall) (n : ℕ) → keyword_of w ≡ Some (Counted call) → AreBlanks b → IsNumber ds n → AreBlanks c → IsElement (suc k) (w ++ parenthesized b ds c) (number_tree call n)
+      -- element: ANY(~ literal ~), and likewise NOTANY, SPAN, BREAK; the literal isn't empty
       chosen : {k : ℕ} (w b x s c : List ℕ) (call : SetCall) → keyword_of w ≡ Some (Chosen call) → AreBlanks b → IsLiteral x s → 0 < length s → AreBlanks c → IsElement (suc k) (w ++ parenthesized b x c) (set_tree call s)
+      -- element: ARBNO(~ alternation ~)
       repeated : {k : ℕ} (w b x c : List ℕ) (t : Tree) → keyword_of w ≡ Some Repeated → AreBlanks b → IsAlternation k x t → AreBlanks c → IsElement (suc k) (w ++ parenthesized b x c) (Arbno t)
+      -- element: (~ alternation ~)
       group : {k : ℕ} (b x c : List ℕ) (t : Tree) → AreBlanks b → IsAlternation k x t → AreBlanks c → IsElement (suc k) (parenthesized b x c) t
 
     pub data IsItem : ℕ → List ℕ → Tree → Type 0 where
+      -- item: element
       element : {k : ℕ} (x : List ℕ) (t : Tree) → IsElement k x t → IsItem k x t
-      later : {k : ℕ} (x b c v : List ℕ) (t : Tree) → IsItem k x t → SomeBlanks b → SomeBlanks c → IsVariable names v → IsItem k (x ++ signed_by 46 b c v) (Cond t v)
-      at_once : {k : ℕ} (x b c v : List ℕ) (t : Tree) → IsItem k x t → SomeBlanks b → SomeBlanks c → IsVariable names v → IsItem k (x ++ signed_by 36 b c v) (Imm t v)
+      -- item: item _ . _ variable
+      later : {k : ℕ} (x b c v : List ℕ) (t : Tree) → IsItem k x t → SomeBlanks b → SomeBlanks c → IsVariable names v → IsItem k (x ++ signed_by period b c v) (Cond t v)
+      -- item: item _ $ _ variable
+      at_once : {k : ℕ} (x b c v : List ℕ) (t : Tree) → IsItem k x t → SomeBlanks b → SomeBlanks c → IsVariable names v → IsItem k (x ++ signed_by dollar b c v) (Imm t v)
 
     pub data IsConcatenation : ℕ → List ℕ → Tree → Type 0 where
+      -- concatenation: item
       single : {k : ℕ} (x : List ℕ) (t : Tree) → IsItem k x t → IsConcatenation k x t
+      -- concatenation: item _ concatenation
       followed : {k : ℕ} (x b y : List ℕ) (t u : Tree) → IsItem k x t → SomeBlanks b → IsConcatenation k y u → IsConcatenation k (x ++ (b ++ y)) (Seq t u)
 
     pub data IsAlternation : ℕ → List ℕ → Tree → Type 0 where
+      -- alternation: concatenation
       only : {k : ℕ} (x : List ℕ) (t : Tree) → IsConcatenation k x t → IsAlternation k x t
-      otherwise : {k : ℕ} (x b c y : List ℕ) (t u : Tree) → IsConcatenation k x t → SomeBlanks b → SomeBlanks c → IsAlternation k y u → IsAlternation k (x ++ signed_by 124 b c y) (Alt t u)
+      -- alternation: concatenation _ | _ alternation
+      otherwise : {k : ℕ} (x b c y : List ℕ) (t u : Tree) → IsConcatenation k x t → SomeBlanks b → SomeBlanks c → IsAlternation k y u → IsAlternation k (x ++ signed_by bar b c y) (Alt t u)
 
+-- pattern: ~ alternation ~
 -- The text spells the tree: at most 4,096 ASCII characters, an alternation with blanks around it and at most 100
 -- parentheses open at any place, and a tree of depth at most 1,000.
 pub record Spells (names : List (List ℕ)) (earlier : ℕ) (text : List ℕ) (tree : Tree) : Type 0 where

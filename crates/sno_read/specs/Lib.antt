@@ -1,3 +1,4 @@
+pub mod Signs
 pub mod Keywords
 pub mod Characters
 pub mod Depth
@@ -6,6 +7,6 @@ pub mod Reading
 pub mod Objects
 pub mod Grammar
 pub mod ObjectGrammar
-pub mod ReadingRows
+pub mod Examples
 pub mod Views
 pub mod Laws

@@ -8,7 +8,7 @@ use Rattle.sno_read.specs.declared.objects.Part.{Part}
 use Rattle.sno_read.specs.declared.objects.Part.TheVariants.{Quoted, Var}
 use Rattle.sno_read.specs.Gives.{◌>>=◌}
 use Rattle.sno_read.specs.Characters.{skip, start_of}
-use Rattle.sno_read.specs.Reading.{Env, Read, place, literal_at, variable_at, parted, checked}
+use Rattle.sno_read.specs.Reading.{Env, Read, place, literal_at, variable_at, blanks_at, short_ascii}
 
 -- a part, by how it begins
 abbrev pub part_by : Env → List ℕ → Start → Read Part
@@ -21,7 +21,7 @@ part_at env text = part_by env text (start_of text)
 
 -- what stands behind a part: nothing, or blanks and more
 unfoldable pub gap_at : Env → List ℕ → Result (List ℕ) ReadFault
-gap_at env text = if nat_eq (length text) 0 then Ok text else parted env text
+gap_at env text = if nat_eq (length text) 0 then Ok text else blanks_at env text
 
 -- the parts of a text that begins with no blank; the number bounds how many there are
 unfoldable pub parts_of : Env → ℕ → List ℕ → Result (List Part) ReadFault
@@ -41,5 +41,5 @@ with_front front others = others >>= λ ps. Ok (front ++ ps)
 -- The parts of the object that a text spells, or the first fault of the text: `names` are those of the definitions.
 unfoldable pub object_of : (names : List (List ℕ)) → List ℕ → Result (List Part) ReadFault
 object_of names text = do
-  t ← checked text
+  t ← short_ascii text
   parts_of (record { names = names; earlier = 0; total = length text }) (suc (length (skip t))) (skip t)

@@ -19,6 +19,7 @@ use Rattle.sno_read.specs.declared.keywords.NumberCall.{NumberCall}
 use Rattle.sno_read.specs.declared.keywords.SetCall.{SetCall}
 use Rattle.sno_pattern.specs.Texts.{first_non_ascii}
 use Rattle.sno_read.specs.Depth.{depth}
+use Rattle.sno_read.specs.Signs.{open_parenthesis, close_parenthesis}
 use Rattle.sno_read.specs.Gives.{◌>>=◌, found_or}
 use Rattle.sno_read.specs.Keywords.{keyword_of, word_tree, number_tree, set_tree}
 use Rattle.sno_read.specs.Characters.{is_blank, is_other, quote_of, front, behind, skip, begins, value_of, start_of, what_follows}
@@ -38,14 +39,14 @@ abbrev pub place : Env → List ℕ → ℕ
 place env text = env.total - length text
 
 -- what stands up to the closing quote, and behind it
-abbrev pub closed_by : ReadFault → ℕ → List ℕ → Read (List ℕ)
-closed_by unclosed q text = if nat_lt (prefix_len (is_other q) text) (length text) then Ok (front (is_other q) text, drop 1 (behind (is_other q) text)) else Err unclosed
+abbrev pub literal_by : ReadFault → ℕ → List ℕ → Read (List ℕ)
+literal_by unclosed q text = if nat_lt (prefix_len (is_other q) text) (length text) then Ok (front (is_other q) text, drop 1 (behind (is_other q) text)) else Err unclosed
 
 -- the characters of a literal, from its opening quote
 unfoldable pub literal_at : Env → List ℕ → Read (List ℕ)
 literal_at env text = do
   q ← found_or (fault.Unexpected (place env text)) (quote_of text)
-  closed_by (fault.OpenQuote (place env text)) q (drop 1 text)
+  literal_by (fault.OpenQuote (place env text)) q (drop 1 text)
 
 -- the members of a set: a literal that isn't empty
 unfoldable pub set_at : Env → List ℕ → Read (List ℕ)
@@ -75,19 +76,19 @@ variable_at env text = do
   if is_reserved name.0 || is_some (place_of env.names name.0) then Err (fault.ReservedTarget (place env text)) else Ok name
 
 -- an opening parenthesis and blanks, where so many more may be opened
-unfoldable pub opened : Env → ℕ → List ℕ → Result (List ℕ) ReadFault
-opened env room text =
-    if begins (λ c. nat_eq c 40) text
+unfoldable pub opening_at : Env → ℕ → List ℕ → Result (List ℕ) ReadFault
+opening_at env room text =
+    if begins (λ c. nat_eq c open_parenthesis) text
     then (if nat_eq room 0 then Err (fault.TooDeep (place env text)) else Ok (skip (drop 1 text)))
     else Err (fault.Unexpected (place env text))
 
 -- blanks and a closing parenthesis
-unfoldable pub closed : Env → List ℕ → Result (List ℕ) ReadFault
-closed env text = if begins (λ c. nat_eq c 41) (skip text) then Ok (drop 1 (skip text)) else Err (fault.Unexpected (place env (skip text)))
+unfoldable pub closing_at : Env → List ℕ → Result (List ℕ) ReadFault
+closing_at env text = if begins (λ c. nat_eq c close_parenthesis) (skip text) then Ok (drop 1 (skip text)) else Err (fault.Unexpected (place env (skip text)))
 
 -- blanks, at least one
-unfoldable pub parted : Env → List ℕ → Result (List ℕ) ReadFault
-parted env text = if begins is_blank text then Ok (skip text) else Err (fault.Unexpected (place env text))
+unfoldable pub blanks_at : Env → List ℕ → Result (List ℕ) ReadFault
+blanks_at env text = if begins is_blank text then Ok (skip text) else Err (fault.Unexpected (place env text))
 
 -- `@` and a variable
 unfoldable pub cursor_at : Env → List ℕ → Read Tree
@@ -96,8 +97,8 @@ cursor_at env text = do
   Ok (tree.At name.0, name.1)
 
 -- `*` and the name of a definition
-unfoldable pub starred_at : Env → List ℕ → Read Tree
-starred_at env text = do
+unfoldable pub reference_at : Env → List ℕ → Read Tree
+reference_at env text = do
   name ← name_at env (drop 1 text)
   i ← found_or (fault.UnknownName (place env (drop 1 text))) (place_of env.names name.0)
   Ok (tree.Ref i, name.1)
@@ -112,72 +113,72 @@ unfoldable pub plain_of : Env → ReadFault → List ℕ → Result ℕ ReadFaul
 plain_of env unknown name = found_or unknown (below env.earlier (place_of env.names name))
 
 -- a number in parentheses, behind the name of its call
-unfoldable pub counted_at : Env → ℕ → NumberCall → List ℕ → Read Tree
-counted_at env room call text = do
-  a ← opened env room text
+unfoldable pub number_call_at : Env → ℕ → NumberCall → List ℕ → Read Tree
+number_call_at env room call text = do
+  a ← opening_at env room text
   n ← number_at env a
-  b ← closed env n.1
+  b ← closing_at env n.1
   Ok (number_tree call n.0, b)
 
 -- a set in parentheses, behind the name of its call
-unfoldable pub chosen_at : Env → ℕ → SetCall → List ℕ → Read Tree
-chosen_at env room call text = do
-  a ← opened env room text
+unfoldable pub set_call_at : Env → ℕ → SetCall → List ℕ → Read Tree
+set_call_at env room call text = do
+  a ← opening_at env room text
   s ← set_at env a
-  b ← closed env s.1
+  b ← closing_at env s.1
   Ok (set_tree call s.0, b)
 
 -- an alternation in parentheses, which `inside` reads
 unfoldable pub group_at : Env → ℕ → (List ℕ → Read Tree) → List ℕ → Read Tree
 group_at env room inside text = do
-  a ← opened env room text
+  a ← opening_at env room text
   x ← inside a
-  b ← closed env x.1
+  b ← closing_at env x.1
   Ok (x.0, b)
 
-unfoldable pub repeated_at : Env → ℕ → (List ℕ → Read Tree) → List ℕ → Read Tree
-repeated_at env room inside text = do
+unfoldable pub repetition_at : Env → ℕ → (List ℕ → Read Tree) → List ℕ → Read Tree
+repetition_at env room inside text = do
   x ← group_at env room inside text
   Ok (tree.Arbno x.0, x.1)
 
 -- what a name that was read begins
-abbrev pub named_by : Env → ℕ → (List ℕ → Read Tree) → ReadFault → List ℕ × List ℕ → Option Keyword → Read Tree
-named_by env room inside unknown name None = plain_of env unknown name.0 >>= λ i. Ok (tree.Ref i, name.1)
-named_by env room inside unknown name (Some (Primitive w)) = Ok (word_tree w, name.1)
-named_by env room inside unknown name (Some (Counted call)) = counted_at env room call name.1
-named_by env room inside unknown name (Some (Chosen call)) = chosen_at env room call name.1
-named_by env room inside unknown name (Some Repeated) = repeated_at env room inside name.1
+abbrev pub from_name : Env → ℕ → (List ℕ → Read Tree) → ReadFault → List ℕ × List ℕ → Option Keyword → Read Tree
+from_name env room inside unknown name None = plain_of env unknown name.0 >>= λ i. Ok (tree.Ref i, name.1)
+from_name env room inside unknown name (Some (Primitive w)) = Ok (word_tree w, name.1)
+from_name env room inside unknown name (Some (Counted call)) = number_call_at env room call name.1
+from_name env room inside unknown name (Some (Chosen call)) = set_call_at env room call name.1
+from_name env room inside unknown name (Some Repeated) = repetition_at env room inside name.1
 
-unfoldable pub named_at : Env → ℕ → (List ℕ → Read Tree) → List ℕ → Read Tree
-named_at env room inside text = do
+unfoldable pub from_name_at : Env → ℕ → (List ℕ → Read Tree) → List ℕ → Read Tree
+from_name_at env room inside text = do
   name ← name_at env text
-  named_by env room inside (fault.UnknownName (place env text)) name (keyword_of name.0)
+  from_name env room inside (fault.UnknownName (place env text)) name (keyword_of name.0)
 
-unfoldable pub quoted_at : Env → List ℕ → Read Tree
-quoted_at env text = do
+unfoldable pub quotation_at : Env → List ℕ → Read Tree
+quotation_at env text = do
   s ← literal_at env text
   Ok (tree.Lit s.0, s.1)
 
 -- an element, by how it begins
 abbrev pub element_by : Env → ℕ → (List ℕ → Read Tree) → List ℕ → Start → Read Tree
-element_by env room inside text start.Quote = quoted_at env text
+element_by env room inside text start.Quote = quotation_at env text
 element_by env room inside text start.At = cursor_at env text
-element_by env room inside text start.Star = starred_at env text
+element_by env room inside text start.Star = reference_at env text
 element_by env room inside text start.Open = group_at env room inside text
-element_by env room inside text start.Letter = named_at env room inside text
+element_by env room inside text start.Letter = from_name_at env room inside text
 element_by env room inside text start.Other = Err (fault.Unexpected (place env text))
 
 unfoldable pub element_at : Env → ℕ → (List ℕ → Read Tree) → List ℕ → Read Tree
 element_at env room inside text = element_by env room inside text (start_of text)
 
 -- what stands behind blanks, a sign and blanks again
-unfoldable pub signed : Env → List ℕ → Result (List ℕ) ReadFault
-signed env text = parted env (drop 1 (skip text))
+unfoldable pub sign_at : Env → List ℕ → Result (List ℕ) ReadFault
+sign_at env text = blanks_at env (drop 1 (skip text))
 
 -- one target, if there is one, and then more
 abbrev pub target_by : Env → (Tree → List ℕ → Read Tree) → Tree → List ℕ → Following → Read Tree
-target_by env more t text follows.Dot = signed env text >>= λ a. variable_at env a >>= λ v. more (tree.Cond t v.0) v.1
-target_by env more t text follows.Dollar = signed env text >>= λ a. variable_at env a >>= λ v. more (tree.Imm t v.0) v.1
+target_by env more t text follows.Dot = sign_at env text >>= λ a. variable_at env a >>= λ v. more (tree.Cond t v.0) v.1
+target_by env more t text follows.Dollar = sign_at env text >>= λ a. variable_at env a >>= λ v. more (tree.Imm t v.0) v.1
 target_by env more t text _ = Ok (t, text)
 
 -- the targets of a tree; the number bounds how many there are
@@ -202,7 +203,7 @@ items_at env item (suc n) text = item text >>= λ x. item_by (items_at env item 
 
 -- one part, and the parts behind it if there are more
 abbrev pub part_by : Env → (List ℕ → Read Tree) → Tree × List ℕ → Following → Read Tree
-part_by env more x follows.Bar = signed env x.1 >>= λ a. more a >>= λ y. Ok (tree.Alt x.0 y.0, y.1)
+part_by env more x follows.Bar = sign_at env x.1 >>= λ a. more a >>= λ y. Ok (tree.Alt x.0 y.0, y.1)
 part_by env more x _ = Ok x
 
 -- the parts of an alternation; the number bounds how many there are
@@ -223,8 +224,8 @@ inside env zero text = Err (fault.TooDeep (place env text))
 inside env (suc k) text = alternation_at env k (inside env k) text
 
 -- the end of the text
-unfoldable pub ended : Env → List ℕ → Result ℕ ReadFault
-ended env text = if nat_eq (length text) 0 then Ok 0 else Err (fault.Unexpected (place env text))
+unfoldable pub end_at : Env → List ℕ → Result ℕ ReadFault
+end_at env text = if nat_eq (length text) 0 then Ok 0 else Err (fault.Unexpected (place env text))
 
 -- a tree that isn't too deep
 unfoldable pub shallow : Env → Tree → Result Tree ReadFault
@@ -236,7 +237,7 @@ whole_of env text =
     if nat_eq (length (skip text)) 0 then Err (fault.Empty env.total)
     else (do
       x ← alternation_at env 100 (inside env 100) (skip text)
-      end ← ended env (skip x.1)
+      end ← end_at env (skip x.1)
       shallow env x.0)
 
 abbrev pub ascii_only : Option ℕ → List ℕ → Result (List ℕ) ReadFault
@@ -244,16 +245,16 @@ ascii_only None text = Ok text
 ascii_only (Some i) text = Err (fault.NonAscii i)
 
 -- a text that is short and ASCII
-abbrev pub checked : List ℕ → Result (List ℕ) ReadFault
-checked text = if nat_lt 4096 (length text) then Err (fault.TooLong 4096) else ascii_only (first_non_ascii text) text
+abbrev pub short_ascii : List ℕ → Result (List ℕ) ReadFault
+short_ascii text = if nat_lt 4096 (length text) then Err (fault.TooLong 4096) else ascii_only (first_non_ascii text) text
 
 -- A text that is short and ASCII, and not blanks alone. For any other the answer is found before memory is asked for.
 abbrev pub AsksForMemory : List ℕ → Type 0
-AsksForMemory text = (checked text ≡ Ok text) × (0 < length (skip text))
+AsksForMemory text = (short_ascii text ≡ Ok text) × (0 < length (skip text))
 
 -- The tree that a text spells, or the first fault of the text: `names` are those of the definitions, and a plain name
 -- may name the first `earlier` of them.
 unfoldable pub pattern_of : (names : List (List ℕ)) (earlier : ℕ) → List ℕ → Result Tree ReadFault
 pattern_of names earlier text = do
-  t ← checked text
+  t ← short_ascii text
   whole_of (record { names = names; earlier = earlier; total = length text }) t

@@ -7,6 +7,8 @@ ghost use Rattle.sno_read.specs.declared.characters.Start.TheVariants.{Other};
 ghost use Rattle.sno_read.specs.declared.characters.Following.TheVariants.{Nothing};
 ghost use Rattle.sno_read.specs.Characters.{value_of, is_blank, is_quote, is_other, quote_of, skip, begins, number_from, start_of, sign_of, what_follows};
 
+use sno_pattern::{is_letter, is_name_char};
+
 /// The largest number that a pattern may have.
 pub const MAX_NUMBER: u32 = 65_536;
 
@@ -42,20 +44,6 @@ fn is_quote(c: u8) -> bool
     ensures { result ≡ is_quote c }
 {
     c == b'\'' || c == b'"'
-}
-
-#[tactic(auto, unfolding(sno_pattern::specs::Identifiers::is_letter))]
-fn is_letter(c: u8) -> bool
-    ensures { result ≡ is_letter c }
-{
-    c.is_ascii_alphabetic()
-}
-
-#[tactic(auto, unfolding(sno_pattern::specs::Identifiers::is_name_char))]
-fn is_name_char(c: u8) -> bool
-    ensures { result ≡ is_name_char c }
-{
-    c.is_ascii_alphanumeric() || c == b'.' || c == b'_'
 }
 
 /// How many blanks stand in front.

@@ -40,7 +40,7 @@ pub enum ReadFault {
     Memory,
 }
 
-/// Why reading stops: want of memory, or a fault of the text.
+/// Why reading stops: memory was refused, or the text has a fault.
 #[derive(Clone, Copy, Debug, PartialEq, Eq)]
 pub enum Stop {
     /// Memory was refused.

@@ -1,15 +1,15 @@
 //! The reader of patterns and of objects.
 //!
 //! `read_pattern` answers a pattern exactly where the text spells its tree, and `read_object` the parts of an object
-//! likewise, want of memory aside:
+//! likewise, unless memory is refused:
 //!
 //! - `specs/Grammar.antt` and `specs/ObjectGrammar.antt` are the grammars, a constructor for each rule, with all limits: what
 //!   is read is spelled so (the clause `found`), and what is spelled so is read (`only`).
 //! - `specs/Reading.antt` and `specs/Objects.antt` read a list of characters from left to right and tell the first fault and
 //!   its place: the calls answer just that (the clause `exact`).
-//! - Want of memory comes only for a text that is short, ASCII and not blank (the clause `late`).
+//! - `Memory` is answered only for a text that is short, ASCII and not blank (the clause `late`).
 //! - `one_tree` and `one_object` are the laws that no text spells two trees or two objects, `memory_is_no_fault` the law that
-//!   no text is refused for want of memory.
+//!   no text has the fault `Memory`.
 #![tactic(auto)]
 
 mod characters;
@@ -28,6 +28,7 @@ pub use faults::ReadFault;
 pub use laws::{memory_is_no_fault, one_object, one_tree};
 pub use objects::{Object, Part};
 pub use reading::{read_object, read_pattern};
+pub use sno_pattern::{Name, Names, Pattern, Text};
 
 #[cfg(test)]
 mod tests;

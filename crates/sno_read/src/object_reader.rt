@@ -40,7 +40,7 @@ impl<'a> Reader<'a> {
         if rest.characters.is_empty() {
             return Ok(rest);
         }
-        let rest = self.parted(rest)?;
+        let rest = self.some_blanks(rest)?;
         Ok(rest)
     }
 

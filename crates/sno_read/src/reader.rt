@@ -2,7 +2,7 @@
 ghost use Rattle.std.specs.Prelude.{ℕ, ◌<◌, ◌≤◌, length, IfOk, Ok};
 ghost use Rattle.sno_pattern.specs.Tree.{tree_of, Seq, Alt, Cond, Imm};
 ghost use Rattle.sno_read.specs.Gives.{Gives};
-ghost use Rattle.sno_read.specs.Reading.{place, cursor_at, starred_at, plain_of, counted_at, chosen_at, group_at, repeated_at, named_at, quoted_at, element_at, targets_at, item_at, items_at, parts_at, concatenation_at, inside};
+ghost use Rattle.sno_read.specs.Reading.{place, cursor_at, reference_at, plain_of, number_call_at, set_call_at, group_at, repetition_at, from_name_at, quotation_at, element_at, targets_at, item_at, items_at, parts_at, concatenation_at, inside};
 ghost use Rattle.sno_read.specs.Views.{env_of};
 ghost use Rattle.sno_read.specs.declared.faults.ReadFault.TheVariants.{UnknownName};
 
@@ -27,36 +27,36 @@ pub struct Reader<'a> {
 
 impl<'a> Reader<'a> {
     // A number in parentheses, behind the name of its call.
-    #[tactic(auto, unfolding(crate::specs::Reading::counted_at))]
-    fn counted(
+    #[tactic(auto, unfolding(crate::specs::Reading::number_call_at))]
+    fn number_call(
         &self,
         room: usize,
         call: NumberCall,
         rest: Piece<'a>,
     ) -> Result<(Pattern, Piece<'a>), Stop>
-        ensures read { Gives (λ p. (tree_of p.0, p.1.characters.now)) result (counted_at (env_of self.now) room call rest.entry.characters.now) }
+        ensures read { Gives (λ p. (tree_of p.0, p.1.characters.now)) result (number_call_at (env_of self.now) room call rest.entry.characters.now) }
         ensures shorter { IfOk result (λ p. length p.1.characters.now < length rest.entry.characters.now) }
     {
-        let rest = self.opened(room, rest)?;
+        let rest = self.open_parenthesis(room, rest)?;
         let (number, rest) = self.number(rest)?;
-        let rest = self.closed(rest)?;
+        let rest = self.close_parenthesis(rest)?;
         Ok((call.pattern(number), rest))
     }
 
     // A set in parentheses, behind the name of its call.
-    #[tactic(auto, unfolding(crate::specs::Reading::chosen_at))]
-    fn chosen(
+    #[tactic(auto, unfolding(crate::specs::Reading::set_call_at))]
+    fn set_call(
         &self,
         room: usize,
         call: SetCall,
         rest: Piece<'a>,
     ) -> Result<(Pattern, Piece<'a>), Stop>
-        ensures read { Gives (λ p. (tree_of p.0, p.1.characters.now)) result (chosen_at (env_of self.now) room call rest.entry.characters.now) }
+        ensures read { Gives (λ p. (tree_of p.0, p.1.characters.now)) result (set_call_at (env_of self.now) room call rest.entry.characters.now) }
         ensures shorter { IfOk result (λ p. length p.1.characters.now < length rest.entry.characters.now) }
     {
-        let rest = self.opened(room, rest)?;
+        let rest = self.open_parenthesis(room, rest)?;
         let (members, rest) = self.set(rest)?;
-        let rest = self.closed(rest)?;
+        let rest = self.close_parenthesis(rest)?;
         Ok((call.pattern(members), rest))
     }
 
@@ -101,14 +101,14 @@ impl<'a> Reader<'a> {
     {
         match characters::what_follows(rest.characters) {
             Following::Dot => {
-                let rest = self.signed(rest)?;
+                let rest = self.sign(rest)?;
                 let name = self.variable(rest)?;
                 let part = self.cond(pattern, name)?;
                 let read = self.targets(part, rest.after_name())?;
                 Ok(read)
             }
             Following::Dollar => {
-                let rest = self.signed(rest)?;
+                let rest = self.sign(rest)?;
                 let name = self.variable(rest)?;
                 let part = self.imm(pattern, name)?;
                 let read = self.targets(part, rest.after_name())?;
@@ -119,9 +119,9 @@ impl<'a> Reader<'a> {
     }
 
     // A literal.
-    #[tactic(auto, unfolding(crate::specs::Reading::quoted_at))]
-    fn quoted(&self, rest: Piece<'a>) -> Result<(Pattern, Piece<'a>), Stop>
-        ensures read { Gives (λ p. (tree_of p.0, p.1.characters.now)) result (quoted_at (env_of self.now) rest.entry.characters.now) }
+    #[tactic(auto, unfolding(crate::specs::Reading::quotation_at))]
+    fn quotation(&self, rest: Piece<'a>) -> Result<(Pattern, Piece<'a>), Stop>
+        ensures read { Gives (λ p. (tree_of p.0, p.1.characters.now)) result (quotation_at (env_of self.now) rest.entry.characters.now) }
         ensures shorter { IfOk result (λ p. length p.1.characters.now < length rest.entry.characters.now) }
     {
         let (content, rest) = self.literal(rest)?;
@@ -142,10 +142,10 @@ impl<'a> Reader<'a> {
     }
 
     // `*` and the name of a definition.
-    #[tactic(auto, unfolding(crate::specs::Reading::starred_at))]
-    fn starred(&self, rest: Piece<'a>) -> Result<(Pattern, Piece<'a>), Stop>
+    #[tactic(auto, unfolding(crate::specs::Reading::reference_at))]
+    fn reference(&self, rest: Piece<'a>) -> Result<(Pattern, Piece<'a>), Stop>
         requires { 0 < length rest.characters.now }
-        ensures read { Gives (λ p. (tree_of p.0, p.1.characters.now)) result (starred_at (env_of self.now) rest.entry.characters.now) }
+        ensures read { Gives (λ p. (tree_of p.0, p.1.characters.now)) result (reference_at (env_of self.now) rest.entry.characters.now) }
         ensures shorter { IfOk result (λ p. length p.1.characters.now < length rest.entry.characters.now) }
     {
         let (_sign, rest) = rest.split(1);
@@ -180,17 +180,17 @@ impl<'a> Reader<'a> {
         ensures read { Gives (λ p. (tree_of p.0, p.1.characters.now)) result (group_at (env_of self.now) room (inside (env_of self.now) room) rest.entry.characters.now) }
         ensures shorter { IfOk result (λ p. length p.1.characters.now < length rest.entry.characters.now) }
     {
-        let rest = self.opened(room, rest)?;
+        let rest = self.open_parenthesis(room, rest)?;
         let (pattern, rest) = self.alternation(room - 1, rest)?;
-        let rest = self.closed(rest)?;
+        let rest = self.close_parenthesis(rest)?;
         Ok((pattern, rest))
     }
 
     // What `ARBNO` repeats, behind its name.
     #[cycle(grammar)]
-    #[tactic(auto, unfolding(crate::specs::Reading::repeated_at))]
-    fn repeated(&self, room: usize, rest: Piece<'a>) -> Result<(Pattern, Piece<'a>), Stop>
-        ensures read { Gives (λ p. (tree_of p.0, p.1.characters.now)) result (repeated_at (env_of self.now) room (inside (env_of self.now) room) rest.entry.characters.now) }
+    #[tactic(auto, unfolding(crate::specs::Reading::repetition_at))]
+    fn repetition(&self, room: usize, rest: Piece<'a>) -> Result<(Pattern, Piece<'a>), Stop>
+        ensures read { Gives (λ p. (tree_of p.0, p.1.characters.now)) result (repetition_at (env_of self.now) room (inside (env_of self.now) room) rest.entry.characters.now) }
         ensures shorter { IfOk result (λ p. length p.1.characters.now < length rest.entry.characters.now) }
     {
         let (pattern, rest) = self.group(room, rest)?;
@@ -200,9 +200,9 @@ impl<'a> Reader<'a> {
 
     // What begins with a name: a word, a call or a definition.
     #[cycle(grammar)]
-    #[tactic(auto, unfolding(crate::specs::Reading::named_at))]
-    fn named(&self, room: usize, rest: Piece<'a>) -> Result<(Pattern, Piece<'a>), Stop>
-        ensures read { Gives (λ p. (tree_of p.0, p.1.characters.now)) result (named_at (env_of self.now) room (inside (env_of self.now) room) rest.entry.characters.now) }
+    #[tactic(auto, unfolding(crate::specs::Reading::from_name_at))]
+    fn from_name(&self, room: usize, rest: Piece<'a>) -> Result<(Pattern, Piece<'a>), Stop>
+        ensures read { Gives (λ p. (tree_of p.0, p.1.characters.now)) result (from_name_at (env_of self.now) room (inside (env_of self.now) room) rest.entry.characters.now) }
         ensures shorter { IfOk result (λ p. length p.1.characters.now < length rest.entry.characters.now) }
     {
         let name = self.name(rest)?;
@@ -213,9 +213,9 @@ impl<'a> Reader<'a> {
                 Ok((Pattern::Ref(number), behind))
             }
             Some(Keyword::Primitive(word)) => Ok((word.pattern(), behind)),
-            Some(Keyword::Counted(call)) => self.counted(room, call, behind),
-            Some(Keyword::Chosen(call)) => self.chosen(room, call, behind),
-            Some(Keyword::Repeated) => self.repeated(room, behind),
+            Some(Keyword::Counted(call)) => self.number_call(room, call, behind),
+            Some(Keyword::Chosen(call)) => self.set_call(room, call, behind),
+            Some(Keyword::Repeated) => self.repetition(room, behind),
         }
     }
 
@@ -227,11 +227,11 @@ impl<'a> Reader<'a> {
         ensures shorter { IfOk result (λ p. length p.1.characters.now < length rest.entry.characters.now) }
     {
         match characters::start_of(rest.characters) {
-            Start::Quote => self.quoted(rest),
+            Start::Quote => self.quotation(rest),
             Start::At => self.cursor(rest),
-            Start::Star => self.starred(rest),
+            Start::Star => self.reference(rest),
             Start::Open => self.group(room, rest),
-            Start::Letter => self.named(room, rest),
+            Start::Letter => self.from_name(room, rest),
             Start::Other => Err(self.unexpected(rest)),
         }
     }
@@ -276,7 +276,7 @@ impl<'a> Reader<'a> {
         let (pattern, rest) = self.concatenation(room, rest)?;
         match characters::what_follows(rest.characters) {
             Following::Bar => {
-                let rest = self.signed(rest)?;
+                let rest = self.sign(rest)?;
                 let (others, rest) = self.alternation(room, rest)?;
                 let joined = self.alt(pattern, others)?;
                 Ok((joined, rest))

@@ -4,10 +4,9 @@ ghost use Rattle.sno_pattern.specs.Tree.{Tree, tree_of};
 ghost use Rattle.sno_read.specs.declared.objects.Part.{Part};
 ghost use Rattle.sno_read.specs.Grammar.{Spells};
 ghost use Rattle.sno_read.specs.ObjectGrammar.{SpellsObject};
-ghost use Rattle.sno_pattern.specs.Texts.{first_non_ascii};
-ghost use Rattle.sno_read.specs.Gives.{Gives, Answers, OnMemory, OnWant};
+ghost use Rattle.sno_read.specs.Gives.{Gives, Answers, OnMemory, OnOutOfMemory};
 ghost use Rattle.sno_read.specs.Characters.{skip};
-ghost use Rattle.sno_read.specs.Reading.{checked, whole_of, pattern_of, AsksForMemory};
+ghost use Rattle.sno_read.specs.Reading.{short_ascii, whole_of, pattern_of, AsksForMemory};
 ghost use Rattle.sno_read.specs.Objects.{object_of};
 ghost use Rattle.sno_read.specs.Views.{env_of};
 
@@ -16,7 +15,7 @@ use crate::faults::{ReadFault, Stop};
 use crate::objects::Object;
 use crate::piece::Piece;
 use crate::reader::Reader;
-use sno_pattern::{Names, Pattern};
+use sno_pattern::{Names, Pattern, first_non_ascii};
 use std::alloc::Global;
 
 /// The most characters of a pattern's text, and of an object's.
@@ -28,16 +27,10 @@ pub const MAX_OPEN: usize = 100;
 /// The depth of the deepest tree.
 pub const MAX_DEPTH: usize = 1_000;
 
-fn first_non_ascii(text: &[u8]) -> Option<usize>
-    ensures { result ≡ first_non_ascii text.now }
-{
-    text.iter().position(|c| !c.is_ascii())
-}
-
 // The text, if it is short and ASCII.
 #[tactic(auto, using(sno_pattern::proofs::TextLemmas::all_ascii))]
-fn checked(text: &[u8]) -> Result<Piece<'_>, Stop>
-    ensures read { Gives (λ p. p.characters.now) result (checked text.now) }
+fn check(text: &[u8]) -> Result<Piece<'_>, Stop>
+    ensures read { Gives (λ p. p.characters.now) result (short_ascii text.now) }
     ensures same { IfOk result (λ p. p.characters.now ≡ text.now) }
     ensures late { OnMemory result ⊥ }
 {
@@ -51,7 +44,7 @@ fn checked(text: &[u8]) -> Result<Piece<'_>, Stop>
 }
 
 // The pattern that a whole text spells.
-#[tactic(auto, unfolding(crate::specs::Reading::whole_of, crate::specs::Reading::shallow, crate::specs::Reading::ended, crate::specs::Reading::alternation_at))]
+#[tactic(auto, unfolding(crate::specs::Reading::whole_of, crate::specs::Reading::shallow, crate::specs::Reading::end_at, crate::specs::Reading::alternation_at))]
 fn whole(reader: &Reader, text: Piece) -> Result<Pattern, Stop>
     ensures read { Gives tree_of result (whole_of (env_of reader.now) text.entry.characters.now) }
     ensures late { OnMemory result (0 < length (skip text.entry.characters.now)) }
@@ -77,7 +70,7 @@ fn pattern(alloc: Global, names: &Names, earlier: usize, text: &[u8]) -> Result<
     ensures read { Gives tree_of result (pattern_of names.now earlier text.now) }
     ensures late { OnMemory result (AsksForMemory text.now) }
 {
-    let piece = checked(text)?;
+    let piece = check(text)?;
     let total = text.len();
     let pattern = whole(
         &Reader {
@@ -96,7 +89,7 @@ fn object(alloc: Global, names: &Names, text: &[u8]) -> Result<Object, Stop>
     ensures read { Gives (λ object. object) result (object_of names.now text.now) }
     ensures late { OnMemory result (AsksForMemory text.now) }
 {
-    let piece = checked(text)?;
+    let piece = check(text)?;
     let total = text.len();
     let reader = Reader {
         alloc,
@@ -113,14 +106,14 @@ fn object(alloc: Global, names: &Names, text: &[u8]) -> Result<Object, Stop>
     Ok(Object::of(parts))
 }
 
-fn answered_pattern(
+fn pattern_answer(
     alloc: Global,
     names: &Names,
     earlier: usize,
     text: &[u8],
 ) -> Result<Pattern, ReadFault>
     ensures exact { Answers tree_of result (pattern_of names.now earlier text.now) }
-    ensures late { OnWant result (AsksForMemory text.now) }
+    ensures late { OnOutOfMemory result (AsksForMemory text.now) }
 {
     match pattern(alloc, names, earlier, text) {
         Ok(pattern) => Ok(pattern),
@@ -129,9 +122,9 @@ fn answered_pattern(
     }
 }
 
-fn answered_object(alloc: Global, names: &Names, text: &[u8]) -> Result<Object, ReadFault>
+fn object_answer(alloc: Global, names: &Names, text: &[u8]) -> Result<Object, ReadFault>
     ensures exact { Answers (λ object. object) result (object_of names.now text.now) }
-    ensures late { OnWant result (AsksForMemory text.now) }
+    ensures late { OnOutOfMemory result (AsksForMemory text.now) }
 {
     match object(alloc, names, text) {
         Ok(object) => Ok(object),
@@ -156,13 +149,13 @@ pub fn read_pattern(
     // Which answer it is, with the fault and its place.
     ensures exact { Answers tree_of result (pattern_of names.now earlier text.now) }
     // Memory is asked for only where length, characters and blanks give no answer yet.
-    ensures late { OnWant result (AsksForMemory text.now) }
+    ensures late { OnOutOfMemory result (AsksForMemory text.now) }
     // What is read is spelled so.
     ensures found { IfOk result (λ p. Spells names.now earlier text.now (tree_of p)) }
     // What is spelled so is read.
     ensures only { (t : Tree) → Spells names.now earlier text.now t → Answers tree_of result (Ok t) }
 {
-    answered_pattern(alloc, names, earlier, text)
+    pattern_answer(alloc, names, earlier, text)
 }
 
 /// The object that the text spells; a text of blanks alone is the object of no parts.
@@ -175,11 +168,11 @@ pub fn read_object(alloc: Global, names: &Names, text: &[u8]) -> Result<Object, 
     // Which answer it is, with the fault and its place.
     ensures exact { Answers (λ object. object) result (object_of names.now text.now) }
     // Memory is asked for only where length, characters and blanks give no answer yet.
-    ensures late { OnWant result (AsksForMemory text.now) }
+    ensures late { OnOutOfMemory result (AsksForMemory text.now) }
     // What is read is spelled so.
     ensures found { IfOk result (λ parts. SpellsObject names.now text.now parts) }
     // What is spelled so is read.
     ensures only { (parts : List Part) → SpellsObject names.now text.now parts → Answers (λ object. object) result (Ok parts) }
 {
-    answered_object(alloc, names, text)
+    object_answer(alloc, names, text)
 }

@@ -195,7 +195,8 @@ fn faults_of_bytes(rt: HostRuntime) -> Result<(), Fail> {
 #[test]
 fn faults_of_names(rt: HostRuntime) -> Result<(), Fail> {
     let rows = [
-        (1, b"Q".as_slice(), ReadFault::UnknownName(0)),
+        (0, b"'a' P".as_slice(), ReadFault::UnknownName(4)),
+        (1, b"Q", ReadFault::UnknownName(0)),
         (2, b"q", ReadFault::UnknownName(0)),
         (2, b"*R", ReadFault::UnknownName(1)),
         (2, b"* P", ReadFault::Unexpected(1)),

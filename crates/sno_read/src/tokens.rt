@@ -5,7 +5,7 @@ ghost use Rattle.sno_pattern.specs.Identifiers.{is_name_char, is_reserved};
 ghost use Rattle.sno_pattern.specs.NameList.{place_of};
 ghost use Rattle.sno_read.specs.Gives.{Gives};
 ghost use Rattle.sno_read.specs.Characters.{behind, skip};
-ghost use Rattle.sno_read.specs.Reading.{place, literal_at, set_at, number_at, name_at, variable_at, opened, closed, parted, signed};
+ghost use Rattle.sno_read.specs.Reading.{place, literal_at, set_at, number_at, name_at, variable_at, opening_at, closing_at, blanks_at, sign_at};
 ghost use Rattle.sno_read.specs.Views.{env_of};
 ghost use Rattle.sno_read.specs.declared.faults.ReadFault.TheVariants.{Unexpected};
 ghost use Rattle.sno_read.specs.declared.faults.Stop.TheVariants.{Fault};
@@ -126,9 +126,9 @@ impl<'a> Reader<'a> {
     }
 
     /// An opening parenthesis and blanks, where so many more may be opened.
-    #[tactic(auto, unfolding(crate::specs::Reading::opened))]
-    pub fn opened(&self, room: usize, rest: Piece<'a>) -> Result<Piece<'a>, Stop>
-        ensures read { Gives (λ p. p.characters.now) result (opened (env_of self.now) room rest.entry.characters.now) }
+    #[tactic(auto, unfolding(crate::specs::Reading::opening_at))]
+    pub fn open_parenthesis(&self, room: usize, rest: Piece<'a>) -> Result<Piece<'a>, Stop>
+        ensures read { Gives (λ p. p.characters.now) result (opening_at (env_of self.now) room rest.entry.characters.now) }
         ensures shorter { IfOk result (λ p. length p.characters.now < length rest.entry.characters.now) }
         ensures more { OnOk result (0 < room) }
     {
@@ -143,9 +143,9 @@ impl<'a> Reader<'a> {
     }
 
     /// Blanks and a closing parenthesis.
-    #[tactic(auto, unfolding(crate::specs::Reading::closed))]
-    pub fn closed(&self, rest: Piece<'a>) -> Result<Piece<'a>, Stop>
-        ensures read { Gives (λ p. p.characters.now) result (closed (env_of self.now) rest.entry.characters.now) }
+    #[tactic(auto, unfolding(crate::specs::Reading::closing_at))]
+    pub fn close_parenthesis(&self, rest: Piece<'a>) -> Result<Piece<'a>, Stop>
+        ensures read { Gives (λ p. p.characters.now) result (closing_at (env_of self.now) rest.entry.characters.now) }
         ensures shorter { IfOk result (λ p. length p.characters.now < length rest.entry.characters.now) }
     {
         let rest = rest.after_blanks();
@@ -157,9 +157,9 @@ impl<'a> Reader<'a> {
     }
 
     /// Blanks, at least one.
-    #[tactic(auto, unfolding(crate::specs::Reading::parted))]
-    pub fn parted(&self, rest: Piece<'a>) -> Result<Piece<'a>, Stop>
-        ensures read { Gives (λ p. p.characters.now) result (parted (env_of self.now) rest.entry.characters.now) }
+    #[tactic(auto, unfolding(crate::specs::Reading::blanks_at))]
+    pub fn some_blanks(&self, rest: Piece<'a>) -> Result<Piece<'a>, Stop>
+        ensures read { Gives (λ p. p.characters.now) result (blanks_at (env_of self.now) rest.entry.characters.now) }
         ensures shorter { IfOk result (λ p. length p.characters.now ≤ length rest.entry.characters.now) }
     {
         if !characters::begins_blank(rest.characters) {
@@ -169,14 +169,14 @@ impl<'a> Reader<'a> {
     }
 
     /// What stands behind blanks, a sign and blanks again.
-    #[tactic(auto, using(crate::proofs::Runs::runs), unfolding(crate::specs::Reading::signed))]
-    pub fn signed(&self, rest: Piece<'a>) -> Result<Piece<'a>, Stop>
+    #[tactic(auto, using(crate::proofs::Runs::runs), unfolding(crate::specs::Reading::sign_at))]
+    pub fn sign(&self, rest: Piece<'a>) -> Result<Piece<'a>, Stop>
         requires { 0 < length (skip rest.characters.now) }
-        ensures read { Gives (λ p. p.characters.now) result (signed (env_of self.now) rest.entry.characters.now) }
+        ensures read { Gives (λ p. p.characters.now) result (sign_at (env_of self.now) rest.entry.characters.now) }
         ensures shorter { IfOk result (λ p. length p.characters.now < length rest.entry.characters.now) }
     {
         let (_sign, rest) = rest.after_blanks().split(1);
-        let rest = self.parted(rest)?;
+        let rest = self.some_blanks(rest)?;
         Ok(rest)
     }
 }

@@ -1,8 +1,5 @@
 -- What the variables are bound to.
-use Rattle.std.specs.Prelude.{ℕ, List, [], ◌∷◌, Option, Some, None, map}
-use Rattle.std.specs.List.{IsDistinct}
-use Rattle.std.specs.Map.{lookup as find_value}
-use Rattle.indexmap.specs.IndexMap.{insert_entry}
+use Rattle.std.specs.Prelude.{◌≡◌, ℕ, List, [], ◌∷◌, Option, Some, None, if◌then◌else◌}
 use Rattle.sno_pattern.specs.Identifiers.{same}
 use Rattle.sno_pattern.specs.Ends.{part}
 use Rattle.sno_pattern.specs.Events.{CondList}
@@ -18,17 +15,20 @@ use Rattle.sno_statement.specs.declared.binding.Datum.TheVariants.{Str, Int}
 abbrev pub Bound : Type 0
 Bound = List (List ℕ × Datum)
 
--- no variable stands twice
-abbrev pub AreDistinct : Bound → Type 0
-AreDistinct bound = IsDistinct same (map (λ b. b.0) bound)
-
--- one more assignment: a variable keeps its first place and has its last value
+-- one more assignment: a variable that is there keeps its place and takes the new value, and a new one goes last
 abbrev pub bind : Bound → List ℕ → Datum → Bound
-bind bound name value = insert_entry same bound name value
+bind [] name value = (name, value) ∷ []
+bind (b ∷ bound) name value = if same name b.0 then (b.0, value) ∷ bound else b ∷ bind bound name value
 
--- the value of a variable
+-- the value of a variable; none where it was never assigned
 abbrev pub lookup : List ℕ → Bound → Option Datum
-lookup name bound = find_value (same name) bound
+lookup name [] = None
+lookup name (b ∷ bound) = if same name b.0 then Some b.1 else lookup name bound
+
+-- no variable stands twice: none has a value among those after it
+abbrev pub AreDistinct : Bound → Type 0
+AreDistinct [] = Unit {0}
+AreDistinct (b ∷ bound) = (lookup b.0 bound ≡ None) × AreDistinct bound
 
 -- a part of the text t gives a string, a cursor a number
 abbrev pub datum_of : List ℕ → What → Datum

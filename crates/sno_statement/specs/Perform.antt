@@ -4,17 +4,24 @@ use Rattle.std.specs.Option.{option_map}
 use Rattle.std.specs.Arc.{arc_value}
 use Rattle.std.specs.declared.sync.Arc.{Arc}
 use Rattle.std.proofs.Common.{Global}
-use Rattle.sno_pattern.specs.Outcome.{outcome}
+use Rattle.sno_pattern.specs.Outcome.{outcome, trials}
 use Rattle.sno_pattern.specs.declared.found.Found.{Found}
 use Rattle.sno_pattern.specs.declared.found.Hit.{Hit}
+use Rattle.sno_machine.specs.declared.faults.MatchFault.{MatchFault}
+use Rattle.sno_machine.specs.declared.faults.MatchFault.TheVariants as matching
 use Rattle.sno_statement.specs.Task.{Task}
 use Rattle.sno_statement.specs.Bindings.{Bound, bindings_of}
-use Rattle.sno_statement.specs.Value.{value_of, replaced}
+use Rattle.sno_statement.specs.Value.{value_of, new_text}
 use Rattle.sno_read.specs.declared.objects.Part.{Part}
 use Rattle.sno_statement.specs.declared.outcomes.Outcome.{Outcome}
 use Rattle.sno_statement.specs.declared.outcomes.Outcome.TheVariants as outcomes
 use Rattle.sno_statement.specs.declared.outcomes.StatementFault.{StatementFault}
 use Rattle.sno_statement.specs.declared.outcomes.StatementFault.TheVariants as fault
+
+-- a match that is refused refuses the statement for the same reason
+abbrev pub of_match : MatchFault → StatementFault
+of_match matching.TooManyTrials = fault.TooManyTrials
+of_match matching.Memory = fault.Memory
 
 -- an outcome by value: the cursors of the match, the bindings, and the new text exactly where there is an object; or the failure
 -- with the bindings that stay
@@ -30,29 +37,34 @@ with_text s e bound after = if nat_lt 65536 (length after) then Err fault.TextTo
 abbrev pub finish : Option (List Part) → List ℕ → Bound → Option Hit → Result Done StatementFault
 finish object t bound None = Ok (Failed bound)
 finish None t bound (Some hit) = Ok (Matched hit.start hit.end bound None)
-finish (Some parts) t bound (Some hit) = with_text hit.start hit.end bound (replaced t hit.start hit.end (value_of bound parts))
+finish (Some parts) t bound (Some hit) = with_text hit.start hit.end bound (new_text t hit.start hit.end (value_of bound parts))
 
 -- what a match that came out so does
 abbrev pub finish_found : Option (List Part) → List ℕ → Found → Result Done StatementFault
 finish_found object t found = finish object t (bindings_of t found) found.end
 
--- what the statement does to the text t
+-- What the statement does to the text t. It is refused where the match takes more trials than its limit, which is looked at before
+-- the new text's length.
 abbrev pub perform : Task → List ℕ → Result Done StatementFault
-perform s t = finish_found s.object t (outcome t s.rules.bodies s.pattern s.anchored)
+perform s t =
+    if nat_lt s.limit (trials t s.rules.bodies s.pattern s.anchored) then Err fault.TooManyTrials
+    else finish_found s.object t (outcome t s.rules.bodies s.pattern s.anchored)
 
 -- an outcome of the program, by value
 abbrev pub done_of : Outcome → Done
 done_of (outcomes.Matched s e bound after) = Matched s e bound (option_map arc_value after)
 done_of (outcomes.Failed bound) = Failed bound
 
--- the answer is the one wanted, by value, or want of memory
+-- the answer is the one wanted, by value, or memory was refused
 abbrev pub Gives : Result Outcome StatementFault → Result Done StatementFault → Type 0
 Gives (Ok outcome) wanted = wanted ≡ Ok (done_of outcome)
 Gives (Err fault.TextTooLong) wanted = wanted ≡ Err fault.TextTooLong
 Gives (Err fault.Memory) wanted = Unit {0}
+Gives (Err fault.TooManyTrials) wanted = wanted ≡ Err fault.TooManyTrials
 
--- the text answered is the one wanted; it is refused where that is too long; or want of memory, for a text that isn't
+-- the text answered is the one wanted; `TextTooLong` where that is too long; or memory was refused, for a text that isn't
 abbrev pub GivesText : Result (Arc (List ℕ) Global) StatementFault → List ℕ → Type 0
 GivesText (Ok text) wanted = (arc_value text ≡ wanted) × (length wanted ≤ 65536)
 GivesText (Err fault.TextTooLong) wanted = 65536 < length wanted
 GivesText (Err fault.Memory) wanted = length wanted ≤ 65536
+GivesText (Err fault.TooManyTrials) wanted = ⊥

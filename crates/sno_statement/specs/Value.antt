@@ -24,5 +24,5 @@ abbrev pub value_of : Bound → List Part → List ℕ
 value_of bound parts = flat_map (part_value bound) parts
 
 -- the text in which the part from s to e is replaced
-abbrev pub replaced : List ℕ → ℕ → ℕ → List ℕ → List ℕ
-replaced t s e value = take s t ++ (value ++ drop e t)
+abbrev pub new_text : List ℕ → ℕ → ℕ → List ℕ → List ℕ
+new_text t s e value = take s t ++ (value ++ drop e t)

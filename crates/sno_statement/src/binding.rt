@@ -44,6 +44,7 @@ impl Bindings {
     }
 
     /// Assigns a value. A variable keeps its first place. Where memory is refused nothing changes.
+    #[tactic(auto, using(crate::proofs::Entries::bind_inserts))]
     pub(crate) fn set(&mut self, name: Name, value: Datum) -> Result<(), AllocError>
         ensures { OnOk result (self.new ≡ bind self.old name value) }
     {
@@ -74,6 +75,7 @@ impl Bindings {
     }
 
     /// The last value of a variable; none where it was never assigned.
+    #[tactic(auto, using(crate::proofs::Entries::lookup_finds))]
     pub fn value(&self, name: &Name) -> Option<&Datum>
         ensures { option_map (λ d. d.now) result ≡ lookup name.now self.now }
     {

@@ -1,15 +1,12 @@
 //! How many characters a new text has, which is known before any is copied.
 ghost use Rattle.std.specs.Prelude.{◌≡◌, ◌≤◌, ◌<◌, IfSome, IfNone, length};
 ghost use Rattle.std.specs.Fmt.{decimal};
-ghost use Rattle.sno_statement.specs.Value.{part_value, value_of, replaced};
+ghost use Rattle.sno_statement.specs.Value.{part_value, value_of, new_text};
 
 use crate::values::{back, front};
 use crate::{Bindings, Datum};
-use sno_pattern::Text;
+use sno_pattern::{MAX_TEXT, Text};
 use sno_read::Part;
-
-/// The most characters that a text has.
-const MAX_TEXT: usize = 65_536;
 
 /// How many digits a number has.
 #[tactic(auto, using(crate::proofs::Decimals::one_digit, crate::proofs::Decimals::one_digit_more))]
@@ -47,9 +44,9 @@ pub(crate) fn new_length(
     parts: &[Part],
     bindings: &Bindings,
 ) -> Option<usize>
-    ensures value { IfSome result (λ n. n ≡ length (replaced subject.now start end (value_of bindings.now parts.now))) }
+    ensures value { IfSome result (λ n. n ≡ length (new_text subject.now start end (value_of bindings.now parts.now))) }
     ensures short { IfSome result (λ n. n ≤ 65536) }
-    ensures long { IfNone result (65536 < length (replaced subject.now start end (value_of bindings.now parts.now))) }
+    ensures long { IfNone result (65536 < length (new_text subject.now start end (value_of bindings.now parts.now))) }
 {
     let mut total = front(subject.bytes(), start).len() + back(subject.bytes(), end).len();
     for part in parts {

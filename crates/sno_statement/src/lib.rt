@@ -8,7 +8,7 @@
 //! # What is promised, and where
 //!
 //! The contract of `perform` is one equation: its answer, by value, is `perform` of `specs/Perform.antt` of the statement and the
-//! text, or want of memory. That definition is put together from these, each in the language's own terms and none of them the
+//! text, or `Memory`. That definition is put together from these, each in the language's own terms and none of them the
 //! program written again:
 //!
 //! - **The match** is `outcome` of `sno_pattern` (its `specs/Outcome.antt`): the first success in the order of starts and
@@ -19,10 +19,10 @@
 //! - **The value of the object** (`specs/Value.antt`) is taken from the bindings as they stand after all these assignments.
 //!   A literal is itself, a string itself, a number its decimal text, a variable that was never assigned the null string.
 //! - **The replacement** (`specs/Perform.antt`): the part between the two cursors of the match gives place to that value; what
-//!   stands before and behind it stays. After a failed match nothing is replaced and the object is not evaluated, but
+//!   stands before and after it in the text stays. After a failed match nothing is replaced and the object is not evaluated, but
 //!   what was assigned at once stays bound. A statement with no object replaces nothing.
-//! - **The limit** (`specs/Perform.antt`): `TextTooLong` is answered exactly where the match succeeds and the new text
-//!   would have more than 65,536 characters.
+//! - **The limits** (`specs/Perform.antt`): `TooManyTrials` is answered exactly where the match takes more trials than the statement's
+//!   limit, and `TextTooLong` exactly where it doesn't, succeeds, and the new text would have more than 65,536 characters.
 //!
 //! What each file has:
 //!
@@ -37,7 +37,7 @@
 //!
 //! # What is not promised
 //!
-//! Want of memory is a possible answer of `perform` at any growth, and no clause says that memory is there; tests show that it is
+//! `Memory` is a possible answer of `perform` at any growth, and no clause says that memory is there; tests show that it is
 //! not always answered. How long a match takes and how much memory and stack it needs are those of `sno_machine::first`.
 #![tactic(auto)]
 
@@ -51,5 +51,7 @@ mod values;
 pub use binding::{Bindings, Datum};
 pub use outcomes::{Outcome, StatementFault};
 pub use performing::perform;
+pub use sno_machine::MatchFault;
+pub use sno_pattern::{Name, Pattern, Rules, Text, TextName};
 pub use sno_read::{Object, Part};
 pub use statements::Statement;

@@ -1,5 +1,6 @@
 //! What comes of a statement.
 use crate::Bindings;
+use sno_machine::MatchFault;
 use sno_pattern::Text;
 use std::alloc::{AllocError, AllocFailed};
 use std::sync::Arc;
@@ -35,6 +36,23 @@ pub enum StatementFault {
     /// Memory was refused, at whatever growth it was.
     #[error("out of memory")]
     Memory,
+    /// The match takes more trials than the statement's limit.
+    #[error("too many trials")]
+    TooManyTrials,
+}
+
+impl From<MatchFault> for StatementFault {
+    ghost use Rattle.std.specs.Prelude.{◌≡◌};
+    ghost use Rattle.sno_statement.specs.Perform.{of_match};
+
+    ghost from_gives = { λ fault e. e ≡ of_match fault };
+
+    fn from(fault: MatchFault) -> StatementFault {
+        match fault {
+            MatchFault::TooManyTrials => StatementFault::TooManyTrials,
+            MatchFault::Memory => StatementFault::Memory,
+        }
+    }
 }
 
 impl From<AllocError> for StatementFault {

@@ -3,18 +3,18 @@ ghost use Rattle.std.specs.Prelude.{◌≡◌, IfOk, OnOk, [], Some};
 ghost use Rattle.std.specs.Option.{option_copied};
 ghost use Rattle.sno_pattern.specs.CursorLaws.{CursorLies, SetsLie};
 ghost use Rattle.sno_statement.specs.Bindings.{datum_of, bind_sets, bind_conds};
-ghost use Rattle.sno_statement.specs.Value.{value_of, replaced};
+ghost use Rattle.sno_statement.specs.Value.{value_of, new_text};
 ghost use Rattle.sno_statement.specs.Perform.{Gives, GivesText, finish, finish_found, perform};
 
 use crate::lengths::new_length;
-use crate::values::{part, replaced};
+use crate::values::{part, replace};
 use crate::{Bindings, Datum, Outcome, Statement, StatementFault};
 use sno_pattern::{Assign, Found, Hit, Name, Text, What, cursors_lie_within_the_text};
 use sno_read::{Object, Part};
 use std::alloc::{AllocError, Global};
 use std::sync::Arc;
 
-/// The value that is assigned at once.
+/// The value of an assignment that is done at once.
 fn datum(alloc: Global, subject: &Text, what: What) -> Result<Datum, AllocError>
     requires { CursorLies subject.now what }
     ensures { IfOk result (λ d. d ≡ datum_of subject.now what) }
@@ -31,7 +31,7 @@ fn datum(alloc: Global, subject: &Text, what: What) -> Result<Datum, AllocError>
     }
 }
 
-/// The assignments that were done at once bound behind what is bound.
+/// Binds what was assigned at once, after what is bound already.
 fn bind_at_once(
     alloc: Global,
     subject: &Text,
@@ -48,7 +48,7 @@ fn bind_at_once(
     Ok(())
 }
 
-/// The conditional assignments bound behind what is bound.
+/// Binds the conditional assignments, after what is bound already.
 fn bind_later(
     alloc: Global,
     subject: &Text,
@@ -95,20 +95,20 @@ fn new_text(
     hit: &Hit,
     bindings: &Bindings,
 ) -> Result<Arc<Text>, StatementFault>
-    ensures { GivesText result (replaced subject.now hit.now.start hit.now.end (value_of bindings.now parts.now)) }
+    ensures { GivesText result (new_text subject.now hit.now.start hit.now.end (value_of bindings.now parts.now)) }
 {
     let Some(length) = new_length(subject, hit.start, hit.end, parts, bindings) else {
         return Err(StatementFault::TextTooLong);
     };
-    let characters = replaced(alloc, subject, hit.start, hit.end, parts, bindings, length)?;
+    let characters = replace(alloc, subject, hit.start, hit.end, parts, bindings, length)?;
     match Text::new(characters) {
         Ok(text) => Ok(Arc::new(alloc, text)?),
         Err(_) => unreachable!(),
     }
 }
 
-/// What a match that came out so does to the text.
-fn finished(
+/// What is done to the text after a match that came out so.
+fn finish(
     alloc: Global,
     object: Option<&Object>,
     subject: &Text,
@@ -132,12 +132,13 @@ fn finished(
 /// Performs a statement on a text: matches the pattern, binds the variables and, where the statement has an object and the match
 /// succeeds, makes the new text. Statement and text stay as they are, whatever is answered.
 ///
-/// `Matched` has the two cursors of the first success, the bindings of the assignments done at once and, behind them, of the
-/// conditional ones, and the new text exactly where there is an object. `Failed` has what was assigned at once; nothing is replaced
+/// `Matched` has the two cursors of the first success, the bindings of the immediate assignments and, after them, of the
+/// conditional ones, and the new text exactly where there is an object. `Failed` has what was assigned immediately; nothing is replaced
 /// then, and the object is not evaluated.
 ///
-/// Refused with `TextTooLong` exactly where the new text would have more than 65,536 characters, and with `Memory` where
-/// memory is, at the growth that was refused and so in place of any refusal that would have come later.
+/// Refused with `TooManyTrials` exactly where the match takes more trials than the statement's limit; then with `TextTooLong` exactly
+/// where the new text would have more than 65,536 characters; and with `Memory` where memory is, at the growth that was refused and
+/// so in place of any refusal that would have come later.
 pub fn perform(
     alloc: Global,
     statement: &Statement,
@@ -145,14 +146,15 @@ pub fn perform(
 ) -> Result<Outcome, StatementFault>
     ensures { Gives result (perform statement.now subject.now) }
 {
+    cursors_lie_within_the_text();
     let found = sno_machine::first(
         alloc,
         statement.rules(),
         statement.pattern(),
         subject,
         statement.anchored(),
+        statement.limit(),
     )?;
-    cursors_lie_within_the_text();
-    let outcome = finished(alloc, statement.object(), subject, &found)?;
+    let outcome = finish(alloc, statement.object(), subject, &found)?;
     Ok(outcome)
 }

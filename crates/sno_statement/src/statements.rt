@@ -3,11 +3,15 @@ ghost use Rattle.std.specs.Prelude.{◌≡◌, length, IsTrue};
 ghost use Rattle.std.specs.Option.{option_map};
 ghost use Rattle.std.specs.Arc.{arc_value};
 ghost use Rattle.sno_pattern.specs.Tree.{tree_of, refs_below};
+ghost use Rattle.sno_statement.specs.Task.{IsLimit, usual_limit, with_limit};
 
 use sno_pattern::{Pattern, Rules, TextName};
 use sno_read::Object;
 use std::marker::Model;
 use std::sync::Arc;
+
+/// The limit of a statement that names none, in trials.
+const USUAL_LIMIT: u32 = 1_000_000;
 
 /// A statement: a pattern to be sought in a text, and what the matched part is to be replaced by, if anything. The definitions cover
 /// the pattern: each of its references is to one of them. The readers take no memory.
@@ -19,13 +23,14 @@ pub struct Statement {
     object: Option<Object>,
     text: TextName,
     anchored: bool,
+    limit: u32,
 }
 
 impl Model for Statement {
     ghost use Rattle.std.specs.Prelude.{length, IsTrue};
     ghost use Rattle.std.specs.Arc.{arc_value};
     ghost use Rattle.sno_pattern.specs.Tree.{tree_of, refs_below};
-    ghost use Rattle.sno_statement.specs.Task.{Task, task_code};
+    ghost use Rattle.sno_statement.specs.Task.{Task, task_code, IsLimit};
 
     ghost Value = { Task };
 
@@ -38,15 +43,17 @@ impl Model for Statement {
       object = s.object;
       text = s.text;
       anchored = s.anchored;
+      limit = s.limit;
     } };
 
-    ghost invariant = { λ s. IsTrue (refs_below (length (arc_value s.rules).bodies) (tree_of s.pattern)) };
+    ghost invariant = { λ s. IsTrue (refs_below (length (arc_value s.rules).bodies) (tree_of s.pattern)) × IsLimit s.limit };
 }
 
 impl Statement {
     /// A statement on the text with this name, of exactly these parts. The rules have to cover the pattern (`Rules::covers`), as they
     /// do where the pattern was read with their names. With no object it only matches; anchored, a match begins at cursor 0 alone.
-    /// The number is the caller's own: nothing here depends on it. It takes no memory and is never refused.
+    /// The number is the caller's own: nothing here depends on it. A match may have 1,000,000 trials; [`Statement::limited`] says
+    /// otherwise. It takes no memory and is never refused.
     pub fn new(
         number: u32,
         rules: Arc<Rules>,
@@ -63,6 +70,7 @@ impl Statement {
           object = object;
           text = text;
           anchored = anchored;
+          limit = usual_limit;
         } }
     {
         Statement {
@@ -72,7 +80,18 @@ impl Statement {
             object,
             text,
             anchored,
+            limit: USUAL_LIMIT,
         }
+    }
+
+    /// The same statement with this limit: how many trials a match may have, 1 to 1,000,000,000. It takes no memory and is never refused.
+    pub fn limited(self, limit: u32) -> Statement
+        requires { IsLimit limit }
+        ensures { result ≡ with_limit self limit }
+    {
+        let mut limited = self;
+        limited.limit = limit;
+        limited
     }
 
     /// The caller's number, as it was given.
@@ -116,5 +135,13 @@ impl Statement {
         ensures { result ≡ self.now.anchored }
     {
         self.anchored
+    }
+
+    /// How many trials a match may have, 1 to 1,000,000,000.
+    pub fn limit(&self) -> u32
+        ensures value { result ≡ self.now.limit }
+        ensures within { IsLimit self.now.limit }
+    {
+        self.limit
     }
 }

@@ -4,7 +4,7 @@ ghost use Rattle.std.specs.List.{list_all};
 ghost use Rattle.std.specs.Char.{is_ascii};
 ghost use Rattle.std.specs.Fmt.{decimal};
 ghost use Rattle.sno_pattern.specs.Ends.{part};
-ghost use Rattle.sno_statement.specs.Value.{part_value, value_of, replaced};
+ghost use Rattle.sno_statement.specs.Value.{part_value, value_of, new_text};
 
 use crate::{Bindings, Datum};
 use sno_pattern::Text;
@@ -22,7 +22,7 @@ pub(crate) fn front(characters: &[u8], count: usize) -> &[u8]
     }
 }
 
-/// The characters behind the first ones.
+/// The characters past the first ones.
 pub(crate) fn back(characters: &[u8], count: usize) -> &[u8]
     ensures { result.now ≡ drop count characters.now }
 {
@@ -50,7 +50,7 @@ pub(crate) fn part(
     }
 }
 
-/// Puts a number in decimal digits behind what is there.
+/// Appends a number in decimal digits.
 #[tactic(auto, using(crate::proofs::Ascii::ascii_decimal))]
 fn put_number(alloc: Global, number: u32, out: &mut Vec<u8>) -> Result<(), AllocError>
     ensures value { OnOk result (out.new.items ≡ out.old.items ++ decimal number) }
@@ -60,7 +60,7 @@ fn put_number(alloc: Global, number: u32, out: &mut Vec<u8>) -> Result<(), Alloc
     out.extend_from_slice(digits.as_bytes())
 }
 
-/// Puts a part's value behind what is there.
+/// Appends a part's value.
 fn put_part(
     alloc: Global,
     part: &Part,
@@ -83,7 +83,7 @@ fn put_part(
 /// The characters in which the part between two cursors is replaced by the object's value, in memory that is taken at once where
 /// `length` is how many they are.
 #[tactic(auto, using(crate::proofs::Ascii::ascii_append, crate::proofs::Ascii::ascii_take, crate::proofs::Ascii::ascii_drop))]
-pub(crate) fn replaced(
+pub(crate) fn replace(
     alloc: Global,
     subject: &Text,
     start: usize,
@@ -92,7 +92,7 @@ pub(crate) fn replaced(
     bindings: &Bindings,
     length: usize,
 ) -> Result<Vec<u8>, AllocError>
-    ensures value { IfOk result (λ v. v.items ≡ replaced subject.now start end (value_of bindings.now parts.now)) }
+    ensures value { IfOk result (λ v. v.items ≡ new_text subject.now start end (value_of bindings.now parts.now)) }
     ensures ascii { IfOk result (λ v. IsTrue (list_all is_ascii v.items)) }
 {
     let mut out = Vec::with_capacity(alloc, length)?;

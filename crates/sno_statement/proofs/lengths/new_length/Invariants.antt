@@ -1,10 +1,10 @@
 -- What is counted so far, with the parts that are left, comes to the same.
 use Rattle.std.proofs.Common.{◌≡◌, ◌+◌, ◌≤◌, drop, length}
-use Rattle.sno_statement.specs.Value.{value_of, replaced}
+use Rattle.sno_statement.specs.Value.{value_of, new_text}
 use Rattle.sno_statement.proofs.lengths.new_length.Given as goal
 
 abbrev pub invariant-loop-part : goal.invariant-loop-part
 invariant-loop-part l = record {
-  counted : l.total + length (value_of l.bindings (drop l.part-index l.parts)) ≡ length (replaced l.subject l.start l.end (value_of l.bindings l.parts));
+  counted : l.total + length (value_of l.bindings (drop l.part-index l.parts)) ≡ length (new_text l.subject l.start l.end (value_of l.bindings l.parts));
   few : l.total ≤ 131072;
 }

@@ -17,10 +17,10 @@ pub put-requires-clause-inside : goal.put-requires-clause-inside
 put-requires-clause-inside c =
     let f = free (the_view c.self.inside) c.args.ready.proposal (unrefused c) in
     rw c.place-place.ensures.place
-    (place_inside (the_view c.self.inside) c.self.inside.standings.items c.args.ready.proposal.statement.text c.args.ready.proposal.place c.self.invariant f.placed)
+    (place_inside (the_view c.self.inside) c.self.inside.versioned_texts.items c.args.ready.proposal.statement.text c.args.ready.proposal.place c.self.invariant f.placed)
 
 pub put-requires-clause-small : goal.put-requires-clause-small
-put-requires-clause-small c = λ s there. version_rises (the_view c.self.inside) c.self.inside.standings.items c.place-place.result s c.self.invariant there
+put-requires-clause-small c = λ s there. version_rises (the_view c.self.inside) c.self.inside.versioned_texts.items c.place-place.result s c.self.invariant there
 
 pub invariant_of-self-2 : goal.invariant_of-self-2
 invariant_of-self-2 c =
@@ -31,7 +31,7 @@ invariant_of-self-2 c =
     let put = c.put.ensures.put (names_in v.opening.texts) c.args.ready.proposal.statement.text at in
     let done = rw c.args.ready.renews at put in
     rw (c.in-Ok.ensures.items, c.args.ready.same)
-    (keeps_more v c.args.ready.proposal c.self.inside.standings.items c.put.new.standings.items c.self.invariant c.place-place.ensures.performed unrefused done c.put.ensures.as_many)
+    (keeps_more v c.args.ready.proposal c.self.inside.versioned_texts.items c.put.new.versioned_texts.items c.self.invariant c.place-place.ensures.performed unrefused done c.put.ensures.as_many)
 
 pub returns-clause-accepted : goal.returns-clause-accepted
 returns-clause-accepted c =
@@ -44,7 +44,7 @@ returns-clause-accepted c =
     (record {
       free = unrefused;
       appended = appended;
-      has_step = free_step v p c.self.inside.standings.items c.self.invariant c.place-place.ensures.performed (free v p unrefused);
+      has_step = free_step v p c.self.inside.versioned_texts.items c.self.invariant c.place-place.ensures.performed (free v p unrefused);
       stepped = ap (λ (w : View). state_of w) appended ∙ replay_snoc (start v.opening) v.journal (entry_of p);
-      received = c.received.ensures ∙ ap (λ (n : ℕ). record { index = n; entry = entry_of p; text = p.text }) (c.len-index.ensures ∙ c.self.inside.journal.ok.0);
+      received = c.receipt.ensures ∙ ap (λ (n : ℕ). record { index = n; entry = entry_of p; text = p.text }) (c.len-index.ensures ∙ c.self.inside.journal.ok.0);
     })

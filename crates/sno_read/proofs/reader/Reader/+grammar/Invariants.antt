@@ -14,11 +14,11 @@ decreases-item l = 10 * length l.rest.characters.now + 4
 abbrev pub decreases-element : goal.decreases-element
 decreases-element l = 10 * length l.rest.characters.now + 3
 
-abbrev pub decreases-named : goal.decreases-named
-decreases-named l = 10 * length l.rest.characters.now + 2
+abbrev pub decreases-from_name : goal.decreases-from_name
+decreases-from_name l = 10 * length l.rest.characters.now + 2
 
-abbrev pub decreases-repeated : goal.decreases-repeated
-decreases-repeated l = 10 * length l.rest.characters.now + 1
+abbrev pub decreases-repetition : goal.decreases-repetition
+decreases-repetition l = 10 * length l.rest.characters.now + 1
 
 abbrev pub decreases-group : goal.decreases-group
 decreases-group l = 10 * length l.rest.characters.now

@@ -3,7 +3,7 @@ use Rattle.std.proofs.Common.{◌≡◌, ◌++◌, drop, take, IsTrue}
 use Rattle.std.specs.List.{list_all}
 use Rattle.std.specs.Char.{is_ascii}
 use Rattle.sno_statement.specs.Value.{value_of}
-use Rattle.sno_statement.proofs.values.replaced.Given as goal
+use Rattle.sno_statement.proofs.values.replace.Given as goal
 
 abbrev pub invariant-loop-part : goal.invariant-loop-part
 invariant-loop-part l = record {

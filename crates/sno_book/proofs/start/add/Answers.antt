@@ -3,7 +3,7 @@ use Rattle.std.proofs.Common.{ap, not, sym, ◌∙◌, Bool, List, ℕ, ◌++◌
 use Rattle.sno_pattern.specs.Identifiers.{same}
 use Rattle.sno_book.specs.Openings.{texts_seen}
 use Rattle.sno_book.proofs.TextRows.{Shared, insert_seen, absent, present}
-use Rattle.sno_book.proofs.beginning.add.Goals as goal
+use Rattle.sno_book.proofs.start.add.Goals as goal
 
 pub returns-then-contains_key-clause-added : goal.returns-then-contains_key-clause-added
 returns-then-contains_key-clause-added c =

@@ -1,11 +1,11 @@
--- A fault of the text is no want of memory.
+-- No text has the fault `Memory`.
 use Rattle.std.proofs.Common.{List, rules}
 use Rattle.sno_read.specs.declared.objects.Part.{Part}
 use Rattle.sno_read.specs.Reading.{AsksForMemory}
 use Rattle.sno_read.specs.Objects.{object_of}
 use Rattle.sno_read.proofs.Late.{fault_is_found}
 use Rattle.sno_read.proofs.NoMemory.{memory_is_no_fault}
-use Rattle.sno_read.proofs.reading.answered_object.Goals as goal
+use Rattle.sno_read.proofs.reading.object_answer.Goals as goal
 
 pub returns-in-Err-Fault-clause-late : goal.returns-in-Err-Fault-clause-late
 returns-in-Err-Fault-clause-late c =

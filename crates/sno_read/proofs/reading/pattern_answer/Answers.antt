@@ -1,10 +1,10 @@
--- A fault of the text is no want of memory.
+-- No text has the fault `Memory`.
 use Rattle.std.proofs.Common.{rules}
 use Rattle.sno_pattern.specs.declared.tree.Pattern.{Pattern}
 use Rattle.sno_read.specs.Reading.{pattern_of, AsksForMemory}
 use Rattle.sno_read.proofs.Late.{fault_is_found}
 use Rattle.sno_read.proofs.NoMemory.{memory_is_no_fault}
-use Rattle.sno_read.proofs.reading.answered_pattern.Goals as goal
+use Rattle.sno_read.proofs.reading.pattern_answer.Goals as goal
 
 pub returns-in-Err-Fault-clause-late : goal.returns-in-Err-Fault-clause-late
 returns-in-Err-Fault-clause-late c =

@@ -4,12 +4,12 @@ use Rattle.std.proofs.lemmas.Bool.{le-ltb}
 use Rattle.std.specs.Vec.Iter.{into_iter_items}
 use Rattle.sno_pattern.specs.NameList.{repeat_from}
 use Rattle.sno_book.specs.Openings.{names_in, texts_seen}
-use Rattle.sno_book.specs.Beginnings.{stood}
-use Rattle.sno_book.proofs.TextRows.{repeated, not_added, rest_whole, first_same, stood_more}
-use Rattle.sno_book.proofs.beginning.begin.Goals as goal
+use Rattle.sno_book.specs.Starts.{contents}
+use Rattle.sno_book.proofs.TextRows.{repeated, not_added, rest_whole, first_same, contents_more}
+use Rattle.sno_book.proofs.start.start_of.Goals as goal
 
-pub returns-then-not-branch-clause-begun : goal.returns-then-not-branch-clause-begun
-returns-then-not-branch-clause-begun c =
+pub returns-then-not-branch-clause-answer : goal.returns-then-not-branch-clause-answer
+returns-then-not-branch-clause-answer c =
     let so_far = texts_seen c.loop-name.named.entries in
     let first = repeat_from (names_in so_far) (length c.loop-name.named.entries) (names_in (into_iter_items c.loop-name.name-iterator)) in
     let short : nat_lt 1024 (length c.args.texts.items) ≡ false = le-ltb 1024 (length c.args.texts.items) (omega (arith, c.if-len-gt-MAX_TEXTS.false, c.len.ensures, c.args.texts.ok.0)) in
@@ -27,6 +27,6 @@ loop-name-preserved c =
       rest = rest_whole _ _ _ _ _ _ grown steps.0 c.loop-name.invariant.rest;
       first = first_same _ _ _ _ _ _ c.in_ok-add.field-0 c.loop-name.named.entries c.add.new.texts.entries grown steps.0 refl refl c.in_ok-add.ensures.added c.if-not-branch.false
           c.loop-name.invariant.first;
-      stood = stood_more _ _ (stood c.loop-name.standings.items) (stood c.add.new.standings.items) _ grown (c.in_ok-add.ensures.standings c.if-not-branch.false) c.loop-name.invariant.stood;
+      contents = contents_more _ _ (contents c.loop-name.versioned_texts.items) (contents c.add.new.versioned_texts.items) _ grown (c.in_ok-add.ensures.versioned_texts c.if-not-branch.false) c.loop-name.invariant.contents;
       left = let count = ap (λ (l : List (List ℕ × List ℕ)). length l) steps.0 in omega (arith, count, steps.1, c.loop-name.invariant.left);
     }

@@ -1,0 +1,208 @@
+-- Worked examples, computed from the definitions: each holds by computation alone. Texts, patterns and objects are written out, so
+-- that a reader can compare them with the manual.
+use Rattle.std.specs.Prelude.{◌≡◌, ℕ, false, List, [], ◌∷◌, Option, Some, None, Ok, Err, replicate, codes, refl}
+use Rattle.std.specs.Fmt.{digits}
+use Rattle.sno_pattern.specs.Tree.{Tree, Lit, Len, Tab, Rtab, Break, Rem, Fence, At, Seq, Cond, Imm}
+use Rattle.sno_pattern.specs.Results.{results_of}
+use Rattle.sno_pattern.specs.Outcome.{outcome_at, trials_at}
+use Rattle.sno_pattern.specs.declared.events.What.TheVariants as what
+use Rattle.sno_pattern.specs.declared.found.Found.{Found}
+use Rattle.sno_read.specs.declared.objects.Part.{Part}
+use Rattle.sno_read.specs.declared.objects.Part.TheVariants.{Quoted, Var}
+use Rattle.sno_statement.specs.declared.binding.Datum.TheVariants.{Str, Int}
+use Rattle.sno_statement.specs.declared.outcomes.StatementFault.TheVariants as fault
+use Rattle.sno_statement.specs.Task.{Task, with_limit}
+use Rattle.sno_statement.specs.Bindings.{Bound, bind, lookup, bindings_of}
+use Rattle.sno_statement.specs.Value.{value_of}
+use Rattle.sno_statement.specs.Perform.{Matched, Failed, with_text, perform}
+
+-- ---- Bindings
+-- a variable that is assigned again keeps its place and has the later value
+abbrev two_variables : Bound
+two_variables = (codes "X", Str (codes "a")) ∷ (codes "Y", Str (codes "b")) ∷ []
+
+first_place_last_value : bind two_variables (codes "X") (Str (codes "c")) ≡ (codes "X", Str (codes "c")) ∷ (codes "Y", Str (codes "b")) ∷ []
+first_place_last_value = refl
+
+-- a new variable goes last
+new_variable_last : bind two_variables (codes "Z") (Int 3) ≡ (codes "X", Str (codes "a")) ∷ (codes "Y", Str (codes "b")) ∷ (codes "Z", Int 3) ∷ []
+new_variable_last = refl
+
+-- X and x are two variables
+capitals_count : bind two_variables (codes "x") (Int 0) ≡ (codes "X", Str (codes "a")) ∷ (codes "Y", Str (codes "b")) ∷ (codes "x", Int 0) ∷ []
+capitals_count = refl
+
+value_of_second : lookup (codes "Y") two_variables ≡ Some (Str (codes "b"))
+value_of_second = refl
+
+never_assigned : lookup (codes "Z") two_variables ≡ None
+never_assigned = refl
+
+-- B at once, A conditionally, as LEN(1) . A LEN(1) $ B does on ab: what is assigned at once is bound first
+abbrev both_kinds : Found
+both_kinds = record {
+  sets = record { name = codes "B"; what = what.Part 1 2 } ∷ [];
+  end = Some (record { start = 0; end = 2; conds = (codes "A", 0, 1) ∷ [] });
+}
+
+immediate_before_conditional : bindings_of (codes "ab") both_kinds ≡ (codes "B", Str (codes "b")) ∷ (codes "A", Str (codes "a")) ∷ []
+immediate_before_conditional = refl
+
+-- N has a cursor at once and a part conditionally: one variable, with the later value
+abbrev one_variable : Found
+one_variable = record {
+  sets = record { name = codes "N"; what = what.Cursor 0 } ∷ [];
+  end = Some (record { start = 0; end = 1; conds = (codes "N", 0, 1) ∷ [] });
+}
+
+both_kinds_share_variables : bindings_of (codes "ab") one_variable ≡ (codes "N", Str (codes "a")) ∷ []
+both_kinds_share_variables = refl
+
+-- a cursor that is assigned at each start is a number, the last one
+abbrev each_start : Found
+each_start = record {
+  sets = record { name = codes "P"; what = what.Cursor 0 } ∷ record { name = codes "P"; what = what.Cursor 1 } ∷ [];
+  end = None;
+}
+
+cursor_is_a_number : bindings_of (codes "a") each_start ≡ (codes "P", Int 1) ∷ []
+cursor_is_a_number = refl
+
+-- ---- Values of objects
+-- 'z'
+literal_is_itself : value_of two_variables (Quoted (codes "z") ∷ []) ≡ codes "z"
+literal_is_itself = refl
+
+-- Y '=' X
+parts_are_joined : value_of two_variables (Var (codes "Y") ∷ Quoted (codes "=") ∷ Var (codes "X") ∷ []) ≡ codes "b=a"
+parts_are_joined = refl
+
+-- Z, which was never assigned
+unbound_is_null : value_of two_variables (Var (codes "Z") ∷ []) ≡ []
+unbound_is_null = refl
+
+no_parts_are_null : value_of two_variables [] ≡ []
+no_parts_are_null = refl
+
+-- P P, where P is the number 107
+number_in_decimal : value_of ((codes "P", Int 107) ∷ []) (Var (codes "P") ∷ Var (codes "P") ∷ []) ≡ codes "107107"
+unfolding digits
+number_in_decimal = refl
+
+-- P, where P is the number 0
+zero_is_one_digit : value_of ((codes "P", Int 0) ∷ []) (Var (codes "P") ∷ []) ≡ codes "0"
+unfolding digits
+zero_is_one_digit = refl
+
+-- ---- Statements
+-- a statement with no definitions that floats
+abbrev floating : Tree → Option (List Part) → Task
+floating pattern object = record {
+  number = 1;
+  rules = record { names = []; bodies = [] };
+  pattern = pattern;
+  object = object;
+  text = codes "T";
+  anchored = false;
+  limit = 1000000;
+}
+
+-- BREAK('=') . K '=' REM . V, object V '=' K, on k=v
+abbrev turn_round : Task
+turn_round =
+    floating (Seq (Cond (Break (codes "=")) (codes "K")) (Seq (Lit (codes "=")) (Cond Rem (codes "V"))))
+    (Some (Var (codes "V") ∷ Quoted (codes "=") ∷ Var (codes "K") ∷ []))
+
+object_after_the_match : perform turn_round (codes "k=v") ≡ Ok (Matched 0 3 ((codes "K", Str (codes "k")) ∷ (codes "V", Str (codes "v")) ∷ []) (Some (codes "v=k")))
+unfolding outcome_at trials_at results_of
+object_after_the_match = refl
+
+-- FENCE 'b' on ab
+fence_fails : perform (floating (Seq Fence (Lit (codes "b"))) None) (codes "ab") ≡ Ok (Failed [])
+unfolding outcome_at trials_at results_of
+fence_fails = refl
+
+-- 'b' on ab, with no object
+match_alone : perform (floating (Lit (codes "b")) None) (codes "ab") ≡ Ok (Matched 1 2 [] None)
+unfolding outcome_at trials_at results_of
+match_alone = refl
+
+-- LEN(1) $ C 'z' on abc: what was assigned at once stays, and an object isn't evaluated
+abbrev fails_late : Option (List Part) → Task
+fails_late object = floating (Seq (Imm (Len 1) (codes "C")) (Lit (codes "z"))) object
+
+failure_keeps_immediate : perform (fails_late None) (codes "abc") ≡ Ok (Failed ((codes "C", Str (codes "c")) ∷ []))
+unfolding outcome_at trials_at results_of
+failure_keeps_immediate = refl
+
+failure_replaces_nothing : perform (fails_late (Some (Var (codes "C") ∷ []))) (codes "abc") ≡ Ok (Failed ((codes "C", Str (codes "c")) ∷ []))
+unfolding outcome_at trials_at results_of
+failure_replaces_nothing = refl
+
+-- @P 'c', object P, on abc
+cursor_in_object : perform (floating (Seq (At (codes "P")) (Lit (codes "c"))) (Some (Var (codes "P") ∷ []))) (codes "abc") ≡ Ok (Matched 2 3 ((codes "P", Int 2) ∷ []) (Some (codes "ab2")))
+unfolding outcome_at trials_at results_of digits
+cursor_in_object = refl
+
+-- LEN(1) . X LEN(1) . X on AB: the part that ends last stands
+later_part_stands : perform (floating (Seq (Cond (Len 1) (codes "X")) (Cond (Len 1) (codes "X"))) None) (codes "AB") ≡ Ok (Matched 0 2 ((codes "X", Str (codes "B")) ∷ []) None)
+unfolding outcome_at trials_at results_of
+later_part_stands = refl
+
+-- (LEN(1) LEN(1) . A) . A on AB: the outer part ends last
+outer_part_stands : perform (floating (Cond (Seq (Len 1) (Cond (Len 1) (codes "A"))) (codes "A")) None) (codes "AB") ≡ Ok (Matched 0 2 ((codes "A", Str (codes "AB")) ∷ []) None)
+unfolding outcome_at trials_at results_of
+outer_part_stands = refl
+
+-- TAB(2) . A TAB(4) . B RTAB(1) . C REM . D on abcdef
+abbrev four_fields : Tree
+four_fields = Seq (Cond (Tab 2) (codes "A")) (Seq (Cond (Tab 4) (codes "B")) (Seq (Cond (Rtab 1) (codes "C")) (Cond Rem (codes "D"))))
+
+fields : perform (floating four_fields None) (codes "abcdef") ≡ Ok (Matched 0 6 ((codes "A", Str (codes "ab")) ∷ (codes "B", Str (codes "cd")) ∷ (codes "C", Str (codes "e")) ∷ (codes "D", Str (codes "f")) ∷ []) None)
+unfolding outcome_at trials_at results_of
+fields = refl
+
+-- BREAK('=') . K on =v: K is the null string, and bound
+null_part_is_bound : perform (floating (Cond (Break (codes "=")) (codes "K")) None) (codes "=v") ≡ Ok (Matched 0 0 ((codes "K", Str []) ∷ []) None)
+unfolding outcome_at trials_at results_of
+null_part_is_bound = refl
+
+-- the same on kv
+break_fails : perform (floating (Cond (Break (codes "=")) (codes "K")) None) (codes "kv") ≡ Ok (Failed [])
+unfolding outcome_at trials_at results_of
+break_fails = refl
+
+-- 'b', object Q, on abc
+unbound_in_object : perform (floating (Lit (codes "b")) (Some (Var (codes "Q") ∷ []))) (codes "abc") ≡ Ok (Matched 1 2 [] (Some (codes "ac")))
+unfolding outcome_at trials_at results_of
+unbound_in_object = refl
+
+-- 'b', with an object of no characters, on abc
+null_object : perform (floating (Lit (codes "b")) (Some [])) (codes "abc") ≡ Ok (Matched 1 2 [] (Some (codes "ac")))
+unfolding outcome_at trials_at results_of
+null_object = refl
+
+-- '', object 'z', on the empty text
+null_text : perform (floating (Lit []) (Some (Quoted (codes "z") ∷ []))) [] ≡ Ok (Matched 0 0 [] (Some (codes "z")))
+unfolding outcome_at trials_at results_of
+null_text = refl
+
+-- ---- The longest text
+longest_text : with_text 0 1 [] (replicate 65536 97) ≡ Ok (Matched 0 1 [] (Some (replicate 65536 97)))
+longest_text = refl
+
+text_too_long : with_text 0 1 [] (replicate 65537 97) ≡ Err fault.TextTooLong
+text_too_long = refl
+
+-- 'b' on aab takes three trials: with a limit of three it matches ..
+abbrev three_trials : ℕ → Task
+three_trials n = with_limit (floating (Lit (codes "b")) None) n
+
+trials_enough : perform (three_trials 3) (codes "aab") ≡ Ok (Matched 2 3 [] None)
+unfolding outcome_at trials_at results_of
+trials_enough = refl
+
+-- .. and with a limit of two it is refused
+trials_too_many : perform (three_trials 2) (codes "aab") ≡ Err fault.TooManyTrials
+unfolding outcome_at trials_at results_of
+trials_too_many = refl
