@@ -6,8 +6,8 @@ use Rattle.std.proofs.lemmas.Bool.Decides.{leb_tells}
 use Rattle.std.proofs.lemmas.List.Sums.{sum-map, sum_by-cons}
 use Rattle.std.proofs.lemmas.List.{append-nil, get_or-map, length-map, map-append}
 use Rattle.sno_statement.specs.Task.{Task}
-use Rattle.sno_desk.specs.Answers.{Answer, added_by}
-use Rattle.sno_desk.specs.Turns.{AllAnswer, Begins, Deals, Goes, HasWorked, every, raised_by}
+use Rattle.sno_desk.specs.Answers.{Answer, MayFollow, receipts_in}
+use Rattle.sno_desk.specs.Turns.{AllAnswer, Begins, Deals, FollowInOrder, Goes, HasTurns, HasWorked, every, shares_after}
 
 pub goes_none : (A : Task → Answer → Type 0) (all : List Task) → Goes A all all []
 goes_none A all = record { on = λ more h. h }
@@ -34,6 +34,18 @@ goes_end A all count wait left replies none g =
     let P : List Task → Type 0 = λ l. Goes A all (every count wait l) replies in
     let h = subst P none g in
     rw append-nil at (h.on [] tt)
+
+-- ---- the replies of one seat in their order
+
+-- one more reply, to which the receipts among those before it lead
+pub follow_one : (seats before accepted : ℕ) (replies : List Answer) (r : Answer) → before + sum_by receipts_in replies ≡ accepted
+    → FollowInOrder seats before replies → MayFollow seats accepted r → FollowInOrder seats before (replies ++ r ∷ [])
+follow_one seats before accepted [] r e f h =
+    let same : accepted ≡ before = omega (arith, e) in
+    let P : ℕ → Type 0 = λ n. MayFollow seats n r in (subst P same h, tt)
+follow_one seats before accepted (x ∷ replies) r e f h =
+    let more = sum_by-cons receipts_in x replies in
+    (f.0, follow_one seats (before + receipts_in x) accepted replies r (omega (arith, e, more)) f.1 h)
 
 -- ---- the replies of all seats
 
@@ -93,13 +105,13 @@ answer_all A count some (s ∷ jobs) (r ∷ replies) e each =
 
 -- the shares, from what each seat's is
 raised_all : (count first : ℕ) (before after : List ℕ) (replies : List Answer) → length after ≡ length before
-    → ((k place : ℕ) → place ≡ first + k → k < length before → get_or after k 0 ≡ get_or before k 0 + sum_by added_by (every count place replies))
-    → after ≡ raised_by count first before replies
+    → ((k place : ℕ) → place ≡ first + k → k < length before → get_or after k 0 ≡ get_or before k 0 + sum_by receipts_in (every count place replies))
+    → after ≡ shares_after count first before replies
 raised_all count first [] [] replies e each = refl
 raised_all count first [] (y ∷ after) replies e each = absurd (omega arith)
 raised_all count first (x ∷ before) [] replies e each = absurd (omega arith)
 raised_all count first (x ∷ before) (y ∷ after) replies e each =
-    let front : y ≡ x + sum_by added_by (every count first replies) = each 0 first (omega arith) (omega arith) in
+    let front : y ≡ x + sum_by receipts_in (every count first replies) = each 0 first (omega arith) (omega arith) in
     let rest = raised_all count (suc first) before after replies (omega arith) (λ k place q h. each (suc k) place (omega arith) (omega arith)) in
     cc
 
@@ -108,27 +120,44 @@ first_of [] k h = absurd (omega arith)
 first_of (x ∷ xs) k h = x
 
 -- what one seat's replies are, by what it kept
-seat_settled : (A : Task → Answer → Type 0) (jobs : List Task) (mine : List Answer) (before after : ℕ)
+replies_of_seat : (A : Task → Answer → Type 0) (jobs : List Task) (mine : List Answer) (seats before after : ℕ)
     (kept : Option (List Answer)) (queue : List Answer)
-    → HasWorked A jobs before after kept → kept ≡ Some queue → Begins queue mine → length mine ≡ length jobs
-    → AllAnswer A jobs mine × (after ≡ before + sum_by added_by mine)
-seat_settled A jobs mine before after None queue worked kept b e = absurd cc
-seat_settled A jobs mine before after (Some replies) queue worked kept b e =
+    → HasWorked A jobs seats before after kept → kept ≡ Some queue → Begins queue mine → length mine ≡ length jobs
+    → AllAnswer A jobs mine × (after ≡ before + sum_by receipts_in mine) × FollowInOrder seats before mine
+replies_of_seat A jobs mine seats before after None queue worked kept b e = absurd cc
+replies_of_seat A jobs mine seats before after (Some replies) queue worked kept b e =
     let same : replies ≡ queue = cc in
     let counts = as_many A jobs replies worked.0 in
     let counted : length mine ≡ length queue = e ∙ sym counts ∙ ap length same in
     let whole : replies ≡ mine = same ∙ begins_whole queue mine b counted in
-    let P : List Answer → Type 0 = λ l. AllAnswer A jobs l × (after ≡ before + sum_by added_by l) in
+    let P : List Answer → Type 0 = λ l. AllAnswer A jobs l × (after ≡ before + sum_by receipts_in l) × FollowInOrder seats before l in
     subst P whole worked
 
-module _ {X Q : Type 0} (share : X → ℕ) (kept : X → Option (List Answer)) (items : Q → List Answer) (A : Task → Answer → Type 0) where
+-- as many replies as jobs are kept
+kept_turns : (A : Task → Answer → Type 0) (jobs : List Task) (seats before after : ℕ) (kept : Option (List Answer)) (queue : List Answer)
+    → HasWorked A jobs seats before after kept → kept ≡ Some queue → length queue ≡ length jobs
+kept_turns A jobs seats before after None queue worked kept = absurd cc
+kept_turns A jobs seats before after (Some replies) queue worked kept =
+    let same : replies ≡ queue = cc in
+    let P : List Answer → Type 0 = λ l. length l ≡ length jobs in
+    subst P same (as_many A jobs replies worked.0)
+
+turns_all : {X : Type 0} (count first : ℕ) (queues : List (List X)) (jobs : List Task)
+    → ((k place : ℕ) → place ≡ first + k → k < length queues → length (get_or queues k []) ≡ length (every count place jobs)) → HasTurns count first queues jobs
+turns_all count first [] jobs each = tt
+turns_all count first (queue ∷ queues) jobs each = (
+  each 0 first (omega arith) (omega arith),
+  turns_all count (suc first) queues jobs (λ k place q h. each (suc k) place (omega arith) (omega arith)),
+)
+
+module _ {X Q : Type 0} (share : X → ℕ) (kept : X → Option (List Answer)) (items : Q → List Answer) (seats : ℕ) (A : Task → Answer → Type 0) where
   -- the seats at work, then their replies taken and put in order: each job has its answer, and each share has risen by its seat's receipts
   pub record Settles (jobs : List Task) (before worked after : List X) (queues : List Q) (replies : List Answer) : Type 0 where
     pub some : 1 ≤ length before
     pub worked_as_many : length worked ≡ length before
     pub after_as_many : length after ≡ length before
     pub queues_as_many : length queues ≡ length before
-    pub at_work : (k : ℕ) (d : X) → k < length before → HasWorked A (every (length before) k jobs) (share (get_or before k d)) (share (get_or worked k d)) (kept (get_or worked k d))
+    pub at_work : (k : ℕ) (d : X) → k < length before → HasWorked A (every (length before) k jobs) seats (share (get_or before k d)) (share (get_or worked k d)) (kept (get_or worked k d))
     pub taken : (k : ℕ) (d : X) (e : Q) → k < length before → kept (get_or worked k d) ≡ Some (items (get_or queues k e))
     pub same : (k : ℕ) (d : X) → k < length before → share (get_or after k d) ≡ share (get_or worked k d)
     pub dealt : Deals (length before) 0 (map items queues) replies
@@ -136,15 +165,35 @@ module _ {X Q : Type 0} (share : X → ℕ) (kept : X → Option (List Answer)) 
 
   at_seat : (jobs : List Task) (before worked after : List X) (queues : List Q) (replies : List Answer)
       → Settles jobs before worked after queues replies → (k : ℕ) (d : X) (e : Q) → k < length before
-      → AllAnswer A (every (length before) k jobs) (every (length before) k replies) × (share (get_or after k d) ≡ share (get_or before k d) + sum_by added_by (every (length before) k replies))
+      → AllAnswer A (every (length before) k jobs) (every (length before) k replies) × (share (get_or after k d) ≡ share (get_or before k d) + sum_by receipts_in (every (length before) k replies))
+      × FollowInOrder seats (share (get_or before k d)) (every (length before) k replies)
   at_seat jobs before worked after queues replies s k d e h =
       let inside : k < length (map items queues) = rw length-map (rw s.queues_as_many h) in
       let begins = deals_at (length before) 0 (map items queues) replies s.dealt k k (omega arith) inside in
       let there = get_or-map items queues k e [] (rw s.queues_as_many h) in
       let P : List Answer → Type 0 = λ q. Begins q (every (length before) k replies) in
-      let mine = seat_settled A (every (length before) k jobs) (every (length before) k replies) (share (get_or before k d)) (share (get_or worked k d)) (kept (get_or worked k d))
+      let mine = replies_of_seat A (every (length before) k jobs) (every (length before) k replies) seats (share (get_or before k d)) (share (get_or worked k d)) (kept (get_or worked k d))
       (items (get_or queues k e)) (s.at_work k d h) (s.taken k d e h) (subst P there begins) (turns_alike (length before) k replies jobs s.in_all) in
-      (mine.0, s.same k d h ∙ mine.1)
+      (mine.0, s.same k d h ∙ mine.1, mine.2)
+
+  -- the replies that are taken from the seats at work
+  pub taken_turns : (jobs : List Task) (before worked : List X) (queues : List Q) → length queues ≡ length before
+      → ((k : ℕ) (d : X) → k < length before → HasWorked A (every (length before) k jobs) seats (share (get_or before k d)) (share (get_or worked k d)) (kept (get_or worked k d)))
+      → ((k : ℕ) (d : X) (e : Q) → k < length before → kept (get_or worked k d) ≡ Some (items (get_or queues k e)))
+      → HasTurns (length before) 0 (map items queues) jobs
+  taken_turns jobs before worked queues many at_work taken =
+      turns_all (length before) 0 (map items queues) jobs
+      (λ k place q h.
+      let inside : k < length queues = rw length-map at h in
+      let at : k < length before = omega arith in
+      let d = first_of before k at in
+      let e = first_of queues k inside in
+      let same : k ≡ place = omega arith in
+      let mine = kept_turns A (every (length before) k jobs) seats (share (get_or before k d)) (share (get_or worked k d)) (kept (get_or worked k d)) (items (get_or queues k e))
+      (at_work k d at) (taken k d e at) in
+      let there = ap length (get_or-map items queues k e [] inside) in
+      let P : ℕ → Type 0 = λ m. length (get_or (map items queues) k []) ≡ length (every (length before) m jobs) in
+      subst P same (there ∙ mine))
 
   pub settled_answers : (jobs : List Task) (before worked after : List X) (queues : List Q) (replies : List Answer)
       → Settles jobs before worked after queues replies → AllAnswer A jobs replies
@@ -152,8 +201,14 @@ module _ {X Q : Type 0} (share : X → ℕ) (kept : X → Option (List Answer)) 
       answer_all A (length before) s.some jobs replies s.in_all
       (λ k h. (at_seat jobs before worked after queues replies s k (first_of before k h) (first_of queues k (rw s.queues_as_many h)) h).0)
 
+  pub settled_order : (jobs : List Task) (before worked after : List X) (queues : List Q) (replies : List Answer)
+      → Settles jobs before worked after queues replies → (k : ℕ) (d : X) → k < length before
+      → FollowInOrder seats (share (get_or before k d)) (every (length before) k replies)
+  settled_order jobs before worked after queues replies s k d h =
+      (at_seat jobs before worked after queues replies s k d (first_of queues k (rw s.queues_as_many h)) h).2
+
   pub settled_shares : (jobs : List Task) (before worked after : List X) (queues : List Q) (replies : List Answer)
-      → Settles jobs before worked after queues replies → map share after ≡ raised_by (length before) 0 (map share before) replies
+      → Settles jobs before worked after queues replies → map share after ≡ shares_after (length before) 0 (map share before) replies
   settled_shares jobs before worked after queues replies s =
       raised_all (length before) 0 (map share before) (map share after) replies (simp length-map s.after_as_many)
       (λ k place q h.
@@ -163,7 +218,7 @@ module _ {X Q : Type 0} (share : X → ℕ) (kept : X → Option (List Answer)) 
       let mine = (at_seat jobs before worked after queues replies s k d (first_of queues k (rw s.queues_as_many inside)) inside).1 in
       let was = get_or-map share before k d 0 inside in
       let is = get_or-map share after k d 0 (rw s.after_as_many inside) in
-      let P : ℕ → Type 0 = λ m. get_or (map share after) k 0 ≡ get_or (map share before) k 0 + sum_by added_by (every (length before) m replies) in
+      let P : ℕ → Type 0 = λ m. get_or (map share after) k 0 ≡ get_or (map share before) k 0 + sum_by receipts_in (every (length before) m replies) in
       subst P same (omega (arith, mine, was, is)))
 
 -- ---- the queues in turn
@@ -192,7 +247,7 @@ turned count queue rest queues r replies many e d = (
   deals_later count 0 queues r replies (deals_front count 0 queues rest replies d),
 )
 
--- the first queue's first reply, and that queue behind the others
+-- the first queue's first reply, and that queue as the last
 pub taken_in_turn : {X Q : Type 0} (items : Q → List X) (before mids after : List Q) (queue rest : Q) (r : X) (replies : List X)
     → before ≡ queue ∷ mids → items queue ≡ r ∷ items rest → after ≡ mids ++ rest ∷ []
     → Deals (length before) 0 (map items after) replies → Deals (length before) 0 (map items before) (r ∷ replies)
@@ -209,11 +264,45 @@ pub deals_none : {X : Type 0} (count first : ℕ) (queues : List (List X)) → D
 deals_none count first [] = tt
 deals_none count first (queue ∷ queues) = (record { left = queue; joined = refl }, deals_none count (suc first) queues)
 
+-- ---- how many replies the queues have
+turns_earlier : {X : Type 0} (count first : ℕ) (queues : List (List X)) (job : Task) (jobs : List Task) → HasTurns count (suc first) queues (job ∷ jobs) → HasTurns count first queues jobs
+turns_earlier count first [] job jobs h = tt
+turns_earlier count first (queue ∷ queues) job jobs h = (h.0, turns_earlier count (suc first) queues job jobs h.1)
+
+turns_with_last : {X : Type 0} (count first place : ℕ) (queues : List (List X)) (last : List X) (jobs : List Task) → place ≡ first + length queues
+    → length last ≡ length (every count place jobs) → HasTurns count first queues jobs → HasTurns count first (queues ++ last ∷ []) jobs
+turns_with_last count first place [] last jobs e many h =
+    let same : place ≡ first = omega arith in
+    let P : ℕ → Type 0 = λ p. length last ≡ length (every count p jobs) in (subst P same many, tt)
+turns_with_last count first place (queue ∷ queues) last jobs e many h = (h.0, turns_with_last count (suc first) place queues last jobs (omega arith) many h.1)
+
+-- the first queue without its first reply, and past the others
+pub turns_in_turn : {X Q : Type 0} (items : Q → List X) (before mids after : List Q) (queue rest : Q) (r : X) (job : Task) (jobs : List Task)
+    → before ≡ queue ∷ mids → items queue ≡ r ∷ items rest → after ≡ mids ++ rest ∷ []
+    → HasTurns (length before) 0 (map items before) (job ∷ jobs) → HasTurns (length before) 0 (map items after) jobs
+turns_in_turn {X} items before mids after queue rest r job jobs was one is h =
+    let count = length before in
+    let many : count ≡ suc (length (map items mids)) = rw length-map (ap length was) in
+    let P : List (List X) → Type 0 = λ l. HasTurns count 0 l (job ∷ jobs) in
+    let Q' : List (List X) → Type 0 = λ l. HasTurns count 0 l jobs in
+    let front : HasTurns count 0 (items queue ∷ map items mids) (job ∷ jobs) = subst P (ap (map items) was) h in
+    let rows : map items after ≡ map items mids ++ items rest ∷ [] = ap (map items) is ∙ map-append items mids (rest ∷ []) in
+    let sizes : length (items queue) ≡ suc (length (items rest)) = ap length one in
+    let turns : length (items queue) ≡ suc (length (every count (count - 1) jobs)) = front.0 in
+    let left : length (items rest) ≡ length (every count (count - 1) jobs) = omega arith in
+    subst Q' (sym rows) (turns_with_last count 0 (count - 1) (map items mids) (items rest) jobs (omega arith) left (turns_earlier count 0 (map items mids) job jobs front.1))
+
+-- while there are jobs the first queue has a reply
+pub first_has_one : {X Q : Type 0} (items : Q → List X) (queues : List Q) (d : Q) (job : Task) (jobs : List Task) → 0 < length queues
+    → HasTurns (length queues) 0 (map items queues) (job ∷ jobs) → 0 < length (items (get_or queues 0 d))
+first_has_one items [] d job jobs some h = absurd (omega arith)
+first_has_one items (queue ∷ queues) d job jobs some h = let many = h.0 in omega (arith, many)
+
 -- ---- all shares together
 -- the receipts among the turns of so many seats, from one on
 abbrev turns_total : ℕ → ℕ → ℕ → List Answer → ℕ
 turns_total count first zero replies = 0
-turns_total count first (suc seats) replies = sum_by added_by (every count first replies) + turns_total count (suc first) seats replies
+turns_total count first (suc seats) replies = sum_by receipts_in (every count first replies) + turns_total count (suc first) seats replies
 
 turns_of_none : (count first seats : ℕ) → turns_total count first seats [] ≡ 0
 turns_of_none count first zero = refl
@@ -221,47 +310,47 @@ turns_of_none count first (suc seats) = let rest = turns_of_none count (suc firs
 
 turns_later : (count first seats : ℕ) (r : Answer) (replies : List Answer) → turns_total count (suc first) seats (r ∷ replies) ≡ turns_total count first seats replies
 turns_later count first zero r replies = refl
-turns_later count first (suc seats) r replies = ap (λ n. sum_by added_by (every count first replies) + n) (turns_later count (suc first) seats r replies)
+turns_later count first (suc seats) r replies = ap (λ n. sum_by receipts_in (every count first replies) + n) (turns_later count (suc first) seats r replies)
 
 turns_last : (count first seats place : ℕ) (replies : List Answer) → place ≡ first + seats
-    → turns_total count first (suc seats) replies ≡ turns_total count first seats replies + sum_by added_by (every count place replies)
+    → turns_total count first (suc seats) replies ≡ turns_total count first seats replies + sum_by receipts_in (every count place replies)
 turns_last count first zero place replies e =
     let same : first ≡ place = omega arith in
-    let P : ℕ → Type 0 = λ p. sum_by added_by (every count first replies) + 0 ≡ 0 + sum_by added_by (every count p replies) in
+    let P : ℕ → Type 0 = λ p. sum_by receipts_in (every count first replies) + 0 ≡ 0 + sum_by receipts_in (every count p replies) in
     subst P same (omega arith)
 turns_last count first (suc seats) place replies e =
     let rest = turns_last count (suc first) seats place replies (omega arith) in omega (arith, rest)
 
-turns_whole : (seats : ℕ) (replies : List Answer) → turns_total (suc seats) 0 (suc seats) replies ≡ sum_by added_by replies
+turns_whole : (seats : ℕ) (replies : List Answer) → turns_total (suc seats) 0 (suc seats) replies ≡ sum_by receipts_in replies
 turns_whole seats [] = turns_of_none (suc seats) 0 (suc seats)
 turns_whole seats (r ∷ replies) =
     let rest = turns_whole seats replies in
     let last = turns_last (suc seats) 0 seats (suc seats - 1) replies (omega arith) in
     let later = turns_later (suc seats) 0 seats r replies in
-    let front = sum_by-cons added_by r (every (suc seats) (suc seats - 1) replies) in
-    let all = sum_by-cons added_by r replies in
+    let front = sum_by-cons receipts_in r (every (suc seats) (suc seats - 1) replies) in
+    let all = sum_by-cons receipts_in r replies in
     omega (arith, rest, last, later, front, all)
 
 raised_total : (count first : ℕ) (shares : List ℕ) (replies : List Answer)
-    → sum (raised_by count first shares replies) ≡ sum shares + turns_total count first (length shares) replies
+    → sum (shares_after count first shares replies) ≡ sum shares + turns_total count first (length shares) replies
 raised_total count first [] replies = refl
 raised_total count first (share ∷ shares) replies =
     let rest = raised_total count (suc first) shares replies in
-    let a = sum_by-cons (λ n. n) (share + sum_by added_by (every count first replies)) (raised_by count (suc first) shares replies) in
+    let a = sum_by-cons (λ n. n) (share + sum_by receipts_in (every count first replies)) (shares_after count (suc first) shares replies) in
     let b = sum_by-cons (λ n. n) share shares in
     omega (arith, rest, a, b)
 
 -- all shares have risen by all receipts
 pub shares_total : {X : Type 0} (share : X → ℕ) (before after : List X) (replies : List Answer) → 1 ≤ length before
-    → map share after ≡ raised_by (length before) 0 (map share before) replies → sum_by share after ≡ sum_by share before + sum_by added_by replies
+    → map share after ≡ shares_after (length before) 0 (map share before) replies → sum_by share after ≡ sum_by share before + sum_by receipts_in replies
 shares_total share [] after replies some e = absurd (omega arith)
 shares_total share (x ∷ xs) after replies some e =
     let raised = ap sum e in
     let total = raised_total (suc (length xs)) 0 (map share (x ∷ xs)) replies in
     let whole = turns_whole (length xs) replies in
     let many : length (map share (x ∷ xs)) ≡ suc (length xs) = length-map (x ∷ xs) share in
-    let P : ℕ → Type 0 = λ n. sum (raised_by (suc (length xs)) 0 (map share (x ∷ xs)) replies) ≡ sum (map share (x ∷ xs)) + turns_total (suc (length xs)) 0 n replies in
-    let at : sum (raised_by (suc (length xs)) 0 (map share (x ∷ xs)) replies) ≡ sum (map share (x ∷ xs)) + turns_total (suc (length xs)) 0 (suc (length xs)) replies = subst P many total in
+    let P : ℕ → Type 0 = λ n. sum (shares_after (suc (length xs)) 0 (map share (x ∷ xs)) replies) ≡ sum (map share (x ∷ xs)) + turns_total (suc (length xs)) 0 n replies in
+    let at : sum (shares_after (suc (length xs)) 0 (map share (x ∷ xs)) replies) ≡ sum (map share (x ∷ xs)) + turns_total (suc (length xs)) 0 (suc (length xs)) replies = subst P many total in
     let b = sum-map share (x ∷ xs) in
     let a = sum-map share after in
     omega (arith, raised, at, whole, a, b)

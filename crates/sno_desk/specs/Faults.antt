@@ -1,4 +1,5 @@
 -- Refusals of the lower calls, as a submit answers them.
+use Rattle.std.specs.Prelude.{nat_lt, if◌then◌else◌}
 use Rattle.sno_book.specs.declared.faults.CommitFault.{CommitFault}
 use Rattle.sno_book.specs.declared.faults.CommitFault.TheVariants as commit
 use Rattle.sno_book.specs.declared.faults.SnapshotFault.{SnapshotFault}
@@ -15,11 +16,12 @@ of_snapshot snapshot.Memory = submit.Memory
 abbrev pub of_statement : StatementFault → SubmitFault
 of_statement statement.TextTooLong = submit.TextTooLong
 of_statement statement.Memory = submit.Memory
+of_statement statement.TooManyTrials = submit.TooManyTrials
 
--- a text that changed under the last try has spent them all
+-- a text that rose under the last try has spent them all; a snapshot that is newer than the text is of another book
 abbrev pub of_commit : CommitFault → SubmitFault
 of_commit commit.NoText = submit.NoText
-of_commit (commit.Changed seen now) = submit.TriesSpent seen now
+of_commit (commit.Changed seen now) = if nat_lt seen now then submit.TriesSpent seen now else submit.Foreign
 of_commit commit.Foreign = submit.Foreign
 of_commit commit.Full = submit.Full
 of_commit commit.Memory = submit.Memory

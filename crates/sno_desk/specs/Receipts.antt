@@ -9,12 +9,13 @@ pub record IsFor (receipt : Received) (p : Proposed) : Type 0 where
   pub entry : receipt.entry ≡ entry_of p
   pub text : receipt.text ≡ p.text
 
--- the entries that the seat had accepted stand before the receipt's; where the desk has no other seat, these are all that do; and the journal is
--- no longer than a book's may be
-pub record StandsBehind (seats accepted : ℕ) (receipt : Received) : Type 0 where
-  pub behind : accepted ≤ receipt.index
+-- the receipt's entry stands after the entries that its seat had accepted, and directly after them where the desk has no other seat; a journal
+-- has at most a million entries; and as a version rises with an entry alone, the entry's version is at most the number of entries before it
+pub record StandsAfter (seats accepted : ℕ) (receipt : Received) : Type 0 where
+  pub after : accepted ≤ receipt.index
   pub alone : seats ≡ 1 → receipt.index ≡ accepted
   pub within : receipt.index < 1000000
+  pub version : receipt.entry.version ≤ receipt.index
 
 -- a text that changed has another version than the proposal's, and the refusal names both
 abbrev pub IsCause : CommitFault → Proposed → Type 0

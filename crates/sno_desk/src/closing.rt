@@ -66,13 +66,13 @@ impl<L: Ledger> Locked<L> {
     }
 }
 
-/// Closes a desk, and gives its book back. These are all its seats: as many as the ledger has parts.
+/// Closes a desk, and gives its book back. The seats are all the seats of the desk: as many as its ledger has parts.
 ///
-/// On `Ok` the book's opening is the one that the desk began with, and its journal, which is lawful from there, has as many entries as the
-/// seats have accepted. It waits for nobody and takes no memory.
+/// On `Ok` the book's opening is the one that the desk began with, its journal is lawful from there, and it has as many entries as the seats have
+/// accepted. The call waits for nobody and takes no memory.
 ///
-/// Refused: `Opening`, exactly where the book's opening is not, by value, the desk's. No lawful run meets it. The book comes back with its
-/// journal, which is lawful from its own opening and has as many entries as the seats have accepted.
+/// Refused: `Opening`, exactly if the book's opening is not, by value, the desk's. No lawful run meets it. The book comes back with its journal,
+/// which is lawful from the book's own opening and has as many entries as the seats have accepted.
 pub fn close<L: Ledger>(desk: Desk<L>, seats: Vec<Seat<L>>) -> Result<Book, (CloseFault, Book)>
     requires all { length seats.items ≡ L.parts }
     ensures opening { IfOk result (λ book. book.opening ≡ arc_value desk.opening) }

@@ -1,7 +1,7 @@
 //! Snapshots and commits through a seat.
 ghost use Rattle.std.specs.Prelude.{◌≡◌, ◌+◌, IfOk, IfErr, OnOk, OnErr};
 ghost use Rattle.sno_book.specs.Commits.{GivesSnapshot, IsAccepted, IsRefused};
-ghost use Rattle.sno_desk.specs.Receipts.{IsFor, IsCause, NamesVersion, StandsBehind};
+ghost use Rattle.sno_desk.specs.Receipts.{IsFor, IsCause, NamesVersion, StandsAfter};
 
 use crate::locked::Locked;
 use crate::{Desk, Seat};
@@ -25,7 +25,7 @@ impl<L: Ledger> Locked<L> {
         proposal: Proposal,
     ) -> Result<Receipt, (CommitFault, Proposal)>
         ensures accepted { IfOk result (λ r. IsAccepted self.old.book self.new.book proposal r) }
-        ensures behind { IfOk result (λ r. StandsBehind L.parts seat.old.accepted r) }
+        ensures index { IfOk result (λ r. StandsAfter L.parts seat.old.accepted r) }
         ensures counted { OnOk result (seat.new.accepted ≡ seat.old.accepted + 1) }
         ensures refused { IfErr result (λ r. IsRefused self.old.book self.new.book proposal r.1 r.0) }
         ensures version { IfErr result (λ r. NamesVersion L.parts seat.old.accepted r.0) }
@@ -45,7 +45,7 @@ impl<L: Ledger> Locked<L> {
 }
 
 impl<L: Ledger> Desk<L> {
-    /// The text of this name as it stands when the lock is taken, shared. It waits for the lock alone; the seat's share stays as it is.
+    /// A share of the text of this name as it is while the lock is held. The call waits for nothing but the lock; the seat's share stays as it is.
     ///
     /// Refused, in this order: `NoText`, where the book has no text of that name; `Memory`. Nothing is changed.
     pub fn snapshot<R: Wait>(
@@ -59,15 +59,15 @@ impl<L: Ledger> Desk<L> {
         self.lock.lock(rt).snapshot(name)
     }
 
-    /// Commits a proposal to the book under the lock, and counts it for the seat where it was accepted. It waits for the lock alone.
+    /// Commits a proposal to the book under the lock, and counts it for the seat if it is accepted. The call waits for nothing but the lock.
     ///
-    /// On `Ok` the receipt's entry is the proposal's and its text the one that the proposal is for; the seat's share is one higher. The receipt's
-    /// index is no lower than the share was, as the entries that the seat had accepted stand before; it is the share where there is no other
-    /// seat.
+    /// On `Ok` the receipt's entry is the proposal's, its text is the one that the proposal was made for, and the seat's share is one higher. The
+    /// receipt's index is no lower than the share was, as the entries that the seat had accepted come before it; if there is no other seat it is
+    /// the share. The entry's version is no higher than the index.
     ///
     /// Refused as `Book::commit` refuses, in this order: `NoText`, `Changed` with the proposal's version and the text's, `Foreign`, `Full`,
-    /// `Memory`. The text's version is another one, at most a million, and at most the seat's share where there is no other seat. After each the
-    /// share is the same, no entry is added, and the same proposal comes back.
+    /// `Memory`. The text's version in `Changed` is another one than the proposal's, at most a million, and at most the seat's share if there is
+    /// no other seat. After each refusal the share is the same, no entry is added, and the same proposal comes back.
     #[tactic(auto, using(crate::proofs::Causes::changed))]
     pub fn commit<R: Wait>(
         &self,
@@ -76,7 +76,7 @@ impl<L: Ledger> Desk<L> {
         proposal: Proposal,
     ) -> Result<Receipt, (CommitFault, Proposal)>
         ensures receipt { IfOk result (λ r. IsFor r proposal) }
-        ensures behind { IfOk result (λ r. StandsBehind L.parts seat.old.accepted r) }
+        ensures index { IfOk result (λ r. StandsAfter L.parts seat.old.accepted r) }
         ensures counted { OnOk result (seat.new.accepted ≡ seat.old.accepted + 1) }
         ensures back { IfErr result (λ r. r.1 ≡ proposal) }
         ensures cause { IfErr result (λ r. IsCause r.0 proposal) }

@@ -24,7 +24,7 @@ pub enum SubmitFault {
     /// The new text would have had more than 65,536 characters.
     #[error("text too long")]
     TextTooLong,
-    /// The snapshot was of another book. No lawful run meets this.
+    /// The snapshot was of another book: its version is above the text's, or the characters differ. No lawful run meets this.
     #[error("of another book")]
     Foreign,
     /// The journal has as many entries as it may hold.
@@ -41,9 +41,12 @@ pub enum SubmitFault {
         /// The version of the text at the last try's commit.
         now: u64,
     },
+    /// The match takes more trials than the statement's limit.
+    #[error("too many trials")]
+    TooManyTrials,
 }
 
-/// Why a desk did not close well. The book comes back.
+/// Why a desk could not be closed as it should. The book comes back.
 #[derive(Clone, Copy, Debug, PartialEq, Eq, Error)]
 pub enum CloseFault {
     /// The book's opening is not the desk's. No lawful run meets this.
@@ -51,7 +54,7 @@ pub enum CloseFault {
     Opening,
 }
 
-/// Why there are no replies of workers. Some jobs may have been accepted; desk and seats are lawful.
+/// Why there are no replies of workers. Some jobs may have been accepted then; desk and seats are lawful.
 #[derive(Clone, Copy, Debug, PartialEq, Eq, Error)]
 pub enum WorkersFault {
     /// Memory was refused.
@@ -83,6 +86,7 @@ impl From<StatementFault> for SubmitFault {
         match fault {
             StatementFault::TextTooLong => SubmitFault::TextTooLong,
             StatementFault::Memory => SubmitFault::Memory,
+            StatementFault::TooManyTrials => SubmitFault::TooManyTrials,
         }
     }
 }
@@ -96,8 +100,10 @@ impl From<CommitFault> for SubmitFault {
     fn from(fault: CommitFault) -> SubmitFault {
         match fault {
             CommitFault::NoText => SubmitFault::NoText,
-            CommitFault::Changed { seen, now } => SubmitFault::TriesSpent { seen, now },
-            CommitFault::Foreign => SubmitFault::Foreign,
+            CommitFault::Changed { seen, now } if seen < now => {
+                SubmitFault::TriesSpent { seen, now }
+            }
+            CommitFault::Changed { .. } | CommitFault::Foreign => SubmitFault::Foreign,
             CommitFault::Full => SubmitFault::Full,
             CommitFault::Memory => SubmitFault::Memory,
         }

@@ -1,15 +1,20 @@
 //! Replies put in the order of the jobs.
 ghost use Rattle.std.specs.Prelude.{◌≡◌, ◌<◌, ℕ, ◌∷◌, IfOk, OnOk, Some, List, length, map, slice_index_or};
 ghost use Rattle.std.specs.Option.{option_map};
+ghost use Rattle.std.specs.Arc.{arc_value};
+ghost use Rattle.sno_statement.specs.Task.{Task};
 ghost use Rattle.sno_desk.specs.Answers.{Answer};
-ghost use Rattle.sno_desk.specs.Turns.{Deals};
+ghost use Rattle.sno_desk.specs.Turns.{Deals, HasTurns};
 
 use crate::{Reply, Seat, WorkersFault};
-use std::alloc::Global;
+use sno_statement::Statement;
+use std::alloc::{AllocError, Global};
 use std::collections::VecDeque;
+use std::sync::Arc;
 use std::sync::ledger::Ledger;
 
-/// The replies that the seats have kept.
+/// The replies that the seats have kept, a queue for each. `Memory` where a seat kept none, as memory was refused to it, or where it is refused
+/// here.
 pub(crate) fn collect<L: Ledger>(
     alloc: Global,
     seats: &mut [Seat<L>],
@@ -28,36 +33,37 @@ pub(crate) fn collect<L: Ledger>(
     Ok(queues)
 }
 
-/// The first reply of the first queue, which goes behind the others.
-#[tactic(auto, using(crate::proofs::Turns::taken_in_turn))]
-fn next_reply(queues: &mut VecDeque<VecDeque<Reply>>) -> Result<Reply, WorkersFault>
-    ensures order { IfOk result (λ r. (replies : List Answer) → Deals (length queues.old.items) 0 (map (λ q. q.items) queues.new.items) replies
-        → Deals (length queues.old.items) 0 (map (λ q. q.items) queues.old.items) (r ∷ replies)) }
-    ensures as_many { OnOk result (length queues.new.items ≡ length queues.old.items) }
+/// The first reply of the first queue, which becomes the last queue.
+fn next_reply(queues: &mut VecDeque<VecDeque<Reply>>) -> Reply
+    requires some { 0 < length queues.old.items }
+    requires waiting { (d : _) → 0 < length (slice_index_or queues.old.items 0 d).items }
+    ensures order { (replies : List Answer) → Deals (length queues.old.items) 0 (map (λ q. q.items) queues.new.items) replies
+        → Deals (length queues.old.items) 0 (map (λ q. q.items) queues.old.items) (result ∷ replies) }
+    ensures turns { (job : Task) (jobs : List Task) → HasTurns (length queues.old.items) 0 (map (λ q. q.items) queues.old.items) (job ∷ jobs)
+        → HasTurns (length queues.old.items) 0 (map (λ q. q.items) queues.new.items) jobs }
+    ensures as_many { length queues.new.items ≡ length queues.old.items }
 {
-    let Some(mut first) = queues.pop_front() else {
-        return Err(WorkersFault::Memory);
-    };
-    let Some(reply) = first.pop_front() else {
-        return Err(WorkersFault::Memory);
-    };
-    queues.push_back(first)?;
-    Ok(reply)
+    let mut first = queues.pop_front().unwrap();
+    let reply = first.pop_front().unwrap();
+    queues.push_back_reserved(first);
+    reply
 }
 
-/// The replies of all queues in the order of the jobs.
+/// The replies of all queues in the order of the jobs. Only the memory for all of them together can be refused.
 #[tactic(auto, using(crate::proofs::Turns::deals_none))]
 pub(crate) fn in_order(
     alloc: Global,
     queues: &mut VecDeque<VecDeque<Reply>>,
-    count: usize,
-) -> Result<Vec<Reply>, WorkersFault>
+    jobs: &[Arc<Statement>],
+) -> Result<Vec<Reply>, AllocError>
+    requires some { 0 < length queues.old.items }
+    requires turns { HasTurns (length queues.old.items) 0 (map (λ q. q.items) queues.old.items) (map arc_value jobs.now) }
     ensures dealt { IfOk result (λ replies. Deals (length queues.old.items) 0 (map (λ q. q.items) queues.old.items) replies.items) }
-    ensures in_all { IfOk result (λ replies. length replies.items ≡ count) }
+    ensures in_all { IfOk result (λ replies. length replies.items ≡ length jobs.now) }
 {
-    let mut replies = Vec::with_capacity(alloc, count)?;
-    for _place in 0..count {
-        replies.push(next_reply(queues)?)?;
+    let mut replies = Vec::with_capacity(alloc, jobs.len())?;
+    for _job in jobs {
+        replies.push_reserved(next_reply(queues));
     }
     Ok(replies)
 }

@@ -4,8 +4,8 @@ ghost use Rattle.std.specs.Prelude.{◌≡◌, length};
 use sno_book::Book;
 use std::sync::ledger::{self, Ledger, Share};
 
-/// The book and the ledger's total, which is the number of the journal's entries: so the lock is never let go with an entry that no seat
-/// counts, nor with a count that no entry stands for. The rest of the shares is what a desk keeps when each seat has its part: nothing.
+/// The book and the ledger's total, which is the number of the journal's entries. So the lock is never let go with an entry that no seat counts,
+/// nor with a count for which there is no entry. `rest` is what is left of the ledger's shares when each seat has its part: nothing.
 #[derive(Drop)]
 pub(crate) struct Locked<L: Ledger> {
     pub(crate) book: Book,

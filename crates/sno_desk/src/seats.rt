@@ -40,7 +40,7 @@ impl<L: Ledger> Seat<L> {
         }
     }
 
-    /// How the seat's share stands to the total: it is no higher, and where there is no other seat it is the total. Nothing is changed.
+    /// Compares the seat's share with the total: it is no higher, and where there is no other seat it is the total. Nothing is changed.
     pub(crate) fn audit(&mut self, total: &mut ledger::Book<L>)
         ensures backed { self.old.accepted ≤ total.old.total }
         ensures alone { L.parts ≡ 1 → self.old.accepted ≡ total.old.total }
@@ -50,7 +50,7 @@ impl<L: Ledger> Seat<L> {
         total.audit(&mut self.share);
     }
 
-    /// One more was accepted, of the book's total too.
+    /// Counts one more accepted proposal, in the total too.
     pub(crate) fn count(&mut self, total: &mut ledger::Book<L>)
         requires { self.old.accepted + 1 < 2 ^ 64 }
         ensures accepted { self.new.accepted ≡ self.old.accepted + 1 }
@@ -60,7 +60,7 @@ impl<L: Ledger> Seat<L> {
         self.accepted += 1;
     }
 
-    /// The replies that the seat has kept, which are its no more.
+    /// Takes the replies that the seat has kept away from it.
     pub(crate) fn take_replies(&mut self) -> Option<VecDeque<Reply>>
         ensures taken { result ≡ self.old.replies }
         ensures same { self.new.accepted ≡ self.old.accepted }
@@ -68,7 +68,7 @@ impl<L: Ledger> Seat<L> {
         self.replies.take()
     }
 
-    /// The share alone.
+    /// The share, without the seat.
     pub(crate) fn into_share(self) -> Share<L>
         ensures parts { result.parts ≡ 1 }
         ensures amount { result.amount ≡ self.accepted }

@@ -1,8 +1,8 @@
-//! Submits: snapshot, gate, matching and commit, until the text stays as it was under one of them.
+//! Submits: snapshot, gate, matching and commit, until the text doesn't change during one of these attempts.
 ghost use Rattle.std.specs.Prelude.{◌≡◌, ◌+◌, ◌≤◌, true, IfOk, IfErr};
 ghost use Rattle.std.specs.Arc.{arc_value};
-ghost use Rattle.sno_desk.specs.Answers.{Answers, SpentAt, added_by, is_lost};
-ghost use Rattle.sno_desk.specs.Receipts.{StandsBehind};
+ghost use Rattle.sno_desk.specs.Answers.{Answers, SpentAt, receipts_in, is_lost};
+ghost use Rattle.sno_desk.specs.Receipts.{StandsAfter};
 
 use crate::{Desk, Gate, Seat, SubmitFault};
 use sno_book::{Receipt, propose};
@@ -14,14 +14,14 @@ use std::sync::{Arc, Wait};
 /// Whether the text changed under the try.
 fn is_lost(answer: &Result<Receipt, SubmitFault>) -> bool
     ensures value { result ≡ is_lost answer.now }
-    ensures none { result ≡ true → added_by answer.now ≡ 0 }
+    ensures none { result ≡ true → receipts_in answer.now ≡ 0 }
 {
     matches!(answer, Err(SubmitFault::TriesSpent { .. }))
 }
 
 impl<L: Ledger> Desk<L> {
-    /// Attempt number `attempt` of `tries`. That the text changed under it is told as all tries spent.
-    #[tactic(auto, using(crate::proofs::Causes::spent))]
+    /// Attempt number `attempt` of `tries`. If the text changes during it, the answer is that all tries are spent.
+    #[tactic(auto, using(crate::proofs::Causes::spent, crate::proofs::Causes::risen))]
     fn attempt<R: Wait, G: Gate>(
         &self,
         rt: &R,
@@ -34,9 +34,9 @@ impl<L: Ledger> Desk<L> {
     ) -> Result<Receipt, SubmitFault>
         requires in_turn { (1 ≤ attempt) × (attempt ≤ tries) }
         ensures answer { Answers (G.shuts gate.now) tries (arc_value statement.now) result }
-        ensures behind { IfOk result (λ r. StandsBehind L.parts seat.old.accepted r) }
+        ensures index { IfOk result (λ r. StandsAfter L.parts seat.old.accepted r) }
         ensures spent { IfErr result (λ e. SpentAt L.parts seat.old.accepted e) }
-        ensures counted { seat.new.accepted ≡ seat.old.accepted + added_by result }
+        ensures counted { seat.new.accepted ≡ seat.old.accepted + receipts_in result }
     {
         let snapshot = self.snapshot(rt, seat, statement.text())?;
         if !gate.pass(rt, statement.number(), attempt) {
@@ -51,7 +51,7 @@ impl<L: Ledger> Desk<L> {
         }
     }
 
-    /// All attempts, up to the first that does not fail for a changed text.
+    /// All attempts, up to the first during which the text doesn't change.
     fn attempts<R: Wait, G: Gate>(
         &self,
         rt: &R,
@@ -63,9 +63,9 @@ impl<L: Ledger> Desk<L> {
     ) -> Result<Receipt, SubmitFault>
         requires { 1 ≤ tries }
         ensures answer { Answers (G.shuts gate.now) tries (arc_value statement.now) result }
-        ensures behind { IfOk result (λ r. StandsBehind L.parts seat.old.accepted r) }
+        ensures index { IfOk result (λ r. StandsAfter L.parts seat.old.accepted r) }
         ensures spent { IfErr result (λ e. SpentAt L.parts seat.old.accepted e) }
-        ensures counted { seat.new.accepted ≡ seat.old.accepted + added_by result }
+        ensures counted { seat.new.accepted ≡ seat.old.accepted + receipts_in result }
     {
         for attempt in 1..tries {
             let answer = self.attempt(rt, alloc, seat, statement, attempt, tries, gate);
@@ -88,27 +88,29 @@ impl<L: Ledger> Desk<L> {
     ) -> Result<Receipt, SubmitFault>
         requires { (1 ≤ tries) × (tries ≤ 1000) }
         ensures answer { Answers (G.shuts gate.now) tries (arc_value statement.now) result }
-        ensures behind { IfOk result (λ r. StandsBehind L.parts seat.old.accepted r) }
+        ensures index { IfOk result (λ r. StandsAfter L.parts seat.old.accepted r) }
         ensures spent { IfErr result (λ e. SpentAt L.parts seat.old.accepted e) }
-        ensures counted { seat.new.accepted ≡ seat.old.accepted + added_by result }
+        ensures counted { seat.new.accepted ≡ seat.old.accepted + receipts_in result }
     {
         let answer = self.attempts(rt, alloc, seat, statement, tries, gate);
         gate.done(rt, statement.number(), answer.is_ok());
         answer
     }
 
-    /// Submits a statement: up to `tries` times a snapshot is taken, the gate passed, the statement performed on the snapshot and the proposal
-    /// committed. Attempts count from 1. A text that changed under one leads to the next; any other answer is the answer of the submit. The
-    /// gate is told once, by `done`, when there is one. It waits for the lock and at the gate; no lock is held at the gate or while matching.
+    /// Submits a statement. An attempt takes a snapshot, passes the gate, performs the statement on the snapshot and commits the proposal. If the
+    /// text has changed in between, the next attempt begins, up to `tries` of them; any other answer is the answer of the submit. Attempts count
+    /// from 1. When there is an answer, `done` of the gate is called once. The call waits for the lock and at the gate; no lock is held at the
+    /// gate or while the statement is performed.
     ///
     /// From 1 to 1,000 tries.
     ///
-    /// On `Ok` the receipt's entry has this statement, at an index as [`Desk::commit`] says, and the seat's share is one higher. On `Err` the share
-    /// is the same, and no entry was added.
+    /// On `Ok` the receipt's entry has this statement, index and version are as [`Desk::commit`] says, and the seat's share is one higher. On
+    /// `Err` the share is the same, and no entry was added.
     ///
-    /// Refused, as it is met: `NoText` where the book has no text of the statement's name; `GateShut`, only where the gate may be shut for the
-    /// statement's number at an attempt from 1 to `tries`; `TextTooLong`, only where the statement would make some text too long; `Foreign`;
-    /// `Full`; `Memory`; `TriesSpent` with the two versions of the last try, as [`Desk::commit`] says of `Changed`.
+    /// Refused, in the order in which an attempt meets it: `NoText` if the book has no text of the statement's name; `GateShut`, only if the gate
+    /// may be shut for the statement's number at an attempt from 1 to `tries`; `TooManyTrials` and `TextTooLong`, only if there is a text on which
+    /// performing the statement is refused so; `Foreign`; `Full`; `Memory`, at whichever step it is refused; `TriesSpent` with the version that the last attempt saw and
+    /// the text's version at its commit, which is higher, at most a million, and at most the seat's share if there is no other seat.
     pub fn submit<R: Wait, G: Gate>(
         &self,
         rt: &R,
@@ -120,9 +122,9 @@ impl<L: Ledger> Desk<L> {
     ) -> Result<Receipt, SubmitFault>
         requires { (1 ≤ tries) × (tries ≤ 1000) }
         ensures answer { Answers (G.shuts gate.now) tries (arc_value statement) result }
-        ensures behind { IfOk result (λ r. StandsBehind L.parts seat.old.accepted r) }
+        ensures index { IfOk result (λ r. StandsAfter L.parts seat.old.accepted r) }
         ensures spent { IfErr result (λ e. SpentAt L.parts seat.old.accepted e) }
-        ensures counted { seat.new.accepted ≡ seat.old.accepted + added_by result }
+        ensures counted { seat.new.accepted ≡ seat.old.accepted + receipts_in result }
     {
         self.submit_shared(rt, alloc, seat, &statement, tries, gate)
     }

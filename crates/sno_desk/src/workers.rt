@@ -4,8 +4,8 @@ ghost use Rattle.std.specs.Option.{option_map};
 ghost use Rattle.std.specs.Thread.{IsSend, IsSync};
 ghost use Rattle.std.specs.Arc.{arc_value};
 ghost use Rattle.sno_statement.specs.Task.{Task};
-ghost use Rattle.sno_desk.specs.Answers.{Answers, added_by};
-ghost use Rattle.sno_desk.specs.Turns.{AllAnswer, Goes, HasWorked, every, raised_by};
+ghost use Rattle.sno_desk.specs.Answers.{Answers, receipts_in};
+ghost use Rattle.sno_desk.specs.Turns.{AllAnswer, FollowInOrder, Goes, HasWorked, every, shares_after};
 
 use crate::gathering::{collect, in_order};
 use crate::{Desk, Gate, Reply, Seat, WorkersFault};
@@ -31,9 +31,9 @@ struct Shift<'a, L: Ledger, G: Gate> {
 }
 
 impl<L: Ledger, G: Gate> Shift<'_, L, G> {
-    /// Submits this job where it is the seat's turn, which is when no other seat's job comes before; keeps the reply behind the others,
-    /// and answers how many jobs of other seats come before the next.
-    #[tactic(auto, using(crate::proofs::Turns::goes_one, crate::proofs::Turns::goes_by))]
+    /// Submits this job if it is the seat's turn, which it is when no job of another seat is to be passed over first. The reply is kept after the
+    /// others. Answers how many jobs of other seats come before the seat's next one.
+    #[tactic(auto, using(crate::proofs::Turns::goes_one, crate::proofs::Turns::goes_by, crate::proofs::Turns::follow_one, crate::proofs::Causes::follows))]
     fn turn<R: Wait>(
         &self,
         rt: &R,
@@ -46,7 +46,9 @@ impl<L: Ledger, G: Gate> Shift<'_, L, G> {
         ensures goes { IfOk result (λ next. (all jobs : List Task)
             → Goes (Answers (G.shuts self.now.gate.now) self.now.tries) all (every self.now.workers wait (arc_value job.now ∷ jobs)) replies.old.items
             → Goes (Answers (G.shuts self.now.gate.now) self.now.tries) all (every self.now.workers next jobs) replies.new.items) }
-        ensures counted { OnOk result (seat.new.accepted + sum_by added_by replies.old.items ≡ seat.old.accepted + sum_by added_by replies.new.items) }
+        ensures counted { OnOk result (seat.new.accepted + sum_by receipts_in replies.old.items ≡ seat.old.accepted + sum_by receipts_in replies.new.items) }
+        ensures in_order { OnOk result ((before : ℕ) → before + sum_by receipts_in replies.old.items ≡ seat.old.accepted
+            → FollowInOrder L.parts before replies.old.items → FollowInOrder L.parts before replies.new.items) }
     {
         if wait > 0 {
             return Ok(wait - 1);
@@ -67,7 +69,8 @@ impl<L: Ledger, G: Gate> Shift<'_, L, G> {
         first: usize,
     ) -> Result<VecDeque<Reply>, AllocError>
         ensures answers { IfOk result (λ replies. AllAnswer (Answers (G.shuts self.now.gate.now) self.now.tries) (every self.now.workers first (map arc_value self.now.jobs.now)) replies.items) }
-        ensures counted { IfOk result (λ replies. seat.new.accepted ≡ seat.old.accepted + sum_by added_by replies.items) }
+        ensures counted { IfOk result (λ replies. seat.new.accepted ≡ seat.old.accepted + sum_by receipts_in replies.items) }
+        ensures in_order { IfOk result (λ replies. FollowInOrder L.parts seat.old.accepted replies.items) }
     {
         let mut replies = VecDeque::with_capacity(alloc, self.jobs.len().div_ceil(self.workers))?;
         let mut wait = first;
@@ -79,7 +82,7 @@ impl<L: Ledger, G: Gate> Shift<'_, L, G> {
 
     /// Submits the jobs of one seat, which keeps the replies.
     fn work<R: Wait>(&self, rt: &R, alloc: Global, seat: &mut Seat<L>, first: usize)
-        ensures { HasWorked (Answers (G.shuts self.now.gate.now) self.now.tries) (every self.now.workers first (map arc_value self.now.jobs.now)) seat.old.accepted seat.new.accepted (option_map (λ q. q.items) seat.new.replies) }
+        ensures { HasWorked (Answers (G.shuts self.now.gate.now) self.now.tries) (every self.now.workers first (map arc_value self.now.jobs.now)) L.parts seat.old.accepted seat.new.accepted (option_map (λ q. q.items) seat.new.replies) }
     {
         seat.replies = match self.replies(rt, alloc, seat, first) {
             Ok(replies) => Some(replies),
@@ -88,7 +91,7 @@ impl<L: Ledger, G: Gate> Shift<'_, L, G> {
     }
 }
 
-/// That a value of this type may go to another thread, and be shared there: told once, where it is needed often. It does nothing.
+/// That a value of this type may go to another thread, and be shared there. It does nothing: its contract is used more than once.
 fn may_cross<T: Send + Sync>()
     ensures sends { IsSend T.row }
     ensures shares { IsSync T.row }
@@ -106,7 +109,7 @@ fn work_all<L: Ledger + Send + Sync, G: Gate + Sync, R: Threads + Wait + Sync>(
 )
     requires some { 1 ≤ length seats.old }
     requires lawful { (1 ≤ tries) × (tries ≤ 1000) }
-    ensures { (k : ℕ) (d : Seat L) → k < length seats.old → HasWorked (Answers (G.shuts gate.now) tries) (every (length seats.old) k (map arc_value jobs.now))
+    ensures { (k : ℕ) (d : Seat L) → k < length seats.old → HasWorked (Answers (G.shuts gate.now) tries) (every (length seats.old) k (map arc_value jobs.now)) L.parts
         (slice_index_or seats.old k d).accepted (slice_index_or seats.new k d).accepted (option_map (λ q. q.items) (slice_index_or seats.new k d).replies) }
 {
     may_cross::<Book>();
@@ -115,7 +118,7 @@ fn work_all<L: Ledger + Send + Sync, G: Gate + Sync, R: Threads + Wait + Sync>(
     let workers = seats.len();
     let worker = |first: usize, seat: &mut Seat<L>|
         requires { (1 ≤ workers) × (1 ≤ tries) × (tries ≤ 1000) }
-        ensures { HasWorked (Answers (G.shuts gate.entry.now) tries) (every workers first (map arc_value jobs.entry.now)) seat.old.accepted seat.new.accepted (option_map (λ q. q.items) seat.new.replies) }
+        ensures { HasWorked (Answers (G.shuts gate.entry.now) tries) (every workers first (map arc_value jobs.entry.now)) L.parts seat.old.accepted seat.new.accepted (option_map (λ q. q.items) seat.new.replies) }
     {
         let shift = Shift {
             desk,
@@ -130,15 +133,17 @@ fn work_all<L: Ledger + Send + Sync, G: Gate + Sync, R: Threads + Wait + Sync>(
 }
 
 /// Submits the jobs through the seats, each of which has a worker of its own: job `i` goes to the seat `i` modulo their number, and each
-/// worker submits its jobs in order, with so many tries for each. The workers run in threads, or in turn where no thread can be made.
+/// worker submits its jobs in order, with so many tries for each. The workers run in threads, or one after the other where no thread can be made.
 ///
 /// From 1 to 16 seats of this desk, and 1 to 1,000 tries.
 ///
-/// On `Ok` there are as many replies as jobs, in their order, and each is an answer of [`Desk::submit`] to the job at its place. Each share is
-/// higher by the number of receipts among its seat's replies, and all together by the number of all receipts.
+/// On `Ok` there are as many replies as jobs, in the order of the jobs, and each is an answer of [`Desk::submit`] to the job at its place. Of
+/// the receipts of one seat, the j-th, from 0, has an index of at least the seat's share before the call plus j, and exactly that if there is no
+/// other seat. The second version of `TriesSpent` is at most a million. Each share is higher by the number of receipts among its seat's
+/// replies, and all together by the number of all receipts.
 ///
 /// Refused: `Memory`. Some jobs may have been accepted then and their replies lost; each share counts what was accepted through its seat, and
-/// the desk goes on and can be closed.
+/// the desk can still be used and closed.
 pub fn run_workers<L: Ledger + Send + Sync, G: Gate + Sync, R: Threads + Wait + Sync>(
     rt: &R,
     alloc: Global,
@@ -151,11 +156,13 @@ pub fn run_workers<L: Ledger + Send + Sync, G: Gate + Sync, R: Threads + Wait + 
     requires few { (1 ≤ length seats.old) × (length seats.old ≤ 16) }
     requires lawful { (1 ≤ tries) × (tries ≤ 1000) }
     ensures answers { IfOk result (λ replies. AllAnswer (Answers (G.shuts gate.now) tries) (map arc_value jobs.now) replies.items) }
-    ensures total { IfOk result (λ replies. sum_by (λ s. s.accepted) seats.new ≡ sum_by (λ s. s.accepted) seats.old + sum_by added_by replies.items) }
-    ensures shares { IfOk result (λ replies. map (λ s. s.accepted) seats.new ≡ raised_by (length seats.old) 0 (map (λ s. s.accepted) seats.old) replies.items) }
+    ensures total { IfOk result (λ replies. sum_by (λ s. s.accepted) seats.new ≡ sum_by (λ s. s.accepted) seats.old + sum_by receipts_in replies.items) }
+    ensures in_order { IfOk result (λ replies. (k : ℕ) (d : Seat L) → k < length seats.old
+        → FollowInOrder L.parts (slice_index_or seats.old k d).accepted (every (length seats.old) k replies.items)) }
+    ensures shares { IfOk result (λ replies. map (λ s. s.accepted) seats.new ≡ shares_after (length seats.old) 0 (map (λ s. s.accepted) seats.old) replies.items) }
 {
     work_all(rt, alloc, desk, seats, jobs, tries, gate);
     let mut queues = collect(alloc, seats)?;
-    let replies = in_order(alloc, &mut queues, jobs.len())?;
+    let replies = in_order(alloc, &mut queues, jobs)?;
     Ok(replies)
 }

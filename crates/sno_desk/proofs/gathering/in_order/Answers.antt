@@ -5,5 +5,5 @@ use Rattle.sno_desk.proofs.gathering.in_order.Goals as goal
 
 pub returns-clause-dealt : goal.returns-clause-dealt
 returns-clause-dealt c =
-    let none = deals_none (length c.args.queues.now.items) 0 (map (λ q. q.items) c.loop-place.queues.items) in
-    rw append-nil at (c.loop-place.invariant.order [] none)
+    let none = deals_none (length c.args.queues.now.items) 0 (map (λ q. q.items) c.loop-job.queues.items) in
+    rw append-nil at (c.loop-job.invariant.order [] none)
