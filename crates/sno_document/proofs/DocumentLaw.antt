@@ -10,6 +10,7 @@ use Rattle.sno_pattern.proofs.Cycles.{not_guarded}
 use Rattle.sno_document.specs.Shape.{Rows, rows_of}
 use Rattle.sno_document.specs.Document.{Document, IsAdmitted, IsDocument, value_in, definitions_of, document_with}
 use Rattle.sno_document.specs.declared.faults.RunFault.{RunFault}
+use Rattle.sno_document.specs.declared.modes.Mode.{Mode}
 
 more_way : (bodies : List Tree) (i x : ℕ) (rest : List ℕ) (j : ℕ) → Chain bodies i x → IsWay bodies x rest j → Chain bodies i j
 more_way bodies i x [] j c w = Chain.more c w
@@ -48,47 +49,47 @@ module _ (bytes : List ℕ) (d e : Data) (a : value_in bytes ≡ Ok d) (b : valu
     same_definitions = ap (λ (r : Rows). definitions_of r.patterns) same_rows
 
 -- what bytes stand for, or their first fault, is one alone
-pub one_answer : (anchor : Bool) (bytes : List ℕ) (r s : Result Document RunFault) → IsDocument anchor bytes r → IsDocument anchor bytes s → r ≡ s
-one_answer anchor bytes _ _ (IsDocument.no_value h) (IsDocument.no_value g) = cc
-one_answer anchor bytes _ _ (IsDocument.no_value h) (IsDocument.no_rows e b q) = cc
-one_answer anchor bytes _ _ (IsDocument.no_value h) (IsDocument.no_definitions e more b q y) = cc
-one_answer anchor bytes _ _ (IsDocument.no_value h) (IsDocument.not_admitted e more rules b q y z) = cc
-one_answer anchor bytes _ _ (IsDocument.no_value h) (IsDocument.whole e more rules b q y z w) = cc
-one_answer anchor bytes _ _ (IsDocument.no_rows d a p) (IsDocument.no_value g) = cc
-one_answer anchor bytes _ _ (IsDocument.no_rows d a p) (IsDocument.no_rows e b q) = let v : d ≡ e = same_value bytes d e a b in cc
-one_answer anchor bytes _ _ (IsDocument.no_rows d a p) (IsDocument.no_definitions e more b q y) = let v : d ≡ e = same_value bytes d e a b in cc
-one_answer anchor bytes _ _ (IsDocument.no_rows d a p) (IsDocument.not_admitted e more rules b q y z) = let v : d ≡ e = same_value bytes d e a b in cc
-one_answer anchor bytes _ _ (IsDocument.no_rows d a p) (IsDocument.whole e more rules b q y z w) = let v : d ≡ e = same_value bytes d e a b in cc
-one_answer anchor bytes _ _ (IsDocument.no_definitions d rows a p x) (IsDocument.no_value g) = cc
-one_answer anchor bytes _ _ (IsDocument.no_definitions d rows a p x) (IsDocument.no_rows e b q) = let v : d ≡ e = same_value bytes d e a b in cc
-one_answer anchor bytes _ _ (IsDocument.no_definitions d rows a p x) (IsDocument.no_definitions e more b q y) =
+pub one_answer : (mode : Mode) (bytes : List ℕ) (r s : Result Document RunFault) → IsDocument mode bytes r → IsDocument mode bytes s → r ≡ s
+one_answer mode bytes _ _ (IsDocument.no_value h) (IsDocument.no_value g) = cc
+one_answer mode bytes _ _ (IsDocument.no_value h) (IsDocument.no_rows e b q) = cc
+one_answer mode bytes _ _ (IsDocument.no_value h) (IsDocument.no_definitions e more b q y) = cc
+one_answer mode bytes _ _ (IsDocument.no_value h) (IsDocument.not_admitted e more rules b q y z) = cc
+one_answer mode bytes _ _ (IsDocument.no_value h) (IsDocument.whole e more rules b q y z w) = cc
+one_answer mode bytes _ _ (IsDocument.no_rows d a p) (IsDocument.no_value g) = cc
+one_answer mode bytes _ _ (IsDocument.no_rows d a p) (IsDocument.no_rows e b q) = let v : d ≡ e = same_value bytes d e a b in cc
+one_answer mode bytes _ _ (IsDocument.no_rows d a p) (IsDocument.no_definitions e more b q y) = let v : d ≡ e = same_value bytes d e a b in cc
+one_answer mode bytes _ _ (IsDocument.no_rows d a p) (IsDocument.not_admitted e more rules b q y z) = let v : d ≡ e = same_value bytes d e a b in cc
+one_answer mode bytes _ _ (IsDocument.no_rows d a p) (IsDocument.whole e more rules b q y z w) = let v : d ≡ e = same_value bytes d e a b in cc
+one_answer mode bytes _ _ (IsDocument.no_definitions d rows a p x) (IsDocument.no_value g) = cc
+one_answer mode bytes _ _ (IsDocument.no_definitions d rows a p x) (IsDocument.no_rows e b q) = let v : d ≡ e = same_value bytes d e a b in cc
+one_answer mode bytes _ _ (IsDocument.no_definitions d rows a p x) (IsDocument.no_definitions e more b q y) =
     let v = same_definitions bytes d e a b rows more p q in cc
-one_answer anchor bytes _ _ (IsDocument.no_definitions d rows a p x) (IsDocument.not_admitted e more rules b q y z) =
+one_answer mode bytes _ _ (IsDocument.no_definitions d rows a p x) (IsDocument.not_admitted e more rules b q y z) =
     let v = same_definitions bytes d e a b rows more p q in cc
-one_answer anchor bytes _ _ (IsDocument.no_definitions d rows a p x) (IsDocument.whole e more rules b q y z w) =
+one_answer mode bytes _ _ (IsDocument.no_definitions d rows a p x) (IsDocument.whole e more rules b q y z w) =
     let v = same_definitions bytes d e a b rows more p q in cc
-one_answer anchor bytes _ _ (IsDocument.not_admitted d rows rules a p x u) (IsDocument.no_value g) = cc
-one_answer anchor bytes _ _ (IsDocument.not_admitted d rows rules a p x u) (IsDocument.no_rows e b q) = let v : d ≡ e = same_value bytes d e a b in cc
-one_answer anchor bytes _ _ (IsDocument.not_admitted d rows rules a p x u) (IsDocument.no_definitions e more b q y) =
+one_answer mode bytes _ _ (IsDocument.not_admitted d rows rules a p x u) (IsDocument.no_value g) = cc
+one_answer mode bytes _ _ (IsDocument.not_admitted d rows rules a p x u) (IsDocument.no_rows e b q) = let v : d ≡ e = same_value bytes d e a b in cc
+one_answer mode bytes _ _ (IsDocument.not_admitted d rows rules a p x u) (IsDocument.no_definitions e more b q y) =
     let v = same_definitions bytes d e a b rows more p q in cc
-one_answer anchor bytes _ _ (IsDocument.not_admitted {e = f} d rows rules a p x u) (IsDocument.not_admitted {e = g} e more others b q y z) =
+one_answer mode bytes _ _ (IsDocument.not_admitted {e = f} d rows rules a p x u) (IsDocument.not_admitted {e = g} e more others b q y z) =
     let v = same_definitions bytes d e a b rows more p q in
     let same : others ≡ rules = cc in
     let once = admitted_once rules (Err f) (Err g) u (subst (λ k. IsAdmitted k (Err g)) same z) in cc
-one_answer anchor bytes _ _ (IsDocument.not_admitted {e = f} d rows rules a p x u) (IsDocument.whole e more others b q y z w) =
+one_answer mode bytes _ _ (IsDocument.not_admitted {e = f} d rows rules a p x u) (IsDocument.whole e more others b q y z w) =
     let v = same_definitions bytes d e a b rows more p q in
     let same : others ≡ rules = cc in
     let once = admitted_once rules (Err f) (Ok rules) u (subst (λ k. IsAdmitted k (Ok k)) same z) in cc
-one_answer anchor bytes _ _ (IsDocument.whole d rows rules a p x u t) (IsDocument.no_value g) = cc
-one_answer anchor bytes _ _ (IsDocument.whole d rows rules a p x u t) (IsDocument.no_rows e b q) = let v : d ≡ e = same_value bytes d e a b in cc
-one_answer anchor bytes _ _ (IsDocument.whole d rows rules a p x u t) (IsDocument.no_definitions e more b q y) =
+one_answer mode bytes _ _ (IsDocument.whole d rows rules a p x u t) (IsDocument.no_value g) = cc
+one_answer mode bytes _ _ (IsDocument.whole d rows rules a p x u t) (IsDocument.no_rows e b q) = let v : d ≡ e = same_value bytes d e a b in cc
+one_answer mode bytes _ _ (IsDocument.whole d rows rules a p x u t) (IsDocument.no_definitions e more b q y) =
     let v = same_definitions bytes d e a b rows more p q in cc
-one_answer anchor bytes _ _ (IsDocument.whole d rows rules a p x u t) (IsDocument.not_admitted {e = g} e more others b q y z) =
+one_answer mode bytes _ _ (IsDocument.whole d rows rules a p x u t) (IsDocument.not_admitted {e = g} e more others b q y z) =
     let v = same_definitions bytes d e a b rows more p q in
     let same : others ≡ rules = cc in
     let once = admitted_once rules (Ok rules) (Err g) u (subst (λ k. IsAdmitted k (Err g)) same z) in cc
-one_answer anchor bytes _ _ (IsDocument.whole d rows rules a p x u t) (IsDocument.whole e more others b q y z w) =
+one_answer mode bytes _ _ (IsDocument.whole d rows rules a p x u t) (IsDocument.whole e more others b q y z w) =
     let v = same_definitions bytes d e a b rows more p q in
     let same : rules ≡ others = cc in
     let ways : rows ≡ more = same_rows bytes d e a b rows more p q in
-    sym t ∙ (λ i. document_with (same i) anchor (ways i)) ∙ w
+    sym t ∙ (λ i. document_with (same i) mode (ways i)) ∙ w

@@ -10,6 +10,7 @@ use Rattle.sno_document.specs.Reads.{Reads}
 use Rattle.sno_document.specs.declared.documents.Document.{Document}
 use Rattle.sno_document.specs.declared.faults.RunFault.{RunFault}
 use Rattle.sno_document.specs.declared.faults.RunFault.TheVariants.{Memory}
+use Rattle.sno_document.specs.declared.modes.Mode.{Mode}
 
 pub fails_on : {A B : Type 0} (e : RunFault) (r : Result A RunFault) (f : A → Result B RunFault) → Fails e r → Fails e (r >>= f)
 fails_on e r f h memory = ap (λ x. x >>= f) (h memory)
@@ -21,10 +22,10 @@ gives_err view (Err d) e r f is h = λ memory. ap (λ x. x >>= f) (h (λ m. memo
 gives_err view (Ok x) e r f is h = absurd is
 
 -- the exit of a `?` of a document
-pub reads_err : (anchor : Bool) (bytes : List ℕ) (result : Result Document RunFault) (e : RunFault) → IsErrAnd result (λ d. d ≡ e)
-    → (e ≢ Memory → IsDocument anchor bytes (Err e)) → Reads anchor bytes result
-reads_err anchor bytes (Err d) e is h = λ memory. subst (λ f. IsDocument anchor bytes (Err f)) (sym is) (h (λ m. memory (is ∙ m)))
-reads_err anchor bytes (Ok x) e is h = absurd is
+pub reads_err : (mode : Mode) (bytes : List ℕ) (result : Result Document RunFault) (e : RunFault) → IsErrAnd result (λ d. d ≡ e)
+    → (e ≢ Memory → IsDocument mode bytes (Err e)) → Reads mode bytes result
+reads_err mode bytes (Err d) e is h = λ memory. subst (λ f. IsDocument mode bytes (Err f)) (sym is) (h (λ m. memory (is ∙ m)))
+reads_err mode bytes (Ok x) e is h = absurd is
 
 -- the definitions of the rows are those of the slice of them
 pub drafted_from : (rows : Rows) (slice : List (Bor (List ℕ) × Bor (List ℕ))) (r : Result Definitions RunFault) → slice ≡ rows.patterns.items

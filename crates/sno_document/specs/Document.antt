@@ -18,10 +18,11 @@ use Rattle.sno_read.specs.Reading.{pattern_of}
 use Rattle.sno_read.specs.Objects.{object_of}
 use Rattle.sno_read.specs.declared.faults.ReadFault.{ReadFault}
 use Rattle.sno_read.specs.declared.objects.Part.{Part}
-use Rattle.sno_statement.specs.Task.{Task}
+use Rattle.sno_statement.specs.Task.{Task, usual_limit, with_limit}
 use Rattle.sno_document.specs.Json.{json_of}
 use Rattle.sno_document.specs.Shape.{Rows, StatementRow, rows_of}
 use Rattle.sno_document.specs.Faults.{◌>>=◌}
+use Rattle.sno_document.specs.declared.modes.Mode.{Mode}
 use Rattle.sno_document.specs.declared.faults.RunFault.{RunFault}
 use Rattle.sno_document.specs.declared.faults.RunFault.TheVariants as fault
 
@@ -114,23 +115,27 @@ object_row defined s (Some text) = reading (fault.StatementObject s) (object_of 
 abbrev pub text_name_row : ℕ → List ℕ → Result (List ℕ) RunFault
 text_name_row s name = if is_text_name name then Ok name else Err (fault.StatementName s)
 
--- statement number s: the name of its text, then its pattern, in which plain names may name all definitions, then its object;
--- `anchor` is for those that don't say whether they are anchored
-unfoldable pub statement_row : Definitions → Bool → ℕ → StatementRow → Result Task RunFault
-statement_row rules anchor s row =
+-- statement number s, with the usual limit of trials: the name of its text, then its pattern, in which plain names may name all
+-- definitions, then its object; `anchor` is for those that don't say whether they are anchored
+unfoldable pub usual_row : Definitions → Bool → ℕ → StatementRow → Result Task RunFault
+usual_row rules anchor s row =
     text_name_row s row.text >>= λ text. reading (fault.StatementPattern s) (pattern_of rules.names (length rules.names) row.pattern) >>= λ pattern.
     object_row rules.names s row.object >>= λ object.
-    Ok (record { number = s; rules = rules; pattern = pattern; object = object; text = text; anchored = unwrap_or row.anchored anchor })
+    Ok (record { number = s; rules = rules; pattern = pattern; object = object; text = text; anchored = unwrap_or row.anchored anchor; limit = usual_limit })
+
+-- the same with what the mode says: for those that don't say whether they are anchored, and how many trials each may take
+unfoldable pub statement_row : Definitions → Mode → ℕ → StatementRow → Result Task RunFault
+statement_row rules mode s row = usual_row rules mode.anchor s row >>= λ statement. Ok (with_limit statement mode.trials)
 
 -- the statements from number s on, behind those before
-abbrev pub statements_from : Definitions → Bool → ℕ → List Task → List StatementRow → Result (List Task) RunFault
-statements_from rules anchor s done [] = Ok done
-statements_from rules anchor s done (row ∷ rows) =
-    statement_row rules anchor s row >>= λ statement. statements_from rules anchor (s + 1) (done ++ statement ∷ []) rows
+abbrev pub statements_from : Definitions → Mode → ℕ → List Task → List StatementRow → Result (List Task) RunFault
+statements_from rules mode s done [] = Ok done
+statements_from rules mode s done (row ∷ rows) =
+    statement_row rules mode s row >>= λ statement. statements_from rules mode (s + 1) (done ++ statement ∷ []) rows
 
 -- the statements
-unfoldable pub statements_of : Definitions → Bool → List StatementRow → Result (List Task) RunFault
-statements_of rules anchor rows = at_most 1000000 fault.TooManyStatements rows >>= λ rows. statements_from rules anchor 1 [] rows
+unfoldable pub statements_of : Definitions → Mode → List StatementRow → Result (List Task) RunFault
+statements_of rules mode rows = at_most 1000000 fault.TooManyStatements rows >>= λ rows. statements_from rules mode 1 [] rows
 
 -- the value that bytes stand for: the length is looked at first
 abbrev pub value_or : Option Data → Result Data RunFault
@@ -141,9 +146,9 @@ unfoldable pub value_in : List ℕ → Result Data RunFault
 value_in bytes = if nat_lt 16777216 (length bytes) then Err fault.DocumentTooLong else value_or (json_of bytes)
 
 -- what comes behind the definitions, once they are admitted
-unfoldable pub document_with : Definitions → Bool → Rows → Result Document RunFault
-document_with rules anchor rows =
-    texts_of rows.texts >>= λ done. statements_of rules anchor rows.statements >>= λ statements.
+unfoldable pub document_with : Definitions → Mode → Rows → Result Document RunFault
+document_with rules mode rows =
+    texts_of rows.texts >>= λ done. statements_of rules mode rows.statements >>= λ statements.
     Ok (record { rules = rules; texts = done; statements = statements })
 
 -- What definitions stand for: themselves, where they are guarded; or the fault with the name of the first that lies on a circle of
@@ -154,12 +159,12 @@ pub data IsAdmitted (rules : Definitions) : Result Definitions RunFault → Type
       → IsAdmitted rules (Err (fault.Unguarded name))
 
 -- What bytes stand for: the value, its shape, the definitions, their admission, and then the rest; or the first fault among these.
-pub data IsDocument (anchor : Bool) (bytes : List ℕ) : Result Document RunFault → Type 0 where
-  no_value : {e : RunFault} → value_in bytes ≡ Err e → IsDocument anchor bytes (Err e)
-  no_rows : {e : RunFault} (d : Data) → value_in bytes ≡ Ok d → rows_of d ≡ Err e → IsDocument anchor bytes (Err e)
+pub data IsDocument (mode : Mode) (bytes : List ℕ) : Result Document RunFault → Type 0 where
+  no_value : {e : RunFault} → value_in bytes ≡ Err e → IsDocument mode bytes (Err e)
+  no_rows : {e : RunFault} (d : Data) → value_in bytes ≡ Ok d → rows_of d ≡ Err e → IsDocument mode bytes (Err e)
   no_definitions : {e : RunFault} (d : Data) (rows : Rows) → value_in bytes ≡ Ok d → rows_of d ≡ Ok rows → definitions_of rows.patterns ≡ Err e
-      → IsDocument anchor bytes (Err e)
+      → IsDocument mode bytes (Err e)
   not_admitted : {e : RunFault} (d : Data) (rows : Rows) (rules : Definitions) → value_in bytes ≡ Ok d → rows_of d ≡ Ok rows
-      → definitions_of rows.patterns ≡ Ok rules → IsAdmitted rules (Err e) → IsDocument anchor bytes (Err e)
+      → definitions_of rows.patterns ≡ Ok rules → IsAdmitted rules (Err e) → IsDocument mode bytes (Err e)
   whole : {r : Result Document RunFault} (d : Data) (rows : Rows) (rules : Definitions) → value_in bytes ≡ Ok d → rows_of d ≡ Ok rows
-      → definitions_of rows.patterns ≡ Ok rules → IsAdmitted rules (Ok rules) → document_with rules anchor rows ≡ r → IsDocument anchor bytes r
+      → definitions_of rows.patterns ≡ Ok rules → IsAdmitted rules (Ok rules) → document_with rules mode rows ≡ r → IsDocument mode bytes r

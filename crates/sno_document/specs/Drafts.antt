@@ -17,7 +17,7 @@ pub record IsDrafted (d : Drafted) : Type 0 where
   pub covered : IsTrue (list_all (refs_below (length d.names)) (trees d.bodies.items))
   pub written : d.written.items ≡ d.names
 
--- the answer is that of admission, or want of memory
+-- the answer is that of admission, or memory is refused
 abbrev pub Admits : Definitions → Result Definitions RunFault → Type 0
 Admits rules (Ok admitted) = (admitted ≡ rules) × IsAdmitted rules (Ok rules)
 Admits rules (Err e) = e ≢ Memory → IsAdmitted rules (Err e)

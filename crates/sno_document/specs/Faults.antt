@@ -14,11 +14,11 @@ status Audit = 4
 status Closing = 4
 status _ = 2
 
--- the fault is the one wanted, or want of memory
+-- the fault is the one wanted, or that memory is refused
 abbrev pub Fails : {Y : Type 0} → RunFault → Result Y RunFault → Type 0
 Fails fault wanted = fault ≢ Memory → wanted ≡ Err fault
 
--- the answer, seen by view, is the one wanted; or want of memory
+-- the answer, seen by view, is the one wanted; or memory is refused
 abbrev pub Gives : {X Y : Type 0} → (X → Y) → Result X RunFault → Result Y RunFault → Type 0
 Gives view (Ok x) wanted = wanted ≡ Ok (view x)
 Gives view (Err fault) wanted = Fails fault wanted

@@ -6,6 +6,7 @@ use Rattle.sno_document.specs.Document.{IsDocument}
 use Rattle.sno_document.specs.declared.documents.Document.{Document}
 use Rattle.sno_document.specs.declared.faults.RunFault.{RunFault}
 use Rattle.sno_document.specs.declared.faults.RunFault.TheVariants.{Memory}
+use Rattle.sno_document.specs.declared.modes.Mode.{Mode}
 
 abbrev pub document_seen : Document → document.Document
 document_seen d = record { rules = arc_value d.rules; texts = d.book.opening.texts; statements = map arc_value d.statements.items }
@@ -16,7 +17,7 @@ pub record IsReady (d : Document) : Type 0 where
   pub room : d.book.opening.room ≡ 1000000
   pub few : length d.statements.items ≤ 1000000
 
--- the answer is what the bytes stand for, or want of memory
-abbrev pub Reads : Bool → List ℕ → Result Document RunFault → Type 0
-Reads anchor bytes (Ok d) = IsDocument anchor bytes (Ok (document_seen d))
-Reads anchor bytes (Err e) = e ≢ Memory → IsDocument anchor bytes (Err e)
+-- the answer is what the bytes stand for, or memory is refused
+abbrev pub Reads : Mode → List ℕ → Result Document RunFault → Type 0
+Reads mode bytes (Ok d) = IsDocument mode bytes (Ok (document_seen d))
+Reads mode bytes (Err e) = e ≢ Memory → IsDocument mode bytes (Err e)

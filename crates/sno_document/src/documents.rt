@@ -1,17 +1,18 @@
 //! Documents.
 ghost use Rattle.std.specs.Prelude.{map, IfOk};
 ghost use Rattle.serde_json.specs.View.{view};
+ghost use Rattle.sno_statement.specs.Task.{IsLimit};
 ghost use Rattle.sno_document.specs.Faults.{Gives};
 ghost use Rattle.sno_document.specs.Json.{json_of};
 ghost use Rattle.sno_document.specs.Rows.{rows_seen};
 ghost use Rattle.sno_document.specs.Document.{value_or, value_in, document_with};
 ghost use Rattle.sno_document.specs.Reads.{document_seen, Reads, IsReady};
 
-use crate::RunFault;
 use crate::definitions::{admitted, definitions};
 use crate::rows::{Rows, rows_of};
 use crate::statements::statements;
 use crate::texts::texts;
+use crate::{Mode, RunFault};
 use serde_json::Value;
 use sno_book::Book;
 use sno_pattern::Rules;
@@ -60,15 +61,16 @@ fn value_of(alloc: Global, bytes: &[u8]) -> Result<Value, RunFault>
 fn document_with(
     alloc: Global,
     rules: Rules,
-    anchor: bool,
+    mode: Mode,
     rows: &Rows<'_>,
 ) -> Result<Document, RunFault>
-    ensures document { Gives document_seen result (document_with rules anchor (rows_seen rows.now)) }
+    requires { IsLimit mode.trials }
+    ensures document { Gives document_seen result (document_with rules mode (rows_seen rows.now)) }
     ensures ready { IfOk result (λ d. IsReady d) }
 {
     let rules = Arc::new(alloc, rules)?;
     let book = texts(alloc, &rows.texts)?;
-    let statements = statements(alloc, &rules, anchor, &rows.statements)?;
+    let statements = statements(alloc, &rules, mode, &rows.statements)?;
     Ok(Document {
         rules,
         book,
@@ -76,15 +78,16 @@ fn document_with(
     })
 }
 
-/// The document that the bytes are; `anchor` is for statements that don't say whether they are anchored.
-pub fn read_document(alloc: Global, bytes: &[u8], anchor: bool) -> Result<Document, RunFault>
-    ensures document { Reads anchor bytes.now result }
+/// The document that the bytes are; `mode` has what its statements don't say themselves, and trials from 1 to 1,000,000,000.
+pub fn read_document(alloc: Global, bytes: &[u8], mode: Mode) -> Result<Document, RunFault>
+    requires { IsLimit mode.trials }
+    ensures document { Reads mode bytes.now result }
     ensures ready { IfOk result (λ d. IsReady d) }
 {
     let value = value_of(alloc, bytes)?;
     let rows = rows_of(alloc, &value)?;
     let drafted = definitions(alloc, &rows.patterns)?;
     let rules = admitted(alloc, drafted)?;
-    let document = document_with(alloc, rules, anchor, &rows)?;
+    let document = document_with(alloc, rules, mode, &rows)?;
     Ok(document)
 }

@@ -109,8 +109,8 @@ impl<T: Drop> From<AllocFailed<T>> for RunFault {
     }
 }
 
-/// The status with which a program ends on a fault: 2 for bad input, 4 for want of memory, a read or a write that failed,
-/// versions that stopped, no reader, an audit or a closing that failed.
+/// The status with which a program ends on a fault: 2 for bad input; 4 where memory was refused, a read or a write failed, versions
+/// stopped, there was no reader, or an audit or a closing failed.
 pub fn status_of(fault: &RunFault) -> u8
     ensures { result ≡ status fault.now }
 {

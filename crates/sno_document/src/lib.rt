@@ -1,7 +1,7 @@
 //! Documents: JSON with definitions, texts and statements, checked in a fixed order, and the first fault of what is no document.
 //!
 //! [`read_document`] takes the bytes to a [`Document`], whose texts stand in a book, or to the first fault of the bytes, by `IsDocument` of
-//! `specs/Document.antt`. Bytes have one answer ([`one_answer`]). Want of memory is a further answer.
+//! `specs/Document.antt`. Bytes have one answer ([`one_answer`]). `RunFault::Memory` is a further answer.
 //!
 //! | File | What it does |
 //! |---|---|
@@ -16,6 +16,7 @@ mod documents;
 mod faults;
 mod json;
 mod laws;
+mod modes;
 mod rows;
 mod statements;
 mod texts;
@@ -23,3 +24,4 @@ mod texts;
 pub use documents::{Document, MAX_DOCUMENT, read_document};
 pub use faults::{RunFault, status_of};
 pub use laws::one_answer;
+pub use modes::Mode;

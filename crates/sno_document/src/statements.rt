@@ -4,13 +4,14 @@ ghost use Rattle.std.specs.Option.{option_map};
 ghost use Rattle.std.specs.Arc.{arc_value};
 ghost use Rattle.sno_pattern.specs.Tree.{tree_of, refs_below};
 ghost use Rattle.sno_read.specs.Reading.{pattern_of};
+ghost use Rattle.sno_statement.specs.Task.{IsLimit};
 ghost use Rattle.sno_document.specs.Faults.{Gives};
 ghost use Rattle.sno_document.specs.Rows.{statement_seen};
-ghost use Rattle.sno_document.specs.Document.{reading, object_row, text_name_row, statement_row, statements_from, statements_of};
+ghost use Rattle.sno_document.specs.Document.{reading, object_row, text_name_row, statement_row, statements_from, statements_of, usual_row};
 ghost use Rattle.sno_document.specs.declared.faults.RunFault.TheVariants.{StatementPattern};
 
-use crate::RunFault;
 use crate::rows::StatementRow;
+use crate::{Mode, RunFault};
 use sno_pattern::{NameFault, Names, Pattern, Rules, TextName};
 use sno_read::{Object, ReadFault, read_object, read_pattern};
 use sno_statement::Statement;
@@ -62,9 +63,9 @@ fn text_name(alloc: Global, number: usize, name: &str) -> Result<TextName, RunFa
     }
 }
 
-/// Statement number `number`.
-#[tactic(auto, unfolding(crate::specs::Document::statement_row))]
-fn statement(
+/// Statement number `number`, with the usual limit of trials.
+#[tactic(auto, unfolding(crate::specs::Document::usual_row))]
+fn usual_statement(
     alloc: Global,
     rules: &Arc<Rules>,
     anchor: bool,
@@ -72,7 +73,7 @@ fn statement(
     row: &StatementRow<'_>,
 ) -> Result<Statement, RunFault>
     requires { number ≤ 1000000 }
-    ensures { Gives (λ s. s) result (statement_row (arc_value rules.now) anchor number (statement_seen row.now)) }
+    ensures { Gives (λ s. s) result (usual_row (arc_value rules.now) anchor number (statement_seen row.now)) }
 {
     let name = text_name(alloc, number, row.text)?;
     let pattern = pattern(alloc, rules.names(), number, row.pattern)?;
@@ -88,15 +89,33 @@ fn statement(
     ))
 }
 
-/// The statements of the document; `anchor` is for those that don't say whether they are anchored.
+/// Statement number `number`, by the mode.
+#[tactic(auto, unfolding(crate::specs::Document::statement_row))]
+fn statement(
+    alloc: Global,
+    rules: &Arc<Rules>,
+    mode: Mode,
+    number: usize,
+    row: &StatementRow<'_>,
+) -> Result<Statement, RunFault>
+    requires number { number ≤ 1000000 }
+    requires limit { IsLimit mode.trials }
+    ensures { Gives (λ s. s) result (statement_row (arc_value rules.now) mode number (statement_seen row.now)) }
+{
+    let usual = usual_statement(alloc, rules, mode.anchor, number, row)?;
+    Ok(usual.limited(mode.trials))
+}
+
+/// The statements of the document.
 #[tactic(auto, unfolding(crate::specs::Document::statements_of))]
 pub(crate) fn statements(
     alloc: Global,
     rules: &Arc<Rules>,
-    anchor: bool,
+    mode: Mode,
     rows: &[StatementRow<'_>],
 ) -> Result<Vec<Arc<Statement>>, RunFault>
-    ensures statements { Gives (λ v. map arc_value v.items) result (statements_of (arc_value rules.now) anchor (map statement_seen rows.now)) }
+    requires { IsLimit mode.trials }
+    ensures statements { Gives (λ v. map arc_value v.items) result (statements_of (arc_value rules.now) mode (map statement_seen rows.now)) }
     ensures few { IfOk result (λ v. length v.items ≤ 1000000) }
 {
     if rows.len() > MAX_STATEMENTS {
@@ -104,7 +123,7 @@ pub(crate) fn statements(
     }
     let mut statements = Vec::new(alloc);
     for (place, row) in rows.iter().enumerate() {
-        let statement = statement(alloc, rules, anchor, place + 1, row)?;
+        let statement = statement(alloc, rules, mode, place + 1, row)?;
         statements.push(Arc::new(alloc, statement)?)?;
     }
     Ok(statements)

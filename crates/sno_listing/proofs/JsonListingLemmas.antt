@@ -19,7 +19,7 @@ use Rattle.sno_statement.specs.Bindings.{Bound}
 use Rattle.sno_statement.specs.Perform.{Done, Matched, Failed}
 use Rattle.sno_statement.specs.declared.binding.Datum.{Datum}
 use Rattle.sno_statement.specs.declared.binding.Datum.TheVariants.{Str, Int}
-use Rattle.sno_book.specs.States.{Held}
+use Rattle.sno_book.specs.States.{VersionedText}
 use Rattle.sno_book.specs.Entries.{Entry}
 use Rattle.sno_listing.specs.History.{History}
 use Rattle.sno_listing.specs.declared.refusals.Refusal.{Refusal}
@@ -75,7 +75,7 @@ binding_float : (b : List ℕ × Datum) → has_float (binding_data b) ≡ false
 unfolding binding_data
 binding_float b = neither (has_float (value_data b.1)) false (value_float b.1) refl
 
-text_float : (t : Held) → has_float (text_data t) ≡ false
+text_float : (t : VersionedText) → has_float (text_data t) ≡ false
 unfolding text_data
 text_float t = refl
 

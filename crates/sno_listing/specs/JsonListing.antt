@@ -8,7 +8,7 @@ use Rattle.sno_statement.specs.Bindings.{Bound}
 use Rattle.sno_statement.specs.Perform.{Done, Matched, Failed}
 use Rattle.sno_statement.specs.declared.binding.Datum.{Datum}
 use Rattle.sno_statement.specs.declared.binding.Datum.TheVariants.{Str, Int}
-use Rattle.sno_book.specs.States.{Held}
+use Rattle.sno_book.specs.States.{VersionedText}
 use Rattle.sno_book.specs.Entries.{Entry}
 use Rattle.sno_listing.specs.History.{History}
 use Rattle.sno_listing.specs.Listing.{reason_words}
@@ -23,7 +23,7 @@ abbrev pub array_of : List Data → Data
 array_of ds = array (items_of ds)
 
 -- a text: its name, its characters and its version
-unfoldable pub text_data : Held → Data
+unfoldable pub text_data : VersionedText → Data
 text_data held =
     object (member (codes "name") (string held.name) (member (codes "text") (string held.text) (member (codes "version") (count held.version) no_members)))
 

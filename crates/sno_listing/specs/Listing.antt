@@ -5,11 +5,11 @@ use Rattle.std.specs.Fmt.{decimal}
 use Rattle.sno_statement.specs.Perform.{Done, Matched, Failed}
 use Rattle.sno_statement.specs.declared.binding.Datum.{Datum}
 use Rattle.sno_statement.specs.declared.binding.Datum.TheVariants.{Str, Int}
-use Rattle.sno_book.specs.States.{Held}
+use Rattle.sno_book.specs.States.{VersionedText}
 use Rattle.sno_book.specs.Entries.{Entry}
 use Rattle.sno_listing.specs.History.{History}
 use Rattle.sno_listing.specs.declared.refusals.Reason.{Reason}
-use Rattle.sno_listing.specs.declared.refusals.Reason.TheVariants.{NoText, TextTooLong, TriesSpent}
+use Rattle.sno_listing.specs.declared.refusals.Reason.TheVariants.{NoText, TextTooLong, TriesSpent, TooManyTrials}
 use Rattle.sno_listing.specs.declared.refusals.Refusal.{Refusal}
 
 -- a hexadecimal digit, in lower case
@@ -28,7 +28,7 @@ abbrev pub escaped : List ℕ → List ℕ
 escaped t = flat_map escaped_character t
 
 -- a text: its name, its version, and its characters between bars
-unfoldable pub text_line : Held → List ℕ
+unfoldable pub text_line : VersionedText → List ℕ
 text_line held = escaped held.name ++ (32 ∷ [] ++ (decimal held.version ++ (codes " |" ++ (escaped held.text ++ (124 ∷ 10 ∷ [])))))
 
 -- the value of a variable: a string between bars, or a number
@@ -76,6 +76,7 @@ abbrev pub reason_words : Reason → List ℕ
 reason_words NoText = codes "no text"
 reason_words TextTooLong = codes "text too long"
 reason_words (TriesSpent seen now) = tries_words seen now
+reason_words TooManyTrials = codes "too many trials"
 
 -- a refused statement: its number and the reason
 unfoldable pub refused_line : Refusal → List ℕ

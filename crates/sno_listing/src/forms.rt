@@ -11,7 +11,7 @@ use sno_book::Book;
 use std::alloc::{AllocError, Global};
 
 /// The listing of a book's texts, of its journal, and of the statements that were refused beside it: as JSON where `json` is set, and
-/// else in lines. Refused for want of memory alone.
+/// else in lines. Its one refusal is that of memory.
 pub fn listed(
     alloc: Global,
     book: &Book,

@@ -165,6 +165,7 @@ pub(crate) fn put_reason(alloc: Global, out: &mut Vec<u8>, reason: Reason) -> Re
         Reason::NoText => put(out, b"no text"),
         Reason::TextTooLong => put(out, b"text too long"),
         Reason::TriesSpent { seen, now } => put_tries(alloc, out, seen, now),
+        Reason::TooManyTrials => put(out, b"too many trials"),
     }
 }
 

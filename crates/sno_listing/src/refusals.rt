@@ -14,6 +14,8 @@ pub enum Reason {
         /// The version of the text when that try was to be accepted.
         now: u64,
     },
+    /// The match takes more trials than the statement's limit.
+    TooManyTrials,
 }
 
 /// A statement that is refused.

@@ -12,18 +12,18 @@ use Rattle.clap.specs.Words.{App, IsAmong, ReadsOne, Row, Text, fault_of, is_sim
 use Rattle.clap.specs.declared.error.kind.ErrorKind.{ErrorKind}
 use Rattle.clap.specs.declared.error.kind.ErrorKind.TheVariants.{OutOfMemory}
 use Rattle.clap.proofs.OnLiterals.{clap_on_literals}
-use Rattle.sno_rewrite.specs.CommandLine.{AreRefused, IsAnswer, IsChecked, Tells, faults, found, is_numeral, number_from, options_in, plain_options, program}
+use Rattle.sno_rewrite.specs.CommandLine.{AreRefused, IsAnswer, IsChecked, Tells, faults, found, is_numeral, number_from, options_in, plain_options, program, shared_program}
 use Rattle.sno_rewrite.specs.declared.options.Options.{Options}
 use Rattle.sno_rewrite.specs.declared.command_line.OptionsFault.{OptionsFault}
 use Rattle.sno_rewrite.specs.declared.command_line.OptionsFault.TheVariants.{Help, Usage, Memory}
 
 -- the program is one of those whose matches and faults are known
 pub program_simple : is_simple program ≡ true
-unfolding program
+unfolding program shared_program
 program_simple = refl
 
 pub program_free : is_simple_and_free program ≡ true
-unfolding program
+unfolding program shared_program
 program_free = refl
 
 pub found_are : (a : App) (words : List Text) → a ≡ program → matches_of a words ≡ found words
@@ -95,7 +95,7 @@ told_answer words kind (Usage text) (inr among) tells = AreRefused.unread kind a
 told_answer words kind Memory h tells = tt
 
 plain_given : options_in (found []) ≡ plain_options
-unfolding found program clap_on_literals
+unfolding found program shared_program clap_on_literals
 plain_given = refl
 
 -- no word gives the plain options

@@ -1,6 +1,6 @@
 -- Options within their limits.
 use Rattle.std.proofs.Common.{◌≡◌, ℕ, ◌≤◌, true, Option, Some, None, IfSome}
-use Rattle.std.specs.Prelude.{nat_le}
+use Rattle.std.specs.Prelude.{nat_le, ◌&&◌}
 use Rattle.std.specs.Option.{option_map_or}
 use Rattle.std.proofs.lemmas.Bool.{and_parts, leb-true}
 use Rattle.sno_rewrite.specs.CommandLine.{are_lawful, is_up_to}
@@ -17,5 +17,6 @@ workers_up_to (Some n) h = up_to 16 n h
 -- options that pass the test are within their limits
 pub in_limits : (options : Options) → are_lawful options ≡ true → AreInLimits options
 in_limits options h =
-    let p = and_parts (option_map_or (is_up_to 16) options.workers true) (is_up_to 1000 options.tries) h in
-    record { workers = workers_up_to options.workers p.0; tries = up_to 1000 options.tries p.1 }
+    let p = and_parts (option_map_or (is_up_to 16) options.workers true) (is_up_to 1000 options.tries && is_up_to 1000000000 options.trials) h in
+    let q = and_parts (is_up_to 1000 options.tries) (is_up_to 1000000000 options.trials) p.1 in
+    record { workers = workers_up_to options.workers p.0; tries = up_to 1000 options.tries q.0; trials = up_to 1000000000 options.trials q.1 }

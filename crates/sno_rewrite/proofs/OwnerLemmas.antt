@@ -14,8 +14,8 @@ use Rattle.sno_book.specs.Proposals.{Received}
 use Rattle.sno_desk.specs.Answers.{Answers}
 use Rattle.sno_desk.specs.Turns.{AllAnswer}
 use Rattle.sno_desk.specs.declared.faults.SubmitFault.{SubmitFault}
-use Rattle.sno_desk.specs.declared.faults.SubmitFault.TheVariants as submit
-use Rattle.sno_rewrite.specs.Owners.{IsReceipt, Owns, answer_in}
+use Rattle.sno_listing.specs.declared.refusals.Reason.{Reason}
+use Rattle.sno_rewrite.specs.Owners.{IsReceipt, Owns, answer_in, reason_in}
 use Rattle.sno_rewrite.specs.Shared.{IsOrder}
 
 -- what is set stands there, and all else as it stood
@@ -118,22 +118,25 @@ receipt_for shuts tries (s ∷ statements) (Ok x ∷ replies) h zero r there =
 receipt_for shuts tries (s ∷ statements) (Err x ∷ replies) h zero r there = cc
 receipt_for shuts tries (s ∷ statements) (x ∷ replies) h (suc p) r there = receipt_for shuts tries statements replies h.1 p r there
 
--- a refusal has a reason
-accepted_in : (r : Result Received SubmitFault) → answer_in r ≡ None → (receipt : Received) × (r ≡ Ok receipt)
-accepted_in (Ok receipt) h = (receipt, refl)
-accepted_in (Err submit.NoText) h = absurd (cc)
-accepted_in (Err submit.GateShut) h = absurd (cc)
-accepted_in (Err submit.TextTooLong) h = absurd (cc)
-accepted_in (Err submit.Foreign) h = absurd (cc)
-accepted_in (Err submit.Full) h = absurd (cc)
-accepted_in (Err submit.Memory) h = absurd (cc)
-accepted_in (Err (submit.TriesSpent seen now)) h = absurd (cc)
+-- a refusal is no acceptance
+refused_in : (o : Option Reason) → option_map Some o ≡ Some None → ⊥
+refused_in None h = cc
+refused_in (Some reason) h = cc
 
-accepted_at : (replies : List (Result Received SubmitFault)) (p : ℕ) → slice_get (map answer_in replies) p ≡ Some None
+accepted_in : (r : Result Received SubmitFault) → answer_in r ≡ Some None → (receipt : Received) × (r ≡ Ok receipt)
+accepted_in (Ok receipt) h = (receipt, refl)
+accepted_in (Err e) h = absurd (refused_in (reason_in e) h)
+
+accepted_at : (replies : List (Result Received SubmitFault)) (p : ℕ) → slice_get (map answer_in replies) p ≡ Some (Some None)
     → (receipt : Received) × (slice_get replies p ≡ Some (Ok receipt))
 accepted_at [] p h = absurd (cc)
-accepted_at (r ∷ replies) zero h = let e : answer_in r ≡ None = cc in let a = accepted_in r e in (a.0, ap Some a.1)
+accepted_at (r ∷ replies) zero h = let e : answer_in r ≡ Some None = cc in let a = accepted_in r e in (a.0, ap Some a.1)
 accepted_at (r ∷ replies) (suc p) h = accepted_at replies p h
+
+-- the answer at a place is what the reply there says
+inner : (o : Option (Option Reason)) → option_map Some o ≡ Some (Some None) → o ≡ Some None
+inner None h = absurd (cc)
+inner (Some a) h = let e : a ≡ None = cc in ap Some e
 
 filled_at : (order : List ℕ) (k p : ℕ) → slice_get order k ≡ Some p → slice_get (map Some order) k ≡ Some (Some p)
 filled_at [] k p h = absurd (cc)
@@ -148,14 +151,17 @@ order_at (x ∷ order) (suc k) p h = order_at order k p h
 -- where each entry is owned, the owners are the order of the statements
 module _ (shuts : ℕ → ℕ → Type 0) (tries : ℕ) (statements : List Task) (replies : List (Result Received SubmitFault)) (journal : List Entry)
     (owners : List (Option ℕ)) (answered : AllAnswer (Answers shuts tries) statements replies) (owns : Owns journal replies (length replies) owners)
-    (filled : Filled owners) where
+    (filled : Filled owners) (answers : List (Option Reason)) (given : map answer_in replies ≡ map Some answers) where
   owned : (k p : ℕ) → slice_get filled.order k ≡ Some p → slice_get owners k ≡ Some (Some p)
   owned k p h = ap (λ (l : List (Option ℕ)). slice_get l k) filled.filled ∙ filled_at filled.order k p h
 
   its : (k p : ℕ) → slice_get filled.order k ≡ Some p → IsReceipt journal replies k p
   its k p h = (owns.backed k p (owned k p h)).1
 
-  pub in_order : IsOrder statements (map answer_in replies) journal filled.order
+  said : (p : ℕ) → slice_get (map answer_in replies) p ≡ option_map Some (slice_get answers p)
+  said p = ap (λ (l : List (Option (Option Reason))). slice_get l p) given ∙ slice_get-map Some answers p
+
+  pub in_order : IsOrder statements answers journal filled.order
   in_order = record {
     as_many = sym (length-map filled.order Some) ∙ sym (ap length filled.filled) ∙ owns.as_many;
     once = λ j k p h g.
@@ -168,9 +174,9 @@ module _ (shuts : ℕ → ℕ → Type 0) (tries : ℕ) (statements : List Task)
         ap (option_map (λ (e : Entry). e.statement)) one.entry ∙ sym (receipt_for shuts tries statements replies answered p one.receipt one.there);
     accepted = λ k p h.
         let one = its k p h in
-        slice_get-map answer_in replies p ∙ ap (option_map answer_in) one.there;
+        inner (slice_get answers p) (sym (said p) ∙ slice_get-map answer_in replies p ∙ ap (option_map answer_in) one.there);
     all = λ p h.
-        let a = accepted_at replies p h in
+        let a = accepted_at replies p (said p ∙ ap (option_map Some) h) in
         let inside = slice_get_within replies p (Ok a.0) a.1 in
         let had = owns.noted p a.0 inside a.1 in
         (a.0.index, order_at filled.order a.0.index p (sym (ap (λ (l : List (Option ℕ)). slice_get l a.0.index) filled.filled) ∙ had));

@@ -1,11 +1,18 @@
 -- What a statement does to a book.
-use Rattle.std.proofs.Common.{◌≡◌, ℕ, List, [], ◌∷◌, ◌++◌, Option, Some, None, Result, Ok, Err, ap, sym, subst, ◌∙◌}
+use Rattle.std.proofs.Common.{◌≡◌, ℕ, Bool, true, false, cond, List, [], ◌∷◌, ◌++◌, length, nat_lt, Option, Some, None, Result, Ok, Err, refl, ap, sym, subst, ◌∙◌}
+use Rattle.std.specs.Prelude.{option_and_then}
+use Rattle.std.specs.Option.{option_map}
 use Rattle.std.specs.Arc.{arc_value}
 use Rattle.sno_statement.specs.Task.{Task}
-use Rattle.sno_statement.specs.Perform.{Done, perform}
+use Rattle.sno_pattern.specs.Outcome.{outcome, trials}
+use Rattle.sno_pattern.specs.declared.found.Hit.{Hit}
+use Rattle.sno_read.specs.declared.objects.Part.{Part}
+use Rattle.sno_statement.specs.Bindings.{Bound, bindings_of}
+use Rattle.sno_statement.specs.Value.{new_text, value_of}
+use Rattle.sno_statement.specs.Perform.{Done, Failed, Matched, finish, perform}
 use Rattle.sno_statement.specs.declared.outcomes.StatementFault.{StatementFault}
 use Rattle.sno_statement.specs.declared.outcomes.StatementFault.TheVariants as fault
-use Rattle.sno_book.specs.States.{Held, find}
+use Rattle.sno_book.specs.States.{VersionedText, find}
 use Rattle.sno_book.specs.Entries.{Entry}
 use Rattle.sno_book.specs.Views.{View, state_of}
 use Rattle.sno_book.specs.Proposals.{Proposed, Proposes, GivesProposal, Received, entry_of}
@@ -15,49 +22,99 @@ use Rattle.sno_book.specs.declared.faults.SnapshotFault.TheVariants as snapshots
 use Rattle.sno_book.specs.declared.snapshots.Snapshot.{Snapshot}
 use Rattle.sno_listing.specs.History.{History, history_of}
 use Rattle.sno_listing.specs.declared.refusals.Refusal.{Refusal}
-use Rattle.sno_rewrite.specs.Serial.{refuse, accept, settle, perform_on, advance}
-use Rattle.sno_listing.specs.declared.refusals.Reason.TheVariants.{NoText, TextTooLong}
+use Rattle.sno_book.specs.Openings.{start}
+use Rattle.sno_document.specs.Document.{room}
+use Rattle.sno_rewrite.specs.Serial.{HasSerial, refuse, accept, settle, reason_of, perform_on, advance, run}
+use Rattle.sno_listing.specs.declared.refusals.Reason.{Reason}
+use Rattle.sno_listing.specs.declared.refusals.Reason.TheVariants.{NoText, TextTooLong, TooManyTrials}
 
 -- there is no text of that name
-pub advance_none : (h : History) (s : Task) → find s.text h.state ≡ None → advance h s ≡ refuse h s NoText
+pub advance_none : (h : History) (s : Task) → find s.text h.state ≡ None → advance h s ≡ Some (refuse h s NoText)
 unfolding advance
-advance_none h s none = ap (λ (o : Option Held). perform_on h s o) none
+advance_none h s none = ap (λ (o : Option VersionedText). perform_on h s o) none
 
--- the new text is too long
-pub advance_long : (h : History) (s : Task) (held : Held) → find s.text h.state ≡ Some held → perform s held.text ≡ Err fault.TextTooLong → advance h s ≡ refuse h s TextTooLong
+-- performing it is refused
+pub advance_refused : (h : History) (s : Task) (held : VersionedText) (e : StatementFault) (reason : Reason) → find s.text h.state ≡ Some held → perform s held.text ≡ Err e → reason_of e ≡ Some reason
+    → advance h s ≡ Some (refuse h s reason)
 unfolding advance
-advance_long h s held found long =
-    ap (λ (o : Option Held). perform_on h s o) found ∙ ap (λ (r : Result Done StatementFault). settle h s held.version r) long
+advance_refused h s held e reason found performed is =
+    ap (λ (o : Option VersionedText). perform_on h s o) found ∙ ap (λ (r : Result Done StatementFault). settle h s held.version r) performed
+    ∙ ap (option_map (λ (r : Reason). refuse h s r)) is
 
 -- the statement is performed
-pub advance_done : (h : History) (s : Task) (held : Held) (done : Done) → find s.text h.state ≡ Some held → perform s held.text ≡ Ok done
-    → advance h s ≡ accept h (record { statement = s; version = held.version; done = done })
+pub advance_done : (h : History) (s : Task) (held : VersionedText) (done : Done) → find s.text h.state ≡ Some held → perform s held.text ≡ Ok done
+    → advance h s ≡ Some (accept h (record { statement = s; version = held.version; done = done }))
 unfolding advance
 advance_done h s held done found performed =
-    ap (λ (o : Option Held). perform_on h s o) found ∙ ap (λ (r : Result Done StatementFault). settle h s held.version r) performed
+    ap (λ (o : Option VersionedText). perform_on h s o) found ∙ ap (λ (r : Result Done StatementFault). settle h s held.version r) performed
 
 -- the same of a book, beside which the refused statements stand
 pub refused_none : (v : View) (s : Task) (number : ℕ) (old new : List Refusal) → number ≡ s.number → find s.text (state_of v) ≡ None
-    → new ≡ old ++ record { number = number; reason = NoText } ∷ [] → history_of v new ≡ advance (history_of v old) s
+    → new ≡ old ++ record { number = number; reason = NoText } ∷ [] → advance (history_of v old) s ≡ Some (history_of v new)
 refused_none v s number old new same none grown =
-    ap (λ (l : List Refusal). history_of v l) grown ∙ ap (λ (n : ℕ). history_of v (old ++ record { number = n; reason = NoText } ∷ [])) same
-    ∙ sym (advance_none (history_of v old) s none)
+    advance_none (history_of v old) s none ∙ ap (λ (n : ℕ). Some (history_of v (old ++ record { number = n; reason = NoText } ∷ []))) (sym same)
+    ∙ ap (λ (l : List Refusal). Some (history_of v l)) (sym grown)
 
-pub refused_long : (v : View) (s : Task) (number : ℕ) (snapshot : Snapshot) (old new : List Refusal) → number ≡ s.number → IsSnapshot v s.text snapshot
-    → perform s (arc_value snapshot.text) ≡ Err fault.TextTooLong → new ≡ old ++ record { number = number; reason = TextTooLong } ∷ []
-    → history_of v new ≡ advance (history_of v old) s
-refused_long v s number snapshot old new same taken long grown =
-    ap (λ (l : List Refusal). history_of v l) grown ∙ ap (λ (n : ℕ). history_of v (old ++ record { number = n; reason = TextTooLong } ∷ [])) same
-    ∙ sym (advance_long (history_of v old) s (record { name = s.text; text = arc_value snapshot.text; version = snapshot.version }) taken.found long)
+pub refused_for : (v : View) (s : Task) (number : ℕ) (snapshot : Snapshot) (old new : List Refusal) (e : StatementFault) (reason : Reason) → number ≡ s.number → IsSnapshot v s.text snapshot
+    → perform s (arc_value snapshot.text) ≡ Err e → reason_of e ≡ Some reason → new ≡ old ++ record { number = number; reason = reason } ∷ []
+    → advance (history_of v old) s ≡ Some (history_of v new)
+refused_for v s number snapshot old new e reason same taken performed is grown =
+    advance_refused (history_of v old) s (record { name = s.text; text = arc_value snapshot.text; version = snapshot.version }) e reason taken.found performed is
+    ∙ ap (λ (n : ℕ). Some (history_of v (old ++ record { number = n; reason = reason } ∷ []))) (sym same)
+    ∙ ap (λ (l : List Refusal). Some (history_of v l)) (sym grown)
 
 pub committed : (v w : View) (s : Task) (snapshot : Snapshot) (p : Proposed) (r : Received) (refused : List Refusal) → IsSnapshot v s.text snapshot → Proposes p s snapshot
-    → IsAccepted v w p r → history_of w refused ≡ advance (history_of v refused) s
+    → IsAccepted v w p r → advance (history_of v refused) s ≡ Some (history_of w refused)
 committed v w s snapshot p r refused taken proposed accepted =
     let entry : Entry = record { statement = s; version = snapshot.version; done = p.done } in
     let same : entry_of p ≡ entry = (λ i. record { statement = proposed.statement i; version = proposed.version i; done = p.done }) in
     let journal : w.journal ≡ v.journal ++ entry_of p ∷ [] = ap (λ (x : View). x.journal) accepted.appended in
-    (λ i. record { state = accepted.stepped i; journal = journal i; refused = refused }) ∙ ap (λ (e : Entry). accept (history_of v refused) e) same
-    ∙ sym (advance_done (history_of v refused) s (record { name = s.text; text = arc_value snapshot.text; version = snapshot.version }) p.done taken.found proposed.done)
+    let stepped : history_of w refused ≡ accept (history_of v refused) (entry_of p) = (λ i. record { state = accepted.stepped i; journal = journal i; refused = refused }) in
+    advance_done (history_of v refused) s (record { name = s.text; text = arc_value snapshot.text; version = snapshot.version }) p.done taken.found proposed.done
+    ∙ ap (λ (e : Entry). Some (accept (history_of v refused) e)) (sym same) ∙ ap (λ (h : History). Some h) (sym stepped)
+
+-- one statement more, and then those that are left
+pub run_more : (h g : History) (s : Task) (statements : List Task) → advance h s ≡ Some g → run h (s ∷ statements) ≡ run g statements
+run_more h g s statements advanced = ap (option_and_then (λ (x : History). run x statements)) advanced
+
+-- by its definition no statement is refused memory
+text_settled : (b : Bool) (h : History) (s : Task) (version : ℕ) (done : Done) → (g : History) × (settle h s version (cond b (Err fault.TextTooLong) (Ok done)) ≡ Some g)
+text_settled true h s version done = (refuse h s TextTooLong, refl)
+text_settled false h s version done = (accept h (record { statement = s; version = version; done = done }), refl)
+
+finish_settled : (h : History) (s : Task) (version : ℕ) (object : Option (List Part)) (t : List ℕ) (bound : Bound) (hit : Option Hit)
+    → (g : History) × (settle h s version (finish object t bound hit) ≡ Some g)
+finish_settled h s version object t bound None = (accept h (record { statement = s; version = version; done = Failed bound }), refl)
+finish_settled h s version None t bound (Some hit) = (accept h (record { statement = s; version = version; done = Matched hit.start hit.end bound None }), refl)
+finish_settled h s version (Some parts) t bound (Some hit) =
+    text_settled (nat_lt 65536 (length (new_text t hit.start hit.end (value_of bound parts)))) h s version
+    (Matched hit.start hit.end bound (Some (new_text t hit.start hit.end (value_of bound parts))))
+
+trials_settled : (b : Bool) (h : History) (s : Task) (version : ℕ) (rest : Result Done StatementFault) → (g : History) × (settle h s version rest ≡ Some g)
+    → (g : History) × (settle h s version (cond b (Err fault.TooManyTrials) rest) ≡ Some g)
+trials_settled true h s version rest settled = (refuse h s TooManyTrials, refl)
+trials_settled false h s version rest settled = settled
+
+perform_settled : (h : History) (s : Task) (held : Option VersionedText) → (g : History) × (perform_on h s held ≡ Some g)
+perform_settled h s None = (refuse h s NoText, refl)
+perform_settled h s (Some held) =
+    let found = outcome held.text s.rules.bodies s.pattern s.anchored in
+    trials_settled (nat_lt s.limit (trials held.text s.rules.bodies s.pattern s.anchored)) h s held.version (finish s.object held.text (bindings_of held.text found) found.end)
+    (finish_settled h s held.version s.object held.text (bindings_of held.text found) found.end)
+
+advance_settled : (h : History) (s : Task) → (g : History) × (advance h s ≡ Some g)
+unfolding advance
+advance_settled h s = perform_settled h s (find s.text h.state)
+
+run_settled : (h : History) (statements : List Task) → (g : History) × (run h statements ≡ Some g)
+run_settled h [] = (h, refl)
+run_settled h (s ∷ statements) =
+    let first = advance_settled h s in
+    let rest = run_settled first.0 statements in (rest.0, run_more h first.0 s statements first.1 ∙ rest.1)
+
+-- each document has a serial run
+pub has_serial : HasSerial
+has_serial d = run_settled (record { state = start (record { texts = d.texts; room = room }); journal = []; refused = [] }) d.statements
 
 -- the name by which the snapshot was taken, and the statement that was proposed
 pub taken_as : (v : View) (name other : List ℕ) (snapshot : Snapshot) → name ≡ other → IsSnapshot v name snapshot → IsSnapshot v other snapshot
@@ -75,3 +132,10 @@ pub too_long : (s other : Task) (snapshot : Snapshot) (e : StatementFault) → s
     → perform other (arc_value snapshot.text) ≡ Err fault.TextTooLong
 too_long s other snapshot fault.TextTooLong same is h = ap (λ (t : Task). perform t (arc_value snapshot.text)) (sym same) ∙ h
 too_long s other snapshot fault.Memory same is h = cc
+too_long s other snapshot fault.TooManyTrials same is h = cc
+
+pub too_many : (s other : Task) (snapshot : Snapshot) (e : StatementFault) → s ≡ other → e ≡ fault.TooManyTrials → GivesProposal (Err e) s snapshot
+    → perform other (arc_value snapshot.text) ≡ Err fault.TooManyTrials
+too_many s other snapshot fault.TooManyTrials same is h = ap (λ (t : Task). perform t (arc_value snapshot.text)) (sym same) ∙ h
+too_many s other snapshot fault.Memory same is h = cc
+too_many s other snapshot fault.TextTooLong same is h = cc

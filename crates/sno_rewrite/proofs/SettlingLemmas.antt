@@ -1,6 +1,6 @@
 -- What replies come to.
-use Rattle.std.proofs.Common.{◌≡◌, ℕ, zero, suc, ◌<◌, ◌≤◌, List, [], ◌∷◌, ◌++◌, drop, get_or, length, map, Option, Some, Result, slice_get, refl, ap, sym, subst, ◌∙◌, arith, append_assoc}
-use Rattle.std.proofs.lemmas.List.{append-nil, drop_all}
+use Rattle.std.proofs.Common.{◌≡◌, ℕ, zero, suc, ◌<◌, ◌≤◌, List, [], ◌∷◌, ◌++◌, get_or, take, length, map, Option, Some, Result, slice_get, refl, ap, sym, subst, ◌∙◌, append_assoc}
+use Rattle.std.proofs.lemmas.List.{append-nil, take_all}
 use Rattle.std.specs.List.{All}
 use Rattle.std.specs.Option.{option_map}
 use Rattle.std.proofs.lemmas.Option.{slice_get-map, slice_get_read}
@@ -15,7 +15,7 @@ use Rattle.sno_desk.specs.Answers.{Answers}
 use Rattle.sno_desk.specs.Turns.{AllAnswer}
 use Rattle.sno_desk.specs.declared.faults.SubmitFault.{SubmitFault}
 use Rattle.sno_listing.specs.History.{history_of}
-use Rattle.sno_rewrite.specs.Owners.{Lists, Owns, answer_in}
+use Rattle.sno_rewrite.specs.Owners.{IsListed, Lists, Owns, answer_in}
 use Rattle.sno_document.specs.Document.{Document}
 use Rattle.sno_document.specs.Document.{room}
 use Rattle.sno_rewrite.specs.Shared.{AreAnswers, IsShared, MayAnswer, Settles, refusal_of, refusals}
@@ -47,58 +47,76 @@ pub seen_at : {X Y : Type 0} (view : X → Y) (xs : List X) (i : ℕ) (x : X) (y
     → slice_get (map view xs) i ≡ Some y
 seen_at view xs i x y inside there seen = slice_get-map view xs i ∙ ap (option_map view) (slice_get_read xs (length xs) i x refl inside there) ∙ ap Some (sym seen)
 
-drop_at : {X : Type 0} (xs : List X) (i : ℕ) (x : X) → slice_get xs i ≡ Some x → drop i xs ≡ x ∷ drop (suc i) xs
-drop_at [] i x h = absurd (cc)
-drop_at (y ∷ xs) zero x h = let e : y ≡ x = cc in ap (λ z. z ∷ xs) e
-drop_at (y ∷ xs) (suc i) x h = drop_at xs i x h
+take_at : {X : Type 0} (xs : List X) (i : ℕ) (x : X) → slice_get xs i ≡ Some x → take (suc i) xs ≡ take i xs ++ x ∷ []
+take_at [] i x h = absurd (cc)
+take_at (y ∷ xs) zero x h = let e : y ≡ x = cc in ap (λ z. z ∷ []) e
+take_at (y ∷ xs) (suc i) x h = ap (λ l. y ∷ l) (take_at xs i x h)
 
-module _ (tries : ℕ) (state : State) (statements : List Task) (answers : List (Option Reason)) where
-  -- before all answers none is listed
-  pub lists_none : Lists tries state statements answers 0 []
-  lists_none = record { listed = refl; may = λ h. h }
+map_more : {X Y : Type 0} (f : X → Y) (xs : List X) (x : X) → map f (xs ++ x ∷ []) ≡ map f xs ++ f x ∷ []
+map_more f [] x = refl
+map_more f (y ∷ xs) x = ap (λ l. f y ∷ l) (map_more f xs x)
 
-  -- one more answer
-  pub lists_more : (i : ℕ) (s : Task) (a : Option Reason) (old new : List Refusal) → Lists tries state statements answers i old
-      → slice_get statements i ≡ Some s → slice_get answers i ≡ Some a → new ≡ old ++ refusal_of s a → MayAnswer tries state s a
-      → Lists tries state statements answers (suc i) new
-  lists_more i s a old new before there given grown may =
-      let more : refusals (drop i statements) (drop i answers) ≡ refusal_of s a ++ refusals (drop (suc i) statements) (drop (suc i) answers)
-      = (λ j. refusals (drop_at statements i s there j) (drop_at answers i a given j)) in
+module _ (tries : ℕ) (state : State) where
+  -- one answer more
+  answers_more : (statements : List Task) (answers : List (Option Reason)) (s : Task) (a : Option Reason) → AreAnswers tries state statements answers
+      → MayAnswer tries state s a → AreAnswers tries state (statements ++ s ∷ []) (answers ++ a ∷ [])
+  answers_more [] [] s a h may = (may, tt)
+  answers_more [] (b ∷ answers) s a h may = absurd h
+  answers_more (x ∷ statements) [] s a h may = absurd h
+  answers_more (x ∷ statements) (b ∷ answers) s a h may = (h.0, answers_more statements answers s a h.1 may)
+
+  refusals_more : (statements : List Task) (answers : List (Option Reason)) (s : Task) (a : Option Reason) → AreAnswers tries state statements answers
+      → refusals (statements ++ s ∷ []) (answers ++ a ∷ []) ≡ refusals statements answers ++ refusal_of s a
+  refusals_more [] [] s a h = append-nil (refusal_of s a)
+  refusals_more [] (b ∷ answers) s a h = absurd h
+  refusals_more (x ∷ statements) [] s a h = absurd h
+  refusals_more (x ∷ statements) (b ∷ answers) s a h =
+      ap (λ (l : List Refusal). refusal_of x b ++ l) (refusals_more statements answers s a h.1)
+      ∙ sym (append_assoc (refusal_of x b) (refusals statements answers) (refusal_of s a))
+
+  -- before all replies none is listed
+  pub lists_none : Lists tries state [] [] []
+  lists_none = record { answers = []; given = refl; listed = refl; may = tt }
+
+  -- one reply more
+  pub lists_more : (statements : List Task) (replies : List (Result Received SubmitFault)) (i : ℕ) (s : Task) (r : Result Received SubmitFault) (old new : List Refusal)
+      → Lists tries state (take i statements) (take i replies) old → slice_get statements i ≡ Some s → slice_get replies i ≡ Some r
+      → IsListed tries state s r old new → Lists tries state (take (suc i) statements) (take (suc i) replies) new
+  lists_more statements replies i s r old new before there replied more =
+      let first = take_at statements i s there in
+      let second = take_at replies i r replied in
+      let given : map answer_in (take (suc i) replies) ≡ map Some (before.answers ++ more.answer ∷ [])
+      = ap (map answer_in) second ∙ map_more answer_in (take i replies) r ∙ (λ j. before.given j ++ more.given j ∷ []) ∙ sym (map_more Some before.answers more.answer) in
       record {
-        listed = ap (λ (l : List Refusal). l ++ refusals (drop (suc i) statements) (drop (suc i) answers)) grown
-            ∙ append_assoc old (refusal_of s a) (refusals (drop (suc i) statements) (drop (suc i) answers))
-            ∙ ap (λ (l : List Refusal). old ++ l) (sym more) ∙ before.listed;
-        may = λ h.
-            let both : AreAnswers tries state (s ∷ drop (suc i) statements) (a ∷ drop (suc i) answers) = (may, h) in
-            let one : AreAnswers tries state (s ∷ drop (suc i) statements) (drop i answers)
-            = subst (λ l. AreAnswers tries state (s ∷ drop (suc i) statements) l) (sym (drop_at answers i a given)) both in
-            before.may (subst (λ l. AreAnswers tries state l (drop i answers)) (sym (drop_at statements i s there)) one);
+        answers = before.answers ++ more.answer ∷ [];
+        given = given;
+        listed = more.listed ∙ ap (λ (l : List Refusal). l ++ refusal_of s more.answer) before.listed
+            ∙ sym (refusals_more (take i statements) before.answers s more.answer before.may)
+            ∙ ap (λ (l : List Task). refusals l (before.answers ++ more.answer ∷ [])) (sym first);
+        may = subst (λ l. AreAnswers tries state l (before.answers ++ more.answer ∷ [])) (sym first)
+            (answers_more (take i statements) before.answers s more.answer before.may more.may);
       }
 
-  -- behind the last answer all are listed
-  pub lists_all : (i : ℕ) (refused : List Refusal) → length statements ≡ length answers → length statements ≤ i → Lists tries state statements answers i refused
-      → (refused ≡ refusals statements answers) × AreAnswers tries state statements answers
-  lists_all i refused even past h =
-      let first : drop i statements ≡ [] = drop_all i statements past in
-      let second : drop i answers ≡ [] = drop_all i answers (omega (arith, even, past)) in (
-        sym (append-nil refused) ∙ ap (λ (l : List Task). refused ++ refusals l (drop i answers)) (sym first) ∙ h.listed,
-        h.may (subst (λ l. AreAnswers tries state l (drop i answers)) (sym first)
-            (subst (λ l. AreAnswers tries state [] l) (sym second) tt)),
-      )
+  -- after the last reply all are listed
+  pub lists_all : (statements : List Task) (replies : List (Result Received SubmitFault)) (i : ℕ) (refused : List Refusal) → length statements ≤ i → length replies ≤ i
+      → Lists tries state (take i statements) (take i replies) refused → Lists tries state statements replies refused
+  lists_all statements replies i refused past even h =
+      subst (λ l. Lists tries state l replies refused) (take_all i statements past)
+      (subst (λ l. Lists tries state (take i statements) l refused) (take_all i replies even) h)
 
 -- what is listed beside a book whose entries are all owned
 pub settles : (shuts : ℕ → ℕ → Type 0) (tries : ℕ) (book : View) (statements : List Task) (replies : List (Result Received SubmitFault))
     (owners : List (Option ℕ)) (refused : List Refusal) → AllAnswer (Answers shuts tries) statements replies
-    → Owns book.journal replies (length replies) owners → All (λ o. IsSome o) owners → refused ≡ refusals statements (map answer_in replies)
-    → AreAnswers tries (state_of book) statements (map answer_in replies) → Settles tries statements (history_of book refused)
-settles shuts tries book statements replies owners refused answered owns all listed may =
+    → Owns book.journal replies (length replies) owners → All (λ o. IsSome o) owners → Lists tries (state_of book) statements replies refused
+    → Settles tries statements (history_of book refused)
+settles shuts tries book statements replies owners refused answered owns all lists =
     let filled = fill owners all in
     record {
-      answers = map answer_in replies;
-      answered = may;
-      refused = listed;
+      answers = lists.answers;
+      answered = lists.may;
+      refused = lists.listed;
       order = filled.order;
-      ordered = in_order shuts tries statements replies book.journal owners answered owns filled;
+      ordered = in_order shuts tries statements replies book.journal owners answered owns filled lists.answers lists.given;
     }
 
 -- what is settled beside a lawful book that began with the document's texts

@@ -1,4 +1,4 @@
--- The command line: four options, in any order, each at most once.
+-- The command line: five options, in any order, each at most once.
 use Rattle.std.specs.Prelude.{◌≡◌, ◌≢◌, ℕ, Bool, true, false, ◌&&◌, List, [], ◌∷◌, length, nat_lt, nat_le, Option, Some, None, Result, Ok, Err, unwrap_or, option_and_then, if◌then◌else◌, codes, pos}
 use Rattle.std.specs.List.{list_all}
 use Rattle.std.specs.Option.{option_map_or}
@@ -31,11 +31,13 @@ numeric_or value name = record (numeric name) { defaults = value ∷ [] }
 abbrev pub bare_program : App
 bare_program = on_top (λ s. record s { no_binary_name = true }) (new_app (codes "sno_rewrite"))
 
--- the program with its options
+-- the program with the options of shared runs
+unfoldable pub shared_program : App
+shared_program = with_rule (with_rule bare_program (numeric (codes "workers"))) (numeric_or (codes "100") (codes "tries"))
+
+-- the program with all its options
 unfoldable pub program : App
-program =
-    with_rule (with_rule (with_rule (with_rule bare_program (numeric (codes "workers"))) (numeric_or (codes "100") (codes "tries"))) (flag (codes "anchor")))
-    (flag (codes "json"))
+program = with_rule (with_rule (with_rule shared_program (flag (codes "anchor"))) (flag (codes "json"))) (numeric_or (codes "1000000") (codes "trials"))
 
 -- whether a flag is given
 abbrev pub flag_in : Text → List Row → Bool
@@ -59,14 +61,15 @@ options_in rows = record {
   workers = number_in (codes "workers") rows;
   tries = unwrap_or (number_in (codes "tries") rows) 100;
   json = flag_in (codes "json") rows;
+  trials = unwrap_or (number_in (codes "trials") rows) 1000000;
 }
 
 abbrev pub is_up_to : ℕ → ℕ → Bool
 is_up_to most n = nat_le 1 n && nat_le n most
 
--- workers are 1 to 16, where there are any, and tries 1 to 1,000
+-- workers are 1 to 16, where there are any, tries 1 to 1,000, and trials 1 to 1,000,000,000
 abbrev pub are_lawful : Options → Bool
-are_lawful options = option_map_or (is_up_to 16) options.workers true && is_up_to 1000 options.tries
+are_lawful options = option_map_or (is_up_to 16) options.workers true && (is_up_to 1000 options.tries && is_up_to 1000000000 options.trials)
 
 -- what is wrong with words, or asked for by them, as `clap` reads them; nothing where they are read
 unfoldable pub faults : List Text → Kinds
@@ -81,7 +84,7 @@ pub data AreRefused (words : List Text) : Type 0 where
   unread : (kind : ErrorKind) → IsAmong kind (faults words) → kind ≢ DisplayHelp → AreRefused words
   unlawful : faults words ≡ [] → are_lawful (options_in (found words)) ≡ false → AreRefused words
 
--- What is answered for words: the options that they give, help where they ask for it, or that they are refused; or want of memory.
+-- What is answered for words: the options that they give, help where they ask for it, or that they are refused; or memory is.
 abbrev pub IsAnswer : List Text → Result Options OptionsFault → Type 0
 IsAnswer words (Ok o) = (faults words ≡ []) × (o ≡ options_in (found words)) × (are_lawful o ≡ true)
 IsAnswer words (Err (Help text)) = IsAmong DisplayHelp (faults words)
@@ -103,4 +106,4 @@ IsChecked options (Err Memory) = Unit {0}
 
 -- with no word at all
 abbrev pub plain_options : Options
-plain_options = record { anchor = false; workers = None; tries = 100; json = false }
+plain_options = record { anchor = false; workers = None; tries = 100; json = false; trials = 1000000 }

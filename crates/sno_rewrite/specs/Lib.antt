@@ -1,3 +1,4 @@
+pub mod Modes
 pub mod Serial
 pub mod Histories
 pub mod Reports
@@ -6,4 +7,5 @@ pub mod Shared
 pub mod Owners
 pub mod Runs
 pub mod Streams
-pub mod Rows
+pub mod Program
+pub mod Examples

@@ -1,5 +1,6 @@
 -- How replies to the statements of a document are checked against a journal.
-use Rattle.std.specs.Prelude.{◌≡◌, ◌⊎◌, ◌<◌, ◌++◌, ℕ, Bool, true, false, List, drop, length, slice_get, Option, Some, None, Result, Ok, Err}
+use Rattle.std.specs.Prelude.{◌≡◌, ◌⊎◌, ◌<◌, ◌++◌, ℕ, Bool, true, false, List, length, map, slice_get, Option, Some, None, Result, Ok, Err}
+use Rattle.std.specs.Option.{option_map}
 use Rattle.sno_statement.specs.Task.{Task}
 use Rattle.sno_book.specs.Entries.{Entry}
 use Rattle.sno_book.specs.States.{State}
@@ -9,9 +10,9 @@ use Rattle.sno_desk.specs.declared.faults.SubmitFault.TheVariants as submit
 use Rattle.sno_document.specs.declared.faults.RunFault.{RunFault}
 use Rattle.sno_document.specs.declared.faults.RunFault.TheVariants as fault
 use Rattle.sno_listing.specs.declared.refusals.Reason.{Reason}
-use Rattle.sno_listing.specs.declared.refusals.Reason.TheVariants.{NoText, TextTooLong, TriesSpent}
+use Rattle.sno_listing.specs.declared.refusals.Reason.TheVariants.{NoText, TextTooLong, TriesSpent, TooManyTrials}
 use Rattle.sno_listing.specs.declared.refusals.Refusal.{Refusal}
-use Rattle.sno_rewrite.specs.Shared.{AreAnswers, refusals}
+use Rattle.sno_rewrite.specs.Shared.{AreAnswers, MayAnswer, refusal_of, refusals}
 
 -- the reply at the place is a receipt of the journal's entry at the index
 pub record IsReceipt (journal : List Entry) (replies : List (Result Received SubmitFault)) (index place : ℕ) : Type 0 where
@@ -26,25 +27,39 @@ pub record Owns (journal : List Entry) (replies : List (Result Received SubmitFa
   pub backed : (k p : ℕ) → slice_get owners k ≡ Some (Some p) → (p < before) × IsReceipt journal replies k p
   pub noted : (p : ℕ) (r : Received) → p < before → slice_get replies p ≡ Some (Ok r) → slice_get owners r.index ≡ Some (Some p)
 
--- the answer that a reply is: none where the statement was accepted, or the reason; the last four end a run, and are never listed
-abbrev pub answer_in : Result Received SubmitFault → Option Reason
-answer_in (Ok receipt) = None
-answer_in (Err submit.NoText) = Some NoText
-answer_in (Err submit.TextTooLong) = Some TextTooLong
-answer_in (Err (submit.TriesSpent seen now)) = Some (TriesSpent seen now)
-answer_in (Err submit.GateShut) = Some NoText
-answer_in (Err submit.Foreign) = Some NoText
-answer_in (Err submit.Full) = Some NoText
-answer_in (Err submit.Memory) = Some NoText
+-- the reason for which a statement is listed as refused; the last four faults are none, and end the run
+abbrev pub reason_in : SubmitFault → Option Reason
+reason_in submit.NoText = Some NoText
+reason_in submit.TextTooLong = Some TextTooLong
+reason_in (submit.TriesSpent seen now) = Some (TriesSpent seen now)
+reason_in submit.TooManyTrials = Some TooManyTrials
+reason_in submit.GateShut = None
+reason_in submit.Foreign = None
+reason_in submit.Full = None
+reason_in submit.Memory = None
+
+-- what a reply says of its statement: that it is accepted, that it is refused for a reason, or nothing
+abbrev pub answer_in : Result Received SubmitFault → Option (Option Reason)
+answer_in (Ok receipt) = Some None
+answer_in (Err fault) = option_map Some (reason_in fault)
 
 -- replies and journal do not agree, or memory was refused
 abbrev pub IsAuditOrMemory : RunFault → Type 0
 IsAuditOrMemory e = (e ≡ fault.Audit) ⊎ (e ≡ fault.Memory)
 
--- of the answers before a place: their refusals are listed, and with those behind it each is one that may be
-pub record Lists (tries : ℕ) (state : State) (statements : List Task) (answers : List (Option Reason)) (before : ℕ) (refused : List Refusal) : Type 0 where
-  pub listed : refused ++ refusals (drop before statements) (drop before answers) ≡ refusals statements answers
-  pub may : AreAnswers tries state (drop before statements) (drop before answers) → AreAnswers tries state statements answers
+-- the replies to these statements are answers, each one that may be, and what is refused among them is listed
+pub record Lists (tries : ℕ) (state : State) (statements : List Task) (replies : List (Result Received SubmitFault)) (refused : List Refusal) : Type 0 where
+  pub answers : List (Option Reason)
+  pub given : map answer_in replies ≡ map Some answers
+  pub listed : refused ≡ refusals statements answers
+  pub may : AreAnswers tries state statements answers
+
+-- one reply more: it is an answer, one that may be, and is listed after the others where it is a refusal
+pub record IsListed (tries : ℕ) (state : State) (s : Task) (reply : Result Received SubmitFault) (old new : List Refusal) : Type 0 where
+  pub answer : Option Reason
+  pub given : answer_in reply ≡ Some answer
+  pub listed : new ≡ old ++ refusal_of s answer
+  pub may : MayAnswer tries state s answer
 
 -- whether memory was refused for a statement
 abbrev pub is_short : Result Received SubmitFault → Bool
@@ -56,3 +71,4 @@ is_short (Err submit.TextTooLong) = false
 is_short (Err submit.Foreign) = false
 is_short (Err submit.Full) = false
 is_short (Err (submit.TriesSpent seen now)) = false
+is_short (Err submit.TooManyTrials) = false

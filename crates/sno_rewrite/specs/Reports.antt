@@ -1,24 +1,21 @@
 -- Reports: what a run answers for a document.
-use Rattle.std.specs.Prelude.{◌≡◌, ◌⊎◌, ℕ, Bool, List, length, nat_eq, Ok, if◌then◌else◌}
+use Rattle.std.specs.Prelude.{◌≡◌, ◌⊎◌, ℕ, Bool, List, length, nat_eq, Some, Ok, if◌then◌else◌}
 use Rattle.sno_document.specs.declared.faults.RunFault.{RunFault}
 use Rattle.sno_document.specs.declared.faults.RunFault.TheVariants.{Read, Write}
 use Rattle.sno_document.specs.Document.{Document, IsDocument}
+use Rattle.sno_document.specs.declared.modes.Mode.{Mode}
 use Rattle.sno_rewrite.specs.Serial.{serial}
 use Rattle.sno_listing.specs.Forms.{listing_by}
+use Rattle.sno_listing.specs.History.{History}
 
--- the listing of a document, and how many of its statements are refused
-abbrev pub listing_of : Bool → Document → List ℕ
-listing_of json d = listing_by json (serial d)
-
-abbrev pub refused_of : Document → ℕ
-refused_of d = length (serial d).refused
-
--- the bytes are a document, of which this is the listing and so many statements are refused
-pub record IsReport (anchor json : Bool) (bytes lines : List ℕ) (refused : ℕ) : Type 0 where
+-- the bytes are a document, the lines are the listing of its serial run, and so many of its statements are refused
+pub record IsReport (mode : Mode) (json : Bool) (bytes lines : List ℕ) (refused : ℕ) : Type 0 where
   pub document : Document
-  pub is_document : IsDocument anchor bytes (Ok document)
-  pub listed : lines ≡ listing_of json document
-  pub counted : refused ≡ refused_of document
+  pub is_document : IsDocument mode bytes (Ok document)
+  pub history : History
+  pub performed : serial document ≡ Some history
+  pub listed : lines ≡ listing_by json history
+  pub counted : refused ≡ length history.refused
 
 -- a fault of the world outside: a read or a write that failed
 abbrev pub IsOutside : RunFault → Type 0

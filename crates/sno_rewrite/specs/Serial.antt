@@ -1,16 +1,18 @@
 -- The serial run of a document: its statements performed in order on its texts.
-use Rattle.std.specs.Prelude.{ℕ, List, [], ◌∷◌, ◌++◌, Option, Some, None, Result, Ok, Err}
+use Rattle.std.specs.Prelude.{◌≡◌, ℕ, List, [], ◌∷◌, ◌++◌, Option, Some, None, Result, Ok, Err, option_and_then}
+use Rattle.std.specs.Option.{option_map}
 use Rattle.sno_statement.specs.Task.{Task}
 use Rattle.sno_statement.specs.Perform.{Done, perform}
 use Rattle.sno_statement.specs.declared.outcomes.StatementFault.{StatementFault}
-use Rattle.sno_book.specs.States.{Held, find}
+use Rattle.sno_statement.specs.declared.outcomes.StatementFault.TheVariants as statement
+use Rattle.sno_book.specs.States.{VersionedText, find}
 use Rattle.sno_book.specs.Entries.{Entry}
 use Rattle.sno_book.specs.Journals.{step}
 use Rattle.sno_book.specs.Openings.{start}
 use Rattle.sno_document.specs.Document.{Document, room}
 use Rattle.sno_listing.specs.History.{History}
 use Rattle.sno_listing.specs.declared.refusals.Reason.{Reason}
-use Rattle.sno_listing.specs.declared.refusals.Reason.TheVariants.{NoText, TextTooLong}
+use Rattle.sno_listing.specs.declared.refusals.Reason.TheVariants.{NoText, TextTooLong, TooManyTrials}
 
 -- a refused statement changes nothing
 abbrev pub refuse : History → Task → Reason → History
@@ -20,23 +22,34 @@ refuse h s reason = record { state = h.state; journal = h.journal; refused = h.r
 abbrev pub accept : History → Entry → History
 accept h entry = record { state = step h.state entry; journal = h.journal ++ entry ∷ []; refused = h.refused }
 
-abbrev pub settle : History → Task → ℕ → Result Done StatementFault → History
-settle h s version (Ok done) = accept h (record { statement = s; version = version; done = done })
-settle h s version (Err e) = refuse h s TextTooLong
+-- the reason for which a statement that has no outcome is refused; a refusal of memory is none, and no statement has it by its definition
+abbrev pub reason_of : StatementFault → Option Reason
+reason_of statement.TextTooLong = Some TextTooLong
+reason_of statement.Memory = None
+reason_of statement.TooManyTrials = Some TooManyTrials
 
-abbrev pub perform_on : History → Task → Option Held → History
-perform_on h s None = refuse h s NoText
+-- a statement with an outcome is accepted, and one without is refused for its reason
+abbrev pub settle : History → Task → ℕ → Result Done StatementFault → Option History
+settle h s version (Ok done) = Some (accept h (record { statement = s; version = version; done = done }))
+settle h s version (Err e) = option_map (λ reason. refuse h s reason) (reason_of e)
+
+abbrev pub perform_on : History → Task → Option VersionedText → Option History
+perform_on h s None = Some (refuse h s NoText)
 perform_on h s (Some held) = settle h s held.version (perform s held.text)
 
 -- a statement performed on the text of its name, as it is now
-unfoldable pub advance : History → Task → History
+unfoldable pub advance : History → Task → Option History
 advance h s = perform_on h s (find s.text h.state)
 
 -- the statements in order
-abbrev pub run : History → List Task → History
-run h [] = h
-run h (s ∷ statements) = run (advance h s) statements
+abbrev pub run : History → List Task → Option History
+run h [] = Some h
+run h (s ∷ statements) = option_and_then (λ g. run g statements) (advance h s)
 
--- all texts at version 0, and then the statements
-abbrev pub serial : Document → History
+-- all texts at version 0, and then the statements; each document has a serial run (`HasSerial`)
+abbrev pub serial : Document → Option History
 serial d = run (record { state = start (record { texts = d.texts; room = room }); journal = []; refused = [] }) d.statements
+
+-- a document has a serial run: none of its statements is without an outcome and without a reason
+abbrev pub HasSerial : Type 0
+HasSerial = (d : Document) → (h : History) × (serial d ≡ Some h)

@@ -1,31 +1,35 @@
 -- Shared runs: workers perform the statements of a document on its texts, in an order that nobody fixed.
-use Rattle.std.specs.Prelude.{◌≡◌, ◌≢◌, ◌≤◌, ℕ, Bool, List, [], ◌∷◌, ◌++◌, length, slice_get, Option, Some, None, Ok}
+use Rattle.std.specs.Prelude.{◌≡◌, ◌<◌, ◌≤◌, ℕ, Bool, List, [], ◌∷◌, ◌++◌, length, slice_get, Option, Some, None, Ok}
 use Rattle.std.specs.Option.{option_map}
 use Rattle.sno_statement.specs.Task.{Task}
-use Rattle.sno_book.specs.States.{Held, State, find}
+use Rattle.sno_statement.specs.declared.outcomes.StatementFault.TheVariants as statement
+use Rattle.sno_book.specs.States.{VersionedText, State, find}
 use Rattle.sno_book.specs.Entries.{Entry}
 use Rattle.sno_book.specs.Journals.{Legal, replay}
 use Rattle.sno_book.specs.Openings.{start}
-use Rattle.sno_desk.specs.Answers.{Lengthens}
+use Rattle.sno_desk.specs.Answers.{IsRefusedOnSome}
 use Rattle.sno_document.specs.Document.{Document, IsDocument, room}
+use Rattle.sno_document.specs.declared.modes.Mode.{Mode}
 use Rattle.sno_listing.specs.History.{History}
 use Rattle.sno_listing.specs.Forms.{listing_by}
 use Rattle.sno_listing.specs.declared.refusals.Reason.{Reason}
-use Rattle.sno_listing.specs.declared.refusals.Reason.TheVariants.{NoText, TextTooLong, TriesSpent}
+use Rattle.sno_listing.specs.declared.refusals.Reason.TheVariants.{NoText, TextTooLong, TriesSpent, TooManyTrials}
 use Rattle.sno_listing.specs.declared.refusals.Refusal.{Refusal}
 
 -- the text of this name is left at this version or a higher one
 pub record HasReached (state : State) (name : List ℕ) (version : ℕ) : Type 0 where
-  pub held : Held
+  pub held : VersionedText
   pub found : find name state ≡ Some held
   pub reached : version ≤ held.version
 
--- why a statement may be refused, on the texts as they are left: there is none of its name; there is a text that it would make too long; or
--- its text changed under each of its tries, and so had been replaced as many times at least
+-- why a statement may be refused, on the texts as they are left: there is none of its name; there is a text on which
+-- performing it is refused so; or its text changed under each of its tries, the last time after the version that the last try began with, and so had been replaced as many
+-- times at least
 abbrev pub MayRefuse : ℕ → State → Task → Reason → Type 0
 MayRefuse tries state s NoText = find s.text state ≡ None
-MayRefuse tries state s TextTooLong = Lengthens s
-MayRefuse tries state s (TriesSpent seen now) = (now ≢ seen) × (tries ≤ now) × HasReached state s.text now
+MayRefuse tries state s TextTooLong = IsRefusedOnSome s statement.TextTooLong
+MayRefuse tries state s TooManyTrials = IsRefusedOnSome s statement.TooManyTrials
+MayRefuse tries state s (TriesSpent seen now) = (seen < now) × (tries ≤ now) × HasReached state s.text now
 
 -- a statement without a reason is accepted
 abbrev pub MayAnswer : ℕ → State → Task → Option Reason → Type 0
@@ -75,9 +79,9 @@ pub record IsShared (tries : ℕ) (d : Document) (h : History) : Type 0 where
   pub settled : Settles tries d.statements h
 
 -- the bytes are a document, the lines are the listing of a shared run of it, and so many of its statements are refused
-pub record IsSharedReport (anchor json : Bool) (tries : ℕ) (bytes lines : List ℕ) (refused : ℕ) : Type 0 where
+pub record IsSharedReport (mode : Mode) (json : Bool) (tries : ℕ) (bytes lines : List ℕ) (refused : ℕ) : Type 0 where
   pub document : Document
-  pub is_document : IsDocument anchor bytes (Ok document)
+  pub is_document : IsDocument mode bytes (Ok document)
   pub history : History
   pub is_shared : IsShared tries document history
   pub listed : lines ≡ listing_by json history

@@ -1,7 +1,7 @@
 //! The options of the program, from the words of its command line.
 ghost use Rattle.std.specs.Prelude.{◌≡◌, [], map, false, Some, IfOk, string_bytes};
 ghost use Rattle.clap.specs.Words.{app_of, FailsBy, found_of, kind_of, rows_of, rule_of, with_rule};
-ghost use Rattle.sno_rewrite.specs.CommandLine.{are_lawful, bare_program, faults, flag, flag_in, found, IsAnswer, IsChecked, is_up_to, number_in, numeric, numeric_or, options_in, plain_options, program, Tells};
+ghost use Rattle.sno_rewrite.specs.CommandLine.{are_lawful, bare_program, faults, flag, flag_in, found, IsAnswer, IsChecked, is_up_to, number_in, numeric, numeric_or, options_in, plain_options, program, shared_program, Tells};
 ghost use Rattle.sno_rewrite.specs.Runs.{AreInLimits};
 
 use crate::Options;
@@ -15,6 +15,10 @@ const MAX_TRIES: u32 = 1_000;
 
 const DEFAULT_TRIES: u32 = 100;
 
+const MAX_TRIALS: u32 = 1_000_000_000;
+
+const DEFAULT_TRIALS: u32 = 1_000_000;
+
 const ABOUT: &str =
     "Reads a document of texts and statements on standard input, performs the statements, and writes the listing of what they did";
 
@@ -26,10 +30,12 @@ const ANCHOR_HELP: &str = "Anchors each statement that does not say whether it i
 
 const JSON_HELP: &str = "Writes the listing as JSON";
 
+const TRIALS_HELP: &str = "How many trials a match may take, 1 to 1000000000";
+
 const EXAMPLE: &str = "Example: sno_rewrite --workers 4 --json < document.json";
 
 const PAST_LIMITS: &str =
-    "error: '--workers' takes 1 to 16, and '--tries' takes 1 to 1000\n\nFor more information, try '--help'.\n";
+    "error: '--workers' takes 1 to 16, '--tries' takes 1 to 1000, and '--trials' takes 1 to 1000000000\n\nFor more information, try '--help'.\n";
 
 /// Why there are no options.
 #[derive(Debug, Drop)]
@@ -91,18 +97,26 @@ fn with_option<'a>(program: Command<'a>, option: Arg<'a>) -> Result<Command<'a>,
     program.arg(option)
 }
 
+#[tactic(auto, unfolding(crate::specs::CommandLine::shared_program))]
+fn shared_program<'a>(alloc: Global) -> Result<Command<'a>, AllocError>
+    ensures { IfOk result (λ c. app_of c ≡ shared_program) }
+{
+    let workers = numeric(alloc, "workers", WORKERS_HELP);
+    let tries = numeric_or(alloc, "100", "tries", TRIES_HELP);
+    let program = with_option(bare_program(alloc), workers)?;
+    with_option(program, tries)
+}
+
 #[tactic(auto, unfolding(crate::specs::CommandLine::program))]
 fn program<'a>(alloc: Global) -> Result<Command<'a>, AllocError>
     ensures { IfOk result (λ c. app_of c ≡ program) }
 {
-    let workers = numeric(alloc, "workers", WORKERS_HELP);
-    let tries = numeric_or(alloc, "100", "tries", TRIES_HELP);
     let anchor = flag(alloc, "anchor", ANCHOR_HELP);
     let json = flag(alloc, "json", JSON_HELP);
-    let program = with_option(bare_program(alloc), workers)?;
-    let program = with_option(program, tries)?;
-    let program = with_option(program, anchor)?;
-    with_option(program, json)
+    let trials = numeric_or(alloc, "1000000", "trials", TRIALS_HELP);
+    let program = with_option(shared_program(alloc)?, anchor)?;
+    let program = with_option(program, json)?;
+    with_option(program, trials)
 }
 
 fn matches<'a>(alloc: Global, words: &'a [String]) -> Result<ArgMatches<'a>, Error>
@@ -133,6 +147,7 @@ fn options_in(matches: &ArgMatches<'_>) -> Options
         workers: number_in(matches, "workers"),
         tries: number_in(matches, "tries").unwrap_or(DEFAULT_TRIES),
         json: flag_in(matches, "json"),
+        trials: number_in(matches, "trials").unwrap_or(DEFAULT_TRIALS),
     }
 }
 
@@ -149,7 +164,7 @@ fn are_lawful(options: &Options) -> bool
         Some(workers) => is_up_to(MAX_WORKERS, workers),
         None => true,
     };
-    workers && is_up_to(MAX_TRIES, options.tries)
+    workers && is_up_to(MAX_TRIES, options.tries) && is_up_to(MAX_TRIALS, options.trials)
 }
 
 /// `clap`'s own text on a fault.
@@ -182,14 +197,15 @@ fn checked(alloc: Global, options: Options) -> Result<Options, OptionsFault>
 }
 
 /// The options that words give; the words are those after the program's name. `--anchor` and `--json` are flags; `--workers` has a
-/// number of 1 to 16, and there are none without it; `--tries` has one of 1 to 1,000, and 100 without it.
+/// number of 1 to 16, and there are none without it; `--tries` has one of 1 to 1,000, and 100 without it; `--trials` has one of
+/// 1 to 1,000,000,000, and 1,000,000 without it.
 ///
 /// Refused: `Help` where `--help` or `-h` stands before any fault; `Usage` for a word that is no option, an option twice, a missing
 /// value, or one that is no number or past its limits; `Memory`.
 pub fn options_of(alloc: Global, words: &[String]) -> Result<Options, OptionsFault>
     // The options are those of the words, within their limits; or what is refused is so for its cause.
     ensures answer { IsAnswer (map string_bytes words.now) result }
-    // Workers and tries are within their limits.
+    // Workers, tries and trials are within their limits.
     ensures limits { IfOk result (λ o. AreInLimits o) }
     // With no words these are the options.
     ensures plain { words.now ≡ [] → IfOk result (λ o. o ≡ plain_options) }

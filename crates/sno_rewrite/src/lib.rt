@@ -12,13 +12,18 @@
 //! | `owners`, `settling` | the replies of workers, checked against the journal, and the refusals that they come to |
 //! | `sharing` | the statements performed by workers at a desk |
 //! | `streams`, `running` | bytes in and out; `Report`, `run_serial`, `run_shared` and `run` |
+//! | `program` | `run_program`, from the words and the streams of the program to its status |
+//! | `laws` | what follows from the definitions |
 //!
-//! `RunFault` and `status_of` are those of `sno_document`, `Reason` and `Refusal` those of `sno_listing`.
+//! `RunFault` and `status_of` are those of `sno_document`, `Reason` and `Refusal` those of `sno_listing`, `Name` that of `sno_pattern` and
+//! `ReadFault` that of `sno_read`.
 #![tactic(auto)]
 
 mod command_line;
+mod laws;
 mod options;
 mod owners;
+mod program;
 mod running;
 mod serial;
 mod settling;
@@ -26,7 +31,11 @@ mod sharing;
 mod streams;
 
 pub use command_line::{OptionsFault, options_of};
+pub use laws::each_document_has_a_serial_run;
 pub use options::Options;
+pub use program::run_program;
 pub use running::{Report, run, run_serial, run_shared};
 pub use sno_document::{RunFault, status_of};
 pub use sno_listing::{Reason, Refusal};
+pub use sno_pattern::Name;
+pub use sno_read::ReadFault;

@@ -1,5 +1,7 @@
 //! What a caller chooses for a run.
 
+use sno_document::Mode;
+
 /// What a caller chooses for a run.
 #[derive(Clone, Copy, Debug, PartialEq, Eq)]
 pub struct Options {
@@ -11,4 +13,21 @@ pub struct Options {
     pub tries: u32,
     /// Whether the listing is JSON.
     pub json: bool,
+    /// How many trials a match may take, for every statement: 1 to 1,000,000,000.
+    pub trials: u32,
+}
+
+impl Options {
+    ghost use Rattle.std.specs.Prelude.{◌≡◌};
+    ghost use Rattle.sno_rewrite.specs.Modes.{mode_of};
+
+    /// What statements are performed by that don't say it themselves.
+    pub fn mode(&self) -> Mode
+        ensures { result ≡ mode_of self.now }
+    {
+        Mode {
+            anchor: self.anchor,
+            trials: self.trials,
+        }
+    }
 }

@@ -1,18 +1,21 @@
 //! Runs over bytes, and over readers and writers.
 ghost use Rattle.std.specs.Prelude.{◌≡◌, ◌≢◌, ◌≤◌, ◌⊎◌, Err, Ok, IfOk, IfErr, IfSome, OnOk};
 ghost use Rattle.sno_document.specs.declared.faults.RunFault.TheVariants.{Memory, Write as WriteFailed};
+ghost use Rattle.sno_statement.specs.Task.{IsLimit};
 ghost use Rattle.sno_document.specs.Document.{Document, IsDocument};
+ghost use Rattle.sno_rewrite.specs.Modes.{mode_of};
 ghost use Rattle.sno_rewrite.specs.Reports.{IsReport, IsOutside};
-ghost use Rattle.sno_rewrite.specs.Runs.{AreInLimits, FailsBy, IsOwn, IsRun, Reports};
+ghost use Rattle.sno_rewrite.specs.Runs.{AreInLimits, FailsBy, IsBegun, IsOwn, IsRun, Reports};
 ghost use Rattle.sno_rewrite.specs.Shared.{IsSharedReport};
 ghost use Rattle.sno_rewrite.specs.Histories.{performed_seen};
+ghost use Rattle.sno_rewrite.specs.Streams.{RefusesLonger, TakesAtMost};
 ghost use Rattle.std.specs.Io.KnownBytes.{IsAtEnd};
 
 use crate::Options;
 use crate::serial::serial;
 use crate::sharing::shared;
 use crate::streams::{read_all, write_all};
-use sno_document::{RunFault, read_document};
+use sno_document::{Mode, RunFault, read_document};
 use sno_listing::listed;
 use std::alloc::Global;
 use std::io::{Read, Write};
@@ -28,28 +31,30 @@ pub struct Report {
     pub refused: usize,
 }
 
-/// Performs the statements of a document in order on its texts, and lists what they did, as JSON where `json` is set. It pays no
-/// heed to `workers` and `tries`.
+/// Performs the statements of a document in order on its texts, and lists what they did, as JSON where `json` is set. Each match may take
+/// `trials` trials, 1 to 1,000,000,000. It pays no heed to `workers` and `tries`.
 ///
 /// Refused with the first fault of the bytes, in this order: `DocumentTooLong`, `NotJson`, `Shape`; then the definitions, the texts
 /// and the statements, each as `specs/Document.antt` checks them; and with `Memory` where that was refused.
 pub fn run_serial(alloc: Global, bytes: &[u8], options: &Options) -> Result<Report, RunFault>
+    requires { IsLimit options.now.trials }
     // The bytes are a document, and the report is that of its serial run.
-    ensures found { IfOk result (λ report. IsReport options.now.anchor options.now.json bytes.now report.bytes.items report.refused) }
-    // A document is refused for want of memory alone.
-    ensures only { (d : Document) → IsDocument options.now.anchor bytes.now (Ok d) → IfErr result (λ e. e ≡ Memory) }
+    ensures found { IfOk result (λ report. IsReport (mode_of options.now) options.now.json bytes.now report.bytes.items report.refused) }
+    // A document is refused for memory alone.
+    ensures only { (d : Document) → IsDocument (mode_of options.now) bytes.now (Ok d) → IfErr result (λ e. e ≡ Memory) }
     // Any other fault is the first of the bytes.
-    ensures fault { IfErr result (λ e. e ≢ Memory → IsDocument options.now.anchor bytes.now (Err e)) }
+    ensures fault { IfErr result (λ e. e ≢ Memory → IsDocument (mode_of options.now) bytes.now (Err e)) }
 {
-    let report = reported(alloc, bytes, options.anchor, options.json)?;
+    let report = reported(alloc, bytes, options.mode(), options.json)?;
     Ok(report)
 }
 
-fn reported(alloc: Global, bytes: &[u8], anchor: bool, json: bool) -> Result<Report, RunFault>
-    ensures found { IfOk result (λ report. IsReport anchor json bytes.now report.bytes.items report.refused) }
-    ensures fault { IfErr result (λ e. e ≢ Memory → IsDocument anchor bytes.now (Err e)) }
+fn reported(alloc: Global, bytes: &[u8], mode: Mode, json: bool) -> Result<Report, RunFault>
+    requires { IsLimit mode.trials }
+    ensures found { IfOk result (λ report. IsReport mode json bytes.now report.bytes.items report.refused) }
+    ensures fault { IfErr result (λ e. e ≢ Memory → IsDocument mode bytes.now (Err e)) }
 {
-    let document = read_document(alloc, bytes, anchor)?;
+    let document = read_document(alloc, bytes, mode)?;
     let performed = serial(alloc, document)?;
     let bytes = listed(alloc, &performed.book, &performed.refused, json)?;
     let refused = performed.refused.len();
@@ -65,10 +70,11 @@ fn reported_shared<T: Threads + Wait + Sync>(
 ) -> Result<Report, RunFault>
     requires workers { (1 ≤ workers) × (workers ≤ 16) }
     requires tries { (1 ≤ options.now.tries) × (options.now.tries ≤ 1000) }
-    ensures found { IfOk result (λ report. IsSharedReport options.now.anchor options.now.json options.now.tries bytes.now report.bytes.items report.refused) }
-    ensures fault { IfErr result (λ e. IsOwn e ⊎ IsDocument options.now.anchor bytes.now (Err e)) }
+    requires trials { IsLimit options.now.trials }
+    ensures found { IfOk result (λ report. IsSharedReport (mode_of options.now) options.now.json options.now.tries bytes.now report.bytes.items report.refused) }
+    ensures fault { IfErr result (λ e. IsOwn e ⊎ IsDocument (mode_of options.now) bytes.now (Err e)) }
 {
-    let document = read_document(alloc, bytes, options.anchor)?;
+    let document = read_document(alloc, bytes, options.mode())?;
     let performed = shared(rt, alloc, document, workers, options.tries)?;
     let bytes = listed(alloc, &performed.book, &performed.refused, options.json)?;
     let refused = performed.refused.len();
@@ -90,11 +96,11 @@ pub fn run_shared<T: Threads + Wait + Sync>(
 ) -> Result<Report, RunFault>
     requires { AreInLimits options.now }
     // The bytes are a document, and the report is that of a shared run: each statement is in the journal once or is refused for a reason.
-    ensures found { IfOk result (λ report. IsSharedReport options.now.anchor options.now.json options.now.tries bytes.now report.bytes.items report.refused) }
+    ensures found { IfOk result (λ report. IsSharedReport (mode_of options.now) options.now.json options.now.tries bytes.now report.bytes.items report.refused) }
     // A document is refused for a fault of the run's own alone.
-    ensures only { (d : Document) → IsDocument options.now.anchor bytes.now (Ok d) → IfErr result IsOwn }
+    ensures only { (d : Document) → IsDocument (mode_of options.now) bytes.now (Ok d) → IfErr result IsOwn }
     // Any fault but the run's own is the first of the bytes.
-    ensures fault { IfErr result (λ e. IsOwn e ⊎ IsDocument options.now.anchor bytes.now (Err e)) }
+    ensures fault { IfErr result (λ e. IsOwn e ⊎ IsDocument (mode_of options.now) bytes.now (Err e)) }
 {
     let workers = options.workers.unwrap_or(1);
     let report = reported_shared(rt, alloc, bytes, workers, options)?;
@@ -110,7 +116,7 @@ fn report_by<T: Threads + Wait + Sync>(
 ) -> Result<Report, RunFault>
     requires { AreInLimits options.now }
     ensures found { IfOk result (λ report. Reports options.now.workers options.now bytes.now report.bytes.items report.refused) }
-    ensures fault { IfErr result (FailsBy options.now.workers options.now.anchor bytes.now) }
+    ensures fault { IfErr result (FailsBy options.now.workers (mode_of options.now) bytes.now) }
 {
     match options.workers {
         None => {
@@ -129,7 +135,8 @@ fn report_by<T: Threads + Wait + Sync>(
 ///
 /// Refused: `Read` where a read fails, an interrupted one too; a fault of the document as `run_serial` answers it, of which more than
 /// 16,777,216 bytes are one, or of the run as `run_shared` answers it; `Memory`; and `Write` where a write fails, an interrupted one too,
-/// or takes no byte. After a fault other than `Write` nothing was written.
+/// or takes no byte. After `Write` the writer holds a beginning of the listing after what it held; after any other fault nothing was
+/// written. At most 16,777,217 bytes are read.
 pub fn run<T: Threads + Wait + Sync, R: Read, W: Write>(
     rt: &T,
     alloc: Global,
@@ -144,9 +151,14 @@ pub fn run<T: Threads + Wait + Sync, R: Read, W: Write>(
     ensures done { IfOk result (λ status. IfSome (R.remaining reader.old) (λ bytes.
         IsRun options.now bytes (W.contents writer.old) (W.contents writer.new) status)) }
     // A fault is that of the document or of the run's own, but for memory, a read or a write.
-    ensures fault { IfErr result (λ e. IsOutside e ⊎ IfSome (R.remaining reader.old) (λ bytes. FailsBy options.now.workers options.now.anchor bytes e)) }
-    // Nothing was written but for what a failed write took before.
-    ensures nothing { IfErr result (λ e. (e ≡ WriteFailed) ⊎ (writer.new ≡ writer.old)) }
+    ensures fault { IfErr result (λ e. IsOutside e ⊎ IfSome (R.remaining reader.old) (λ bytes. FailsBy options.now.workers (mode_of options.now) bytes e)) }
+    // After a fault nothing was written; or a write failed, and a beginning of the listing was.
+    ensures nothing { IfErr result (λ e. (writer.new ≡ writer.old) ⊎ ((e ≡ WriteFailed) × IfSome (R.remaining reader.old) (λ bytes.
+        IsBegun options.now bytes (W.contents writer.old) (W.contents writer.new)))) }
+    // At most one byte more than a document has was taken from the reader.
+    ensures taken { TakesAtMost 16777217 (R.remaining reader.old) (R.remaining reader.new) }
+    // Of a longer input than a document may be just so many were taken, unless memory or a read was refused first.
+    ensures longer { RefusesLonger (R.remaining reader.old) (R.remaining reader.new) result }
 {
     let bytes = read_all(alloc, reader)?;
     let report = report_by(rt, alloc, &bytes, options)?;

@@ -1,5 +1,5 @@
 //! The serial run of a document.
-ghost use Rattle.std.specs.Prelude.{◌≡◌, ◌≢◌, ◌≤◌, ◌+◌, ◌++◌, ◌∷◌, [], length, map, OnOk, IfOk, IfErr};
+ghost use Rattle.std.specs.Prelude.{◌≡◌, ◌≢◌, ◌≤◌, ◌+◌, ◌++◌, ◌∷◌, [], length, map, OnOk, IfOk, IfErr, Some};
 ghost use Rattle.std.specs.Arc.{arc_value};
 ghost use Rattle.sno_document.specs.declared.faults.RunFault.TheVariants.{Memory};
 ghost use Rattle.sno_document.specs.Reads.{document_seen, IsReady};
@@ -43,7 +43,7 @@ fn advance(
     statement: &Arc<Statement>,
 ) -> Result<(), RunFault>
     requires { HasRoom performed.old.book 1 }
-    ensures advanced { OnOk result (performed_seen performed.new ≡ advance (performed_seen performed.old) (arc_value statement.now)) }
+    ensures advanced { OnOk result (advance (performed_seen performed.old) (arc_value statement.now) ≡ Some (performed_seen performed.new)) }
     ensures opening { OnOk result (performed.new.book.opening ≡ performed.old.book.opening) }
     ensures grown { OnOk result (length performed.new.book.journal ≤ length performed.old.book.journal + 1) }
     ensures memory { IfErr result (λ e. e ≡ Memory) }
@@ -60,6 +60,10 @@ fn advance(
         Ok(proposal) => proposal,
         Err(StatementFault::TextTooLong) => {
             refuse(&mut performed.refused, statement, Reason::TextTooLong)?;
+            return Ok(());
+        }
+        Err(StatementFault::TooManyTrials) => {
+            refuse(&mut performed.refused, statement, Reason::TooManyTrials)?;
             return Ok(());
         }
         Err(StatementFault::Memory) => return Err(RunFault::Memory),
@@ -79,7 +83,7 @@ fn run(
     statements: &[Arc<Statement>],
 ) -> Result<(), RunFault>
     requires { HasRoom performed.old.book (length statements.now) }
-    ensures run { OnOk result (performed_seen performed.new ≡ run (performed_seen performed.old) (map arc_value statements.now)) }
+    ensures run { OnOk result (run (performed_seen performed.old) (map arc_value statements.now) ≡ Some (performed_seen performed.new)) }
     ensures memory { IfErr result (λ e. e ≡ Memory) }
 {
     for statement in statements {
@@ -91,7 +95,7 @@ fn run(
 /// What the statements of the document, performed in order on its texts, do. Each is performed by snapshot, proposal and commit.
 pub(crate) fn serial(alloc: Global, document: Document) -> Result<Performed, RunFault>
     requires { IsReady document }
-    ensures serial { IfOk result (λ p. performed_seen p ≡ serial (document_seen document)) }
+    ensures serial { IfOk result (λ p. serial (document_seen document) ≡ Some (performed_seen p)) }
     ensures memory { IfErr result (λ e. e ≡ Memory) }
 {
     let Document {

@@ -1,5 +1,5 @@
 //! What the replies to the statements of a document come to.
-ghost use Rattle.std.specs.Prelude.{◌≡◌, ◌≤◌, ◌<◌, ◌+◌, ◌++◌, length, map, IfOk, IfErr, OnOk, Some, None, Err, true};
+ghost use Rattle.std.specs.Prelude.{◌≡◌, ◌≤◌, ◌<◌, ◌+◌, length, map, take, IfOk, IfErr, OnOk, Some, None, Err, true};
 ghost use Rattle.std.specs.List.{list_any};
 ghost use Rattle.std.specs.Option.{option_map};
 ghost use Rattle.std.specs.Arc.{arc_value};
@@ -8,14 +8,14 @@ ghost use Rattle.sno_book.specs.Views.{state_of};
 ghost use Rattle.sno_desk.specs.Answers.{Answers};
 ghost use Rattle.sno_desk.specs.Turns.{AllAnswer};
 ghost use Rattle.sno_rewrite.specs.Histories.{performed_seen};
-ghost use Rattle.sno_rewrite.specs.Owners.{IsAuditOrMemory, Lists, answer_in, is_short};
-ghost use Rattle.sno_rewrite.specs.Shared.{AreAnswers, HasReached, MayAnswer, MayRefuse, Settles, refusal_of, refusals};
-ghost use Rattle.sno_document.specs.declared.faults.RunFault.TheVariants.{Memory as MemoryRefused};
+ghost use Rattle.sno_rewrite.specs.Owners.{IsAuditOrMemory, IsListed, Lists, is_short, reason_in};
+ghost use Rattle.sno_rewrite.specs.Shared.{HasReached, MayRefuse, Settles};
+ghost use Rattle.sno_document.specs.declared.faults.RunFault.TheVariants.{Audit as AuditFailed, Memory as MemoryRefused};
 ghost use Rattle.sno_listing.specs.declared.refusals.Reason.TheVariants.{NoText as WithoutText, TriesSpent as Spent};
 
 use crate::owners::owners;
 use crate::serial::{Performed, refuse};
-use sno_book::{Book, SnapshotFault};
+use sno_book::Book;
 use sno_desk::{Reply, SubmitFault};
 use sno_document::RunFault;
 use sno_listing::{Reason, Refusal};
@@ -24,31 +24,29 @@ use std::alloc::Global;
 use std::sync::Arc;
 
 /// The version of the statement's text, where the book has the text.
-fn version_in(book: &Book, statement: &Statement) -> Result<Option<u64>, RunFault>
-    ensures version { IfOk result (λ o. o ≡ option_map (λ held. held.version) (find statement.now.text (state_of book.now))) }
-    ensures fault { IfErr result (λ e. e ≡ MemoryRefused) }
+#[tactic(auto, using(crate::proofs::PlaceLemmas::found_by_place, crate::proofs::PlaceLemmas::found_nowhere))]
+fn version_in(book: &Book, statement: &Statement) -> Option<u64>
+    ensures { result ≡ option_map (λ held. held.version) (find statement.now.text (state_of book.now)) }
 {
-    match book.snapshot(statement.text()) {
-        Ok(snapshot) => Ok(Some(snapshot.version)),
-        Err(SnapshotFault::NoText) => Ok(None),
-        Err(SnapshotFault::Memory) => Err(RunFault::Memory),
-    }
+    let place = book.opening().place(statement.text())?;
+    let (_, _, version) = book.text(place)?;
+    Some(version)
 }
 
 /// That the book has no text of the statement's name; `Audit` where it has one.
 fn without_text(book: &Book, statement: &Statement) -> Result<Reason, RunFault>
     ensures reason { IfOk result (λ reason. reason ≡ WithoutText) }
     ensures none { IfOk result (λ _. find statement.now.text (state_of book.now) ≡ None) }
-    ensures fault { IfErr result IsAuditOrMemory }
+    ensures fault { IfErr result (λ e. e ≡ AuditFailed) }
 {
-    match version_in(book, statement)? {
+    match version_in(book, statement) {
         None => Ok(Reason::NoText),
         Some(_) => Err(RunFault::Audit),
     }
 }
 
-/// That the statement's text was replaced at least as often as the statement was tried, and is no older than the last try found it; `Audit`
-/// where that is not so.
+/// That the last try found a later version than it began with, that the statement's text was replaced at least as often as the statement was
+/// tried, and that it is no older than the last try found it; `Audit` where that is not so.
 fn with_tries_spent(
     book: &Book,
     statement: &Statement,
@@ -57,14 +55,15 @@ fn with_tries_spent(
     now: u64,
 ) -> Result<Reason, RunFault>
     ensures reason { IfOk result (λ reason. reason ≡ Spent seen now) }
+    ensures later { IfOk result (λ _. seen < now) }
     ensures many { IfOk result (λ _. tries ≤ now) }
     ensures reached { IfOk result (λ _. HasReached (state_of book.now) statement.now.text now) }
-    ensures fault { IfErr result IsAuditOrMemory }
+    ensures fault { IfErr result (λ e. e ≡ AuditFailed) }
 {
-    let Some(version) = version_in(book, statement)? else {
+    let Some(version) = version_in(book, statement) else {
         return Err(RunFault::Audit);
     };
-    if u64::from(tries) <= now && now <= version {
+    if seen < now && u64::from(tries) <= now && now <= version {
         Ok(Reason::TriesSpent { seen, now })
     } else {
         Err(RunFault::Audit)
@@ -79,7 +78,7 @@ fn reason(
     tries: u32,
 ) -> Result<Reason, RunFault>
     requires { Answers (λ _ _. ⊥) tries statement.now (Err fault.now) }
-    ensures reason { IfOk result (λ reason. answer_in (Err fault.now) ≡ Some reason) }
+    ensures reason { IfOk result (λ reason. reason_in fault.now ≡ Some reason) }
     ensures may { IfOk result (λ reason. MayRefuse tries (state_of book.now) statement.now reason) }
     ensures fault { IfErr result IsAuditOrMemory }
 {
@@ -89,6 +88,7 @@ fn reason(
             Ok(reason)
         }
         SubmitFault::TextTooLong => Ok(Reason::TextTooLong),
+        SubmitFault::TooManyTrials => Ok(Reason::TooManyTrials),
         SubmitFault::TriesSpent { seen, now } => {
             let reason = with_tries_spent(book, statement, tries, seen, now)?;
             Ok(reason)
@@ -98,7 +98,7 @@ fn reason(
     }
 }
 
-/// One reply: a refusal is listed behind those before.
+/// One reply: a refusal is listed after those before.
 fn list(
     book: &Book,
     statement: &Statement,
@@ -107,8 +107,7 @@ fn list(
     refused: &mut Vec<Refusal>,
 ) -> Result<(), RunFault>
     requires { Answers (λ _ _. ⊥) tries statement.now reply.now }
-    ensures listed { OnOk result (refused.new.items ≡ refused.old.items ++ refusal_of statement.now (answer_in reply.now)) }
-    ensures may { OnOk result (MayAnswer tries (state_of book.now) statement.now (answer_in reply.now)) }
+    ensures listed { OnOk result (IsListed tries (state_of book.now) statement.now reply.now refused.old.items refused.new.items) }
     ensures fault { IfErr result IsAuditOrMemory }
 {
     match reply {
@@ -133,8 +132,8 @@ fn list_at(
     requires inside { place < length statements.now }
     requires replied { place < length replies.now }
     requires answers { AllAnswer (Answers (λ _ _. ⊥) tries) (map arc_value statements.now) replies.now }
-    requires before { Lists tries (state_of book.now) (map arc_value statements.now) (map answer_in replies.now) place refused.old.items }
-    ensures lists { OnOk result (Lists tries (state_of book.now) (map arc_value statements.now) (map answer_in replies.now) (place + 1) refused.new.items) }
+    requires before { Lists tries (state_of book.now) (take place (map arc_value statements.now)) (take place replies.now) refused.old.items }
+    ensures lists { OnOk result (Lists tries (state_of book.now) (take (place + 1) (map arc_value statements.now)) (take (place + 1) replies.now) refused.new.items) }
     ensures fault { IfErr result IsAuditOrMemory }
 {
     let statement = &statements[place];
@@ -153,8 +152,7 @@ fn refused(
     tries: u32,
 ) -> Result<Vec<Refusal>, RunFault>
     requires { AllAnswer (Answers (λ _ _. ⊥) tries) (map arc_value statements.now) replies.now }
-    ensures refused { IfOk result (λ v. v.items ≡ refusals (map arc_value statements.now) (map answer_in replies.now)) }
-    ensures may { IfOk result (λ _. AreAnswers tries (state_of book.now) (map arc_value statements.now) (map answer_in replies.now)) }
+    ensures lists { IfOk result (λ v. Lists tries (state_of book.now) (map arc_value statements.now) replies.now v.items) }
     ensures fault { IfErr result IsAuditOrMemory }
 {
     let mut refused = Vec::new(alloc);

@@ -1,7 +1,7 @@
 //! Bytes from a reader and to a writer.
-ghost use Rattle.std.specs.Prelude.{◌≡◌, ◌<◌, ◌≤◌, ◌+◌, length, IfOk, IfErr, IfSome, OnOk, vec_len};
+ghost use Rattle.std.specs.Prelude.{◌≡◌, ◌<◌, ◌≤◌, ◌+◌, length, IfOk, IfErr, IfSome, OnErr, OnOk, vec_len};
 ghost use Rattle.std.specs.Io.KnownBytes.{Appends, Consumes, IsAtEnd, Keeps};
-ghost use Rattle.sno_rewrite.specs.Streams.{ConsumesBehind, IsMemoryOrRead, IsWholeInput, IsReadFault};
+ghost use Rattle.sno_rewrite.specs.Streams.{AppendsFront, ConsumesBehind, IsMemoryOrRead, IsWholeInput, IsReadFault, TakesAtMost};
 ghost use Rattle.sno_document.specs.declared.faults.RunFault.TheVariants.{Write as WriteFailed};
 
 use sno_document::{MAX_DOCUMENT, RunFault};
@@ -10,13 +10,14 @@ use std::io::{Read, Write};
 
 const PIECE: usize = 4_096;
 
-/// Adds at most `room` bytes of the reader behind those that are read, and says how many; none at the end alone.
+/// Adds at most `room` bytes of the reader after those that are read, and says how many; none at the end alone.
 fn read_piece<R: Read>(reader: &mut R, bytes: &mut Vec<u8>, room: usize) -> Result<usize, RunFault>
     requires { 0 < room }
     ensures more { IfOk result (λ n. vec_len bytes.new ≡ vec_len bytes.old + n) }
     ensures bound { IfOk result (λ n. n ≤ room) }
     ensures consumed { IfOk result (λ n. ConsumesBehind (R.remaining reader.old) (R.remaining reader.new) bytes.old.items bytes.new.items) }
     ensures end { IfOk result (λ n. n ≡ 0 → IsAtEnd (R.remaining reader.new)) }
+    ensures taken { TakesAtMost room (R.remaining reader.old) (R.remaining reader.new) }
     ensures fault { IfErr result IsMemoryOrRead }
 {
     let mut piece = [0; PIECE];
@@ -34,7 +35,8 @@ fn read_piece<R: Read>(reader: &mut R, bytes: &mut Vec<u8>, room: usize) -> Resu
 /// 16,777,216, of which one more is read; `Memory`.
 pub(crate) fn read_all<R: Read>(alloc: Global, reader: &mut R) -> Result<Vec<u8>, RunFault>
     ensures whole { IfOk result (λ v. IsWholeInput (R.remaining reader.old) (R.remaining reader.new) v.items) }
-    ensures fault { IfErr result (IsReadFault (R.remaining reader.old)) }
+    ensures taken { TakesAtMost 16777217 (R.remaining reader.old) (R.remaining reader.new) }
+    ensures fault { IfErr result (IsReadFault (R.remaining reader.old) (R.remaining reader.new)) }
 {
     let mut bytes = Vec::new(alloc);
     while bytes.len() <= MAX_DOCUMENT {
@@ -47,9 +49,10 @@ pub(crate) fn read_all<R: Read>(alloc: Global, reader: &mut R) -> Result<Vec<u8>
     Err(RunFault::DocumentTooLong)
 }
 
-/// Writes all bytes. `Write` where a write fails, an interrupted one too, or takes no byte.
+/// Writes all bytes. `Write` where a write fails, an interrupted one too, or takes no byte; a beginning of the bytes is written then.
 pub(crate) fn write_all<W: Write>(writer: &mut W, bytes: &[u8]) -> Result<(), RunFault>
     ensures written { OnOk result (Appends (W.contents writer.old) (W.contents writer.new) bytes.now) }
+    ensures begun { OnErr result (AppendsFront (W.contents writer.old) (W.contents writer.new) bytes.now) }
     ensures fault { IfErr result (λ e. e ≡ WriteFailed) }
 {
     let mut rest = bytes;

@@ -28,9 +28,9 @@ pub returns-in_err-document-clause-document : goal.returns-in_err-document-claus
 returns-in_err-document-clause-document c =
     reads_err _ _ _ _ c.from_residual-in_err-document.ensures.1
     (λ m. IsDocument.whole (view c.in_ok-value.value) (rows_seen c.in_ok-rows.rows) (drafted_seen c.in_ok-drafted.drafted) c.in_ok-value.ensures c.in_ok-rows.ensures (drafted_from c.in_ok-rows.rows c.deref.result.now _ c.deref.ensures.value c.in_ok-drafted.ensures.definitions) c.in_ok-rules.ensures.1
-    (ap (λ (r : Definitions). document_with r c.args.anchor (rows_seen c.in_ok-rows.rows)) (sym c.in_ok-rules.ensures.0) ∙ c.in_err-document.ensures.document m))
+    (ap (λ (r : Definitions). document_with r c.args.mode (rows_seen c.in_ok-rows.rows)) (sym c.in_ok-rules.ensures.0) ∙ c.in_err-document.ensures.document m))
 
 pub returns-clause-document : goal.returns-clause-document
 returns-clause-document c =
     IsDocument.whole (view c.in_ok-value.value) (rows_seen c.in_ok-rows.rows) (drafted_seen c.in_ok-drafted.drafted) c.in_ok-value.ensures c.in_ok-rows.ensures (drafted_from c.in_ok-rows.rows c.deref.result.now _ c.deref.ensures.value c.in_ok-drafted.ensures.definitions) c.in_ok-rules.ensures.1
-    (ap (λ (r : Definitions). document_with r c.args.anchor (rows_seen c.in_ok-rows.rows)) (sym c.in_ok-rules.ensures.0) ∙ c.in_ok-document.ensures.document)
+    (ap (λ (r : Definitions). document_with r c.args.mode (rows_seen c.in_ok-rows.rows)) (sym c.in_ok-rules.ensures.0) ∙ c.in_ok-document.ensures.document)

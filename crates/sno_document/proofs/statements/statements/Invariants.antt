@@ -7,7 +7,7 @@ use Rattle.sno_document.proofs.statements.statements.Given as goal
 
 abbrev pub invariant-loop-place : goal.invariant-loop-place
 invariant-loop-place l = record {
-  rest : statements_from (arc_value l.rules) l.anchor (l.place + 1) (map arc_value l.statements.items) (map statement_seen (drop l.place l.rows))
-      ≡ statements_from (arc_value l.rules) l.anchor 1 [] (map statement_seen l.rows);
+  rest : statements_from (arc_value l.rules) l.mode (l.place + 1) (map arc_value l.statements.items) (map statement_seen (drop l.place l.rows))
+      ≡ statements_from (arc_value l.rules) l.mode 1 [] (map statement_seen l.rows);
   count : length l.statements.items ≡ l.place;
 }

@@ -1,8 +1,10 @@
 -- What a statement does to a book.
-use Rattle.std.proofs.Common.{ap, ◌∙◌}
+use Rattle.std.proofs.Common.{refl, ap, ◌∙◌}
+use Rattle.sno_statement.specs.declared.outcomes.StatementFault.TheVariants as fault
+use Rattle.sno_listing.specs.declared.refusals.Reason.TheVariants as reason
 use Rattle.std.specs.Arc.{arc_value}
 use Rattle.sno_statement.specs.Task.{Task}
-use Rattle.sno_rewrite.proofs.SerialLemmas.{refused_none, refused_long, committed, taken_as, proposed_as, no_text, too_long}
+use Rattle.sno_rewrite.proofs.SerialLemmas.{refused_none, refused_for, committed, taken_as, proposed_as, no_text, too_long, too_many}
 use Rattle.sno_rewrite.proofs.serial.advance.Goals as goal
 
 pub returns-in-Err-NoText-clause-advanced : goal.returns-in-Err-NoText-clause-advanced
@@ -14,9 +16,16 @@ returns-in-Err-NoText-clause-advanced c =
 pub returns-in-Err-TextTooLong-clause-advanced : goal.returns-in-Err-TextTooLong-clause-advanced
 returns-in-Err-TextTooLong-clause-advanced c =
     let name = c.text.ensures ∙ ap (λ (s : Task). s.text) c.deref.ensures in
-    refused_long c.args.performed.now.book (arc_value c.args.statement.now) _ c.in-Ok.snapshot c.args.performed.now.refused.items c.refuse-in-Err-TextTooLong.new.refused.items
+    refused_for c.args.performed.now.book (arc_value c.args.statement.now) _ c.in-Ok.snapshot c.args.performed.now.refused.items c.refuse-in-Err-TextTooLong.new.refused.items fault.TextTooLong reason.TextTooLong
     (ap (λ (s : Task). s.number) c.deref-in-Err-TextTooLong.ensures) (taken_as _ _ _ c.in-Ok.snapshot name c.in-Ok.ensures)
-    (too_long _ _ c.in-Ok.snapshot c.in-Err-TextTooLong.field-0 c.in_ok-try_clone.ensures c.in-Err-TextTooLong.field-0-is c.in-Err-TextTooLong.ensures) c.in_ok-refuse-in-Err-TextTooLong.ensures.refused
+    (too_long _ _ c.in-Ok.snapshot c.in-Err-TextTooLong.field-0 c.in_ok-try_clone.ensures c.in-Err-TextTooLong.field-0-is c.in-Err-TextTooLong.ensures) refl c.in_ok-refuse-in-Err-TextTooLong.ensures.refused
+
+pub returns-in-Err-TooManyTrials-clause-advanced : goal.returns-in-Err-TooManyTrials-clause-advanced
+returns-in-Err-TooManyTrials-clause-advanced c =
+    let name = c.text.ensures ∙ ap (λ (s : Task). s.text) c.deref.ensures in
+    refused_for c.args.performed.now.book (arc_value c.args.statement.now) _ c.in-Ok.snapshot c.args.performed.now.refused.items c.refuse-in-Err-TooManyTrials.new.refused.items fault.TooManyTrials reason.TooManyTrials
+    (ap (λ (s : Task). s.number) c.deref-in-Err-TooManyTrials.ensures) (taken_as _ _ _ c.in-Ok.snapshot name c.in-Ok.ensures)
+    (too_many _ _ c.in-Ok.snapshot c.in-Err-TooManyTrials.field-0 c.in_ok-try_clone.ensures c.in-Err-TooManyTrials.field-0-is c.in-Err-TooManyTrials.ensures) refl c.in_ok-refuse-in-Err-TooManyTrials.ensures.refused
 
 pub returns-in-Ok-commit-clause-advanced : goal.returns-in-Ok-commit-clause-advanced
 returns-in-Ok-commit-clause-advanced c =

@@ -3,7 +3,6 @@ use Rattle.std.specs.Arc.{arc_value}
 use Rattle.std.proofs.lemmas.Option.{slice_get_read}
 use Rattle.sno_book.specs.Views.{state_of}
 use Rattle.sno_desk.specs.Answers.{Answers}
-use Rattle.sno_rewrite.specs.Owners.{answer_in}
 use Rattle.sno_rewrite.proofs.SettlingLemmas.{answer_at, lists_more, seen_at}
 use Rattle.sno_rewrite.proofs.settling.list_at.Goals as goal
 
@@ -16,9 +15,9 @@ list-requires c =
 
 pub returns-clause-lists : goal.returns-clause-lists
 returns-clause-lists c =
-    let more = lists_more c.args.tries (state_of c.args.book.now) (map arc_value c.args.statements.now) (map answer_in c.args.replies.now) c.args.place
-    c.deref.result.now (answer_in c.index-replies-place.result) c.args.refused.now.items c.list.new.refused.items c.requires.before
+    let more = lists_more c.args.tries (state_of c.args.book.now) (map arc_value c.args.statements.now) c.args.replies.now c.args.place
+    c.deref.result.now c.index-replies-place.result c.args.refused.now.items c.list.new.refused.items c.requires.before
     (seen_at arc_value c.args.statements.now c.args.place c.index-statements-place.result c.deref.result.now c.requires.inside c.index-statements-place.is c.deref.ensures)
-    (seen_at answer_in c.args.replies.now c.args.place c.index-replies-place.result (answer_in c.index-replies-place.result) c.requires.replied c.index-replies-place.is refl)
-    c.in_ok-list.ensures.listed c.in_ok-list.ensures.may in
+    (slice_get_read c.args.replies.now (length c.args.replies.now) c.args.place c.index-replies-place.result refl c.requires.replied c.index-replies-place.is)
+    c.in_ok-list.ensures.listed in
     rw add-one more

@@ -1,9 +1,8 @@
-use Rattle.std.proofs.Common.{◌∙◌, map, sym, arith}
+use Rattle.std.proofs.Common.{map, arith}
 use Rattle.std.specs.Arc.{arc_value}
 use Rattle.std.proofs.Math.ListN.{length-map}
 use Rattle.sno_book.specs.Views.{state_of}
 use Rattle.sno_desk.specs.Answers.{Answers}
-use Rattle.sno_rewrite.specs.Owners.{answer_in}
 use Rattle.sno_rewrite.proofs.SettlingLemmas.{as_many, lists_all}
 use Rattle.sno_rewrite.proofs.settling.refused.Goals as goal
 
@@ -13,18 +12,9 @@ list_at-requires-clause-replied c =
     let seen = length-map c.args.statements.now arc_value in
     omega (arith, even, seen)
 
-pub returns-clause-refused : goal.returns-clause-refused
-returns-clause-refused c =
+pub returns-clause-lists : goal.returns-clause-lists
+returns-clause-lists c =
     let even = as_many (Answers (λ _ _. ⊥) c.args.tries) (map arc_value c.args.statements.now) c.args.replies.now c.requires in
     let seen = length-map c.args.statements.now arc_value in
-    let all = lists_all c.args.tries (state_of c.args.book.now) (map arc_value c.args.statements.now) (map answer_in c.args.replies.now) c.loop-place.place
-    c.loop-place.refused.items (even ∙ sym (length-map c.args.replies.now answer_in)) (omega (arith, seen)) c.loop-place.invariant in
-    all.0
-
-pub returns-clause-may : goal.returns-clause-may
-returns-clause-may c =
-    let even = as_many (Answers (λ _ _. ⊥) c.args.tries) (map arc_value c.args.statements.now) c.args.replies.now c.requires in
-    let seen = length-map c.args.statements.now arc_value in
-    let all = lists_all c.args.tries (state_of c.args.book.now) (map arc_value c.args.statements.now) (map answer_in c.args.replies.now) c.loop-place.place
-    c.loop-place.refused.items (even ∙ sym (length-map c.args.replies.now answer_in)) (omega (arith, seen)) c.loop-place.invariant in
-    all.1
+    lists_all c.args.tries (state_of c.args.book.now) (map arc_value c.args.statements.now) c.args.replies.now c.loop-place.place
+    c.loop-place.refused.items (omega (arith, seen)) (omega (arith, even, seen)) c.loop-place.invariant

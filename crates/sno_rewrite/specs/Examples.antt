@@ -1,10 +1,11 @@
 -- Worked examples of runs and their listings: each holds by computation alone, and a reader can compare documents and lines.
 use Rattle.std.specs.Prelude.{◌≡◌, ℕ, false, List, [], ◌∷◌, ◌++◌, Some, None, codes, refl}
+use Rattle.std.specs.Option.{option_map}
 use Rattle.std.specs.Fmt.{digits}
 use Rattle.sno_pattern.specs.Tree.{Tree, Lit, Span, Break, Rem, Seq, Cond}
 use Rattle.sno_pattern.specs.Definitions.{Definitions}
-use Rattle.sno_pattern.specs.Results.{results_of, named_at}
-use Rattle.sno_pattern.specs.Outcome.{outcome_at}
+use Rattle.sno_pattern.specs.Results.{results_of, definition_results}
+use Rattle.sno_pattern.specs.Outcome.{outcome_at, trials_at}
 use Rattle.sno_read.specs.declared.objects.Part.{Part}
 use Rattle.sno_read.specs.declared.objects.Part.TheVariants.{Quoted, Var}
 use Rattle.sno_statement.specs.Task.{Task}
@@ -20,18 +21,18 @@ abbrev no_rules : Definitions
 no_rules = record { names = []; bodies = [] }
 
 abbrev replaced_by : List Part → ℕ → List ℕ → Tree → Task
-replaced_by parts number text pattern = record { number = number; rules = no_rules; pattern = pattern; object = Some parts; text = text; anchored = false }
+replaced_by parts number text pattern = record { number = number; rules = no_rules; pattern = pattern; object = Some parts; text = text; anchored = false; limit = 1000000 }
 
 abbrev sought : ℕ → List ℕ → Tree → Task
-sought number text pattern = record { number = number; rules = no_rules; pattern = pattern; object = None; text = text; anchored = false }
+sought number text pattern = record { number = number; rules = no_rules; pattern = pattern; object = None; text = text; anchored = false; limit = 1000000 }
 
 -- T is abc, and its b is replaced by X
 abbrev one_replacement : Document
 one_replacement = record { rules = no_rules; texts = (codes "T", codes "abc") ∷ []; statements = replaced_by (Quoted (codes "X") ∷ []) 1 (codes "T") (Lit (codes "b")) ∷ [] }
 
-one_replacement_listed : listing (serial one_replacement)
-    ≡ line (codes "texts 1") ++ (line (codes "T 1 |aXc|") ++ (line (codes "entries 1") ++ (line (codes "0 statement 1 T 0 matched 1 2") ++ (line (codes "  -> |aXc|") ++ line (codes "refused 0")))))
-unfolding listing text_line binding_line done_lines entry_label entry_subject refused_line advance outcome_at results_of named_at digits
+one_replacement_listed : option_map listing (serial one_replacement)
+    ≡ Some (line (codes "texts 1") ++ (line (codes "T 1 |aXc|") ++ (line (codes "entries 1") ++ (line (codes "0 statement 1 T 0 matched 1 2") ++ (line (codes "  -> |aXc|") ++ line (codes "refused 0"))))))
+unfolding listing text_line binding_line done_lines entry_label entry_subject refused_line advance outcome_at trials_at results_of definition_results digits
 one_replacement_listed = refl
 
 -- A is k=v, and its two sides are exchanged; B is aaab, in which SPAN('a') 'a' fails; there is no text C
@@ -44,10 +45,10 @@ three_statements = record {
       ∷ sought 2 (codes "B") (Seq (Span (codes "a")) (Lit (codes "a"))) ∷ sought 3 (codes "C") (Lit (codes "x")) ∷ [];
 }
 
-three_statements_listed : listing (serial three_statements)
-    ≡ line (codes "texts 2") ++ (line (codes "A 1 |v=k|") ++ (line (codes "B 0 |aaab|") ++ (line (codes "entries 2") ++ (line (codes "0 statement 1 A 0 matched 0 3")
-    ++ (line (codes "  K = |k|") ++ (line (codes "  V = |v|") ++ (line (codes "  -> |v=k|") ++ (line (codes "1 statement 2 B 0 failed") ++ (line (codes "refused 1") ++ line (codes "statement 3 no text"))))))))))
-unfolding listing text_line binding_line done_lines entry_label entry_subject refused_line advance outcome_at results_of named_at digits
+three_statements_listed : option_map listing (serial three_statements)
+    ≡ Some (line (codes "texts 2") ++ (line (codes "A 1 |v=k|") ++ (line (codes "B 0 |aaab|") ++ (line (codes "entries 2") ++ (line (codes "0 statement 1 A 0 matched 0 3")
+    ++ (line (codes "  K = |k|") ++ (line (codes "  V = |v|") ++ (line (codes "  -> |v=k|") ++ (line (codes "1 statement 2 B 0 failed") ++ (line (codes "refused 1") ++ line (codes "statement 3 no text")))))))))))
+unfolding listing text_line binding_line done_lines entry_label entry_subject refused_line advance outcome_at trials_at results_of definition_results digits
 three_statements_listed = refl
 
 -- two statements on T, which is ab: the second is performed on what the first left, and puts the same characters back; the version rises by both
@@ -58,8 +59,8 @@ two_versions = record {
   statements = replaced_by (Quoted (codes "b") ∷ []) 1 (codes "T") (Lit (codes "a")) ∷ replaced_by (Quoted (codes "bb") ∷ []) 2 (codes "T") (Lit (codes "bb")) ∷ [];
 }
 
-two_versions_listed : listing (serial two_versions)
-    ≡ line (codes "texts 1") ++ (line (codes "T 2 |bb|") ++ (line (codes "entries 2") ++ (line (codes "0 statement 1 T 0 matched 0 1")
-    ++ (line (codes "  -> |bb|") ++ (line (codes "1 statement 2 T 1 matched 0 2") ++ (line (codes "  -> |bb|") ++ line (codes "refused 0")))))))
-unfolding listing text_line binding_line done_lines entry_label entry_subject refused_line advance outcome_at results_of named_at digits
+two_versions_listed : option_map listing (serial two_versions)
+    ≡ Some (line (codes "texts 1") ++ (line (codes "T 2 |bb|") ++ (line (codes "entries 2") ++ (line (codes "0 statement 1 T 0 matched 0 1")
+    ++ (line (codes "  -> |bb|") ++ (line (codes "1 statement 2 T 1 matched 0 2") ++ (line (codes "  -> |bb|") ++ line (codes "refused 0"))))))))
+unfolding listing text_line binding_line done_lines entry_label entry_subject refused_line advance outcome_at trials_at results_of definition_results digits
 two_versions_listed = refl

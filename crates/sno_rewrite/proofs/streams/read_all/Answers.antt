@@ -1,0 +1,14 @@
+-- What a piece takes that isn't kept, with what was read before it.
+use Rattle.std.proofs.Common.{◌++◌, arith}
+use Rattle.std.proofs.KnownBytes.{Consumes-trans}
+use Rattle.std.proofs.lemmas.List.{length-append}
+use Rattle.sno_rewrite.proofs.streams.read_all.Goals as goal
+
+pub returns-in_err-count-clause-taken : goal.returns-in_err-count-clause-taken
+returns-in_err-count-clause-taken g c =
+    let before = c.loop-bytes.invariant in
+    let piece = c.read_piece.ensures.taken in (
+      c.loop-bytes.bytes.items ++ piece.0,
+      Consumes-trans _ _ _ c.loop-bytes.bytes.items piece.0 before.consumed piece.1,
+      omega (arith, length-append c.loop-bytes.bytes.items piece.0, piece.2),
+    )

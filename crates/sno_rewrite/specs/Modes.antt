@@ -1,0 +1,7 @@
+-- What a caller's options say to statements that don't say it themselves.
+use Rattle.sno_document.specs.declared.modes.Mode.{Mode}
+use Rattle.sno_rewrite.specs.declared.options.Options.{Options}
+
+-- whether they are anchored, and how many trials each may take
+abbrev pub mode_of : Options → Mode
+mode_of options = record { anchor = options.anchor; trials = options.trials }
