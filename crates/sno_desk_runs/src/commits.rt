@@ -1,9 +1,10 @@
-//! Two seats that commit by themselves: the second proposal is for a text that changed, and comes back.
+//! Two seats that commit by themselves: the one overtakes the other's proposal, or adds entries between two of its own.
 ghost use Rattle.std.specs.Prelude.{◌≡◌, []};
 
-use crate::day::{book, rules, statement};
+use crate::day::{check_entry, check_text};
+use crate::jobs::{book, rules, statement};
 use sno_book::Book;
-use sno_desk::{CommitFault, Desk, Seat, close, propose};
+use sno_desk::{CommitFault, Desk, Proposal, Receipt, Seat, close, propose};
 use sno_pattern::TextName;
 use sno_statement::Statement;
 use std::alloc::Global;
@@ -13,38 +14,109 @@ use std::sync::ledger::{Blank, Ledger};
 use std::sync::{Arc, Wait};
 use std::test::Fail;
 
-/// The second seat's snapshot is older than the first seat's commit.
-fn overtake<L: Ledger, R: Wait + Abort>(
+/// What two seats do at a desk, with these statements.
+trait Turns {
+    fn take<L: Ledger, R: Wait + Abort>(
+        &self,
+        rt: &R,
+        alloc: Global,
+        desk: &Desk<L>,
+        first: &mut Seat<L>,
+        second: &mut Seat<L>,
+    ) -> Result<(), Fail>;
+}
+
+/// The statement proposed on its text as it stands.
+fn proposal<L: Ledger, R: Wait + Abort>(
     rt: &R,
     alloc: Global,
     desk: &Desk<L>,
-    first: &mut Seat<L>,
-    second: &mut Seat<L>,
+    seat: &mut Seat<L>,
     job: &Arc<Statement>,
-) -> Result<(), Fail> {
-    let name = TextName::new(alloc, b"T")?;
-    let early = desk.snapshot(rt, first, &name)?;
-    let late = desk.snapshot(rt, second, &name)?;
-    let early = propose(alloc, Arc::try_clone(job)?, early)?;
-    let late = propose(alloc, Arc::try_clone(job)?, late)?;
-    let receipt = desk.commit(rt, first, early).map_err(|(fault, _)| fault)?;
-    assert_eq!(rt; receipt.index, 0);
-    assert_eq!(rt; receipt.text.bytes(), b"x".as_slice());
-    let refused = desk.commit(rt, second, late).err();
-    let (fault, back) = refused.expect(rt, "it was overtaken");
-    assert_eq!(rt; fault, CommitFault::Changed { seen: 0, now: 1 });
-    assert_eq!(rt; back.version(), 0);
-    assert_eq!(rt; first.accepted(), 1);
-    assert_eq!(rt; second.accepted(), 0);
-    Ok(())
+) -> Result<Proposal, Fail> {
+    let snapshot = desk.snapshot(rt, seat, job.text())?;
+    Ok(propose(alloc, Arc::try_clone(job)?, snapshot)?)
 }
 
-fn two_seats<L: Ledger, R: Wait + Abort>(
+/// The statement proposed and committed.
+fn commit<L: Ledger, R: Wait + Abort>(
+    rt: &R,
+    alloc: Global,
+    desk: &Desk<L>,
+    seat: &mut Seat<L>,
+    job: &Arc<Statement>,
+) -> Result<Receipt, Fail> {
+    let proposal = proposal(rt, alloc, desk, seat, job)?;
+    Ok(desk.commit(rt, seat, proposal).map_err(|(fault, _)| fault)?)
+}
+
+/// The second seat's snapshot is older than the first seat's commit.
+#[derive(Drop)]
+struct Overtakes(Arc<Statement>);
+
+impl Turns for Overtakes {
+    fn take<L: Ledger, R: Wait + Abort>(
+        &self,
+        rt: &R,
+        alloc: Global,
+        desk: &Desk<L>,
+        first: &mut Seat<L>,
+        second: &mut Seat<L>,
+    ) -> Result<(), Fail> {
+        let late = proposal(rt, alloc, desk, second, &self.0)?;
+        let receipt = commit(rt, alloc, desk, first, &self.0)?;
+        assert_eq!(rt; receipt.index, 0);
+        assert_eq!(rt; receipt.text.bytes(), b"x".as_slice());
+        let refused = desk.commit(rt, second, late).err();
+        let (fault, back) = refused.expect(rt, "it was overtaken");
+        assert_eq!(rt; fault, CommitFault::Changed { seen: 0, now: 1 });
+        assert_eq!(rt; back.version(), 0);
+        assert_eq!(rt; first.accepted(), 1);
+        assert_eq!(rt; second.accepted(), 0);
+        Ok(())
+    }
+}
+
+/// The second seat adds two entries between two of the first.
+#[derive(Drop)]
+struct Interleaves {
+    first: Arc<Statement>,
+    elsewhere: Arc<Statement>,
+    unmatched: Arc<Statement>,
+    again: Arc<Statement>,
+}
+
+impl Turns for Interleaves {
+    fn take<L: Ledger, R: Wait + Abort>(
+        &self,
+        rt: &R,
+        alloc: Global,
+        desk: &Desk<L>,
+        first: &mut Seat<L>,
+        second: &mut Seat<L>,
+    ) -> Result<(), Fail> {
+        assert_eq!(rt; commit(rt, alloc, desk, first, &self.first)?.index, 0);
+        let late = proposal(rt, alloc, desk, first, &self.again)?;
+        assert_eq!(rt; late.version(), 1);
+        assert_eq!(rt; commit(rt, alloc, desk, second, &self.elsewhere)?.index, 1);
+        assert_eq!(rt; commit(rt, alloc, desk, second, &self.unmatched)?.index, 2);
+        let receipt = desk.commit(rt, first, late).map_err(|(fault, _)| fault)?;
+        assert_eq!(rt; receipt.index, 3);
+        assert_eq!(rt; receipt.entry.statement.number(), 4);
+        assert_eq!(rt; receipt.entry.version, 1);
+        assert_eq!(rt; receipt.text.bytes(), b"z".as_slice());
+        assert_eq!(rt; first.accepted(), 2);
+        assert_eq!(rt; second.accepted(), 2);
+        Ok(())
+    }
+}
+
+fn two_seats<L: Ledger, T: Turns, R: Wait + Abort>(
     rt: &R,
     alloc: Global,
     blank: Blank,
     book: Book,
-    job: &Arc<Statement>,
+    turns: &T,
 ) -> Result<Book, Fail>
     requires name { blank.name ≡ L.name }
     requires parts { blank.parts ≡ L.parts }
@@ -53,31 +125,51 @@ fn two_seats<L: Ledger, R: Wait + Abort>(
 {
     let (desk, mut seats) = Desk::<L>::new(alloc, blank, book, 2).map_err(|(fault, _)| fault)?;
     let (first, second) = seats.as_mut_slice().split_at_mut(1);
-    overtake(rt, alloc, &desk, &mut first[0], &mut second[0], job)?;
+    turns.take(rt, alloc, &desk, &mut first[0], &mut second[0])?;
     Ok(close(desk, seats).map_err(|(fault, _)| fault)?)
 }
 
-fn shared_text<R: Wait + Abort>(
+/// A desk of two seats, with a ledger of its own.
+fn share<T: Turns, R: Wait + Abort>(
     rt: &R,
     alloc: Global,
     book: Book,
-    job: &Arc<Statement>,
+    turns: &T,
 ) -> Result<Book, Fail>
     requires { book.journal ≡ [] }
 {
-    two_seats::<Brand, R>(rt, alloc, Blank::new(2), book, job)
+    two_seats::<Brand, T, R>(rt, alloc, Blank::new(2), book, turns)
 }
 
 #[test]
 fn a_proposal_that_was_overtaken_comes_back(rt: HostRuntime) -> Result<(), Fail> {
     let alloc = rt.alloc();
-    let rules = rules(&rt, alloc)?;
-    let job = statement(&rt, alloc, &rules, 1, "T", "'x'", "'z'")?;
-    let book = book(alloc, &[("T", "x")])?;
-    let book = shared_text(&rt, alloc, book, &job)?;
+    let job = statement(&rt, alloc, &rules(&rt, alloc)?, 1, "T", "'x'", "'z'")?;
+    let book = book(alloc, &[("T", b"x")], 1_000_000)?;
+    let book = share(&rt, alloc, book, &Overtakes(job))?;
     assert_eq!(rt; book.journal().len(), 1);
-    let (_, text, version) = book.text(0).expect(&rt, "there is a text");
-    assert_eq!(rt; text.bytes(), b"z".as_slice());
-    assert_eq!(rt; version, 1);
+    check_text(&rt, &book, 0, "z", 1);
+    Ok(())
+}
+
+#[test]
+fn a_seat_commits_at_a_later_version(rt: HostRuntime) -> Result<(), Fail> {
+    let alloc = rt.alloc();
+    let rules = rules(&rt, alloc)?;
+    let turns = Interleaves {
+        first: statement(&rt, alloc, &rules, 1, "T", "'x'", "'z'")?,
+        elsewhere: statement(&rt, alloc, &rules, 2, "U", "'u'", "'v'")?,
+        unmatched: statement(&rt, alloc, &rules, 3, "T", "'x'", "'w'")?,
+        again: statement(&rt, alloc, &rules, 4, "T", "'z'", "'zz'")?,
+    };
+    let book = book(alloc, &[("T", b"x"), ("U", b"u")], 1_000_000)?;
+    let book = share(&rt, alloc, book, &turns)?;
+    assert_eq!(rt; book.journal().len(), 4);
+    check_entry(&rt, &book, 0, 1, 0);
+    check_entry(&rt, &book, 1, 2, 0);
+    check_entry(&rt, &book, 2, 3, 1);
+    check_entry(&rt, &book, 3, 4, 1);
+    check_text(&rt, &book, 0, "zz", 2);
+    check_text(&rt, &book, 1, "v", 1);
     Ok(())
 }

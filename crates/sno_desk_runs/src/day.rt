@@ -3,8 +3,6 @@ ghost use Rattle.std.specs.Prelude.{◌≡◌, ◌≤◌, [], IfOk};
 
 use sno_book::Book;
 use sno_desk::{Desk, Gate, Reply, close, run_workers};
-use sno_pattern::{Names, Rules, Text, TextName};
-use sno_read::{read_object, read_pattern};
 use sno_statement::Statement;
 use std::alloc::Global;
 use std::marker::Brand;
@@ -20,46 +18,6 @@ pub(crate) struct Day {
     pub book: Book,
     pub replies: Vec<Reply>,
     pub shares: Vec<u64>,
-}
-
-/// No definitions.
-pub(crate) fn rules(rt: &impl Abort, alloc: Global) -> Result<Arc<Rules>, Fail> {
-    let names = Names::new(alloc, &[])?;
-    let bodies = Vec::new(alloc);
-    assert_eq!(rt; names.len(), bodies.len());
-    Ok(Arc::new(alloc, Rules::admit(alloc, names, bodies)?)?)
-}
-
-/// A statement that replaces what the pattern matches in the text by the object.
-pub(crate) fn statement(
-    rt: &impl Abort,
-    alloc: Global,
-    rules: &Arc<Rules>,
-    number: u32,
-    text: &str,
-    pattern: &str,
-    object: &str,
-) -> Result<Arc<Statement>, Fail> {
-    let pattern = read_pattern(alloc, rules.names(), 0, pattern.as_bytes())?;
-    let object = read_object(alloc, rules.names(), object.as_bytes())?;
-    assert!(rt; rules.covers(&pattern));
-    let rules = Arc::try_clone(rules)?;
-    let text = TextName::new(alloc, text.as_bytes())?;
-    let statement = Statement::new(number, rules, pattern, Some(object), text, false);
-    Ok(Arc::new(alloc, statement)?)
-}
-
-/// A book of these texts, each with its name, and room for many entries.
-pub(crate) fn book(alloc: Global, texts: &[(&str, &str)]) -> Result<Book, Fail>
-    ensures { IfOk result (λ b. b.journal ≡ []) }
-{
-    let mut rows = Vec::new(alloc);
-    for (name, text) in texts {
-        let text = Text::new(Vec::from_slice(alloc, text.as_bytes())?)?;
-        rows.push((TextName::new(alloc, name.as_bytes())?, text))?;
-    }
-    let book = Book::new(alloc, rows, 1_000_000)?;
-    Ok(book)
 }
 
 fn spend<L: Ledger + Send + Sync, G: Gate + Sync, R: Threads + Wait + Sync>(
@@ -117,4 +75,18 @@ pub(crate) fn run_day<G: Gate + Sync, R: Threads + Wait + Sync>(
         tries,
         gate,
     )
+}
+
+/// Compares the text at a place of the book, and its version.
+pub(crate) fn check_text(rt: &impl Abort, book: &Book, place: usize, text: &str, version: u64) {
+    let (_, characters, at) = book.text(place).expect(rt, "there is a text");
+    assert_eq!(rt; characters.bytes(), text.as_bytes());
+    assert_eq!(rt; at, version);
+}
+
+/// Compares the journal's entry at an index by its statement's number and its version.
+pub(crate) fn check_entry(rt: &impl Abort, book: &Book, index: usize, number: u32, version: u64) {
+    let entry = book.journal().get(index).expect(rt, "there is an entry");
+    assert_eq!(rt; entry.statement.number(), number);
+    assert_eq!(rt; entry.version, version);
 }

@@ -1,26 +1,16 @@
-//! Three texts of one letter each, replaced by three jobs of two seats; and a gate that is shut for one of them.
-use crate::day::{Day, book, rules, run_day, statement};
-use sno_desk::{Gate, OpenGate, SubmitFault};
+//! Three texts of one letter each, replaced by three jobs of two seats; and the same with a gate that is shut for one of them.
+ghost use Rattle.std.specs.Prelude.{◌≡◌, [], IfOk};
+
+use crate::day::{check_text, run_day};
+use crate::gates::ShutFor;
+use crate::jobs::{book, rules, statement};
+use sno_book::Book;
+use sno_desk::{OpenGate, SubmitFault};
 use sno_statement::Statement;
 use std::alloc::Global;
 use std::process::Abort;
-use std::sync::{Arc, Wait};
+use std::sync::Arc;
 use std::test::Fail;
-
-/// A gate that is shut for one statement.
-struct ShutFor(u32);
-
-impl Gate for ShutFor {
-    ghost use Rattle.std.specs.Prelude.{◌≡◌};
-
-    ghost shuts = { λ gate number _. number ≡ gate.0 };
-
-    fn pass<R: Wait>(&self, _rt: &R, number: u32, _attempt: u32) -> bool {
-        number != self.0
-    }
-
-    fn done<R: Wait>(&self, _rt: &R, _number: u32, _accepted: bool) {}
-}
 
 fn jobs(rt: &impl Abort, alloc: Global) -> Result<Vec<Arc<Statement>>, Fail> {
     let rules = rules(rt, alloc)?;
@@ -31,17 +21,19 @@ fn jobs(rt: &impl Abort, alloc: Global) -> Result<Vec<Arc<Statement>>, Fail> {
     Ok(jobs)
 }
 
-fn check_text(rt: &impl Abort, day: &Day, place: usize, text: &str, version: u64) {
-    let (_, stands, at) = day.book.text(place).expect(rt, "there is a text");
-    assert_eq!(rt; stands.bytes(), text.as_bytes());
-    assert_eq!(rt; at, version);
+/// The texts of the jobs, a letter each.
+fn letters(alloc: Global) -> Result<Book, Fail>
+    ensures { IfOk result (λ b. b.journal ≡ []) }
+{
+    let book = book(alloc, &[("A", b"a"), ("B", b"b"), ("C", b"c")], 1_000_000)?;
+    Ok(book)
 }
 
 #[test]
 fn jobs_are_replied_to_in_order(rt: HostRuntime) -> Result<(), Fail> {
     let alloc = rt.alloc();
     let jobs = jobs(&rt, alloc)?;
-    let book = book(alloc, &[("A", "a"), ("B", "b"), ("C", "c")])?;
+    let book = letters(alloc)?;
     let day = run_day(&rt, alloc, book, 2, jobs.as_slice(), 1, &OpenGate)?;
     let mut number = 1u32;
     for reply in day.replies.iter() {
@@ -55,7 +47,7 @@ fn jobs_are_replied_to_in_order(rt: HostRuntime) -> Result<(), Fail> {
     assert_eq!(rt; day.shares.as_slice(), [2u64, 1].as_slice());
     assert_eq!(rt; day.book.journal().len(), 3);
     for place in 0..3 {
-        check_text(&rt, &day, place, "x", 1);
+        check_text(&rt, &day.book, place, "x", 1);
     }
     Ok(())
 }
@@ -64,15 +56,16 @@ fn jobs_are_replied_to_in_order(rt: HostRuntime) -> Result<(), Fail> {
 fn a_shut_gate_turns_one_away(rt: HostRuntime) -> Result<(), Fail> {
     let alloc = rt.alloc();
     let jobs = jobs(&rt, alloc)?;
-    let book = book(alloc, &[("A", "a"), ("B", "b"), ("C", "c")])?;
-    let day = run_day(&rt, alloc, book, 2, jobs.as_slice(), 3, &ShutFor(2))?;
+    let gate = ShutFor::new(1);
+    let day = run_day(&rt, alloc, letters(alloc)?, 2, jobs.as_slice(), 3, &gate)?;
     assert_eq!(rt; day.replies.len(), 3);
-    assert!(rt; day.replies[0].is_ok() && day.replies[2].is_ok());
-    match &day.replies[1] {
+    match &day.replies[0] {
         Ok(_) => assert!(rt; false, "it was accepted"),
         Err(fault) => assert_eq!(rt; *fault, SubmitFault::GateShut),
     }
-    assert_eq!(rt; day.shares.as_slice(), [2u64, 0].as_slice());
-    check_text(&rt, &day, 1, "b", 0);
+    assert!(rt; day.replies[1].is_ok() && day.replies[2].is_ok());
+    assert_eq!(rt; gate.counts(), (2u32, 1u32));
+    assert_eq!(rt; day.shares.as_slice(), [1u64, 1].as_slice());
+    check_text(&rt, &day.book, 0, "a", 0);
     Ok(())
 }

@@ -1,4 +1,5 @@
-//! Desks at work, tested: workers that overlap, replies in order, shut gates, and many seats over few texts.
+//! Desks at work, tested: each answer of a submit, workers that overlap, replies in order, shut gates, many seats over few texts, and what each
+//! fault prints.
 #![tactic(auto)]
 
 #[cfg(test)]
@@ -6,8 +7,22 @@ mod commits;
 #[cfg(test)]
 mod day;
 #[cfg(test)]
+mod flags;
+#[cfg(test)]
+mod gates;
+#[cfg(test)]
+mod jobs;
+#[cfg(test)]
 mod letters;
 #[cfg(test)]
 mod overlap;
 #[cfg(test)]
+mod overtaking;
+#[cfg(test)]
+mod printing;
+#[cfg(test)]
 mod soak;
+#[cfg(test)]
+mod spent;
+#[cfg(test)]
+mod submits;

@@ -1,71 +1,71 @@
 //! Two statements on one text, of which a gate holds one back until the other is accepted.
 ghost use Rattle.std.specs.Prelude.{◌≤◌};
 
-use crate::day::{Day, book, rules, run_day, statement};
+use crate::day::{Day, check_entry, check_text, run_day};
+use crate::flags::Flag;
+use crate::jobs::{book, rules, statement};
 use sno_desk::{Gate, SubmitFault};
 use sno_statement::{Datum, Outcome};
 use std::alloc::Global;
 use std::process::Abort;
 use std::sync::Wait;
-use std::sync::atomic::{AtomicBool, AtomicU32, Ordering};
+use std::sync::atomic::{AtomicU32, Ordering};
 use std::test::Fail;
-use std::thread;
 use std::thread::Threads;
-use std::time::{Clock, Duration};
-
-const TURNS: usize = 1_000;
+use std::time::Clock;
 
 /// Holds statement 2 at attempt 1 until statement 1 has come to attempt 1, and statement 1 there until statement 2 has its answer. It notes what
 /// it is told: the attempts of statement 1, a digit each; and how many answers were receipts and how many refusals, ones for statement 1 and
 /// hundreds for statement 2.
 #[derive(Drop)]
-struct Held<'a, C: Clock> {
+struct Hold<'a, C: Clock> {
     clock: &'a C,
-    first_came: AtomicBool,
-    second_done: AtomicBool,
+    first_came: Flag,
+    second_done: Flag,
     attempts: AtomicU32,
     accepted: AtomicU32,
     refused: AtomicU32,
 }
 
-/// What a gate was told.
+/// What the gate was notes.
 #[derive(Clone, Copy)]
-struct Told {
+struct Notes {
     attempts: u32,
     accepted: u32,
     refused: u32,
 }
 
-impl<C: Clock> Held<'_, C> {
-    /// Waits for the flag, but not for ever.
-    fn until(&self, flag: &AtomicBool) -> bool {
-        for _ in 0..TURNS {
-            if flag.load(Ordering::SeqCst) {
-                return true;
-            }
-            thread::sleep(self.clock, Duration::from_millis(10));
+impl<C: Clock> Hold<'_, C> {
+    /// Notes one more attempt of statement 1.
+    fn note(&self, attempt: u32) {
+        let earlier = self.attempts.load(Ordering::SeqCst);
+        let attempts = earlier.wrapping_mul(10).wrapping_add(attempt);
+        self.attempts.store(attempts, Ordering::SeqCst);
+    }
+
+    /// What it was notes.
+    fn notes(&self) -> Notes {
+        Notes {
+            attempts: self.attempts.load(Ordering::SeqCst),
+            accepted: self.accepted.load(Ordering::SeqCst),
+            refused: self.refused.load(Ordering::SeqCst),
         }
-        false
     }
 }
 
-impl<C: Clock> Gate for Held<'_, C> {
+impl<C: Clock> Gate for Hold<'_, C> {
     ghost shuts = { λ _ _ attempt. Unit {0} };
 
     fn pass<R: Wait>(&self, _rt: &R, number: u32, attempt: u32) -> bool {
         if number == 1 {
-            let earlier = self.attempts.load(Ordering::SeqCst);
-            self.attempts.store(
-                earlier.wrapping_mul(10).wrapping_add(attempt),
-                Ordering::SeqCst,
-            );
+            self.note(attempt);
         }
         match (number, attempt) {
             (1, 1) => {
-                self.first_came.store(true, Ordering::SeqCst);
-                self.until(&self.second_done)
+                self.first_came.raise();
+                self.second_done.wait(self.clock)
             }
-            (2, 1) => self.until(&self.first_came),
+            (2, 1) => self.first_came.wait(self.clock),
             _ => true,
         }
     }
@@ -78,46 +78,34 @@ impl<C: Clock> Gate for Held<'_, C> {
             self.refused.fetch_add(one, Ordering::SeqCst);
         }
         if number == 2 {
-            self.second_done.store(true, Ordering::SeqCst);
+            self.second_done.raise();
         }
     }
 }
 
-/// Both statements submitted by two seats, and what the gate was told.
-fn overlapped<R: Threads + Wait + Clock + Abort + Sync>(
+/// Both statements submitted by two seats, and what the gate was notes.
+fn overlap<R: Threads + Wait + Clock + Abort + Sync>(
     rt: &R,
     alloc: Global,
     tries: u32,
-) -> Result<(Day, Told), Fail>
+) -> Result<(Day, Notes), Fail>
     requires { (1 ≤ tries) × (tries ≤ 1000) }
 {
     let rules = rules(rt, alloc)?;
     let mut jobs = Vec::new(alloc);
     jobs.push(statement(rt, alloc, &rules, 1, "T", "LEN(1) . C", "C C")?)?;
     jobs.push(statement(rt, alloc, &rules, 2, "T", "'x'", "'z'")?)?;
-    let gate = Held {
+    let gate = Hold {
         clock: rt,
-        first_came: AtomicBool::new(false),
-        second_done: AtomicBool::new(false),
+        first_came: Flag::new(),
+        second_done: Flag::new(),
         attempts: AtomicU32::new(0),
         accepted: AtomicU32::new(0),
         refused: AtomicU32::new(0),
     };
-    let day = run_day(
-        rt,
-        alloc,
-        book(alloc, &[("T", "x")])?,
-        2,
-        jobs.as_slice(),
-        tries,
-        &gate,
-    )?;
-    let told = Told {
-        attempts: gate.attempts.load(Ordering::SeqCst),
-        accepted: gate.accepted.load(Ordering::SeqCst),
-        refused: gate.refused.load(Ordering::SeqCst),
-    };
-    Ok((day, told))
+    let book = book(alloc, &[("T", b"x")], 1_000_000)?;
+    let day = run_day(rt, alloc, book, 2, jobs.as_slice(), tries, &gate)?;
+    Ok((day, gate.notes()))
 }
 
 fn check_bound(rt: &impl Abort, datum: Option<&Datum>, wanted: &str) {
@@ -127,34 +115,18 @@ fn check_bound(rt: &impl Abort, datum: Option<&Datum>, wanted: &str) {
     }
 }
 
-fn check_entry(rt: &impl Abort, day: &Day, index: usize, number: u32, version: u64) {
-    let entry = day
-        .book
-        .journal()
-        .get(index)
-        .expect(rt, "there is an entry");
-    assert_eq!(rt; entry.statement.number(), number);
-    assert_eq!(rt; entry.version, version);
-}
-
-fn check_text(rt: &impl Abort, day: &Day, text: &str, version: u64) {
-    let (_, stands, at) = day.book.text(0).expect(rt, "there is a text");
-    assert_eq!(rt; stands.bytes(), text.as_bytes());
-    assert_eq!(rt; at, version);
-}
-
 #[test]
 fn a_text_that_changed_is_matched_again(rt: HostRuntime) -> Result<(), Fail> {
-    let (day, told) = overlapped(&rt, rt.alloc(), 2)?;
+    let (day, notes) = overlap(&rt, rt.alloc(), 2)?;
     assert_eq!(rt; day.replies.len(), 2);
     assert!(rt; day.replies[0].is_ok() && day.replies[1].is_ok());
-    assert_eq!(rt; told.attempts, 12);
-    assert_eq!(rt; told.accepted, 101);
-    assert_eq!(rt; told.refused, 0);
-    check_text(&rt, &day, "zz", 2);
+    assert_eq!(rt; notes.attempts, 12);
+    assert_eq!(rt; notes.accepted, 101);
+    assert_eq!(rt; notes.refused, 0);
+    check_text(&rt, &day.book, 0, "zz", 2);
     assert_eq!(rt; day.book.journal().len(), 2);
-    check_entry(&rt, &day, 0, 2, 0);
-    check_entry(&rt, &day, 1, 1, 1);
+    check_entry(&rt, &day.book, 0, 2, 0);
+    check_entry(&rt, &day.book, 1, 1, 1);
     let entry = day.book.journal().get(1).expect(&rt, "there is an entry");
     match &*entry.outcome {
         Outcome::Matched { bindings, .. } => {
@@ -167,19 +139,19 @@ fn a_text_that_changed_is_matched_again(rt: HostRuntime) -> Result<(), Fail> {
 
 #[test]
 fn tries_are_spent(rt: HostRuntime) -> Result<(), Fail> {
-    let (day, told) = overlapped(&rt, rt.alloc(), 1)?;
+    let (day, notes) = overlap(&rt, rt.alloc(), 1)?;
     assert_eq!(rt; day.replies.len(), 2);
     match &day.replies[0] {
         Ok(_) => assert!(rt; false, "it was accepted"),
         Err(fault) => assert_eq!(rt; *fault, SubmitFault::TriesSpent { seen: 0, now: 1 }),
     }
     assert!(rt; day.replies[1].is_ok());
-    assert_eq!(rt; told.attempts, 1);
-    assert_eq!(rt; told.accepted, 100);
-    assert_eq!(rt; told.refused, 1);
+    assert_eq!(rt; notes.attempts, 1);
+    assert_eq!(rt; notes.accepted, 100);
+    assert_eq!(rt; notes.refused, 1);
     assert_eq!(rt; day.shares.as_slice(), [0u64, 1].as_slice());
-    check_text(&rt, &day, "z", 1);
+    check_text(&rt, &day.book, 0, "z", 1);
     assert_eq!(rt; day.book.journal().len(), 1);
-    check_entry(&rt, &day, 0, 2, 0);
+    check_entry(&rt, &day.book, 0, 2, 0);
     Ok(())
 }

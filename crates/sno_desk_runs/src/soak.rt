@@ -1,10 +1,14 @@
-//! Many seats over few texts, all of whose jobs are accepted: no two receipts are of one entry, and there are as many as entries.
-use crate::day::{Day, book, rules, run_day, statement};
-use sno_book::{Entry, Receipt};
-use sno_desk::OpenGate;
+//! Many seats over few texts. A text is replaced fewer times than a statement has tries, so all are accepted; no two receipts are of one entry.
+ghost use Rattle.std.specs.Prelude.{◌≡◌, [], IfOk};
+
+use crate::day::{Day, run_day};
+use crate::jobs::{book, rules, statement};
+use sno_book::{Book, Receipt};
+use sno_desk::{OpenGate, Reply};
 use sno_statement::Statement;
 use std::alloc::Global;
 use std::process::Abort;
+use std::slice;
 use std::sync::Arc;
 use std::test::Fail;
 
@@ -27,49 +31,64 @@ fn jobs(rt: &impl Abort, alloc: Global) -> Result<Vec<Arc<Statement>>, Fail> {
     Ok(jobs)
 }
 
-/// The receipt is of the journal's entry at its index, which no receipt was of before.
-fn mark(rt: &impl Abort, journal: &[Entry], receipt: &Receipt, seen: &mut [bool]) {
-    let entry = journal.get(receipt.index).expect(rt, "there is an entry");
-    assert_eq!(rt; entry.statement.number(), receipt.entry.statement.number());
-    assert_eq!(rt; entry.version, receipt.entry.version);
-    let mark = seen.get_mut(receipt.index).expect(rt, "there is a mark");
+/// The four texts, a letter each.
+fn letters(alloc: Global) -> Result<Book, Fail>
+    ensures { IfOk result (λ b. b.journal ≡ []) }
+{
+    let texts: [(&str, &[u8]); 4] = [("A", b"a"), ("B", b"b"), ("C", b"c"), ("D", b"d")];
+    let book = book(alloc, &texts, 1_000_000)?;
+    Ok(book)
+}
+
+/// The receipt's entry is, by value, the journal's at its index, which no receipt was of before.
+fn mark(rt: &impl Abort, book: &Book, receipt: &Receipt, marks: &mut [bool]) {
+    assert!(rt;
+        book.audit(slice::from_ref(receipt)).is_ok(),
+        "another entry"
+    );
+    let mark = marks.get_mut(receipt.index).expect(rt, "there is a mark");
     assert!(rt; !*mark, "one entry for two receipts");
     *mark = true;
 }
 
-/// How many jobs were accepted, each of which has an entry of its own.
-fn accepted(rt: &impl Abort, alloc: Global, day: &Day) -> Result<u64, Fail> {
-    let journal = day.book.journal();
-    let mut seen = vec![in alloc; false; journal.len()]?;
-    let mut accepted = 0u64;
-    for reply in day.replies.iter() {
-        if let Ok(receipt) = reply {
-            mark(rt, journal, receipt, seen.as_mut_slice());
-            accepted = accepted.wrapping_add(1);
+/// The reply is a receipt for the job, and its entry its own.
+fn check_reply(rt: &impl Abort, book: &Book, job: &Statement, reply: &Reply, marks: &mut [bool]) {
+    match reply {
+        Ok(receipt) => {
+            assert_eq!(rt; receipt.entry.statement.number(), job.number());
+            mark(rt, book, receipt, marks);
         }
+        Err(fault) => assert!(rt; false, "{fault}"),
     }
-    Ok(accepted)
 }
 
-fn sum(shares: &[u64]) -> u64 {
-    let mut sum = 0u64;
-    for share in shares {
-        sum = sum.wrapping_add(*share);
+/// Each job has a receipt, each entry is of one of them.
+fn check_replies(
+    rt: &impl Abort,
+    alloc: Global,
+    day: &Day,
+    jobs: &[Arc<Statement>],
+) -> Result<(), Fail> {
+    assert_eq!(rt; day.replies.len(), jobs.len());
+    assert_eq!(rt; day.book.journal().len(), jobs.len());
+    let mut marks = vec![in alloc; false; jobs.len()]?;
+    for (job, reply) in jobs.iter().zip(day.replies.iter()) {
+        check_reply(rt, &day.book, job, reply, marks.as_mut_slice());
     }
-    sum
+    Ok(())
 }
 
 #[test]
 fn many_seats_over_few_texts(rt: HostRuntime) -> Result<(), Fail> {
-    let jobs = jobs(&rt, rt.alloc())?;
-    let book = book(
-        rt.alloc(),
-        &[("A", "a"), ("B", "b"), ("C", "c"), ("D", "d")],
-    )?;
-    let day = run_day(&rt, rt.alloc(), book, 16, &jobs, 1_000, &OpenGate)?;
-    assert_eq!(rt; day.replies.len(), jobs.len());
-    let accepted = accepted(&rt, rt.alloc(), &day)?;
-    assert_eq!(rt; accepted, day.book.journal().len() as u64);
-    assert_eq!(rt; sum(&day.shares), accepted);
+    let alloc = rt.alloc();
+    let jobs = jobs(&rt, alloc)?;
+    let day = run_day(&rt, alloc, letters(alloc)?, 16, &jobs, 1_000, &OpenGate)?;
+    check_replies(&rt, alloc, &day, &jobs)?;
+    assert_eq!(rt; day.shares.as_slice(), [250u64; 16].as_slice());
+    for place in 0..4 {
+        let (_, text, version) = day.book.text(place).expect(&rt, "there is a text");
+        assert_eq!(rt; text.bytes().len(), 2_001);
+        assert_eq!(rt; version, 1_000);
+    }
     Ok(())
 }

@@ -1,4 +1,5 @@
 //! Definitions made by hand: how their names are printed, which are admitted, and what is answered for the others.
+use crate::row::name_of;
 use sno_pattern::{Class, Name, Names, Pattern, Rules, RulesFault, Text};
 use std::alloc::Global;
 use std::process::Abort;
@@ -36,11 +37,6 @@ fn arbno(alloc: Global, part: Option<Pattern>) -> Option<Pattern> {
     Some(Pattern::Arbno(boxed(alloc, part)?))
 }
 
-fn name(letters: &str) -> Result<Name, Fail> {
-    let name = Name::read(letters.as_bytes()).ok_or("a name")?;
-    Ok(name)
-}
-
 /// Definitions, of each its name and its pattern.
 #[derive(Drop)]
 struct Definitions {
@@ -57,7 +53,7 @@ impl Definitions {
     }
 
     fn define(&mut self, letters: &str, body: Option<Pattern>) -> Result<(), Fail> {
-        self.names.push(name(letters)?)?;
+        self.names.push(name_of(letters)?)?;
         self.bodies.push(body.ok_or("no pattern")?)?;
         Ok(())
     }
@@ -79,25 +75,14 @@ fn is_unguarded(answer: Result<Rules, RulesFault>, cycle: &[usize]) -> bool {
 
 #[test]
 fn a_name_is_printed_as_it_is_written(rt: HostRuntime) -> Result<(), Fail> {
-    let printed = name("Item_1.b")?.to_string(rt.alloc())?;
+    let printed = name_of("Item_1.b")?.to_string(rt.alloc())?;
     assert_eq!(rt; printed.as_str(), "Item_1.b");
-    Ok(())
-}
-
-// E is `*E 'a' | 'a'`.
-#[test]
-fn left_recursion_is_refused(rt: HostRuntime) -> Result<(), Fail> {
-    let alloc = rt.alloc();
-    let recursive = seq(alloc, reference(0), literal(alloc, b"a"));
-    let mut definitions = Definitions::new(alloc);
-    definitions.define("E", alt(alloc, recursive, literal(alloc, b"a")))?;
-    assert!(rt; is_unguarded(definitions.admit(&rt)?, &[0]));
     Ok(())
 }
 
 // ITEM is `SPAN('ab') ','`, and LIST is `*ITEM *LIST | ''`.
 #[test]
-fn a_list_of_items_is_admitted(rt: HostRuntime) -> Result<(), Fail> {
+fn rules_cover_references_to_their_definitions(rt: HostRuntime) -> Result<(), Fail> {
     let alloc = rt.alloc();
     let mut definitions = Definitions::new(alloc);
     let item = seq(alloc, span(alloc, b"ab"), literal(alloc, b","));
@@ -108,18 +93,6 @@ fn a_list_of_items_is_admitted(rt: HostRuntime) -> Result<(), Fail> {
     assert_eq!(rt; rules.len(), 2);
     assert!(rt; rules.covers(&Pattern::Ref(1)));
     assert!(rt; !rules.covers(&Pattern::Ref(2)));
-    Ok(())
-}
-
-// P is `'(' *P ')' | 'x'`.
-#[test]
-fn guarded_recursion_is_admitted(rt: HostRuntime) -> Result<(), Fail> {
-    let alloc = rt.alloc();
-    let tail = seq(alloc, reference(0), literal(alloc, b")"));
-    let nested = seq(alloc, literal(alloc, b"("), tail);
-    let mut definitions = Definitions::new(alloc);
-    definitions.define("P", alt(alloc, nested, literal(alloc, b"x")))?;
-    assert_eq!(rt; definitions.admit(&rt)??.len(), 1);
     Ok(())
 }
 

@@ -26,7 +26,7 @@ fn statement(rt: &(impl Abort + AllocGlobal), written: Written) -> Result<Arc<St
     Ok(Arc::new(rt.alloc(), statement)?)
 }
 
-fn named(alloc: Global, name: &str, characters: &[u8]) -> Result<(TextName, Text), Fail> {
+fn named_text(alloc: Global, name: &str, characters: &[u8]) -> Result<(TextName, Text), Fail> {
     let text = Text::new(Vec::from_slice(alloc, characters)?)?;
     Ok((TextName::new(alloc, name.as_bytes())?, text))
 }
@@ -34,7 +34,7 @@ fn named(alloc: Global, name: &str, characters: &[u8]) -> Result<(TextName, Text
 fn book(alloc: Global, texts: Texts, room: u32) -> Result<Result<Book, BookFault>, Fail> {
     let mut rows = Vec::new(alloc);
     for (name, text) in texts {
-        rows.push(named(alloc, name, text.as_bytes())?)?;
+        rows.push(named_text(alloc, name, text.as_bytes())?)?;
     }
     if room > 1_000_000 {
         return Err("too much room".into());
@@ -50,7 +50,7 @@ fn new_book(alloc: Global, texts: Texts) -> Result<Book, Fail> {
 fn long_book(alloc: Global, length: usize) -> Result<Book, Fail> {
     let characters = vec![in alloc; b'a'; length]?;
     let mut rows = Vec::new(alloc);
-    rows.push(named(alloc, "T", &characters)?)?;
+    rows.push(named_text(alloc, "T", &characters)?)?;
     Ok(Book::new(alloc, rows, 1_000_000)?)
 }
 
@@ -63,7 +63,7 @@ fn snapshot(
 }
 
 // What comes of proposing the statement on the text of this name, as it stands.
-fn proposed(
+fn attempt(
     rt: &(impl Abort + AllocGlobal),
     book: &Book,
     name: &str,
@@ -80,10 +80,10 @@ fn proposal(
     name: &str,
     written: Written,
 ) -> Result<Proposal, Fail> {
-    Ok(proposed(rt, book, name, written)??)
+    Ok(attempt(rt, book, name, written)??)
 }
 
-fn accepted(book: &mut Book, proposal: Proposal) -> Result<Receipt, Fail> {
+fn accept(book: &mut Book, proposal: Proposal) -> Result<Receipt, Fail> {
     match book.commit(proposal) {
         Ok(receipt) => Ok(receipt),
         Err(_) => Err("refused".into()),
@@ -91,7 +91,7 @@ fn accepted(book: &mut Book, proposal: Proposal) -> Result<Receipt, Fail> {
 }
 
 // Why the proposal is refused, and the proposal that came back.
-fn refused(book: &mut Book, proposal: Proposal) -> Result<(CommitFault, Proposal), Fail> {
+fn refuse(book: &mut Book, proposal: Proposal) -> Result<(CommitFault, Proposal), Fail> {
     match book.commit(proposal) {
         Ok(_) => Err("accepted".into()),
         Err(refusal) => Ok(refusal),
@@ -105,7 +105,7 @@ fn perform(
     written: Written,
 ) -> Result<Receipt, Fail> {
     let proposed = proposal(rt, book, written.1, written)?;
-    accepted(book, proposed)
+    accept(book, proposed)
 }
 
 // The proposal is refused for this reason, and the same comes back: with this statement's number and this version.
@@ -117,7 +117,7 @@ fn check_refused(
     number: u32,
     version: u64,
 ) -> Result<(), Fail> {
-    let (fault, back) = refused(book, proposal)?;
+    let (fault, back) = refuse(book, proposal)?;
     assert_eq!(rt; fault, wanted);
     assert_eq!(rt; back.statement().number(), number);
     assert_eq!(rt; back.version(), version);
@@ -131,13 +131,13 @@ fn check_accepted(
     proposal: Proposal,
     index: usize,
 ) -> Result<(), Fail> {
-    let receipt = accepted(book, proposal)?;
+    let receipt = accept(book, proposal)?;
     assert_eq!(rt; receipt.index, index);
     Ok(())
 }
 
 // A text with its name and version.
-fn text_told(alloc: Global, book: &Book, place: usize) -> Result<String, Fail> {
+fn text_line(alloc: Global, book: &Book, place: usize) -> Result<String, Fail> {
     let (name, text, version) = book.text(place).ok_or("no text")?;
     let name = str::from_utf8(name.bytes())?;
     let text = str::from_utf8(text.bytes())?;
@@ -145,17 +145,17 @@ fn text_told(alloc: Global, book: &Book, place: usize) -> Result<String, Fail> {
 }
 
 // The texts, each with its name and version, and the number of entries.
-fn told(alloc: Global, book: &Book) -> Result<String, Fail> {
+fn line_of(alloc: Global, book: &Book) -> Result<String, Fail> {
     let mut line = String::new(alloc);
     for place in 0..book.len() {
-        line.push_str(text_told(alloc, book, place)?.as_str())?;
+        line.push_str(text_line(alloc, book, place)?.as_str())?;
     }
     line.push_str(book.journal().len().to_string(alloc)?.as_str())?;
     Ok(line)
 }
 
-fn check_told(rt: &(impl Abort + AllocGlobal), book: &Book, wanted: &str) -> Result<(), Fail> {
-    let line = told(rt.alloc(), book)?;
+fn check_line(rt: &(impl Abort + AllocGlobal), book: &Book, wanted: &str) -> Result<(), Fail> {
+    let line = line_of(rt.alloc(), book)?;
     assert_eq!(rt; line.as_str(), wanted);
     Ok(())
 }
@@ -180,7 +180,7 @@ fn a_text_that_changed_twice_refuses_an_older_match(rt: HostRuntime) -> Result<(
     perform(&rt, &mut book, B_TO_A)?;
     let changed = CommitFault::Changed { seen: 0, now: 2 };
     check_refused(&rt, &mut book, kept, changed, 1, 0)?;
-    check_told(&rt, &book, "T a 2, 2")
+    check_line(&rt, &book, "T a 2, 2")
 }
 
 #[test]
@@ -189,7 +189,7 @@ fn a_snapshot_of_another_book_is_foreign(rt: HostRuntime) -> Result<(), Fail> {
     let mut second = new_book(rt.alloc(), &[("T", "b")])?;
     let proposed = proposal(&rt, &first, "T", A_TO_B)?;
     check_refused(&rt, &mut second, proposed, CommitFault::Foreign, 1, 0)?;
-    check_told(&rt, &second, "T b 0, 0")
+    check_line(&rt, &second, "T b 0, 0")
 }
 
 #[test]
@@ -198,9 +198,9 @@ fn a_full_journal_takes_no_entry(rt: HostRuntime) -> Result<(), Fail> {
     let first = proposal(&rt, &book, "T", Written(1, "T", Match("'b'")))?;
     let second = proposal(&rt, &book, "T", Written(2, "T", Match("'b'")))?;
     check_accepted(&rt, &mut book, first, 0)?;
-    check_told(&rt, &book, "T a 0, 1")?;
+    check_line(&rt, &book, "T a 0, 1")?;
     check_refused(&rt, &mut book, second, CommitFault::Full, 2, 0)?;
-    check_told(&rt, &book, "T a 0, 1")
+    check_line(&rt, &book, "T a 0, 1")
 }
 
 #[test]
@@ -216,7 +216,7 @@ fn a_snapshot_of_another_text_is_no_text(rt: HostRuntime) -> Result<(), Fail> {
     let mut book = new_book(rt.alloc(), &[("A", "a"), ("T", "a")])?;
     let proposed = proposal(&rt, &book, "A", A_TO_B)?;
     check_refused(&rt, &mut book, proposed, CommitFault::NoText, 1, 0)?;
-    check_told(&rt, &book, "A a 0, T a 0, 0")
+    check_line(&rt, &book, "A a 0, T a 0, 0")
 }
 
 #[test]
@@ -226,7 +226,7 @@ fn failures_of_one_version_are_all_accepted(rt: HostRuntime) -> Result<(), Fail>
     let second = proposal(&rt, &book, "T", Written(2, "T", Match("'c'")))?;
     check_accepted(&rt, &mut book, first, 0)?;
     check_accepted(&rt, &mut book, second, 1)?;
-    check_told(&rt, &book, "T a 0, 2")
+    check_line(&rt, &book, "T a 0, 2")
 }
 
 fn check_audit(
@@ -256,14 +256,14 @@ fn the_same_characters_raise_the_version(rt: HostRuntime) -> Result<(), Fail> {
     let receipt = perform(&rt, &mut book, Written(1, "T", Replace("REM . R", "R")))?;
     assert_eq!(rt; receipt.text.bytes(), b"aXa".as_slice());
     assert_eq!(rt; extent(&receipt), Some((0, 3)));
-    check_told(&rt, &book, "T aXa 1, 1")
+    check_line(&rt, &book, "T aXa 1, 1")
 }
 
 #[test]
 fn a_text_grown_too_long_proposes_nothing(rt: HostRuntime) -> Result<(), Fail> {
     let mut book = long_book(rt.alloc(), 65_536)?;
     let doubled = Written(1, "T", Replace("REM . R", "R R"));
-    let fault = proposed(&rt, &book, "T", doubled)?.err();
+    let fault = attempt(&rt, &book, "T", doubled)?.err();
     assert_eq!(rt; fault, Some(StatementFault::TextTooLong));
     assert_eq!(rt; book.journal().len(), 0);
     let receipt = perform(&rt, &mut book, Written(2, "T", Replace("REM . R", "R")))?;
@@ -317,7 +317,7 @@ fn an_opening_is_what_was_given(rt: HostRuntime) -> Result<(), Fail> {
     let mut book = book(rt.alloc(), &[("T", "a"), ("U", "b")], 7)??;
     perform(&rt, &mut book, A_TO_B)?;
     check_opening(&rt, book.opening())?;
-    check_told(&rt, &book, "T b 1, U b 0, 1")?;
+    check_line(&rt, &book, "T b 1, U b 0, 1")?;
     assert!(rt;
         matches!(
             snapshot(rt.alloc(), &book, "V")?,

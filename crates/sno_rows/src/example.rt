@@ -1,49 +1,57 @@
 //! How an example of `docs/LANGUAGE.md` is read and checked.
 //!
 //! An example is a line: `- `, then definitions where it has them, the text, the pattern, the object where it has one, and what comes of it,
-//! each between two backquotes, as in ``- `banana` with `'nan'`: `matched 2 5` ``.
-use crate::row::Task::{Match, MatchAnchored, Replace};
+//! each between two backquotes, as in ``- `banana` with `'nan'`: `matched 2 5` ``. Before the colon it may say that the match is anchored, or
+//! within how many trials it has to be.
+use crate::row::Task::{Match, MatchAnchored, MatchWithin, Replace};
 use crate::row::{Row, check};
 use std::process::Abort;
 use std::test::Fail;
 
-/// What stands before two backquotes, between them, and behind them.
+/// What stands before two backquotes, between them, and after them.
 #[derive(Clone, Copy)]
 struct Quoted {
     before: &'static str,
     inside: &'static str,
-    behind: &'static str,
+    after: &'static str,
 }
 
 fn cut(line: &'static str) -> Result<Quoted, Fail> {
     let (before, rest) = line.split_once('`').ok_or("no backquote")?;
-    let (inside, behind) = rest.split_once('`').ok_or("no second backquote")?;
+    let (inside, after) = rest.split_once('`').ok_or("no second backquote")?;
     Ok(Quoted {
         before,
         inside,
-        behind,
+        after,
     })
 }
 
-/// The definition that begins with this name, and what stands behind it.
+/// The definition that begins with this name, and what stands after it.
 fn definition(name: Quoted) -> Result<((&'static str, &'static str), &'static str), Fail> {
-    let pattern = cut(name.behind)?;
+    let pattern = cut(name.after)?;
     if pattern.before == " is " {
-        Ok(((name.inside, pattern.inside), pattern.behind))
+        Ok(((name.inside, pattern.inside), pattern.after))
     } else {
         Err("no definition".into())
     }
 }
 
-/// The row of this text, in the words behind it.
+/// The limit that the words name.
+fn limit(words: &str) -> Result<u32, Fail> {
+    let words = words.strip_prefix(", within ").ok_or("no example")?;
+    let digits = words.strip_suffix(" trials: ").ok_or("no example")?;
+    Ok(digits.parse::<u32>()?)
+}
+
+/// The row of this text, in the words after it.
 fn row(line: &'static str, text: Quoted) -> Result<Row, Fail> {
-    let pattern = cut(text.behind)?;
-    let next = cut(pattern.behind)?;
+    let pattern = cut(text.after)?;
+    let next = cut(pattern.after)?;
     let (task, told) = match next.before {
         ": " => (Match(pattern.inside), next),
         ", anchored: " => (MatchAnchored(pattern.inside), next),
-        ", replaced by " => (Replace(pattern.inside, next.inside), cut(next.behind)?),
-        _ => return Err("no example".into()),
+        ", replaced by " => (Replace(pattern.inside, next.inside), cut(next.after)?),
+        words => (MatchWithin(pattern.inside, limit(words)?), next),
     };
     Ok(Row(line, text.inside, task, told.inside))
 }
@@ -56,9 +64,9 @@ fn check_line(rt: &(impl Abort + AllocGlobal), line: &'static str) -> Result<(),
     let mut next = cut(line)?;
     for _ in 0..MOST_DEFINITIONS {
         if next.before == "- where " || next.before == " and " {
-            let (definition, behind) = definition(next)?;
+            let (definition, after) = definition(next)?;
             definitions.push(definition)?;
-            next = cut(behind)?;
+            next = cut(after)?;
         }
     }
     check(rt, &definitions, &row(line, next)?)

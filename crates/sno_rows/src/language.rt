@@ -1,5 +1,5 @@
 //! The examples of `docs/LANGUAGE.md`, line by line as they stand there, a test for each of its parts. An example that is changed here is
-//! changed there.
+//! changed there; `examples/check` finds out where they differ.
 use crate::example::check_all;
 use std::test::Fail;
 
@@ -182,6 +182,24 @@ const DEFINITIONS: &str =
 #[test]
 fn definitions(rt: HostRuntime) -> Result<(), Fail> {
     check_all(&rt, DEFINITIONS, 12)
+}
+
+const WHAT_A_MATCH_COSTS: &str = "- `aab` with `'b'`, within 3 trials: `matched 2 3`
+- `aab` with `'b'`, within 2 trials: `too many trials`
+- `abc` with `ARB 'c'`, within 6 trials: `matched 0 3`
+- `ab` with `ARB 'z'`, within 12 trials: `failed`
+- `ab` with `ARB 'z'`, within 11 trials: `too many trials`
+- `(a)b` with `BAL RPOS(0)`, within 4 trials: `matched 0 4`
+- `ab` with `FENCE 'b'`, within 2 trials: `failed`
+- where `P` is `'(' *P ')' | 'x'`: `(x)` with `*P RPOS(0)`, within 5 trials: `matched 0 3`
+- `aaaaaaaaaaaaaaaaaaaaaaaaaaaaaa` with `ARBNO(ARBNO('a')) 'b'`: `too many trials`
+- `aaaaaaaaaaaaaaaaaaaaaaaaaaaaaa` with `ARBNO('a') 'b'`, within 992 trials: `failed`
+- `aaaaaaaaaaaaaaaaaaaaaaaaaaaaaa` with `SPAN('a') 'b'`, within 61 trials: `failed`
+- `aaaaaaaaaaaaaaaaaaaaaaaaaaaaaa` with `SPAN('a') FENCE 'b'`, within 3 trials: `failed`";
+
+#[test]
+fn what_a_match_costs(rt: HostRuntime) -> Result<(), Fail> {
+    check_all(&rt, WHAT_A_MATCH_COSTS, 12)
 }
 
 const THE_GRAMMAR: &str = "- `a` with `'a''b'`: `unexpected at 3`

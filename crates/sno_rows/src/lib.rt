@@ -11,7 +11,7 @@
 //! - `src/books.rt`: what a book accepts and refuses, and what stands after each.
 //! - `src/machine.rt`: the matcher beside the plain evaluator, and the longest rounds and recursions.
 //! - `src/limits.rt`: the longest text, the most definitions, the longest names.
-//! - `src/reading.rt`: texts that are not read.
+//! - `src/trials.rt`: how many trials a match takes, and what is refused within fewer.
 //! - `src/language.rt`: the examples of `docs/LANGUAGE.md`, as they stand there; `src/example.rt`: how one is read.
 //! - `src/row.rt`: how a row is written, performed and told.
 #![tactic(auto)]
@@ -31,8 +31,8 @@ mod machine;
 #[cfg(test)]
 mod matching;
 #[cfg(test)]
-mod reading;
-#[cfg(test)]
 mod recursion;
 #[cfg(test)]
 mod row;
+#[cfg(test)]
+mod trials;

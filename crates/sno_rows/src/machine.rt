@@ -1,18 +1,21 @@
 //! The matcher beside the plain evaluator, and rows on the matcher alone.
-use crate::row::{Written, admit};
-use sno_machine::{Assign, Found, What, first};
+use crate::row::{Written, admit, name_of};
+use sno_machine::{Assign, Found, MatchFault, What, first};
 use sno_pattern::{Name, Pattern, Rules, Text};
 use sno_read::read_pattern;
 use std::alloc::Global;
 use std::process::Abort;
 use std::test::Fail;
 
+// A limit that is ample for the rows on the matcher alone.
+const LIMIT: u32 = 1_000_000;
+
 // Definitions, a text and a pattern.
 type Case = (Written<'static>, &'static str, &'static str);
 
-// What is matched with what.
+// A case that was read: what is matched with what.
 #[derive(Drop)]
-struct Tried {
+struct ReadCase {
     rules: Rules,
     pattern: Pattern,
     text: Text,
@@ -23,17 +26,17 @@ fn read(
     definitions: Written<'_>,
     characters: Vec<u8>,
     pattern: &str,
-) -> Result<Tried, Fail> {
+) -> Result<ReadCase, Fail> {
     let rules = admit(rt, definitions)??;
     let pattern = read_pattern(rt.alloc(), rules.names(), rules.len(), pattern.as_bytes())?;
-    Ok(Tried {
+    Ok(ReadCase {
         rules,
         pattern,
         text: Text::new(characters)?,
     })
 }
 
-fn read_case(rt: &(impl Abort + AllocGlobal), case: &Case) -> Result<Tried, Fail> {
+fn read_case(rt: &(impl Abort + AllocGlobal), case: &Case) -> Result<ReadCase, Fail> {
     let (definitions, text, pattern) = *case;
     read(
         rt,
@@ -43,34 +46,42 @@ fn read_case(rt: &(impl Abort + AllocGlobal), case: &Case) -> Result<Tried, Fail
     )
 }
 
+// What the matcher answers within this limit.
 fn by_matcher(
     rt: &(impl Abort + AllocGlobal),
-    tried: &Tried,
+    case: &ReadCase,
     anchored: bool,
-) -> Result<Found, Fail> {
-    assert!(rt; tried.rules.covers(&tried.pattern));
+    limit: u32,
+) -> Result<Result<Found, MatchFault>, Fail> {
+    assert!(rt; case.rules.covers(&case.pattern));
     Ok(first(
         rt.alloc(),
-        &tried.rules,
-        &tried.pattern,
-        &tried.text,
+        &case.rules,
+        &case.pattern,
+        &case.text,
         anchored,
-    )?)
+        limit,
+    ))
 }
 
 fn by_evaluator(
     rt: &(impl Abort + AllocGlobal),
-    tried: &Tried,
+    case: &ReadCase,
     anchored: bool,
 ) -> Result<Found, Fail> {
-    assert!(rt; tried.rules.covers(&tried.pattern));
-    Ok(sno_eval::first(
-        rt.alloc(),
-        &tried.rules,
-        &tried.pattern,
-        &tried.text,
-        anchored,
-    )?)
+    assert!(rt; case.rules.covers(&case.pattern));
+    Ok(sno_eval::first(rt.alloc(), &case.rules, &case.pattern, &case.text, anchored)?)
+}
+
+// How many trials the evaluator counts.
+fn count_trials(
+    rt: &(impl Abort + AllocGlobal),
+    case: &ReadCase,
+    anchored: bool,
+) -> Result<u32, Fail> {
+    assert!(rt; case.rules.covers(&case.pattern));
+    let count = sno_eval::trials(rt.alloc(), &case.rules, &case.pattern, &case.text, anchored)?;
+    Ok(u32::try_from(count)?)
 }
 
 // Where the match begins and ends, if there is one.
@@ -116,13 +127,29 @@ static CASES: [Case; 24] = [
     (&[("S", "LEN(1) $ C *S | ''")], "abc", "*S 'c'"),
 ];
 
+// Both answer the same, and the matcher needs the trials that the evaluator counts.
 fn check_both(rt: &(impl Abort + AllocGlobal), case: &Case, anchored: bool) -> Result<(), Fail> {
-    let tried = read_case(rt, case)?;
-    let found = by_matcher(rt, &tried, anchored)?;
-    let plain = by_evaluator(rt, &tried, anchored)?;
-    assert_eq!(rt; found.sets.as_slice(), plain.sets.as_slice(), "{}", case.2);
-    assert_eq!(rt; extent(&found), extent(&plain), "{}", case.2);
-    assert_eq!(rt; conditions(&found), conditions(&plain), "{}", case.2);
+    let read = read_case(rt, case)?;
+    let trials = count_trials(rt, &read, anchored)?;
+    check_found(rt, &read, anchored, trials, case.2)?;
+    let fewer = by_matcher(rt, &read, anchored, trials.saturating_sub(1))?;
+    assert_eq!(rt; fewer.err(), Some(MatchFault::TooManyTrials), "{}", case.2);
+    Ok(())
+}
+
+// Within this limit the matcher answers as the evaluator does.
+fn check_found(
+    rt: &(impl Abort + AllocGlobal),
+    case: &ReadCase,
+    anchored: bool,
+    limit: u32,
+    shows: &str,
+) -> Result<(), Fail> {
+    let found = by_matcher(rt, case, anchored, limit)??;
+    let plain = by_evaluator(rt, case, anchored)?;
+    assert_eq!(rt; found.sets.as_slice(), plain.sets.as_slice(), "{shows}");
+    assert_eq!(rt; extent(&found), extent(&plain), "{shows}");
+    assert_eq!(rt; conditions(&found), conditions(&plain), "{shows}");
     Ok(())
 }
 
@@ -135,13 +162,9 @@ fn the_matcher_answers_as_the_plain_evaluator_does(rt: HostRuntime) -> Result<()
     Ok(())
 }
 
-fn name(letters: &[u8]) -> Result<Name, Fail> {
-    Ok(Name::read(letters).ok_or("no name")?)
-}
-
 // Assignments of one variable.
-fn assigns(alloc: Global, variable: &[u8], values: &[What]) -> Result<Vec<Assign>, Fail> {
-    let name = name(variable)?;
+fn assigns(alloc: Global, variable: &str, values: &[What]) -> Result<Vec<Assign>, Fail> {
+    let name = name_of(variable)?;
     let mut assigns = Vec::new(alloc);
     for what in values {
         assigns.push(Assign { name, what: *what })?;
@@ -150,36 +173,27 @@ fn assigns(alloc: Global, variable: &[u8], values: &[What]) -> Result<Vec<Assign
 }
 
 #[test]
-fn a_cursor_is_assigned_at_each_start(rt: HostRuntime) -> Result<(), Fail> {
-    let found = by_matcher(&rt, &read_case(&rt, &(&[], "abc", "@P 'z'"))?, false)?;
+fn the_matcher_assigns_the_cursor_of_each_start(rt: HostRuntime) -> Result<(), Fail> {
+    let case = read_case(&rt, &(&[], "abc", "@P 'z'"))?;
+    let found = by_matcher(&rt, &case, false, LIMIT)??;
     let cursors = [
         What::Cursor(0),
         What::Cursor(1),
         What::Cursor(2),
         What::Cursor(3),
     ];
-    let sets = assigns(rt.alloc(), b"P", cursors.as_slice())?;
+    let sets = assigns(rt.alloc(), "P", cursors.as_slice())?;
     assert_eq!(rt; extent(&found), None);
     assert_eq!(rt; found.sets.as_slice(), sets.as_slice());
     Ok(())
 }
 
 #[test]
-fn a_definition_that_was_left_is_backed_into(rt: HostRuntime) -> Result<(), Fail> {
-    let case: Case = (&[("S", "'a' *S | ''")], "aaab", "*S . A 'a' *S . B 'b'");
-    let found = by_matcher(&rt, &read_case(&rt, &case)?, true)?;
-    let parts = [(name(b"A")?, 0, 2), (name(b"B")?, 3, 3)];
-    assert_eq!(rt; extent(&found), Some((0, 4)));
-    assert_eq!(rt; conditions(&found), Some(parts.as_slice()));
-    Ok(())
-}
-
-#[test]
 fn assignments_that_are_backed_over_stay(rt: HostRuntime) -> Result<(), Fail> {
     let case: Case = (&[("S", "LEN(1) $ C *S | ''")], "abc", "*S 'c'");
-    let found = by_matcher(&rt, &read_case(&rt, &case)?, true)?;
+    let found = by_matcher(&rt, &read_case(&rt, &case)?, true, LIMIT)??;
     let parts = [What::Part(0, 1), What::Part(1, 2), What::Part(2, 3)];
-    let sets = assigns(rt.alloc(), b"C", parts.as_slice())?;
+    let sets = assigns(rt.alloc(), "C", parts.as_slice())?;
     assert_eq!(rt; extent(&found), Some((0, 3)));
     assert_eq!(rt; found.sets.as_slice(), sets.as_slice());
     Ok(())
@@ -188,8 +202,11 @@ fn assignments_that_are_backed_over_stay(rt: HostRuntime) -> Result<(), Fail> {
 #[test]
 fn rounds_go_through_the_longest_text(rt: HostRuntime) -> Result<(), Fail> {
     let text = vec![in rt.alloc(); b'a'; 65_536]?;
-    let tried = read(&rt, &[], text, "ARBNO('a') RPOS(0)")?;
-    assert_eq!(rt; extent(&by_matcher(&rt, &tried, true)?), Some((0, 65_536)));
+    let case = read(&rt, &[], text, "ARBNO('a') RPOS(0)")?;
+    assert_eq!(rt;
+        extent(&by_matcher(&rt, &case, true, LIMIT)??),
+        Some((0, 65_536))
+    );
     Ok(())
 }
 
@@ -204,7 +221,10 @@ fn nested(alloc: Global, depth: usize) -> Result<Vec<u8>, Fail> {
 #[test]
 fn references_nest_as_deep_as_the_longest_text(rt: HostRuntime) -> Result<(), Fail> {
     let text = nested(rt.alloc(), 32_767)?;
-    let tried = read(&rt, &[("P", "'(' *P ')' | 'x'")], text, "*P RPOS(0)")?;
-    assert_eq!(rt; extent(&by_matcher(&rt, &tried, true)?), Some((0, 65_535)));
+    let case = read(&rt, &[("P", "'(' *P ')' | 'x'")], text, "*P RPOS(0)")?;
+    assert_eq!(rt;
+        extent(&by_matcher(&rt, &case, true, LIMIT)??),
+        Some((0, 65_535))
+    );
     Ok(())
 }

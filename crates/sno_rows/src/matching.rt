@@ -3,7 +3,7 @@ use crate::row::Task::{Match, MatchAnchored, Replace};
 use crate::row::{Row, check};
 use std::test::Fail;
 
-static PRIMITIVES: [Row; 25] = [
+static PRIMITIVES: [Row; 21] = [
     Row(
         "a_literal_is_found_at_the_first_start_that_has_it",
         "ab",
@@ -55,12 +55,6 @@ static PRIMITIVES: [Row; 25] = [
     Row(
         "notany_takes_one_character_outside_its_set",
         "aab1",
-        Match("NOTANY('ab')"),
-        "matched 3 4",
-    ),
-    Row(
-        "notany_gives_its_character",
-        "aab1",
         Match("NOTANY('ab') . N"),
         "matched 3 4 N=|1|",
     ),
@@ -109,23 +103,11 @@ static PRIMITIVES: [Row; 25] = [
     Row(
         "arb_takes_as_little_as_serves",
         "aaa",
-        MatchAnchored("ARB 'a' RPOS(0)"),
-        "matched 0 3",
-    ),
-    Row(
-        "arb_is_backed_into",
-        "aaa",
         MatchAnchored("ARB . X 'a' RPOS(0)"),
         "matched 0 3 X=|aa|",
     ),
     Row(
         "bal_grows_until_the_rest_matches",
-        "(a)b",
-        MatchAnchored("BAL RPOS(0)"),
-        "matched 0 4",
-    ),
-    Row(
-        "bal_gives_what_it_matched",
         "(a)b",
         MatchAnchored("BAL . B RPOS(0)"),
         "matched 0 4 B=|(a)b|",
@@ -143,12 +125,6 @@ static PRIMITIVES: [Row; 25] = [
         "failed B=|D|",
     ),
     Row(
-        "a_number_of_more_than_65536_is_not_read",
-        "abc",
-        Match("LEN(65537)"),
-        "bad number at 4",
-    ),
-    Row(
         "alternatives_in_parentheses_are_one_part",
         "Xabc",
         Match("'X' ('a' | 'b')"),
@@ -164,18 +140,12 @@ fn primitives(rt: HostRuntime) -> Result<(), Fail> {
     Ok(())
 }
 
-static CONTROL: [Row; 10] = [
+static CONTROL: [Row; 9] = [
     Row(
         "rounds_are_tried_in_depth",
         "abc",
         MatchAnchored("ARBNO(LEN(1) . Y | LEN(2) . Y) RPOS(0)"),
         "matched 0 3 Y=|c|",
-    ),
-    Row(
-        "a_round_takes_either_alternative",
-        "abc",
-        MatchAnchored("ARBNO(LEN(1) | LEN(2)) RPOS(0)"),
-        "matched 0 3",
     ),
     Row(
         "a_round_that_takes_nothing_is_dropped",
@@ -196,7 +166,7 @@ static CONTROL: [Row; 10] = [
         "failed",
     ),
     Row(
-        "a_fence_hides_the_alternatives_behind_it",
+        "a_fence_hides_the_alternatives_after_it",
         "ab",
         Match("(FENCE | 'a') 'b'"),
         "failed",

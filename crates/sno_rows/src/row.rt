@@ -17,11 +17,13 @@ pub(crate) enum Task {
     Match(&'static str),
     /// A match that begins at cursor 0 alone.
     MatchAnchored(&'static str),
+    /// A match that floats and may take so many trials, 1 to 1,000,000,000.
+    MatchWithin(&'static str, u32),
     /// A match that floats, and a replacement.
     Replace(&'static str, &'static str),
 }
 
-/// What the row shows, its text, what is done to it, and what comes of that, in the words of `told`.
+/// What the row shows, its text, what is done to it, and what comes of that, as `line_of` writes it.
 #[derive(Clone, Copy)]
 pub(crate) struct Row(
     pub &'static str,
@@ -33,15 +35,25 @@ pub(crate) struct Row(
 impl Task {
     fn pattern(self) -> &'static str {
         match self {
-            Task::Match(pattern) | Task::MatchAnchored(pattern) | Task::Replace(pattern, _) =>
-                pattern,
+            Task::Match(pattern)
+            | Task::MatchAnchored(pattern)
+            | Task::MatchWithin(pattern, _)
+            | Task::Replace(pattern, _) => pattern,
         }
     }
 
     fn object(self) -> Option<&'static str> {
         match self {
-            Task::Match(_) | Task::MatchAnchored(_) => None,
+            Task::Match(_) | Task::MatchAnchored(_) | Task::MatchWithin(_, _) => None,
             Task::Replace(_, object) => Some(object),
+        }
+    }
+
+    // The limit that the task names, if it does.
+    fn limit(self) -> Option<u32> {
+        match self {
+            Task::MatchWithin(_, limit) => Some(limit),
+            Task::Match(_) | Task::MatchAnchored(_) | Task::Replace(_, _) => None,
         }
     }
 
@@ -57,7 +69,7 @@ pub(crate) fn check(
     row: &Row,
 ) -> Result<(), Fail> {
     let Row(shows, text, task, expected) = *row;
-    let line = told(rt, definitions, text, task)?;
+    let line = line_of(rt, definitions, text, task)?;
     assert_eq!(rt; line.as_str(), expected, "{shows}: {}", task.pattern());
     Ok(())
 }
@@ -77,10 +89,15 @@ pub(crate) fn admit(
     Ok(Rules::admit(alloc, names, bodies))
 }
 
+/// The name of these letters.
+pub(crate) fn name_of(letters: &str) -> Result<Name, Fail> {
+    Ok(Name::read(letters.as_bytes()).ok_or("no name")?)
+}
+
 fn names_of(alloc: Global, written: Written<'_>) -> Result<Names, Fail> {
     let mut names = Vec::new(alloc);
     for definition in written {
-        names.push(Name::read(definition.0.as_bytes()).ok_or("no name")?)?;
+        names.push(name_of(definition.0)?)?;
     }
     Ok(Names::new(alloc, names.as_slice())?)
 }
@@ -100,7 +117,17 @@ pub(crate) fn statement(
     assert!(rt; rules.covers(&pattern));
     let rules = Arc::new(rt.alloc(), rules)?;
     let text = TextName::new(rt.alloc(), text.as_bytes())?;
-    Ok(Ok(Statement::new(number, rules, pattern, object, text, task.is_anchored())))
+    let statement = Statement::new(number, rules, pattern, object, text, task.is_anchored());
+    match task.limit() {
+        None => Ok(Ok(statement)),
+        Some(limit) => Ok(Ok(limited(rt, statement, limit))),
+    }
+}
+
+/// The statement with this limit, which has to be 1 to 1,000,000,000.
+pub(crate) fn limited(rt: &impl Abort, statement: Statement, limit: u32) -> Statement {
+    assert!(rt; 1 <= limit && limit <= 1_000_000_000);
+    statement.limited(limit)
 }
 
 fn parts(alloc: Global, rules: &Rules, task: Task) -> Result<(Pattern, Option<Object>), ReadFault> {
@@ -120,11 +147,11 @@ fn object_of(
     }
 }
 
-/// Why definitions are refused: of a circle the numbers of its definitions.
-pub(crate) fn refusal_told(alloc: Global, refused: &RulesFault) -> Result<String, Fail> {
+/// Why definitions are refused: of a cycle the numbers of its definitions.
+pub(crate) fn refusal_line(alloc: Global, refused: &RulesFault) -> Result<String, Fail> {
     let mut line = refused.to_string(alloc)?;
-    if let RulesFault::Unguarded(circle) = refused {
-        for definition in circle {
+    if let RulesFault::Unguarded(cycle) = refused {
+        for definition in cycle {
             line.push_str(" ")?;
             line.push_str(definition.to_string(alloc)?.as_str())?;
         }
@@ -132,9 +159,9 @@ pub(crate) fn refusal_told(alloc: Global, refused: &RulesFault) -> Result<String
     Ok(line)
 }
 
-// What comes of the task on the text, in one line: `matched`, the two cursors and the bindings, and behind `->` the new text where
-// there is one; `failed` and the bindings; or why the definitions, the pattern, the object or the new text are refused.
-fn told(
+// What comes of the task on the text, in one line: `matched`, the two cursors and the bindings, and after `->` the new text where
+// there is one; `failed` and the bindings; or why the definitions, the pattern, the object or the statement are refused.
+fn line_of(
     rt: &(impl Abort + AllocGlobal),
     definitions: Written<'_>,
     text: &str,
@@ -142,23 +169,32 @@ fn told(
 ) -> Result<String, Fail> {
     let alloc = rt.alloc();
     match admit(rt, definitions)? {
-        Err(refused) => refusal_told(alloc, &refused),
+        Err(refused) => refusal_line(alloc, &refused),
         Ok(rules) => match statement(rt, rules, 1, "T", task)? {
             Err(fault) => Ok(fault.to_string(alloc)?),
-            Ok(statement) => performed_told(alloc, &statement, text),
+            Ok(statement) => performance_line(alloc, &statement, &text_of(alloc, text)?),
         },
     }
 }
 
-fn performed_told(alloc: Global, statement: &Statement, text: &str) -> Result<String, Fail> {
-    let text = Text::new(Vec::from_slice(alloc, text.as_bytes())?)?;
-    match perform(alloc, statement, &text) {
+/// The text of these characters.
+pub(crate) fn text_of(alloc: Global, characters: &str) -> Result<Text, Fail> {
+    Ok(Text::new(Vec::from_slice(alloc, characters.as_bytes())?)?)
+}
+
+/// What comes of the statement on the text, in one line: an outcome as `line_of` writes it, or why the statement is refused.
+pub(crate) fn performance_line(
+    alloc: Global,
+    statement: &Statement,
+    text: &Text,
+) -> Result<String, Fail> {
+    match perform(alloc, statement, text) {
         Err(fault) => Ok(fault.to_string(alloc)?),
-        Ok(outcome) => outcome_told(alloc, &outcome),
+        Ok(outcome) => outcome_line(alloc, &outcome),
     }
 }
 
-fn outcome_told(alloc: Global, outcome: &Outcome) -> Result<String, Fail> {
+fn outcome_line(alloc: Global, outcome: &Outcome) -> Result<String, Fail> {
     match outcome {
         Outcome::Failed { bindings } => {
             let mut line = String::from_str(alloc, "failed")?;

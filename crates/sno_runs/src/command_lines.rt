@@ -1,24 +1,9 @@
 //! Command lines and the options that they give.
+use crate::runs::{PLAIN, words_of};
 use sno_rewrite::{Options, OptionsFault, options_of};
 use std::alloc::Global;
 use std::process::Abort;
 use std::test::Fail;
-
-const PLAIN: Options = Options {
-    anchor: false,
-    workers: None,
-    tries: 100,
-    json: false,
-};
-
-// The words between blanks.
-fn words_of(alloc: Global, line: &str) -> Result<Vec<String>, Fail> {
-    let mut words = Vec::new(alloc);
-    for word in line.split_whitespace() {
-        words.push(String::from_str(alloc, word)?)?;
-    }
-    Ok(words)
-}
 
 // The text that refuses a line; none where it is not refused.
 fn refusal_of(alloc: Global, line: &str) -> Result<Option<String>, Fail> {
@@ -43,7 +28,7 @@ fn help_of(alloc: Global, line: &str) -> Result<Option<String>, Fail> {
 }
 
 // Each option alone, at its limits, and all together in any order.
-static GIVEN: [(&'static str, Options); 8] = [
+static GIVEN: [(&'static str, Options); 10] = [
     ("", PLAIN),
     (
         "--anchor",
@@ -81,13 +66,22 @@ static GIVEN: [(&'static str, Options); 8] = [
             ..PLAIN
         },
     ),
+    ("--trials 1", Options { trials: 1, ..PLAIN }),
     (
-        "--json --tries=7 --anchor --workers 3",
+        "--trials=1000000000",
+        Options {
+            trials: 1_000_000_000,
+            ..PLAIN
+        },
+    ),
+    (
+        "--json --tries=7 --trials 5 --anchor --workers 3",
         Options {
             anchor: true,
             workers: Some(3),
             tries: 7,
             json: true,
+            trials: 5,
         },
     ),
 ];
@@ -108,7 +102,7 @@ fn lines_give_options(rt: HostRuntime) -> Result<(), Fail> {
 }
 
 // What is past a limit, no number, no option, twice or without its value.
-static REFUSED: [&'static str; 16] = [
+static REFUSED: [&'static str; 18] = [
     "--workers 0",
     "--workers 17",
     "--workers x",
@@ -121,6 +115,8 @@ static REFUSED: [&'static str; 16] = [
     "--tries x",
     "--tries -1",
     "--tries",
+    "--trials 0",
+    "--trials 1000000001",
     "--json=yes",
     "--quick",
     "-q",
@@ -145,13 +141,16 @@ fn lines_are_refused(rt: HostRuntime) -> Result<(), Fail> {
 }
 
 // What help names: the program and each option.
-static HELPED: [&'static str; 9] = [
+static HELPED: [&'static str; 12] = [
     "sno_rewrite",
     "--workers <N>",
     "1 to 16",
     "--tries <N>",
     "1 to 1000",
     "[default: 100]",
+    "--trials <N>",
+    "1 to 1000000000",
+    "[default: 1000000]",
     "--anchor",
     "--json",
     "--help",

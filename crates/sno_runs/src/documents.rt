@@ -1,29 +1,15 @@
 //! Documents with their listings, and with their first faults.
-use sno_pattern::Name;
-use sno_read::ReadFault;
-use sno_rewrite::{Options, RunFault, run_serial, status_of};
+use crate::runs::{PLAIN, THREE_STATEMENTS};
+use sno_rewrite::{Name, Options, ReadFault, RunFault, run_serial, status_of};
 use std::alloc::Global;
 use std::process::Abort;
 use std::test::Fail;
-
-const PLAIN: Options = Options {
-    anchor: false,
-    workers: None,
-    tries: 100,
-    json: false,
-};
 
 /// A document, whether its statements are anchored, its listing, and how many of its statements are refused.
 #[derive(Clone, Copy)]
 struct Listed(&'static str, bool, &'static str, usize);
 
-static LISTED: [Listed; 10] = [
-    Listed(
-        r#"{"texts":[{"name":"T","text":"abc"}],"statements":[{"text":"T","pattern":"'b'","object":"'X'"}]}"#,
-        false,
-        "texts 1\nT 1 |aXc|\nentries 1\n0 statement 1 T 0 matched 1 2\n  -> |aXc|\nrefused 0\n",
-        0,
-    ),
+static LISTED: [Listed; 9] = [
     Listed(
         r#"{"texts":[{"name":"T","text":""}],"statements":[{"text":"T","pattern":"''","object":"'z'"}]}"#,
         false,
@@ -62,7 +48,7 @@ static LISTED: [Listed; 10] = [
         0,
     ),
     Listed(
-        r#"{"texts":[{"name":"A","text":"k=v"},{"name":"B","text":"aaab"}],"statements":[{"text":"A","pattern":"BREAK('=') . K '=' REM . V","object":"V '=' K"},{"text":"B","pattern":"SPAN('a') 'a'"},{"text":"C","pattern":"'x'"}]}"#,
+        THREE_STATEMENTS,
         false,
         "texts 2\nA 1 |v=k|\nB 0 |aaab|\nentries 2\n0 statement 1 A 0 matched 0 3\n  K = |k|\n  V = |v|\n  -> |v=k|\n1 statement 2 B 0 failed\nrefused 1\nstatement 3 no text\n",
         1,

@@ -1,33 +1,24 @@
 //! The examples of `examples/`: each document with its listing, character by character as they stand in its files. What is changed here is
-//! changed there; `examples/run` finds out where they differ.
+//! changed there; `examples/check` finds out where they differ.
 ghost use Rattle.sno_rewrite.specs.Runs.{AreInLimits};
 
-use sno_rewrite::{Options, run};
+use crate::runs::{PLAIN, written};
+use sno_rewrite::Options;
 use std::process::Abort;
 use std::str;
 use std::sync::Wait;
 use std::test::Fail;
 use std::thread::Threads;
 
-const PLAIN: Options = Options {
-    anchor: false,
-    workers: None,
-    tries: 100,
-    json: false,
-};
-
 const JSON_ANCHORED: Options = Options {
     anchor: true,
-    workers: None,
-    tries: 100,
     json: true,
+    ..PLAIN
 };
 
 const THREE_WORKERS: Options = Options {
-    anchor: false,
     workers: Some(3),
-    tries: 100,
-    json: false,
+    ..PLAIN
 };
 
 /// The name of an example, its document, its listing, and the status that its run ends with.
@@ -91,11 +82,11 @@ entries 3
 refused 0
 "#;
 
-const FIRST: &str =
+pub(crate) const FIRST: &str =
     r#"{"texts":[{"name":"T","text":"abc"}],"statements":[{"text":"T","pattern":"'b'","object":"'X'"}]}
 "#;
 
-const FIRST_LISTING: &str = r#"texts 1
+pub(crate) const FIRST_LISTING: &str = r#"texts 1
 T 1 |aXc|
 entries 1
 0 statement 1 T 0 matched 1 2
@@ -175,6 +166,25 @@ entries 5
 3 statement 4 limits 0 failed
 4 statement 5 limits 0 matched 9 17
 refused 0
+"#;
+
+const LIMITED: &str = r#"{
+  "texts": [
+    {"name": "line", "text": "aaaaaaaaaaaaaaaaaaaaaaaa"}
+  ],
+  "statements": [
+    {"text": "line", "anchored": true, "pattern": "ARBNO(ARBNO('a')) 'b'"},
+    {"text": "line", "anchored": true, "pattern": "ARBNO('a') 'b'"}
+  ]
+}
+"#;
+
+const LIMITED_LISTING: &str = r#"texts 1
+line 0 |aaaaaaaaaaaaaaaaaaaaaaaa|
+entries 1
+0 statement 2 line 0 failed
+refused 1
+statement 1 too many trials
 "#;
 
 const REFUSED: &str = r#"{
@@ -349,31 +359,18 @@ refused 0
 "#;
 
 // Those that are given no options, and `tools` without its workers.
-static EXAMPLES: [Example; 9] = [
+static EXAMPLES: [Example; 10] = [
     Example("expression", EXPRESSION, EXPRESSION_LISTING, 0),
     Example("first", FIRST, FIRST_LISTING, 0),
     Example("first_argument", FIRST_ARGUMENT, FIRST_ARGUMENT_LISTING, 0),
     Example("guarded", GUARDED, GUARDED_LISTING, 0),
+    Example("limited", LIMITED, LIMITED_LISTING, 1),
     Example("refused", REFUSED, REFUSED_LISTING, 1),
     Example("rename", RENAME, RENAME_LISTING, 0),
     Example("template", TEMPLATE, TEMPLATE_LISTING, 0),
     Example("tools", TOOLS, TOOLS_LISTING, 0),
     Example("turn_around", TURN_AROUND, TURN_AROUND_LISTING, 0),
 ];
-
-// What is written for the document, and the status.
-fn written<R: Threads + Wait + AllocGlobal + Sync>(
-    rt: &R,
-    document: &str,
-    options: &Options,
-) -> Result<(Vec<u8>, u8), Fail>
-    requires { AreInLimits options.now }
-{
-    let mut written = Vec::new(rt.alloc());
-    let mut reader = document.as_bytes();
-    let status = run(rt, rt.alloc(), &mut reader, &mut written, options)?;
-    Ok((written, status))
-}
 
 fn check<R: Threads + Wait + Abort + AllocGlobal + Sync>(
     rt: &R,

@@ -1,25 +1,25 @@
 //! Listings as JSON.
-use sno_rewrite::{Options, run, run_serial};
+use crate::examples::FIRST;
+use crate::runs::{PLAIN, THREE_STATEMENTS, written};
+use sno_rewrite::{Options, run_serial};
 use std::process::Abort;
 use std::test::Fail;
 
 const JSON: Options = Options {
-    anchor: false,
-    workers: None,
-    tries: 100,
     json: true,
+    ..PLAIN
 };
 
 // Documents, each with its listing, without the end of the line, and the number of statements that are refused.
 static LISTED: [(&'static str, &'static str, usize); 4] = [
     (
-        r#"{"texts":[{"name":"T","text":"abc"}],"statements":[{"text":"T","pattern":"'b'","object":"'X'"}]}"#,
+        FIRST,
         r#"{"entries":[{"after":"aXc","bindings":[],"end":2,"entry":0,"matched":true,"start":1,"statement":1,"text":"T","version":0}],"refused":[],"texts":[{"name":"T","text":"aXc","version":1}]}"#,
         0,
     ),
     ("{}", r#"{"entries":[],"refused":[],"texts":[]}"#, 0),
     (
-        r#"{"texts":[{"name":"A","text":"k=v"},{"name":"B","text":"aaab"}],"statements":[{"text":"A","pattern":"BREAK('=') . K '=' REM . V","object":"V '=' K"},{"text":"B","pattern":"SPAN('a') 'a'"},{"text":"C","pattern":"'x'"}]}"#,
+        THREE_STATEMENTS,
         r#"{"entries":[{"after":"v=k","bindings":[["K","k"],["V","v"]],"end":3,"entry":0,"matched":true,"start":0,"statement":1,"text":"A","version":0},{"bindings":[],"entry":1,"matched":false,"statement":2,"text":"B","version":0}],"refused":[{"reason":"no text","statement":3}],"texts":[{"name":"A","text":"v=k","version":1},{"name":"B","text":"aaab","version":0}]}"#,
         1,
     ),
@@ -56,9 +56,7 @@ fn documents_are_listed_as_json(rt: HostRuntime) -> Result<(), Fail> {
 fn runs_write_json(rt: HostRuntime) -> Result<(), Fail> {
     let document =
         r#"{"texts":[{"name":"T","text":"aa"}],"statements":[{"text":"U","pattern":"'a'"}]}"#;
-    let mut reader = document.as_bytes();
-    let mut written = Vec::new(rt.alloc());
-    let status = run(&rt, rt.alloc(), &mut reader, &mut written, &JSON)?;
+    let (written, status) = written(&rt, document, &JSON)?;
     assert_eq!(rt; status, 1);
     assert_eq!(rt;
         written.as_slice(),

@@ -1,5 +1,5 @@
-//! Whole runs, tested: listings in lines and as JSON, the examples of `examples/`, the line of each fault, command lines, workers, and
-//! readers and writers that give pieces or fail.
+//! Whole runs, tested: listings in lines and as JSON, the examples of `examples/`, the line of each fault, command lines, the program's
+//! endings, workers, and readers and writers that give pieces or fail.
 #![tactic(auto)]
 
 #[cfg(test)]
@@ -10,6 +10,12 @@ mod documents;
 mod examples;
 #[cfg(test)]
 mod json_listings;
+#[cfg(test)]
+mod limits;
+#[cfg(test)]
+mod programs;
+#[cfg(test)]
+mod runs;
 #[cfg(test)]
 mod shared_runs;
 #[cfg(test)]

@@ -2,6 +2,7 @@
 ghost use Rattle.std.specs.Prelude.{◌≤◌, IfSome};
 ghost use Rattle.sno_rewrite.specs.Runs.{AreInLimits};
 
+use crate::runs::{PLAIN, THREE_STATEMENTS, written};
 use sno_rewrite::{Options, Report, RunFault, run, run_serial, run_shared};
 use std::alloc::Global;
 use std::process::Abort;
@@ -9,9 +10,6 @@ use std::str;
 use std::sync::Wait;
 use std::test::Fail;
 use std::thread::Threads;
-
-const DOCUMENT: &str =
-    r#"{"texts":[{"name":"A","text":"k=v"},{"name":"B","text":"aaab"}],"statements":[{"text":"A","pattern":"BREAK('=') . K '=' REM . V","object":"V '=' K"},{"text":"B","pattern":"SPAN('a') 'a'"},{"text":"C","pattern":"'x'"}]}"#;
 
 // Each of two statements on two texts may be the first.
 const A_FIRST: &str =
@@ -34,27 +32,7 @@ fn options_of(workers: Option<u32>) -> Options
     requires { IfSome workers (λ n. (1 ≤ n) × (n ≤ 16)) }
     ensures { AreInLimits result }
 {
-    Options {
-        anchor: false,
-        workers,
-        tries: 100,
-        json: false,
-    }
-}
-
-// What the run with so many workers writes, and its status.
-fn written<R: Threads + Wait + AllocGlobal + Sync>(
-    rt: &R,
-    document: &str,
-    workers: u32,
-) -> Result<(Vec<u8>, u8), Fail>
-    requires { (1 ≤ workers) × (workers ≤ 16) }
-{
-    let options = options_of(Some(workers));
-    let mut written = Vec::new(rt.alloc());
-    let mut reader = document.as_bytes();
-    let status = run(rt, rt.alloc(), &mut reader, &mut written, &options)?;
-    Ok((written, status))
+    Options { workers, ..PLAIN }
 }
 
 // The report of a run with so many workers.
@@ -84,7 +62,7 @@ fn check_either(rt: &impl Abort, listing: &[u8], one: &str, other: &str) -> Resu
 #[test]
 fn workers_list_each_statement_once(rt: HostRuntime) -> Result<(), Fail> {
     for workers in 2..17 {
-        let (listing, status) = written(&rt, DOCUMENT, workers)?;
+        let (listing, status) = written(&rt, THREE_STATEMENTS, &options_of(Some(workers)))?;
         assert_eq!(rt; status, 1);
         check_either(&rt, &listing, A_FIRST, B_FIRST)?;
     }
@@ -100,6 +78,27 @@ fn workers_share_a_text(rt: HostRuntime) -> Result<(), Fail> {
         check_either(&rt, &report.bytes, FIRST_FIRST, SECOND_FIRST)?;
     }
     Ok(())
+}
+
+// The first statement fails after tens of thousands of ways, and the second matches at once.
+const SLOW_AND_QUICK: &str =
+    r#"{"texts":[{"name":"A","text":"aaaaaaaaaaaaaaaa"},{"name":"B","text":"b"}],"statements":[{"text":"A","pattern":"ARBNO(ARBNO('a')) 'b'","anchored":true},{"text":"B","pattern":"'b'"}]}"#;
+
+const QUICK_FIRST: &str =
+    "texts 2\nA 0 |aaaaaaaaaaaaaaaa|\nB 0 |b|\nentries 2\n0 statement 2 B 0 matched 0 1\n1 statement 1 A 0 failed\nrefused 0\n";
+
+// Two workers are at work at once: in one of many runs the second statement is accepted while the first is still matched. One worker for
+// all statements, or one worker after the other, would list the first statement first each time.
+#[test]
+fn two_workers_overlap(rt: HostRuntime) -> Result<(), Fail> {
+    let options = options_of(Some(2));
+    for _ in 0..100 {
+        let (listing, _) = written(&rt, SLOW_AND_QUICK, &options)?;
+        if listing.as_slice() == QUICK_FIRST.as_bytes() {
+            return Ok(());
+        }
+    }
+    Err("the first statement was the first entry each time".into())
 }
 
 fn check_order<R: Threads + Wait + Abort + AllocGlobal + Sync>(
@@ -119,7 +118,7 @@ fn check_order<R: Threads + Wait + Abort + AllocGlobal + Sync>(
 // One worker, also where none is asked for, performs the statements in their order.
 #[test]
 fn one_worker_keeps_the_order(rt: HostRuntime) -> Result<(), Fail> {
-    for document in [DOCUMENT, ONE_TEXT] {
+    for document in [THREE_STATEMENTS, ONE_TEXT] {
         check_order(&rt, document, None)?;
         check_order(&rt, document, Some(1))?;
     }

@@ -1,4 +1,4 @@
-use Rattle.sno_desk_runs.proofs.commits.shared_text.Given as goal
+use Rattle.sno_desk_runs.proofs.commits.share.Given as goal
 
 abbrev pub ghosts-two_seats : goal.ghosts-two_seats
 ghosts-two_seats g a = record { name = a.blank.name; parts = a.blank.parts }

@@ -1,0 +1,69 @@
+//! Books and statements for the tests.
+ghost use Rattle.std.specs.Prelude.{◌≡◌, ◌≤◌, [], IfOk};
+
+use sno_book::Book;
+use sno_pattern::{Names, Rules, Text, TextName};
+use sno_read::{read_object, read_pattern};
+use sno_statement::Statement;
+use std::alloc::Global;
+use std::process::Abort;
+use std::sync::Arc;
+use std::test::Fail;
+
+/// No definitions.
+pub(crate) fn rules(rt: &impl Abort, alloc: Global) -> Result<Arc<Rules>, Fail> {
+    let names = Names::new(alloc, &[])?;
+    let bodies = Vec::new(alloc);
+    assert_eq!(rt; names.len(), bodies.len());
+    Ok(Arc::new(alloc, Rules::admit(alloc, names, bodies)?)?)
+}
+
+/// A statement that replaces what the pattern matches in the text by the object.
+pub(crate) fn statement(
+    rt: &impl Abort,
+    alloc: Global,
+    rules: &Arc<Rules>,
+    number: u32,
+    text: &str,
+    pattern: &str,
+    object: &str,
+) -> Result<Arc<Statement>, Fail> {
+    let pattern = read_pattern(alloc, rules.names(), 0, pattern.as_bytes())?;
+    let object = read_object(alloc, rules.names(), object.as_bytes())?;
+    assert!(rt; rules.covers(&pattern));
+    let rules = Arc::try_clone(rules)?;
+    let text = TextName::new(alloc, text.as_bytes())?;
+    let statement = Statement::new(number, rules, pattern, Some(object), text, false);
+    Ok(Arc::new(alloc, statement)?)
+}
+
+/// A statement that only matches.
+pub(crate) fn matching(
+    rt: &impl Abort,
+    alloc: Global,
+    rules: &Arc<Rules>,
+    number: u32,
+    text: &str,
+    pattern: &str,
+) -> Result<Arc<Statement>, Fail> {
+    let pattern = read_pattern(alloc, rules.names(), 0, pattern.as_bytes())?;
+    assert!(rt; rules.covers(&pattern));
+    let rules = Arc::try_clone(rules)?;
+    let text = TextName::new(alloc, text.as_bytes())?;
+    let statement = Statement::new(number, rules, pattern, None, text, false);
+    Ok(Arc::new(alloc, statement)?)
+}
+
+/// A book of these texts, each with its name, and room for so many entries.
+pub(crate) fn book(alloc: Global, texts: &[(&str, &[u8])], room: u32) -> Result<Book, Fail>
+    requires { room ≤ 1000000 }
+    ensures { IfOk result (λ b. b.journal ≡ []) }
+{
+    let mut rows = Vec::new(alloc);
+    for (name, text) in texts {
+        let text = Text::new(Vec::from_slice(alloc, text)?)?;
+        rows.push((TextName::new(alloc, name.as_bytes())?, text))?;
+    }
+    let book = Book::new(alloc, rows, room)?;
+    Ok(book)
+}

@@ -1,0 +1,121 @@
+//! A submit whose gate accepts another statement through another seat at each attempt: so its text changes under each of its tries.
+ghost use Rattle.std.specs.Prelude.{◌≡◌, ◌≤◌, []};
+
+use crate::day::{check_entry, check_text};
+use crate::jobs::{book, rules, statement};
+use sno_book::Book;
+use sno_desk::{Desk, Gate, OpenGate, Seat, SubmitFault, close};
+use sno_statement::Statement;
+use std::alloc::Global;
+use std::marker::Brand;
+use std::process::Abort;
+use std::sync::ledger::{Blank, Ledger};
+use std::sync::{Arc, Mutex, Wait};
+use std::test::Fail;
+
+/// A gate that submits a job of its own at each attempt, and is shut where that is refused.
+#[derive(Drop)]
+struct Overtaking<'a, L: Ledger> {
+    alloc: Global,
+    desk: &'a Desk<L>,
+    seat: Mutex<Seat<L>>,
+    job: &'a Arc<Statement>,
+}
+
+impl<L: Ledger> Gate for Overtaking<'_, L> {
+    ghost shuts = { λ _ _ _. Unit {0} };
+
+    fn pass<R: Wait>(&self, rt: &R, _number: u32, _attempt: u32) -> bool {
+        let Ok(job) = Arc::try_clone(self.job) else {
+            return false;
+        };
+        let mut seat = self.seat.lock(rt);
+        self.desk
+            .submit(rt, self.alloc, &mut seat, job, 1, &OpenGate)
+            .is_ok()
+    }
+
+    fn done<R: Wait>(&self, _rt: &R, _number: u32, _accepted: bool) {}
+}
+
+/// The first job submitted with so many tries, each of which the second job overtakes.
+fn overtake<L: Ledger, R: Wait + Abort>(
+    rt: &R,
+    alloc: Global,
+    blank: Blank,
+    book: Book,
+    jobs: &[Arc<Statement>; 2],
+    tries: u32,
+) -> Result<(SubmitFault, Book), Fail>
+    requires name { blank.name ≡ L.name }
+    requires parts { blank.parts ≡ L.parts }
+    requires two { blank.parts ≡ 2 }
+    requires empty { book.journal ≡ [] }
+    requires lawful { (1 ≤ tries) × (tries ≤ 1000) }
+{
+    let (desk, mut seats) = Desk::<L>::new(alloc, blank, book, 2).map_err(|(fault, _)| fault)?;
+    let other = seats.pop().unwrap();
+    let mut seat = seats.pop().unwrap();
+    let gate = Overtaking {
+        alloc,
+        desk: &desk,
+        seat: Mutex::new(other),
+        job: &jobs[1],
+    };
+    let job = Arc::try_clone(&jobs[0])?;
+    let refused = desk.submit(rt, alloc, &mut seat, job, tries, &gate).err();
+    let fault = refused.expect(rt, "it was overtaken");
+    assert_eq!(rt; seat.accepted(), 0);
+    let other = gate.seat.into_inner();
+    assert_eq!(rt; other.accepted(), u64::from(tries));
+    let mut all = Vec::new(alloc);
+    all.push(seat)?;
+    all.push(other)?;
+    let book = close(desk, all).map_err(|(fault, _)| fault)?;
+    Ok((fault, book))
+}
+
+/// A text of one letter: the first job replaces it, the second puts it twice.
+fn overtake_each<R: Wait + Abort>(
+    rt: &R,
+    alloc: Global,
+    tries: u32,
+) -> Result<(SubmitFault, Book), Fail>
+    requires { (1 ≤ tries) × (tries ≤ 1000) }
+{
+    let rules = rules(rt, alloc)?;
+    let first = statement(rt, alloc, &rules, 1, "T", "LEN(1)", "'w'")?;
+    let second = statement(rt, alloc, &rules, 2, "T", "LEN(1) . C", "C C")?;
+    let book = book(alloc, &[("T", b"x")], 1_000_000)?;
+    overtake::<Brand, R>(rt, alloc, Blank::new(2), book, &[first, second], tries)
+}
+
+#[test]
+fn one_try_is_overtaken(rt: HostRuntime) -> Result<(), Fail> {
+    let (fault, book) = overtake_each(&rt, rt.alloc(), 1)?;
+    assert_eq!(rt; fault, SubmitFault::TriesSpent { seen: 0, now: 1 });
+    assert_eq!(rt; book.journal().len(), 1);
+    check_entry(&rt, &book, 0, 2, 0);
+    check_text(&rt, &book, 0, "xx", 1);
+    Ok(())
+}
+
+#[test]
+fn each_of_two_tries_is_overtaken(rt: HostRuntime) -> Result<(), Fail> {
+    let (fault, book) = overtake_each(&rt, rt.alloc(), 2)?;
+    assert_eq!(rt; fault, SubmitFault::TriesSpent { seen: 1, now: 2 });
+    assert_eq!(rt; book.journal().len(), 2);
+    check_entry(&rt, &book, 1, 2, 1);
+    check_text(&rt, &book, 0, "xxx", 2);
+    Ok(())
+}
+
+#[test]
+fn each_of_five_tries_is_overtaken(rt: HostRuntime) -> Result<(), Fail> {
+    let (fault, book) = overtake_each(&rt, rt.alloc(), 5)?;
+    assert_eq!(rt; fault, SubmitFault::TriesSpent { seen: 4, now: 5 });
+    assert_eq!(rt; book.journal().len(), 5);
+    check_entry(&rt, &book, 4, 2, 4);
+    check_text(&rt, &book, 0, "xxxxxx", 5);
+    Ok(())
+}

@@ -1,0 +1,47 @@
+//! What each fault prints.
+use sno_desk::{CloseFault, CommitFault, DeskFault, SnapshotFault, SubmitFault, WorkersFault};
+use std::alloc::Global;
+use std::fmt::Display;
+use std::process::Abort;
+use std::test::Fail;
+
+fn check(rt: &impl Abort, alloc: Global, fault: &impl Display, line: &str) -> Result<(), Fail> {
+    let printed = format!(in alloc; "{fault}")?;
+    assert_eq!(rt; printed.as_str(), line);
+    Ok(())
+}
+
+#[test]
+fn faults_of_commits(rt: HostRuntime) -> Result<(), Fail> {
+    let alloc = rt.alloc();
+    let changed = CommitFault::Changed { seen: 3, now: 12 };
+    check(&rt, alloc, &CommitFault::NoText, "no text")?;
+    check(&rt, alloc, &changed, "changed from version 3 to 12")?;
+    check(&rt, alloc, &CommitFault::Foreign, "of another book")?;
+    check(&rt, alloc, &CommitFault::Full, "full")?;
+    check(&rt, alloc, &CommitFault::Memory, "out of memory")
+}
+
+#[test]
+fn faults_of_submits(rt: HostRuntime) -> Result<(), Fail> {
+    let alloc = rt.alloc();
+    let spent = SubmitFault::TriesSpent { seen: 3, now: 12 };
+    check(&rt, alloc, &SubmitFault::NoText, "no text")?;
+    check(&rt, alloc, &SubmitFault::GateShut, "gate shut")?;
+    check(&rt, alloc, &SubmitFault::TextTooLong, "text too long")?;
+    check(&rt, alloc, &SubmitFault::TooManyTrials, "too many trials")?;
+    check(&rt, alloc, &SubmitFault::Foreign, "of another book")?;
+    check(&rt, alloc, &SubmitFault::Full, "full")?;
+    check(&rt, alloc, &SubmitFault::Memory, "out of memory")?;
+    check(&rt, alloc, &spent, "tries spent at version 12, seen 3")
+}
+
+#[test]
+fn faults_of_desks(rt: HostRuntime) -> Result<(), Fail> {
+    let alloc = rt.alloc();
+    check(&rt, alloc, &SnapshotFault::NoText, "no text")?;
+    check(&rt, alloc, &SnapshotFault::Memory, "out of memory")?;
+    check(&rt, alloc, &DeskFault::Memory, "out of memory")?;
+    check(&rt, alloc, &WorkersFault::Memory, "out of memory")?;
+    check(&rt, alloc, &CloseFault::Opening, "another opening")
+}

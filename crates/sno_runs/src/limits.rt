@@ -1,0 +1,89 @@
+//! Runs of documents whose matches take more trials than they may.
+ghost use Rattle.std.specs.Prelude.{◌≤◌, IfSome};
+ghost use Rattle.sno_rewrite.specs.Runs.{AreInLimits};
+
+use crate::runs::{PLAIN, written};
+use sno_rewrite::Options;
+use std::process::Abort;
+use std::str;
+use std::sync::Wait;
+use std::test::Fail;
+use std::thread::Threads;
+
+/// A document, how many trials a match may take, its listing, and the status of its run.
+#[derive(Clone, Copy)]
+struct Limited(&'static str, u32, &'static str, u8);
+
+// 'b' takes three trials on aab, one at each start; a part that repeats within a part that repeats, before what isn't there, takes more than
+// a million on 30 a.
+static LIMITED: [Limited; 4] = [
+    Limited(
+        r#"{"texts":[{"name":"T","text":"aab"}],"statements":[{"text":"T","pattern":"'b'"}]}"#,
+        2,
+        "texts 1\nT 0 |aab|\nentries 0\nrefused 1\nstatement 1 too many trials\n",
+        1,
+    ),
+    Limited(
+        r#"{"texts":[{"name":"T","text":"aab"}],"statements":[{"text":"T","pattern":"'b'"}]}"#,
+        3,
+        "texts 1\nT 0 |aab|\nentries 1\n0 statement 1 T 0 matched 2 3\nrefused 0\n",
+        0,
+    ),
+    Limited(
+        r#"{"texts":[{"name":"T","text":"aab"}],"statements":[{"text":"T","pattern":"'b'","object":"'c'"},{"text":"T","pattern":"'a'","object":"'b'"}]}"#,
+        2,
+        "texts 1\nT 1 |bab|\nentries 1\n0 statement 2 T 0 matched 0 1\n  -> |bab|\nrefused 1\nstatement 1 too many trials\n",
+        1,
+    ),
+    Limited(
+        r#"{"texts":[{"name":"T","text":"aaaaaaaaaaaaaaaaaaaaaaaaaaaaaa"}],"statements":[{"text":"T","pattern":"ARBNO(ARBNO('a')) 'b'","anchored":true}]}"#,
+        1_000_000,
+        "texts 1\nT 0 |aaaaaaaaaaaaaaaaaaaaaaaaaaaaaa|\nentries 0\nrefused 1\nstatement 1 too many trials\n",
+        1,
+    ),
+];
+
+fn options_of(trials: u32, workers: Option<u32>) -> Options
+    requires trials { (1 ≤ trials) × (trials ≤ 1000000000) }
+    requires workers { IfSome workers (λ n. (1 ≤ n) × (n ≤ 16)) }
+    ensures { AreInLimits result }
+{
+    Options {
+        trials,
+        workers,
+        ..PLAIN
+    }
+}
+
+fn check<R: Threads + Wait + Abort + AllocGlobal + Sync>(
+    rt: &R,
+    row: &Limited,
+    workers: Option<u32>,
+) -> Result<(), Fail>
+    requires { IfSome workers (λ n. (1 ≤ n) × (n ≤ 16)) }
+{
+    let Limited(document, trials, listing, status) = *row;
+    let lawful = 1 <= trials && trials <= 1_000_000_000;
+    assert!(rt; lawful);
+    let options = options_of(trials, workers);
+    let (lines, ended) = written(rt, document, &options)?;
+    assert_eq!(rt; str::from_utf8(&lines)?, listing, "for {document}");
+    assert_eq!(rt; ended, status, "for {document}");
+    Ok(())
+}
+
+#[test]
+fn a_match_that_takes_more_trials_is_refused(rt: HostRuntime) -> Result<(), Fail> {
+    for row in &LIMITED {
+        check(&rt, row, None)?;
+    }
+    Ok(())
+}
+
+#[test]
+fn workers_refuse_it_too(rt: HostRuntime) -> Result<(), Fail> {
+    for row in &LIMITED {
+        check(&rt, row, Some(1))?;
+    }
+    Ok(())
+}
