@@ -1,5 +1,5 @@
 -- A fault passes on through the steps that follow.
-use Rattle.std.proofs.Common.{◌≡◌, ◌≢◌, ℕ, Bool, List, Result, Ok, Err, IsErrAnd, map, sym, ◌∙◌, ap, subst}
+use Rattle.std.proofs.Common.{◌≡◌, ◌≢◌, ℕ, List, Result, Ok, Err, IsErrAnd, map, sym, ◌∙◌, ap, subst}
 use Rattle.sno_document.specs.Faults.{Fails, Gives, ◌>>=◌}
 use Rattle.std.specs.Borrow.{Bor}
 use Rattle.sno_pattern.specs.Definitions.{Definitions}

@@ -1,4 +1,5 @@
 pub mod JsonLemmas
+pub mod TreeLemmas
 pub mod FaultLemmas
 pub mod PlaceLemmas
 pub mod References

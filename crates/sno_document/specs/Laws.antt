@@ -1,5 +1,5 @@
 -- Laws of documents.
-use Rattle.std.specs.Prelude.{◌≡◌, ℕ, Bool, List, Result}
+use Rattle.std.specs.Prelude.{◌≡◌, ℕ, List, Result}
 use Rattle.sno_document.specs.Document.{Document, IsDocument}
 use Rattle.sno_document.specs.declared.faults.RunFault.{RunFault}
 use Rattle.sno_document.specs.declared.modes.Mode.{Mode}

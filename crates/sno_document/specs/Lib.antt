@@ -1,5 +1,6 @@
 pub mod Faults
 pub mod Json
+pub mod Trees
 pub mod Shape
 pub mod DocumentRows
 pub mod Document

@@ -1,5 +1,5 @@
 -- Documents of the program by value.
-use Rattle.std.specs.Prelude.{◌≡◌, ◌≢◌, ◌≤◌, ℕ, Bool, List, [], length, map, Result, Ok, Err}
+use Rattle.std.specs.Prelude.{◌≡◌, ◌≢◌, ◌≤◌, ℕ, List, [], length, map, Result, Ok, Err}
 use Rattle.std.specs.Arc.{arc_value}
 use Rattle.sno_document.specs.Document as document
 use Rattle.sno_document.specs.Document.{IsDocument}

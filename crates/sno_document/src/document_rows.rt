@@ -1,37 +1,39 @@
-//! A document as it is written: its rows, borrowed from the JSON value.
+//! A document as it is written: its rows, whose strings are borrowed as those of the tree are.
 ghost use Rattle.std.specs.Prelude.{◌≡◌, map, [], codes};
-ghost use Rattle.serde_json.specs.View.{view};
 ghost use Rattle.sno_document.specs.Faults.{Gives};
 ghost use Rattle.sno_document.specs.Shape.{pair_row, statement_row, each_row, pairs_at, statements_at, arrays_of, rows_of};
+ghost use Rattle.sno_document.specs.Trees.{tree_seen};
 ghost use Rattle.sno_document.specs.DocumentRows.{pair_seen, statement_seen, rows_seen};
 
 use crate::RunFault;
-use crate::json::{array_at, optional_bool_at, optional_string_at, string_at};
-use serde_json::Value;
+use crate::members::{
+    elements, is_object, member, optional_bool_at, optional_string_at, string_at,
+};
+use json::Value;
 use std::alloc::Global;
 
 /// Two strings: a name with an expression, or a name with a text.
-pub(crate) type PairRow<'v> = (&'v str, &'v str);
+pub(crate) type PairRow<'t> = (&'t str, &'t str);
 
 /// A statement as the document writes it.
 #[derive(Drop)]
-pub(crate) struct StatementRow<'v> {
-    pub(crate) text: &'v str,
-    pub(crate) pattern: &'v str,
-    pub(crate) object: Option<&'v str>,
+pub(crate) struct StatementRow<'t> {
+    pub(crate) text: &'t str,
+    pub(crate) pattern: &'t str,
+    pub(crate) object: Option<&'t str>,
     pub(crate) anchored: Option<bool>,
 }
 
 /// A document as it is written.
 #[derive(Drop)]
-pub(crate) struct Rows<'v> {
-    pub(crate) patterns: Vec<PairRow<'v>>,
-    pub(crate) texts: Vec<PairRow<'v>>,
-    pub(crate) statements: Vec<StatementRow<'v>>,
+pub(crate) struct Rows<'t> {
+    pub(crate) patterns: Vec<PairRow<'t>>,
+    pub(crate) texts: Vec<PairRow<'t>>,
+    pub(crate) statements: Vec<StatementRow<'t>>,
 }
 
-fn pair_row<'v>(value: &'v Value, first: &str, second: &str) -> Result<PairRow<'v>, RunFault>
-    ensures { Gives pair_seen result (pair_row first.now second.now (view value.now)) }
+fn pair_row<'t>(value: &Value<'t>, first: &str, second: &str) -> Result<PairRow<'t>, RunFault>
+    ensures { Gives pair_seen result (pair_row first.now second.now (tree_seen value.now)) }
 {
     match (string_at(value, first), string_at(value, second)) {
         (Some(a), Some(b)) => Ok((a, b)),
@@ -39,13 +41,13 @@ fn pair_row<'v>(value: &'v Value, first: &str, second: &str) -> Result<PairRow<'
     }
 }
 
-fn pair_rows<'v>(
+fn pair_rows<'t>(
     alloc: Global,
-    values: &'v [Value],
+    values: &[Value<'t>],
     first: &str,
     second: &str,
-) -> Result<Vec<PairRow<'v>>, RunFault>
-    ensures { Gives (λ v. map pair_seen v.items) result (each_row (pair_row first.now second.now) [] (map view values.now)) }
+) -> Result<Vec<PairRow<'t>>, RunFault>
+    ensures { Gives (λ v. map pair_seen v.items) result (each_row (pair_row first.now second.now) [] (map tree_seen values.now)) }
 {
     let mut rows = Vec::new(alloc);
     for value in values {
@@ -54,8 +56,8 @@ fn pair_rows<'v>(
     Ok(rows)
 }
 
-fn statement_row(value: &Value) -> Result<StatementRow<'_>, RunFault>
-    ensures { Gives statement_seen result (statement_row (view value.now)) }
+fn statement_row<'t>(value: &Value<'t>) -> Result<StatementRow<'t>, RunFault>
+    ensures { Gives statement_seen result (statement_row (tree_seen value.now)) }
 {
     let text = string_at(value, "text").ok_or(RunFault::Shape)?;
     let pattern = string_at(value, "pattern").ok_or(RunFault::Shape)?;
@@ -69,8 +71,11 @@ fn statement_row(value: &Value) -> Result<StatementRow<'_>, RunFault>
     })
 }
 
-fn statement_rows(alloc: Global, values: &[Value]) -> Result<Vec<StatementRow<'_>>, RunFault>
-    ensures { Gives (λ v. map statement_seen v.items) result (each_row statement_row [] (map view values.now)) }
+fn statement_rows<'t>(
+    alloc: Global,
+    values: &[Value<'t>],
+) -> Result<Vec<StatementRow<'t>>, RunFault>
+    ensures { Gives (λ v. map statement_seen v.items) result (each_row statement_row [] (map tree_seen values.now)) }
 {
     let mut rows = Vec::new(alloc);
     for value in values {
@@ -79,29 +84,35 @@ fn statement_rows(alloc: Global, values: &[Value]) -> Result<Vec<StatementRow<'_
     Ok(rows)
 }
 
-/// The rows of an array of pairs.
+/// The rows of an array of pairs, none where it is missing.
 #[tactic(auto, unfolding(crate::specs::Shape::pairs_at))]
-fn pairs_at<'v>(
+fn pairs_at<'t>(
     alloc: Global,
-    value: &'v Value,
+    value: &Value<'t>,
     key: &str,
     first: &str,
     second: &str,
-) -> Result<Vec<PairRow<'v>>, RunFault>
-    ensures { Gives (λ v. map pair_seen v.items) result (pairs_at key.now first.now second.now (view value.now)) }
+) -> Result<Vec<PairRow<'t>>, RunFault>
+    ensures { Gives (λ v. map pair_seen v.items) result (pairs_at key.now first.now second.now (tree_seen value.now)) }
 {
-    match array_at(value, key) {
+    let Some(array) = member(value, key) else {
+        return Ok(Vec::new(alloc));
+    };
+    match elements(array) {
         None => Err(RunFault::Shape),
         Some(values) => pair_rows(alloc, values, first, second),
     }
 }
 
-/// The rows of the statements.
+/// The rows of the statements, none where they are missing.
 #[tactic(auto, unfolding(crate::specs::Shape::statements_at))]
-fn statements_at(alloc: Global, value: &Value) -> Result<Vec<StatementRow<'_>>, RunFault>
-    ensures { Gives (λ v. map statement_seen v.items) result (statements_at (view value.now)) }
+fn statements_at<'t>(alloc: Global, value: &Value<'t>) -> Result<Vec<StatementRow<'t>>, RunFault>
+    ensures { Gives (λ v. map statement_seen v.items) result (statements_at (tree_seen value.now)) }
 {
-    match array_at(value, "statements") {
+    let Some(array) = member(value, "statements") else {
+        return Ok(Vec::new(alloc));
+    };
+    match elements(array) {
         None => Err(RunFault::Shape),
         Some(values) => statement_rows(alloc, values),
     }
@@ -109,8 +120,8 @@ fn statements_at(alloc: Global, value: &Value) -> Result<Vec<StatementRow<'_>>, 
 
 /// The three arrays of an object.
 #[tactic(auto, unfolding(crate::specs::Shape::arrays_of))]
-fn arrays_of(alloc: Global, value: &Value) -> Result<Rows<'_>, RunFault>
-    ensures { Gives rows_seen result (arrays_of (view value.now)) }
+fn arrays_of<'t>(alloc: Global, value: &Value<'t>) -> Result<Rows<'t>, RunFault>
+    ensures { Gives rows_seen result (arrays_of (tree_seen value.now)) }
 {
     let patterns = pairs_at(alloc, value, "patterns", "name", "pattern")?;
     let texts = pairs_at(alloc, value, "texts", "name", "text")?;
@@ -123,10 +134,10 @@ fn arrays_of(alloc: Global, value: &Value) -> Result<Rows<'_>, RunFault>
 }
 
 /// The rows of a document; `Shape` where a member is of another kind, or a missing one has no meaning.
-pub(crate) fn rows_of(alloc: Global, value: &Value) -> Result<Rows<'_>, RunFault>
-    ensures { Gives rows_seen result (rows_of (view value.now)) }
+pub(crate) fn rows_of<'t>(alloc: Global, value: &Value<'t>) -> Result<Rows<'t>, RunFault>
+    ensures { Gives rows_seen result (rows_of (tree_seen value.now)) }
 {
-    if value.as_object().is_none() {
+    if !is_object(value) {
         return Err(RunFault::Shape);
     }
     arrays_of(alloc, value)

@@ -6,7 +6,7 @@
 //! | File | What it does |
 //! |---|---|
 //! | `faults` | `RunFault`, with the line of each, and `status_of` |
-//! | `json`, `document_rows` | members of the JSON value; the rows of the document as it is written, borrowed from it |
+//! | `trees`, `members`, `document_rows` | the JSON tree of the bytes; its members; the rows of the document as it is written |
 //! | `definitions`, `texts`, `statements`, `documents` | the checks, in the order of the document |
 //! | `laws` | what follows from the definitions |
 //!
@@ -18,11 +18,12 @@ mod definitions;
 mod document_rows;
 mod documents;
 mod faults;
-mod json;
 mod laws;
+mod members;
 mod modes;
 mod statements;
 mod texts;
+mod trees;
 
 pub use documents::{Document, MAX_DOCUMENT, read_document};
 pub use faults::{RunFault, status_of};

@@ -1,20 +1,41 @@
 -- Steps of the listing's loops.
-use Rattle.std.proofs.Common.{◌≡◌, ℕ, zero, suc, ◌+◌, ◌<◌, List, [], ◌∷◌, ◌++◌, length, get_or, drop, Some, None, slice_get, refl, sym, ap, ◌∙◌, arith, add-one, drop-cons, append_assoc}
+use Rattle.std.proofs.Common.{◌≡◌, ℕ, zero, suc, ◌+◌, ◌<◌, Bool, true, false, cond, List, [], ◌∷◌, ◌++◌, length, get_or, take, drop, Some, None, slice_get, refl, sym, ap, ◌∙◌, arith, add-one, drop-cons, append_assoc}
 use Rattle.std.specs.List.{All, flat_map, list_all}
 use Rattle.std.specs.Char.{is_ascii}
 use Rattle.std.specs.Fmt.{decimal}
-use Rattle.std.specs.Prelude.{codes, IsTrue, true, ◌^◌}
+use Rattle.std.specs.Prelude.{codes, IsTrue, ◌^◌}
 use Rattle.std.specs.Str.{IsAscii}
-use Rattle.std.proofs.lemmas.Bool.{and_from, lt-ltb}
+use Rattle.std.proofs.lemmas.Bool.{and_from, and_parts, lt-ltb}
 use Rattle.std.proofs.lemmas.Fmt.{IsAscii-decimal}
 use Rattle.std.proofs.lemmas.List.Elements.{All-head, All-tail}
 use Rattle.std.proofs.lemmas.List.Folds.{list_all-append}
 use Rattle.std.proofs.lemmas.Str.Ascii.{All-from_ascii}
 use Rattle.sno_listing.specs.Listing.{tries_words}
 use Rattle.std.proofs.lemmas.Option.{slice_get-get_or, slice_get_within}
-use Rattle.sno_listing.specs.Listing.{binding_line}
+use Rattle.sno_listing.specs.Listing.{binding_line, escaped_text, is_plain}
 use Rattle.sno_statement.specs.Bindings.{Bound}
 use Rattle.sno_statement.specs.declared.binding.Datum.{Datum}
+
+put_plain : (b : Bool) (c : ℕ) (escaped xs : List ℕ) → b ≡ true → cond b (c ∷ []) escaped ++ xs ≡ c ∷ xs
+put_plain true c escaped xs h = refl
+put_plain false c escaped xs h = cc
+
+-- a front that is printed as itself
+plain_front : (cs : List ℕ) (n : ℕ) → IsTrue (list_all is_plain (take n cs)) → take n cs ++ escaped_text (drop n cs) ≡ escaped_text cs
+plain_front [] zero h = refl
+plain_front [] (suc n) h = refl
+plain_front (c ∷ cs) zero h = refl
+plain_front (c ∷ cs) (suc n) h =
+    let parts = and_parts (is_plain c) (list_all is_plain (take n cs)) h in
+    ap (λ (l : List ℕ). c ∷ l) (plain_front cs n parts.1) ∙ sym (put_plain (is_plain c) c _ (escaped_text cs) parts.0)
+
+-- a front is put
+pub front_step : (out new rest front back all : List ℕ) (n : ℕ) → new ≡ out ++ front → front ≡ take n rest → back ≡ drop n rest
+    → IsTrue (list_all is_plain (take n rest)) → out ++ escaped_text rest ≡ all → new ++ escaped_text back ≡ all
+front_step out new rest front back all n put is left plain so_far =
+    ap (λ (l : List ℕ). l ++ escaped_text back) put ∙ append_assoc out front (escaped_text back)
+    ∙ ap (λ (l : List ℕ). out ++ (l ++ escaped_text back)) is ∙ ap (λ (l : List ℕ). out ++ (take n rest ++ escaped_text l)) left
+    ∙ ap (λ (l : List ℕ). out ++ l) (plain_front rest n plain) ∙ so_far
 
 -- a binding that is there
 pub binding_next : (bound : Bound) (i : ℕ) (b : List ℕ × Datum) → slice_get bound i ≡ Some b

@@ -201,7 +201,7 @@ fn reason_value(alloc: Global, reason: Reason) -> Result<Value, AllocError>
     ensures { IfOk result (λ v. view v ≡ string (reason_words reason)) }
 {
     let mut words = Vec::new(alloc);
-    put_reason(alloc, &mut words, reason)?;
+    put_reason(&mut words, reason)?;
     ascii_value(alloc, &words)
 }
 

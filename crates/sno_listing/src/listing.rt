@@ -1,5 +1,5 @@
 //! The listing of a run.
-ghost use Rattle.std.specs.Prelude.{◌≡◌, ◌++◌, ◌<◌, [], ◌∷◌, map, length, OnOk, IfOk, IsTrue, Some, None, codes};
+ghost use Rattle.std.specs.Prelude.{◌≡◌, ◌++◌, ◌-◌, ◌<◌, ◌≤◌, [], ◌∷◌, map, length, take, OnOk, IfOk, IsTrue, Some, None, codes};
 ghost use Rattle.std.specs.Option.{option_map};
 ghost use Rattle.std.specs.Arc.{arc_value};
 ghost use Rattle.std.specs.Char.{is_ascii};
@@ -11,6 +11,7 @@ ghost use Rattle.sno_listing.specs.Listing.{hex_digit, is_plain, escaped_charact
 
 use crate::versioned_texts::VersionedText;
 use crate::{Reason, Refusal};
+use itoa::Buffer;
 use sno_book::Entry;
 use sno_pattern::{Name, Text};
 use sno_statement::{Bindings, Datum, Outcome};
@@ -23,11 +24,11 @@ fn put(out: &mut Vec<u8>, bytes: &[u8]) -> Result<(), AllocError>
     out.extend_from_slice(bytes)
 }
 
-fn put_number(alloc: Global, out: &mut Vec<u8>, number: u64) -> Result<(), AllocError>
+fn put_number(out: &mut Vec<u8>, number: u64) -> Result<(), AllocError>
     ensures { OnOk result (out.new.items ≡ out.old.items ++ decimal number) }
 {
-    let digits = number.to_string(alloc)?;
-    put(out, digits.as_bytes())
+    let mut digits = Buffer::new();
+    put(out, digits.format(number).as_bytes())
 }
 
 fn hex_digit(digit: u8) -> u8
@@ -65,36 +66,67 @@ fn put_character(out: &mut Vec<u8>, character: u8) -> Result<(), AllocError>
     }
 }
 
+/// How many characters come before the first that is not printed as itself.
+fn plain_len(characters: &[u8]) -> usize
+    ensures within { result ≤ length characters.now }
+    ensures plain { IsTrue (list_all is_plain (take result characters.now)) }
+{
+    for (place, character) in characters.iter().enumerate() {
+        if !is_plain(*character) {
+            return place;
+        }
+    }
+    characters.len()
+}
+
+/// Puts the first character, and answers with those after it.
+fn put_first<'c>(out: &mut Vec<u8>, characters: &'c [u8]) -> Result<&'c [u8], AllocError>
+    ensures put { IfOk result (λ rest. out.new.items ++ escaped_text rest.now ≡ out.old.items ++ escaped_text characters.now) }
+    ensures shorter { IfOk result (λ rest. length rest.now ≤ length characters.now - 1) }
+{
+    match characters.split_first() {
+        None => Ok(characters),
+        Some((first, rest)) => {
+            put_character(out, *first)?;
+            Ok(rest)
+        }
+    }
+}
+
+/// The characters; those that are printed as themselves go a run at a time.
 fn put_escaped(out: &mut Vec<u8>, characters: &[u8]) -> Result<(), AllocError>
     ensures { OnOk result (out.new.items ≡ out.old.items ++ escaped_text characters.now) }
 {
-    for character in characters {
-        put_character(out, *character)?;
+    let mut rest = characters;
+    while !rest.is_empty() {
+        let (plain, more) = rest.split_at(plain_len(rest));
+        put(out, plain)?;
+        rest = put_first(out, more)?;
     }
     Ok(())
 }
 
-fn put_count(alloc: Global, out: &mut Vec<u8>, word: &str, count: usize) -> Result<(), AllocError>
+fn put_count(out: &mut Vec<u8>, word: &str, count: usize) -> Result<(), AllocError>
     ensures { OnOk result (out.new.items ≡ out.old.items ++ count_line word.now count) }
 {
     put(out, word.as_bytes())?;
-    put_number(alloc, out, count as u64)?;
+    put_number(out, count as u64)?;
     put(out, b"\n")
 }
 
 #[tactic(auto, unfolding(crate::specs::Listing::text_line))]
-fn put_text(alloc: Global, out: &mut Vec<u8>, text: &VersionedText<'_>) -> Result<(), AllocError>
+fn put_text(out: &mut Vec<u8>, text: &VersionedText<'_>) -> Result<(), AllocError>
     ensures { OnOk result (out.new.items ≡ out.old.items ++ text_line (text_seen text.now)) }
 {
     put_escaped(out, text.name.bytes())?;
     put(out, b" ")?;
-    put_number(alloc, out, text.version)?;
+    put_number(out, text.version)?;
     put(out, b" |")?;
     put_escaped(out, text.text.bytes())?;
     put(out, b"|\n")
 }
 
-fn put_value(alloc: Global, out: &mut Vec<u8>, value: &Datum) -> Result<(), AllocError>
+fn put_value(out: &mut Vec<u8>, value: &Datum) -> Result<(), AllocError>
     ensures { OnOk result (out.new.items ≡ out.old.items ++ value_words value.now) }
 {
     match value {
@@ -103,23 +135,18 @@ fn put_value(alloc: Global, out: &mut Vec<u8>, value: &Datum) -> Result<(), Allo
             put_escaped(out, text.bytes())?;
             put(out, b"|")
         }
-        Datum::Int(number) => put_number(alloc, out, u64::from(*number)),
+        Datum::Int(number) => put_number(out, u64::from(*number)),
     }
 }
 
 #[tactic(auto, unfolding(crate::specs::Listing::binding_line))]
-fn put_binding(
-    alloc: Global,
-    out: &mut Vec<u8>,
-    name: &Name,
-    value: &Datum,
-) -> Result<(), AllocError>
+fn put_binding(out: &mut Vec<u8>, name: &Name, value: &Datum) -> Result<(), AllocError>
     ensures { OnOk result (out.new.items ≡ out.old.items ++ binding_line (name.now, value.now)) }
 {
     put(out, b"  ")?;
     put(out, name.bytes())?;
     put(out, b" = ")?;
-    put_value(alloc, out, value)?;
+    put_value(out, value)?;
     put(out, b"\n")
 }
 
@@ -135,47 +162,47 @@ fn put_after(out: &mut Vec<u8>, after: Option<&Arc<Text>>) -> Result<(), AllocEr
 }
 
 #[tactic(auto, unfolding(crate::specs::Listing::refused_line))]
-fn put_refusal(alloc: Global, out: &mut Vec<u8>, refusal: &Refusal) -> Result<(), AllocError>
+fn put_refusal(out: &mut Vec<u8>, refusal: &Refusal) -> Result<(), AllocError>
     ensures { OnOk result (out.new.items ≡ out.old.items ++ refused_line refusal.now) }
 {
     put(out, b"statement ")?;
-    put_number(alloc, out, u64::from(refusal.number))?;
+    put_number(out, u64::from(refusal.number))?;
     put(out, b" ")?;
-    put_reason(alloc, out, refusal.reason)?;
+    put_reason(out, refusal.reason)?;
     put(out, b"\n")
 }
 
 #[tactic(auto, using(crate::proofs::ListingLemmas::tries_ascii), unfolding(crate::specs::Listing::tries_words))]
-fn put_tries(alloc: Global, out: &mut Vec<u8>, seen: u64, now: u64) -> Result<(), AllocError>
+fn put_tries(out: &mut Vec<u8>, seen: u64, now: u64) -> Result<(), AllocError>
     ensures words { OnOk result (out.new.items ≡ out.old.items ++ tries_words seen now) }
     ensures ascii { IsTrue (list_all is_ascii (tries_words seen now)) }
 {
     put(out, b"tries spent ")?;
-    put_number(alloc, out, seen)?;
+    put_number(out, seen)?;
     put(out, b" ")?;
-    put_number(alloc, out, now)
+    put_number(out, now)
 }
 
 /// The words of a reason, which are ASCII.
-pub(crate) fn put_reason(alloc: Global, out: &mut Vec<u8>, reason: Reason) -> Result<(), AllocError>
+pub(crate) fn put_reason(out: &mut Vec<u8>, reason: Reason) -> Result<(), AllocError>
     ensures words { OnOk result (out.new.items ≡ out.old.items ++ reason_words reason) }
     ensures ascii { IsTrue (list_all is_ascii (reason_words reason)) }
 {
     match reason {
         Reason::NoText => put(out, b"no text"),
         Reason::TextTooLong => put(out, b"text too long"),
-        Reason::TriesSpent { seen, now } => put_tries(alloc, out, seen, now),
+        Reason::TriesSpent { seen, now } => put_tries(out, seen, now),
         Reason::TooManyTrials => put(out, b"too many trials"),
     }
 }
 
 #[tactic(auto, using(crate::proofs::ListingLemmas::binding_there))]
-fn put_bindings(alloc: Global, out: &mut Vec<u8>, bindings: &Bindings) -> Result<(), AllocError>
+fn put_bindings(out: &mut Vec<u8>, bindings: &Bindings) -> Result<(), AllocError>
     ensures { OnOk result (out.new.items ≡ out.old.items ++ flat_map binding_line bindings.now) }
 {
     for place in 0..bindings.len() {
         match bindings.get(place) {
-            Some((name, value)) => put_binding(alloc, out, name, value)?,
+            Some((name, value)) => put_binding(out, name, value)?,
             None => unreachable!(),
         }
     }
@@ -183,18 +210,18 @@ fn put_bindings(alloc: Global, out: &mut Vec<u8>, bindings: &Bindings) -> Result
 }
 
 #[tactic(auto, unfolding(crate::specs::Listing::done_lines))]
-fn put_match(alloc: Global, out: &mut Vec<u8>, start: usize, end: usize) -> Result<(), AllocError>
+fn put_match(out: &mut Vec<u8>, start: usize, end: usize) -> Result<(), AllocError>
     ensures { OnOk result (out.new.items ≡ out.old.items ++ (codes " matched " ++ (decimal start ++ (32 ∷ [] ++ (decimal end ++ (10 ∷ [])))))) }
 {
     put(out, b" matched ")?;
-    put_number(alloc, out, start as u64)?;
+    put_number(out, start as u64)?;
     put(out, b" ")?;
-    put_number(alloc, out, end as u64)?;
+    put_number(out, end as u64)?;
     put(out, b"\n")
 }
 
 #[tactic(auto, unfolding(crate::specs::Listing::done_lines))]
-fn put_done(alloc: Global, out: &mut Vec<u8>, outcome: &Outcome) -> Result<(), AllocError>
+fn put_done(out: &mut Vec<u8>, outcome: &Outcome) -> Result<(), AllocError>
     ensures { OnOk result (out.new.items ≡ out.old.items ++ done_lines (done_of outcome.now)) }
 {
     match outcome {
@@ -204,81 +231,67 @@ fn put_done(alloc: Global, out: &mut Vec<u8>, outcome: &Outcome) -> Result<(), A
             bindings,
             after,
         } => {
-            put_match(alloc, out, *start, *end)?;
-            put_bindings(alloc, out, bindings)?;
+            put_match(out, *start, *end)?;
+            put_bindings(out, bindings)?;
             put_after(out, after.as_ref())
         }
         Outcome::Failed { bindings } => {
             put(out, b" failed\n")?;
-            put_bindings(alloc, out, bindings)
+            put_bindings(out, bindings)
         }
     }
 }
 
 #[tactic(auto, unfolding(crate::specs::Listing::entry_label))]
-fn put_label(alloc: Global, out: &mut Vec<u8>, index: usize, number: u32) -> Result<(), AllocError>
+fn put_label(out: &mut Vec<u8>, index: usize, number: u32) -> Result<(), AllocError>
     ensures { OnOk result (out.new.items ≡ out.old.items ++ entry_label index number) }
 {
-    put_number(alloc, out, index as u64)?;
+    put_number(out, index as u64)?;
     put(out, b" statement ")?;
-    put_number(alloc, out, u64::from(number))
+    put_number(out, u64::from(number))
 }
 
 #[tactic(auto, unfolding(crate::specs::Listing::entry_subject))]
-fn put_subject(
-    alloc: Global,
-    out: &mut Vec<u8>,
-    name: &[u8],
-    version: u64,
-) -> Result<(), AllocError>
+fn put_subject(out: &mut Vec<u8>, name: &[u8], version: u64) -> Result<(), AllocError>
     ensures { OnOk result (out.new.items ≡ out.old.items ++ entry_subject name.now version) }
 {
     put(out, b" ")?;
     put_escaped(out, name)?;
     put(out, b" ")?;
-    put_number(alloc, out, version)
+    put_number(out, version)
 }
 
-fn put_entry(
-    alloc: Global,
-    out: &mut Vec<u8>,
-    index: usize,
-    entry: &Entry,
-) -> Result<(), AllocError>
+fn put_entry(out: &mut Vec<u8>, index: usize, entry: &Entry) -> Result<(), AllocError>
     ensures { OnOk result (out.new.items ≡ out.old.items ++ entry_lines index entry.now) }
 {
-    put_label(alloc, out, index, entry.statement.number())?;
-    put_subject(alloc, out, entry.statement.text().bytes(), entry.version)?;
-    put_done(alloc, out, &entry.outcome)
+    put_label(out, index, entry.statement.number())?;
+    put_subject(out, entry.statement.text().bytes(), entry.version)?;
+    put_done(out, &entry.outcome)
 }
 
-fn put_entries(alloc: Global, out: &mut Vec<u8>, journal: &[Entry]) -> Result<(), AllocError>
+fn put_entries(out: &mut Vec<u8>, journal: &[Entry]) -> Result<(), AllocError>
     ensures { OnOk result (out.new.items ≡ out.old.items ++ entries_from 0 journal.now) }
 {
     for (index, entry) in journal.iter().enumerate() {
-        put_entry(alloc, out, index, entry)?;
+        put_entry(out, index, entry)?;
     }
     Ok(())
 }
 
-fn put_refusals(alloc: Global, out: &mut Vec<u8>, refused: &[Refusal]) -> Result<(), AllocError>
+fn put_refusals(out: &mut Vec<u8>, refused: &[Refusal]) -> Result<(), AllocError>
     ensures { OnOk result (out.new.items ≡ out.old.items ++ flat_map refused_line refused.now) }
 {
     for refusal in refused {
-        put_refusal(alloc, out, refusal)?;
+        put_refusal(out, refusal)?;
     }
     Ok(())
 }
 
-fn put_texts(
-    alloc: Global,
-    out: &mut Vec<u8>,
-    texts: &[VersionedText<'_>],
-) -> Result<(), AllocError>
+fn put_texts(out: &mut Vec<u8>, texts: &[VersionedText<'_>]) -> Result<(), AllocError>
     ensures { OnOk result (out.new.items ≡ out.old.items ++ flat_map text_line (map text_seen texts.now)) }
 {
     for text in texts {
-        put_text(alloc, out, text)?;
+        put_text(out, text)?;
     }
     Ok(())
 }
@@ -294,11 +307,11 @@ pub(crate) fn listing(
     ensures { IfOk result (λ v. v.items ≡ listing (record { state = map text_seen texts.now; journal = journal.now; refused = refused.now })) }
 {
     let mut out = Vec::new(alloc);
-    put_count(alloc, &mut out, "texts ", texts.len())?;
-    put_texts(alloc, &mut out, texts)?;
-    put_count(alloc, &mut out, "entries ", journal.len())?;
-    put_entries(alloc, &mut out, journal)?;
-    put_count(alloc, &mut out, "refused ", refused.len())?;
-    put_refusals(alloc, &mut out, refused)?;
+    put_count(&mut out, "texts ", texts.len())?;
+    put_texts(&mut out, texts)?;
+    put_count(&mut out, "entries ", journal.len())?;
+    put_entries(&mut out, journal)?;
+    put_count(&mut out, "refused ", refused.len())?;
+    put_refusals(&mut out, refused)?;
     Ok(out)
 }

@@ -1,8 +1,9 @@
 //! Runs over bytes, and over readers and writers.
-ghost use Rattle.std.specs.Prelude.{◌≡◌, ◌≢◌, ◌≤◌, ◌⊎◌, Err, Ok, IfOk, IfErr, IfSome, OnOk};
+ghost use Rattle.std.specs.Prelude.{◌≡◌, ◌≢◌, ◌≤◌, ◌⊎◌, ℕ, List, Err, Ok, IfOk, IfErr, IfSome, OnOk};
 ghost use Rattle.sno_document.specs.declared.faults.RunFault.TheVariants.{Memory, Write as WriteFailed};
 ghost use Rattle.sno_statement.specs.Task.{IsLimit};
 ghost use Rattle.sno_document.specs.Document.{Document, IsDocument};
+ghost use Rattle.sno_document.specs.Reads.{document_seen, IsReady};
 ghost use Rattle.sno_rewrite.specs.Modes.{mode_of};
 ghost use Rattle.sno_rewrite.specs.Reports.{IsReport, IsOutside};
 ghost use Rattle.sno_rewrite.specs.Runs.{AreInLimits, FailsBy, IsBegun, IsOwn, IsRun, Reports};
@@ -55,6 +56,21 @@ fn serial_report(alloc: Global, bytes: &[u8], mode: Mode, json: bool) -> Result<
     ensures fault { IfErr result (λ e. e ≢ Memory → IsDocument mode bytes.now (Err e)) }
 {
     let document = read_document(alloc, bytes, mode)?;
+    let report = serial_report_of(alloc, document, json)?;
+    Ok(report)
+}
+
+/// The report of a document, performed in order.
+fn serial_report_of(
+    alloc: Global,
+    document: sno_document::Document,
+    json: bool,
+) -> Result<Report, RunFault>
+    requires { IsReady document }
+    ensures found { (mode : Mode) (bytes : List ℕ) → IsDocument mode bytes (Ok (document_seen document))
+        → IfOk result (λ report. IsReport mode json bytes report.bytes.items report.refused) }
+    ensures memory { IfErr result (λ e. e ≡ Memory) }
+{
     let performed = perform_serial(alloc, document)?;
     let bytes = listing_of(alloc, &performed.book, &performed.refused, json)?;
     let refused = performed.refused.len();
@@ -75,6 +91,25 @@ fn shared_report<T: Threads + Wait + Sync>(
     ensures fault { IfErr result (λ e. IsOwn e ⊎ IsDocument (mode_of options.now) bytes.now (Err e)) }
 {
     let document = read_document(alloc, bytes, options.mode())?;
+    let report = shared_report_of(rt, alloc, document, workers, options)?;
+    Ok(report)
+}
+
+/// The report of a document, performed by workers.
+fn shared_report_of<T: Threads + Wait + Sync>(
+    rt: &T,
+    alloc: Global,
+    document: sno_document::Document,
+    workers: u32,
+    options: &Options,
+) -> Result<Report, RunFault>
+    requires ready { IsReady document }
+    requires workers { (1 ≤ workers) × (workers ≤ 16) }
+    requires tries { (1 ≤ options.now.tries) × (options.now.tries ≤ 1000) }
+    ensures found { (mode : Mode) (bytes : List ℕ) → IsDocument mode bytes (Ok (document_seen document))
+        → IfOk result (λ report. IsSharedReport mode options.now.json options.now.tries bytes report.bytes.items report.refused) }
+    ensures own { IfErr result IsOwn }
+{
     let performed = perform_shared(rt, alloc, document, workers, options.tries)?;
     let bytes = listing_of(alloc, &performed.book, &performed.refused, options.json)?;
     let refused = performed.refused.len();
@@ -107,24 +142,26 @@ pub fn run_shared<T: Threads + Wait + Sync>(
     Ok(report)
 }
 
-/// The report of the bytes, with workers or without.
+/// The report of the bytes, with workers or without. The bytes are dropped once they are read.
 fn report_by<T: Threads + Wait + Sync>(
     rt: &T,
     alloc: Global,
-    bytes: &[u8],
+    bytes: Vec<u8>,
     options: &Options,
 ) -> Result<Report, RunFault>
     requires { AreInLimits options.now }
-    ensures found { IfOk result (λ report. Reports options.now.workers options.now bytes.now report.bytes.items report.refused) }
-    ensures fault { IfErr result (FailsBy options.now.workers (mode_of options.now) bytes.now) }
+    ensures found { IfOk result (λ report. Reports options.now.workers options.now bytes.items report.bytes.items report.refused) }
+    ensures fault { IfErr result (FailsBy options.now.workers (mode_of options.now) bytes.items) }
 {
+    let document = read_document(alloc, &bytes, options.mode())?;
+    drop(bytes);
     match options.workers {
         None => {
-            let report = run_serial(alloc, bytes, options)?;
+            let report = serial_report_of(alloc, document, options.json)?;
             Ok(report)
         }
-        Some(_) => {
-            let report = run_shared(rt, alloc, bytes, options)?;
+        Some(workers) => {
+            let report = shared_report_of(rt, alloc, document, workers, options)?;
             Ok(report)
         }
     }
@@ -161,7 +198,7 @@ pub fn run<T: Threads + Wait + Sync, R: Read, W: Write>(
     ensures longer { RefusesLonger (R.remaining reader.old) (R.remaining reader.new) result }
 {
     let bytes = read_all(alloc, reader)?;
-    let report = report_by(rt, alloc, &bytes, options)?;
+    let report = report_by(rt, alloc, bytes, options)?;
     write_all(writer, &report.bytes)?;
     Ok(if report.refused == 0 { 0 } else { 1 })
 }

@@ -1,0 +1,90 @@
+//! Members of a JSON object.
+ghost use Rattle.std.specs.Prelude.{◌≡◌, map, Some, is_some};
+ghost use Rattle.std.specs.Option.{option_map};
+ghost use Rattle.serde_json.specs.Find.{get, as_array, as_bool, as_object, as_str};
+ghost use Rattle.sno_document.specs.Json.{elements, string_at, string_or_none, optional_string_at, optional_bool_at};
+ghost use Rattle.sno_document.specs.Trees.{tree_seen};
+
+use json::Value;
+
+/// Whether this is an object.
+pub(crate) fn is_object(value: &Value<'_>) -> bool
+    ensures { result ≡ is_some (as_object (tree_seen value.now)) }
+{
+    matches!(value, Value::Object(_))
+}
+
+/// The member with this key, the last one where there are more.
+#[tactic(auto, using(crate::proofs::TreeLemmas::member_found))]
+pub(crate) fn member<'v, 't>(value: &'v Value<'t>, key: &str) -> Option<&'v Value<'t>>
+    ensures { option_map (λ v. tree_seen v.now) result ≡ get key.now (tree_seen value.now) }
+{
+    value.get(key)
+}
+
+/// The elements of an array; nothing where it is none.
+pub(crate) fn elements<'v, 't>(value: &'v Value<'t>) -> Option<&'v [Value<'t>]>
+    ensures { option_map (λ s. map tree_seen s.now) result ≡ option_map elements (as_array (tree_seen value.now)) }
+{
+    match value {
+        Value::Array(list) => Some(list.as_slice()),
+        _ => None,
+    }
+}
+
+/// The characters of a string.
+#[tactic(auto, using(crate::proofs::TreeLemmas::string_seen))]
+fn text_of<'t>(value: &Value<'t>) -> Option<&'t str>
+    ensures { option_map (λ s. s.now) result ≡ as_str (tree_seen value.now) }
+{
+    value.as_str()
+}
+
+/// True or false.
+#[tactic(auto, using(crate::proofs::TreeLemmas::bool_seen))]
+fn bool_of(value: &Value<'_>) -> Option<bool>
+    ensures { result ≡ as_bool (tree_seen value.now) }
+{
+    value.as_bool()
+}
+
+/// A string; nothing where the member is missing or of another kind.
+pub(crate) fn string_at<'t>(value: &Value<'t>, key: &str) -> Option<&'t str>
+    ensures { option_map (λ s. s.now) result ≡ string_at key.now (tree_seen value.now) }
+{
+    match member(value, key) {
+        None => None,
+        Some(member) => text_of(member),
+    }
+}
+
+/// A string, or none where it is null; nothing where it is of another kind.
+fn string_or_none<'t>(value: &Value<'t>) -> Option<Option<&'t str>>
+    ensures { option_map (λ o. option_map (λ s. s.now) o) result ≡ string_or_none (Some (tree_seen value.now)) }
+{
+    match value {
+        Value::Null => Some(None),
+        Value::String(text) => Some(Some(*text)),
+        _ => None,
+    }
+}
+
+/// A string, or none where the member is missing or null; nothing where it is of another kind.
+pub(crate) fn optional_string_at<'t>(value: &Value<'t>, key: &str) -> Option<Option<&'t str>>
+    ensures { option_map (λ o. option_map (λ s. s.now) o) result ≡ optional_string_at key.now (tree_seen value.now) }
+{
+    match member(value, key) {
+        None => Some(None),
+        Some(member) => string_or_none(member),
+    }
+}
+
+/// True or false, or none where the member is missing; nothing where it is of another kind.
+pub(crate) fn optional_bool_at(value: &Value<'_>, key: &str) -> Option<Option<bool>>
+    ensures { result ≡ optional_bool_at key.now (tree_seen value.now) }
+{
+    match member(value, key) {
+        None => Some(None),
+        Some(member) => bool_of(member).map(Some),
+    }
+}
