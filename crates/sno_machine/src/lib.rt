@@ -27,21 +27,19 @@
 //! (`LeadsTo`), and takes one from a number of steps that `specs/Steps.antt` counts beforehand; so a match ends.
 #![tactic(auto)]
 
-mod backing_up;
 mod beginnings;
-mod choices;
+mod code;
+mod compiling;
 mod conditions;
 mod faults;
-mod frames;
-mod matcher;
-mod pending;
-mod primitives;
+mod history;
+mod leaves;
+mod nodes;
 mod progress;
-mod resuming;
+mod running;
 mod starts;
 mod stepping;
-mod trying;
 
+pub use code::{Code, compile};
 pub use faults::MatchFault;
 pub use sno_pattern::{Assign, Assigns, Conds, Found, Hit, Name, Pattern, Rules, Text, What};
-pub use starts::first;

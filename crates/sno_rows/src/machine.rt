@@ -1,6 +1,6 @@
 //! The matcher beside the plain evaluator, and rows on the matcher alone.
 use crate::row::{Written, admit, name_of};
-use sno_machine::{Assign, Found, MatchFault, What, first};
+use sno_machine::{Assign, Found, MatchFault, What, compile};
 use sno_pattern::{Name, Pattern, Rules, Text};
 use sno_read::read_pattern;
 use std::alloc::Global;
@@ -54,14 +54,8 @@ fn by_matcher(
     limit: u32,
 ) -> Result<Result<Found, MatchFault>, Fail> {
     assert!(rt; case.rules.covers(&case.pattern));
-    Ok(first(
-        rt.alloc(),
-        &case.rules,
-        &case.pattern,
-        &case.text,
-        anchored,
-        limit,
-    ))
+    let code = compile(rt.alloc(), &case.rules, &case.pattern)?;
+    Ok(code.first(rt.alloc(), &case.text, anchored, limit))
 }
 
 fn by_evaluator(
