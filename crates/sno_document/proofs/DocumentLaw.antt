@@ -20,7 +20,7 @@ way_chain : (bodies : List Tree) (i : ℕ) (rest : List ℕ) (j : ℕ) → IsWay
 way_chain bodies i [] j w = Chain.one w
 way_chain bodies i (x ∷ rest) j w = more_way bodies i x rest j (Chain.one w.0) w.1
 
--- the first definition on a circle is one alone
+-- the first definition on a cycle is one alone
 first_same : (bodies : List Tree) (i : ℕ) (others : List ℕ) (k : ℕ) (more : List ℕ) → IsFirstCycle bodies (i ∷ others) → IsFirstCycle bodies (k ∷ more) → i ≡ k
 first_same bodies i others k more h g =
     elim (cases_lt h.0 g.0) [
@@ -33,9 +33,9 @@ first_same bodies i others k more h g =
 
 admitted_once : (rules : Definitions) (r s : Result Definitions RunFault) → IsAdmitted rules r → IsAdmitted rules s → r ≡ s
 admitted_once rules _ _ (IsAdmitted.guarded h) (IsAdmitted.guarded g) = refl
-admitted_once rules _ _ (IsAdmitted.guarded h) (IsAdmitted.circle i others c is) = absurd (not_guarded rules.bodies (i ∷ others) c h)
-admitted_once rules _ _ (IsAdmitted.circle i others c is) (IsAdmitted.guarded g) = absurd (not_guarded rules.bodies (i ∷ others) c g)
-admitted_once rules _ _ (IsAdmitted.circle i others c is) (IsAdmitted.circle k more b it) = let same : i ≡ k = first_same rules.bodies i others k more c b in cc
+admitted_once rules _ _ (IsAdmitted.guarded h) (IsAdmitted.cycle i others c is) = absurd (not_guarded rules.bodies (i ∷ others) c h)
+admitted_once rules _ _ (IsAdmitted.cycle i others c is) (IsAdmitted.guarded g) = absurd (not_guarded rules.bodies (i ∷ others) c g)
+admitted_once rules _ _ (IsAdmitted.cycle i others c is) (IsAdmitted.cycle k more b it) = let same : i ≡ k = first_same rules.bodies i others k more c b in cc
 
 module _ (bytes : List ℕ) (d e : Data) (a : value_in bytes ≡ Ok d) (b : value_in bytes ≡ Ok e) where
   same_value : d ≡ e

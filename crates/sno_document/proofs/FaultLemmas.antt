@@ -3,8 +3,8 @@ use Rattle.std.proofs.Common.{◌≡◌, ◌≢◌, ℕ, Bool, List, Result, Ok,
 use Rattle.sno_document.specs.Faults.{Fails, Gives, ◌>>=◌}
 use Rattle.std.specs.Borrow.{Bor}
 use Rattle.sno_pattern.specs.Definitions.{Definitions}
-use Rattle.sno_document.specs.Rows.{pair_seen, rows_seen}
-use Rattle.sno_document.specs.declared.rows.Rows.{Rows}
+use Rattle.sno_document.specs.DocumentRows.{pair_seen, rows_seen}
+use Rattle.sno_document.specs.declared.document_rows.Rows.{Rows}
 use Rattle.sno_document.specs.Document.{IsDocument, definitions_of}
 use Rattle.sno_document.specs.Reads.{Reads}
 use Rattle.sno_document.specs.declared.documents.Document.{Document}

@@ -2,7 +2,7 @@ pub mod JsonLemmas
 pub mod FaultLemmas
 pub mod PlaceLemmas
 pub mod References
-pub mod CircleLemmas
+pub mod CycleLemmas
 pub mod BookLemmas
 pub mod DocumentLaw
 pub mod LengthLemmas

@@ -54,18 +54,18 @@ reading fault_of (Err e) = Err (fault_of e)
 abbrev pub at_most : {A : Type 0} → ℕ → RunFault → List A → Result (List A) RunFault
 at_most most e rows = if nat_lt most (length rows) then Err e else Ok rows
 
--- the names of the definitions from number d on, behind those before
+-- the names of the definitions from number d on, after those before
 abbrev pub names_from : ℕ → List (List ℕ) → List (List ℕ × List ℕ) → Result (List (List ℕ)) RunFault
 names_from d done [] = Ok done
 names_from d done (row ∷ rows) = or_fault (fault.PatternName d) (name_of row.0) >>= λ name. names_from (d + 1) (done ++ name ∷ []) rows
 
 -- no reserved word, and no name twice
-abbrev pub names_checked : Result (List (List ℕ)) NamesFault → Result (List (List ℕ)) RunFault
-names_checked (Ok done) = Ok done
-names_checked (Err names.TooMany) = Err fault.TooManyPatterns
-names_checked (Err (names.Reserved place)) = Err (fault.PatternReserved (place + 1))
-names_checked (Err (names.Duplicate place)) = Err (fault.PatternDuplicate (place + 1))
-names_checked (Err names.Memory) = Err fault.Memory
+abbrev pub check_names : Result (List (List ℕ)) NamesFault → Result (List (List ℕ)) RunFault
+check_names (Ok done) = Ok done
+check_names (Err names.TooMany) = Err fault.TooManyPatterns
+check_names (Err (names.Reserved place)) = Err (fault.PatternReserved (place + 1))
+check_names (Err (names.Duplicate place)) = Err (fault.PatternDuplicate (place + 1))
+check_names (Err names.Memory) = Err fault.Memory
 
 -- the expressions of the definitions with d before them, which plain names may name
 abbrev pub bodies_from : List (List ℕ) → ℕ → List Tree → List (List ℕ × List ℕ) → Result (List Tree) RunFault
@@ -76,20 +76,20 @@ bodies_from defined d done (row ∷ rows) =
 -- the definitions, before they are admitted
 unfoldable pub definitions_of : List (List ℕ × List ℕ) → Result Definitions RunFault
 definitions_of rows =
-    at_most 64 fault.TooManyPatterns rows >>= λ rows. names_from 1 [] rows >>= λ written. names_checked (names_of written) >>= λ defined.
+    at_most 64 fault.TooManyPatterns rows >>= λ rows. names_from 1 [] rows >>= λ written. check_names (names_of written) >>= λ defined.
     bodies_from defined 0 [] rows >>= λ bodies. Ok (record { names = defined; bodies = bodies })
 
 -- the characters of text number t
-abbrev pub text_checked : ℕ → Result (List ℕ) TextFault → Result (List ℕ) RunFault
-text_checked t (Ok text) = Ok text
-text_checked t (Err texts.TooLong) = Err (fault.TextTooLong t)
-text_checked t (Err (texts.NonAscii place)) = Err (fault.TextNonAscii t)
+abbrev pub check_text : ℕ → Result (List ℕ) TextFault → Result (List ℕ) RunFault
+check_text t (Ok text) = Ok text
+check_text t (Err texts.TooLong) = Err (fault.TextTooLong t)
+check_text t (Err (texts.NonAscii place)) = Err (fault.TextNonAscii t)
 
 -- text number t: its name, then its length, then its characters
 unfoldable pub text_row : ℕ → List ℕ × List ℕ → Result (List ℕ × List ℕ) RunFault
-text_row t row = if is_text_name row.0 then text_checked t (text_of row.1) >>= (λ text. Ok (row.0, text)) else Err (fault.TextName t)
+text_row t row = if is_text_name row.0 then check_text t (text_of row.1) >>= (λ text. Ok (row.0, text)) else Err (fault.TextName t)
 
--- the texts from number t on, behind those before
+-- the texts from number t on, after those before
 abbrev pub texts_from : ℕ → NamedTexts → List (List ℕ × List ℕ) → Result NamedTexts RunFault
 texts_from t done [] = Ok done
 texts_from t done (row ∷ rows) = text_row t row >>= λ text. texts_from (t + 1) (done ++ text ∷ []) rows
@@ -127,7 +127,7 @@ usual_row rules anchor s row =
 unfoldable pub statement_row : Definitions → Mode → ℕ → StatementRow → Result Task RunFault
 statement_row rules mode s row = usual_row rules mode.anchor s row >>= λ statement. Ok (with_limit statement mode.trials)
 
--- the statements from number s on, behind those before
+-- the statements from number s on, after those before
 abbrev pub statements_from : Definitions → Mode → ℕ → List Task → List StatementRow → Result (List Task) RunFault
 statements_from rules mode s done [] = Ok done
 statements_from rules mode s done (row ∷ rows) =
@@ -145,17 +145,17 @@ value_or (Some d) = Ok d
 unfoldable pub value_in : List ℕ → Result Data RunFault
 value_in bytes = if nat_lt 16777216 (length bytes) then Err fault.DocumentTooLong else value_or (json_of bytes)
 
--- what comes behind the definitions, once they are admitted
+-- what comes after the definitions, once they are admitted
 unfoldable pub document_with : Definitions → Mode → Rows → Result Document RunFault
 document_with rules mode rows =
     texts_of rows.texts >>= λ done. statements_of rules mode rows.statements >>= λ statements.
     Ok (record { rules = rules; texts = done; statements = statements })
 
--- What definitions stand for: themselves, where they are guarded; or the fault with the name of the first that lies on a circle of
+-- What definitions stand for: themselves, where they are guarded; or the fault with the name of the first that lies on a cycle of
 -- references that takes no character.
 pub data IsAdmitted (rules : Definitions) : Result Definitions RunFault → Type 0 where
   guarded : Guarded rules.bodies → IsAdmitted rules (Ok rules)
-  circle : {name : List ℕ} (i : ℕ) (others : List ℕ) → IsFirstCycle rules.bodies (i ∷ others) → slice_get rules.names i ≡ Some name
+  cycle : {name : List ℕ} (i : ℕ) (others : List ℕ) → IsFirstCycle rules.bodies (i ∷ others) → slice_get rules.names i ≡ Some name
       → IsAdmitted rules (Err (fault.Unguarded name))
 
 -- What bytes stand for: the value, its shape, the definitions, their admission, and then the rest; or the first fault among these.

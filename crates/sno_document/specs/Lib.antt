@@ -1,7 +1,7 @@
 pub mod Faults
 pub mod Json
 pub mod Shape
-pub mod Rows
+pub mod DocumentRows
 pub mod Document
 pub mod Drafts
 pub mod Reads

@@ -25,7 +25,7 @@ abbrev pub or_shape : {X : Type 0} → Option X → Result X RunFault
 or_shape None = Err Shape
 or_shape (Some x) = Ok x
 
--- each element read in order, behind those that are read
+-- each element read in order, after those that are read
 abbrev pub each_row : {X : Type 0} → (Data → Result X RunFault) → List X → List Data → Result (List X) RunFault
 each_row read rows [] = Ok rows
 each_row read rows (d ∷ ds) = read d >>= λ row. each_row read (rows ++ row ∷ []) ds

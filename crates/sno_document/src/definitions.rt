@@ -5,13 +5,13 @@ ghost use Rattle.sno_pattern.specs.Tree.{tree_of, trees, refs_below};
 ghost use Rattle.sno_pattern.specs.NameList.{names_of};
 ghost use Rattle.sno_read.specs.Reading.{pattern_of};
 ghost use Rattle.sno_document.specs.Faults.{Gives};
-ghost use Rattle.sno_document.specs.Rows.{pair_seen};
+ghost use Rattle.sno_document.specs.DocumentRows.{pair_seen};
 ghost use Rattle.sno_document.specs.Drafts.{drafted_seen, IsDrafted, Admits};
-ghost use Rattle.sno_document.specs.Document.{names_from, names_checked, reading, bodies_from, definitions_of};
+ghost use Rattle.sno_document.specs.Document.{names_from, check_names, reading, bodies_from, definitions_of};
 ghost use Rattle.sno_document.specs.declared.faults.RunFault.TheVariants.{PatternRead};
 
 use crate::RunFault;
-use crate::rows::PairRow;
+use crate::document_rows::PairRow;
 use sno_pattern::{Name, Names, NamesFault, Pattern, Rules, RulesFault};
 use sno_read::{ReadFault, read_pattern};
 use std::alloc::Global;
@@ -33,9 +33,9 @@ fn names_in(alloc: Global, rows: &[PairRow<'_>]) -> Result<Vec<Name>, RunFault>
 }
 
 #[tactic(auto, using(crate::proofs::PlaceLemmas::reserved_place, crate::proofs::PlaceLemmas::duplicate_place))]
-fn names_checked(alloc: Global, names: &[Name]) -> Result<Names, RunFault>
+fn check_names(alloc: Global, names: &[Name]) -> Result<Names, RunFault>
     requires { length names.now ≤ 64 }
-    ensures { Gives (λ n. n) result (names_checked (names_of names.now)) }
+    ensures { Gives (λ n. n) result (check_names (names_of names.now)) }
 {
     match Names::new(alloc, names) {
         Ok(names) => Ok(names),
@@ -91,7 +91,7 @@ pub(crate) fn definitions(alloc: Global, rows: &[PairRow<'_>]) -> Result<Drafted
         return Err(RunFault::TooManyPatterns);
     }
     let written = names_in(alloc, rows)?;
-    let names = names_checked(alloc, &written)?;
+    let names = check_names(alloc, &written)?;
     let bodies = bodies(alloc, &names, rows)?;
     Ok(Drafted {
         names,
@@ -100,8 +100,8 @@ pub(crate) fn definitions(alloc: Global, rows: &[PairRow<'_>]) -> Result<Drafted
     })
 }
 
-/// The definitions admitted; `Unguarded` with the first that lies on a circle of references that takes no character.
-pub(crate) fn admitted(alloc: Global, drafted: Drafted) -> Result<Rules, RunFault>
+/// The definitions admitted; `Unguarded` with the first that lies on a cycle of references that takes no character.
+pub(crate) fn admit(alloc: Global, drafted: Drafted) -> Result<Rules, RunFault>
     requires { IsDrafted drafted }
     ensures { Admits (drafted_seen drafted) result }
 {

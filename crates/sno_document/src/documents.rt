@@ -4,12 +4,12 @@ ghost use Rattle.serde_json.specs.View.{view};
 ghost use Rattle.sno_statement.specs.Task.{IsLimit};
 ghost use Rattle.sno_document.specs.Faults.{Gives};
 ghost use Rattle.sno_document.specs.Json.{json_of};
-ghost use Rattle.sno_document.specs.Rows.{rows_seen};
+ghost use Rattle.sno_document.specs.DocumentRows.{rows_seen};
 ghost use Rattle.sno_document.specs.Document.{value_or, value_in, document_with};
 ghost use Rattle.sno_document.specs.Reads.{document_seen, Reads, IsReady};
 
-use crate::definitions::{admitted, definitions};
-use crate::rows::{Rows, rows_of};
+use crate::definitions::{admit, definitions};
+use crate::document_rows::{Rows, rows_of};
 use crate::statements::statements;
 use crate::texts::texts;
 use crate::{Mode, RunFault};
@@ -33,7 +33,7 @@ pub struct Document {
 
 /// The value that JSON in UTF-8 stands for.
 #[tactic(auto, using(crate::proofs::JsonLemmas::json_found, crate::proofs::JsonLemmas::json_none))]
-fn parsed(alloc: Global, bytes: &[u8]) -> Result<Value, RunFault>
+fn parse(alloc: Global, bytes: &[u8]) -> Result<Value, RunFault>
     ensures { Gives view result (value_or (json_of bytes.now)) }
 {
     match Value::from_slice(alloc, bytes) {
@@ -53,10 +53,10 @@ fn value_of(alloc: Global, bytes: &[u8]) -> Result<Value, RunFault>
     if bytes.len() > MAX_DOCUMENT {
         return Err(RunFault::DocumentTooLong);
     }
-    parsed(alloc, bytes)
+    parse(alloc, bytes)
 }
 
-/// What stands behind admitted definitions.
+/// What comes after the definitions, once they are admitted.
 #[tactic(auto, unfolding(crate::specs::Document::document_with))]
 fn document_with(
     alloc: Global,
@@ -87,7 +87,7 @@ pub fn read_document(alloc: Global, bytes: &[u8], mode: Mode) -> Result<Document
     let value = value_of(alloc, bytes)?;
     let rows = rows_of(alloc, &value)?;
     let drafted = definitions(alloc, &rows.patterns)?;
-    let rules = admitted(alloc, drafted)?;
+    let rules = admit(alloc, drafted)?;
     let document = document_with(alloc, rules, mode, &rows)?;
     Ok(document)
 }

@@ -34,7 +34,7 @@ pub enum RunFault {
     /// The expression of this definition is not read.
     #[error("pattern {0}: {1}")]
     PatternRead(usize, ReadFault),
-    /// Definitions that refer to one another in a circle without taking a character; this is the first of them.
+    /// Definitions that refer to one another in a cycle without taking a character; this is the first of them.
     #[error("patterns: unguarded {0}")]
     Unguarded(Name),
     /// More than 1,024 texts.

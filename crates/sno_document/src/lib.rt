@@ -6,18 +6,21 @@
 //! | File | What it does |
 //! |---|---|
 //! | `faults` | `RunFault`, with the line of each, and `status_of` |
-//! | `json`, `rows` | members of the JSON value; the document as it is written, borrowed from it |
+//! | `json`, `document_rows` | members of the JSON value; the rows of the document as it is written, borrowed from it |
 //! | `definitions`, `texts`, `statements`, `documents` | the checks, in the order of the document |
 //! | `laws` | what follows from the definitions |
+//!
+//! `Book` is that of `sno_book`, `Statement` that of `sno_statement`, `Name` and `Rules` those of `sno_pattern`, and `ReadFault` that of
+//! `sno_read`.
 #![tactic(auto)]
 
 mod definitions;
+mod document_rows;
 mod documents;
 mod faults;
 mod json;
 mod laws;
 mod modes;
-mod rows;
 mod statements;
 mod texts;
 
@@ -25,3 +28,7 @@ pub use documents::{Document, MAX_DOCUMENT, read_document};
 pub use faults::{RunFault, status_of};
 pub use laws::one_answer;
 pub use modes::Mode;
+pub use sno_book::Book;
+pub use sno_pattern::{Name, Rules};
+pub use sno_read::ReadFault;
+pub use sno_statement::Statement;

@@ -6,11 +6,11 @@ ghost use Rattle.sno_pattern.specs.Tree.{tree_of, refs_below};
 ghost use Rattle.sno_read.specs.Reading.{pattern_of};
 ghost use Rattle.sno_statement.specs.Task.{IsLimit};
 ghost use Rattle.sno_document.specs.Faults.{Gives};
-ghost use Rattle.sno_document.specs.Rows.{statement_seen};
+ghost use Rattle.sno_document.specs.DocumentRows.{statement_seen};
 ghost use Rattle.sno_document.specs.Document.{reading, object_row, text_name_row, statement_row, statements_from, statements_of, usual_row};
 ghost use Rattle.sno_document.specs.declared.faults.RunFault.TheVariants.{StatementPattern};
 
-use crate::rows::StatementRow;
+use crate::document_rows::StatementRow;
 use crate::{Mode, RunFault};
 use sno_pattern::{NameFault, Names, Pattern, Rules, TextName};
 use sno_read::{Object, ReadFault, read_object, read_pattern};

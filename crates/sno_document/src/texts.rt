@@ -1,11 +1,11 @@
 //! The texts of a document, in a book.
 ghost use Rattle.std.specs.Prelude.{◌≡◌, ◌≤◌, ◌+◌, [], map, length, IfOk};
 ghost use Rattle.sno_document.specs.Faults.{Gives};
-ghost use Rattle.sno_document.specs.Rows.{pair_seen};
+ghost use Rattle.sno_document.specs.DocumentRows.{pair_seen};
 ghost use Rattle.sno_document.specs.Document.{room, text_row, texts_from, distinct, texts_of};
 
 use crate::RunFault;
-use crate::rows::PairRow;
+use crate::document_rows::PairRow;
 use sno_book::{Book, BookFault};
 use sno_pattern::{NameFault, Text, TextFault, TextName};
 use std::alloc::Global;

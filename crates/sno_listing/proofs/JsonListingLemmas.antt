@@ -100,7 +100,7 @@ no_float h =
     neither _ _ (entries_float 0 h.journal)
     (neither _ _ (items_float refused_data refused_float h.refused) (neither _ false (items_float text_data text_float h.state) refl))
 
--- the values from a place on are the value there and those behind it
+-- the values from a place on are the value there and those after it
 binding_data_next : (bound : Bound) (i : ℕ) (b : List ℕ × Datum) → slice_get bound i ≡ Some b
     → map binding_data (drop i bound) ≡ binding_data b ∷ map binding_data (drop (i + 1) bound)
 binding_data_next bound i b is =

@@ -1,3 +1,3 @@
-pub mod ShownLemmas
+pub mod VersionedTextLemmas
 pub mod ListingLemmas
 pub mod JsonListingLemmas

@@ -1,4 +1,4 @@
-pub mod ShownTexts
+pub mod VersionedTexts
 pub mod History
 pub mod Listing
 pub mod JsonListing

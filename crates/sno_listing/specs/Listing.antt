@@ -24,16 +24,16 @@ is_plain c = (nat_le 32 c && nat_le c 126) && not (nat_eq c 92)
 abbrev pub escaped_character : ℕ → List ℕ
 escaped_character c = if is_plain c then c ∷ [] else 92 ∷ 120 ∷ hex_digit (c / 16) ∷ hex_digit (c % 16) ∷ []
 
-abbrev pub escaped : List ℕ → List ℕ
-escaped t = flat_map escaped_character t
+abbrev pub escaped_text : List ℕ → List ℕ
+escaped_text t = flat_map escaped_character t
 
 -- a text: its name, its version, and its characters between bars
 unfoldable pub text_line : VersionedText → List ℕ
-text_line held = escaped held.name ++ (32 ∷ [] ++ (decimal held.version ++ (codes " |" ++ (escaped held.text ++ (124 ∷ 10 ∷ [])))))
+text_line held = escaped_text held.name ++ (32 ∷ [] ++ (decimal held.version ++ (codes " |" ++ (escaped_text held.text ++ (124 ∷ 10 ∷ [])))))
 
 -- the value of a variable: a string between bars, or a number
 abbrev pub value_words : Datum → List ℕ
-value_words (Str t) = codes "|" ++ (escaped t ++ codes "|")
+value_words (Str t) = codes "|" ++ (escaped_text t ++ codes "|")
 value_words (Int n) = decimal n
 
 -- a variable with its value
@@ -43,7 +43,7 @@ binding_line (name, value) = codes "  " ++ (name ++ (codes " = " ++ (value_words
 -- the new text, where there is one
 abbrev pub after_line : Option (List ℕ) → List ℕ
 after_line None = []
-after_line (Some t) = codes "  -> |" ++ (escaped t ++ (124 ∷ 10 ∷ []))
+after_line (Some t) = codes "  -> |" ++ (escaped_text t ++ (124 ∷ 10 ∷ []))
 
 -- what came of a statement: the cursors of the match or the failure, a line for each binding, and the new text
 unfoldable pub done_lines : Done → List ℕ
@@ -57,7 +57,7 @@ entry_label index number = decimal index ++ (codes " statement " ++ decimal numb
 
 -- the text's name and its version
 unfoldable pub entry_subject : List ℕ → ℕ → List ℕ
-entry_subject name version = 32 ∷ [] ++ (escaped name ++ (32 ∷ [] ++ decimal version))
+entry_subject name version = 32 ∷ [] ++ (escaped_text name ++ (32 ∷ [] ++ decimal version))
 
 -- an entry of the journal, and what came of it
 abbrev pub entry_lines : ℕ → Entry → List ℕ

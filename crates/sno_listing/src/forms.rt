@@ -6,13 +6,13 @@ ghost use Rattle.sno_listing.specs.Forms.{listing_by};
 use crate::Refusal;
 use crate::json_listing::json_listing;
 use crate::listing::listing;
-use crate::shown_texts::shown_texts;
+use crate::versioned_texts::versioned_texts;
 use sno_book::Book;
 use std::alloc::{AllocError, Global};
 
 /// The listing of a book's texts, of its journal, and of the statements that were refused beside it: as JSON where `json` is set, and
 /// else in lines. Its one refusal is that of memory.
-pub fn listed(
+pub fn listing_of(
     alloc: Global,
     book: &Book,
     refused: &[Refusal],
@@ -20,7 +20,7 @@ pub fn listed(
 ) -> Result<Vec<u8>, AllocError>
     ensures { IfOk result (λ v. v.items ≡ listing_by json (history_of book.now refused.now)) }
 {
-    let texts = shown_texts(alloc, book)?;
+    let texts = versioned_texts(alloc, book)?;
     let journal = book.journal();
     if json {
         json_listing(alloc, &texts, journal, refused)

@@ -9,11 +9,11 @@ ghost use Rattle.serde_json.specs.View.{view, members_view};
 ghost use Rattle.serde_json.specs.Written.{compact_text};
 ghost use Rattle.sno_statement.specs.Perform.{done_of};
 ghost use Rattle.sno_listing.specs.Listing.{reason_words};
-ghost use Rattle.sno_listing.specs.ShownTexts.{shown};
+ghost use Rattle.sno_listing.specs.VersionedTexts.{text_seen};
 ghost use Rattle.sno_listing.specs.JsonListing.{array_of, text_data, value_data, binding_data, bindings_data, subject_members, matched_members, failed_members, done_members, entry_data, entries_data, refused_data, json_listing_data, json_listing};
 
 use crate::listing::put_reason;
-use crate::shown_texts::ShownText;
+use crate::versioned_texts::VersionedText;
 use crate::{Reason, Refusal};
 use serde_json::{Map, Value, json, put};
 use sno_book::Entry;
@@ -48,8 +48,8 @@ fn text_name_value(alloc: Global, name: &TextName) -> Result<Value, AllocError>
 }
 
 #[tactic(auto, unfolding(crate::specs::JsonListing::text_data))]
-fn text_value(alloc: Global, text: &ShownText<'_>) -> Result<Value, AllocError>
-    ensures { IfOk result (λ v. view v ≡ text_data (shown text.now)) }
+fn text_value(alloc: Global, text: &VersionedText<'_>) -> Result<Value, AllocError>
+    ensures { IfOk result (λ v. view v ≡ text_data (text_seen text.now)) }
 {
     let name = text_name_value(alloc, text.name)?;
     let characters = ascii_value(alloc, text.text.bytes())?;
@@ -223,8 +223,8 @@ fn refusal_values(alloc: Global, refused: &[Refusal]) -> Result<Vec<Value>, Allo
     Ok(values)
 }
 
-fn text_values(alloc: Global, texts: &[ShownText<'_>]) -> Result<Vec<Value>, AllocError>
-    ensures { IfOk result (λ v. map view v.items ≡ map text_data (map shown texts.now)) }
+fn text_values(alloc: Global, texts: &[VersionedText<'_>]) -> Result<Vec<Value>, AllocError>
+    ensures { IfOk result (λ v. map view v.items ≡ map text_data (map text_seen texts.now)) }
 {
     let mut values = Vec::with_capacity(alloc, texts.len())?;
     for text in texts {
@@ -236,11 +236,11 @@ fn text_values(alloc: Global, texts: &[ShownText<'_>]) -> Result<Vec<Value>, All
 #[tactic(auto, unfolding(crate::specs::JsonListing::json_listing_data))]
 fn listing_value(
     alloc: Global,
-    texts: &[ShownText<'_>],
+    texts: &[VersionedText<'_>],
     journal: &[Entry],
     refused: &[Refusal],
 ) -> Result<Value, AllocError>
-    ensures { IfOk result (λ v. view v ≡ json_listing_data (record { state = map shown texts.now; journal = journal.now; refused = refused.now })) }
+    ensures { IfOk result (λ v. view v ≡ json_listing_data (record { state = map text_seen texts.now; journal = journal.now; refused = refused.now })) }
 {
     let entries = Value::Array(entry_values(alloc, journal)?);
     let refused = Value::Array(refusal_values(alloc, refused)?);
@@ -252,11 +252,11 @@ fn listing_value(
 #[tactic(auto, using(crate::proofs::JsonListingLemmas::no_float))]
 pub(crate) fn json_listing(
     alloc: Global,
-    texts: &[ShownText<'_>],
+    texts: &[VersionedText<'_>],
     journal: &[Entry],
     refused: &[Refusal],
 ) -> Result<Vec<u8>, AllocError>
-    ensures { IfOk result (λ v. v.items ≡ json_listing (record { state = map shown texts.now; journal = journal.now; refused = refused.now })) }
+    ensures { IfOk result (λ v. v.items ≡ json_listing (record { state = map text_seen texts.now; journal = journal.now; refused = refused.now })) }
 {
     let value = listing_value(alloc, texts, journal, refused)?;
     let mut line = value.to_vec(alloc)?;

@@ -6,10 +6,10 @@ ghost use Rattle.std.specs.Char.{is_ascii};
 ghost use Rattle.std.specs.List.{flat_map, list_all};
 ghost use Rattle.std.specs.Fmt.{decimal};
 ghost use Rattle.sno_statement.specs.Perform.{done_of};
-ghost use Rattle.sno_listing.specs.ShownTexts.{shown};
-ghost use Rattle.sno_listing.specs.Listing.{hex_digit, is_plain, escaped_character, escaped, text_line, value_words, binding_line, after_line, done_lines, entry_label, entry_subject, entry_lines, entries_from, tries_words, reason_words, refused_line, count_line, listing};
+ghost use Rattle.sno_listing.specs.VersionedTexts.{text_seen};
+ghost use Rattle.sno_listing.specs.Listing.{hex_digit, is_plain, escaped_character, escaped_text, text_line, value_words, binding_line, after_line, done_lines, entry_label, entry_subject, entry_lines, entries_from, tries_words, reason_words, refused_line, count_line, listing};
 
-use crate::shown_texts::ShownText;
+use crate::versioned_texts::VersionedText;
 use crate::{Reason, Refusal};
 use sno_book::Entry;
 use sno_pattern::{Name, Text};
@@ -66,7 +66,7 @@ fn put_character(out: &mut Vec<u8>, character: u8) -> Result<(), AllocError>
 }
 
 fn put_escaped(out: &mut Vec<u8>, characters: &[u8]) -> Result<(), AllocError>
-    ensures { OnOk result (out.new.items ≡ out.old.items ++ escaped characters.now) }
+    ensures { OnOk result (out.new.items ≡ out.old.items ++ escaped_text characters.now) }
 {
     for character in characters {
         put_character(out, *character)?;
@@ -83,8 +83,8 @@ fn put_count(alloc: Global, out: &mut Vec<u8>, word: &str, count: usize) -> Resu
 }
 
 #[tactic(auto, unfolding(crate::specs::Listing::text_line))]
-fn put_text(alloc: Global, out: &mut Vec<u8>, text: &ShownText<'_>) -> Result<(), AllocError>
-    ensures { OnOk result (out.new.items ≡ out.old.items ++ text_line (shown text.now)) }
+fn put_text(alloc: Global, out: &mut Vec<u8>, text: &VersionedText<'_>) -> Result<(), AllocError>
+    ensures { OnOk result (out.new.items ≡ out.old.items ++ text_line (text_seen text.now)) }
 {
     put_escaped(out, text.name.bytes())?;
     put(out, b" ")?;
@@ -270,8 +270,12 @@ fn put_refusals(alloc: Global, out: &mut Vec<u8>, refused: &[Refusal]) -> Result
     Ok(())
 }
 
-fn put_texts(alloc: Global, out: &mut Vec<u8>, texts: &[ShownText<'_>]) -> Result<(), AllocError>
-    ensures { OnOk result (out.new.items ≡ out.old.items ++ flat_map text_line (map shown texts.now)) }
+fn put_texts(
+    alloc: Global,
+    out: &mut Vec<u8>,
+    texts: &[VersionedText<'_>],
+) -> Result<(), AllocError>
+    ensures { OnOk result (out.new.items ≡ out.old.items ++ flat_map text_line (map text_seen texts.now)) }
 {
     for text in texts {
         put_text(alloc, out, text)?;
@@ -283,11 +287,11 @@ fn put_texts(alloc: Global, out: &mut Vec<u8>, texts: &[ShownText<'_>]) -> Resul
 #[tactic(auto, unfolding(crate::specs::Listing::listing))]
 pub(crate) fn listing(
     alloc: Global,
-    texts: &[ShownText<'_>],
+    texts: &[VersionedText<'_>],
     journal: &[Entry],
     refused: &[Refusal],
 ) -> Result<Vec<u8>, AllocError>
-    ensures { IfOk result (λ v. v.items ≡ listing (record { state = map shown texts.now; journal = journal.now; refused = refused.now })) }
+    ensures { IfOk result (λ v. v.items ≡ listing (record { state = map text_seen texts.now; journal = journal.now; refused = refused.now })) }
 {
     let mut out = Vec::new(alloc);
     put_count(alloc, &mut out, "texts ", texts.len())?;

@@ -12,7 +12,7 @@ use Rattle.clap.specs.Words.{App, IsAmong, ReadsOne, Row, Text, fault_of, is_sim
 use Rattle.clap.specs.declared.error.kind.ErrorKind.{ErrorKind}
 use Rattle.clap.specs.declared.error.kind.ErrorKind.TheVariants.{OutOfMemory}
 use Rattle.clap.proofs.OnLiterals.{clap_on_literals}
-use Rattle.sno_rewrite.specs.CommandLine.{AreRefused, IsAnswer, IsChecked, Tells, faults, found, is_numeral, number_from, options_in, plain_options, program, shared_program}
+use Rattle.sno_rewrite.specs.CommandLine.{AreRefused, IsAnswer, IsChecked, Tells, faults, is_numeral, number_from, option_rows, options_in, plain_options, program, shared_program}
 use Rattle.sno_rewrite.specs.declared.options.Options.{Options}
 use Rattle.sno_rewrite.specs.declared.command_line.OptionsFault.{OptionsFault}
 use Rattle.sno_rewrite.specs.declared.command_line.OptionsFault.TheVariants.{Help, Usage, Memory}
@@ -26,9 +26,9 @@ pub program_free : is_simple_and_free program ≡ true
 unfolding program shared_program
 program_free = refl
 
-pub found_are : (a : App) (words : List Text) → a ≡ program → matches_of a words ≡ found words
-unfolding found
-found_are a words is = ap (λ (b : App). matches_of b words) is
+pub option_rows_are : (a : App) (words : List Text) → a ≡ program → matches_of a words ≡ option_rows words
+unfolding option_rows
+option_rows_are a words is = ap (λ (b : App). matches_of b words) is
 
 pub faults_are : (a : App) (words : List Text) → a ≡ program → fault_of a words ≡ faults words
 unfolding faults
@@ -85,22 +85,22 @@ pub flag_read : {E : Type 0} (G : Text → Result Bool E → Type 0) (o : Option
 flag_read G None r parses none value = ap (λ (x : Option Bool). unwrap_or x false) (none refl)
 flag_read G (Some t) r parses none value = flag_as_read G t r (parses t) (value t refl)
 
--- what is told of a fault is an answer to the words that have it
-pub told_answer : (words : List Text) (kind : ErrorKind) (fault : OptionsFault) → (kind ≡ OutOfMemory) ⊎ IsAmong kind (faults words) → Tells kind fault
+-- what a fault is answered with is an answer to the words that have it
+pub fault_answer : (words : List Text) (kind : ErrorKind) (fault : OptionsFault) → (kind ≡ OutOfMemory) ⊎ IsAmong kind (faults words) → Tells kind fault
     → IsAnswer words (Err fault)
-told_answer words kind (Help text) (inl memory) tells = cc
-told_answer words kind (Help text) (inr among) tells = subst (λ (k : ErrorKind). IsAmong k (faults words)) tells among
-told_answer words kind (Usage text) (inl memory) tells = absurd (tells.1 memory)
-told_answer words kind (Usage text) (inr among) tells = AreRefused.unread kind among tells.0
-told_answer words kind Memory h tells = tt
+fault_answer words kind (Help text) (inl memory) tells = cc
+fault_answer words kind (Help text) (inr among) tells = subst (λ (k : ErrorKind). IsAmong k (faults words)) tells among
+fault_answer words kind (Usage text) (inl memory) tells = absurd (tells.1 memory)
+fault_answer words kind (Usage text) (inr among) tells = AreRefused.unread kind among tells.0
+fault_answer words kind Memory h tells = tt
 
-plain_given : options_in (found []) ≡ plain_options
-unfolding found program shared_program clap_on_literals
+plain_given : options_in (option_rows []) ≡ plain_options
+unfolding option_rows program shared_program clap_on_literals
 plain_given = refl
 
 -- no word gives the plain options
-pub plain_answer : (words : List (String Global)) (rows : List Row) (options : Options) (result : Result Options OptionsFault) → rows ≡ found (map string_bytes words)
+pub plain_answer : (words : List (String Global)) (rows : List Row) (options : Options) (result : Result Options OptionsFault) → rows ≡ option_rows (map string_bytes words)
     → options ≡ options_in rows → IsChecked options result → words ≡ [] → IfOk result (λ o. o ≡ plain_options)
 plain_answer words rows options (Ok o) are given checked none =
-    checked.0 ∙ given ∙ ap options_in (are ∙ ap (λ (w : List (String Global)). found (map string_bytes w)) none) ∙ plain_given
+    checked.0 ∙ given ∙ ap options_in (are ∙ ap (λ (w : List (String Global)). option_rows (map string_bytes w)) none) ∙ plain_given
 plain_answer words rows options (Err e) are given checked none = tt

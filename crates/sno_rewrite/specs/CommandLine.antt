@@ -76,17 +76,17 @@ unfoldable pub faults : List Text → Kinds
 faults words = fault_of program words
 
 -- what words give for each option
-unfoldable pub found : List Text → List Row
-found words = matches_of program words
+unfoldable pub option_rows : List Text → List Row
+option_rows words = matches_of program words
 
 -- Why words give no options: they are not read, for another cause than that they ask for help; or a number is past its limits.
 pub data AreRefused (words : List Text) : Type 0 where
   unread : (kind : ErrorKind) → IsAmong kind (faults words) → kind ≢ DisplayHelp → AreRefused words
-  unlawful : faults words ≡ [] → are_lawful (options_in (found words)) ≡ false → AreRefused words
+  unlawful : faults words ≡ [] → are_lawful (options_in (option_rows words)) ≡ false → AreRefused words
 
 -- What is answered for words: the options that they give, help where they ask for it, or that they are refused; or memory is.
 abbrev pub IsAnswer : List Text → Result Options OptionsFault → Type 0
-IsAnswer words (Ok o) = (faults words ≡ []) × (o ≡ options_in (found words)) × (are_lawful o ≡ true)
+IsAnswer words (Ok o) = (faults words ≡ []) × (o ≡ options_in (option_rows words)) × (are_lawful o ≡ true)
 IsAnswer words (Err (Help text)) = IsAmong DisplayHelp (faults words)
 IsAnswer words (Err (Usage text)) = AreRefused words
 IsAnswer words (Err Memory) = Unit {0}

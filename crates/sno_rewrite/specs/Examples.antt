@@ -20,15 +20,15 @@ line words = words ++ 10 ∷ []
 abbrev no_rules : Definitions
 no_rules = record { names = []; bodies = [] }
 
-abbrev replaced_by : List Part → ℕ → List ℕ → Tree → Task
-replaced_by parts number text pattern = record { number = number; rules = no_rules; pattern = pattern; object = Some parts; text = text; anchored = false; limit = 1000000 }
+abbrev with_object : List Part → ℕ → List ℕ → Tree → Task
+with_object parts number text pattern = record { number = number; rules = no_rules; pattern = pattern; object = Some parts; text = text; anchored = false; limit = 1000000 }
 
-abbrev sought : ℕ → List ℕ → Tree → Task
-sought number text pattern = record { number = number; rules = no_rules; pattern = pattern; object = None; text = text; anchored = false; limit = 1000000 }
+abbrev without_object : ℕ → List ℕ → Tree → Task
+without_object number text pattern = record { number = number; rules = no_rules; pattern = pattern; object = None; text = text; anchored = false; limit = 1000000 }
 
 -- T is abc, and its b is replaced by X
 abbrev one_replacement : Document
-one_replacement = record { rules = no_rules; texts = (codes "T", codes "abc") ∷ []; statements = replaced_by (Quoted (codes "X") ∷ []) 1 (codes "T") (Lit (codes "b")) ∷ [] }
+one_replacement = record { rules = no_rules; texts = (codes "T", codes "abc") ∷ []; statements = with_object (Quoted (codes "X") ∷ []) 1 (codes "T") (Lit (codes "b")) ∷ [] }
 
 one_replacement_listed : option_map listing (serial one_replacement)
     ≡ Some (line (codes "texts 1") ++ (line (codes "T 1 |aXc|") ++ (line (codes "entries 1") ++ (line (codes "0 statement 1 T 0 matched 1 2") ++ (line (codes "  -> |aXc|") ++ line (codes "refused 0"))))))
@@ -40,9 +40,9 @@ abbrev three_statements : Document
 three_statements = record {
   rules = no_rules;
   texts = (codes "A", codes "k=v") ∷ (codes "B", codes "aaab") ∷ [];
-  statements = replaced_by (Var (codes "V") ∷ Quoted (codes "=") ∷ Var (codes "K") ∷ []) 1 (codes "A")
+  statements = with_object (Var (codes "V") ∷ Quoted (codes "=") ∷ Var (codes "K") ∷ []) 1 (codes "A")
       (Seq (Cond (Break (codes "=")) (codes "K")) (Seq (Lit (codes "=")) (Cond Rem (codes "V"))))
-      ∷ sought 2 (codes "B") (Seq (Span (codes "a")) (Lit (codes "a"))) ∷ sought 3 (codes "C") (Lit (codes "x")) ∷ [];
+      ∷ without_object 2 (codes "B") (Seq (Span (codes "a")) (Lit (codes "a"))) ∷ without_object 3 (codes "C") (Lit (codes "x")) ∷ [];
 }
 
 three_statements_listed : option_map listing (serial three_statements)
@@ -56,7 +56,7 @@ abbrev two_versions : Document
 two_versions = record {
   rules = no_rules;
   texts = (codes "T", codes "ab") ∷ [];
-  statements = replaced_by (Quoted (codes "b") ∷ []) 1 (codes "T") (Lit (codes "a")) ∷ replaced_by (Quoted (codes "bb") ∷ []) 2 (codes "T") (Lit (codes "bb")) ∷ [];
+  statements = with_object (Quoted (codes "b") ∷ []) 1 (codes "T") (Lit (codes "a")) ∷ with_object (Quoted (codes "bb") ∷ []) 2 (codes "T") (Lit (codes "bb")) ∷ [];
 }
 
 two_versions_listed : option_map listing (serial two_versions)

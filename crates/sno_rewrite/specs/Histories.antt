@@ -3,10 +3,10 @@ use Rattle.std.specs.Prelude.{◌≡◌, ◌≤◌, ◌+◌, ℕ, length}
 use Rattle.sno_book.specs.Views.{View}
 use Rattle.sno_document.specs.Document.{room}
 use Rattle.sno_listing.specs.History.{History, history_of}
-use Rattle.sno_rewrite.specs.declared.serial.Performed.{Performed}
+use Rattle.sno_rewrite.specs.declared.serial.BookWithRefusals.{BookWithRefusals}
 
-abbrev pub performed_seen : Performed → History
-performed_seen p = history_of p.book p.refused.items
+abbrev pub history_seen : BookWithRefusals → History
+history_seen p = history_of p.book p.refused.items
 
 -- there is room for at least so many entries more
 pub record HasRoom (v : View) (most : ℕ) : Type 0 where

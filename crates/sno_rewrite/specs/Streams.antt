@@ -5,8 +5,8 @@ use Rattle.sno_document.specs.declared.faults.RunFault.{RunFault}
 use Rattle.sno_document.specs.declared.faults.RunFault.TheVariants.{Memory, Read, DocumentTooLong}
 
 -- what was read stands after what there was
-abbrev pub ConsumesBehind : Option (List ℕ) → Option (List ℕ) → List ℕ → List ℕ → Type 0
-ConsumesBehind old new before after = (read : List ℕ) × Consumes old new read × (after ≡ before ++ read)
+abbrev pub ConsumesAfter : Option (List ℕ) → Option (List ℕ) → List ℕ → List ℕ → Type 0
+ConsumesAfter old new before after = (read : List ℕ) × Consumes old new read × (after ≡ before ++ read)
 
 -- no more than so many bytes were taken from the reader
 abbrev pub TakesAtMost : ℕ → Option (List ℕ) → Option (List ℕ) → Type 0

@@ -1,7 +1,7 @@
 //! The options of the program, from the words of its command line.
 ghost use Rattle.std.specs.Prelude.{◌≡◌, [], map, false, Some, IfOk, string_bytes};
 ghost use Rattle.clap.specs.Words.{app_of, FailsBy, found_of, kind_of, rows_of, rule_of, with_rule};
-ghost use Rattle.sno_rewrite.specs.CommandLine.{are_lawful, bare_program, faults, flag, flag_in, found, IsAnswer, IsChecked, is_up_to, number_in, numeric, numeric_or, options_in, plain_options, program, shared_program, Tells};
+ghost use Rattle.sno_rewrite.specs.CommandLine.{are_lawful, bare_program, faults, flag, flag_in, IsAnswer, IsChecked, is_up_to, number_in, numeric, numeric_or, option_rows, options_in, plain_options, program, shared_program, Tells};
 ghost use Rattle.sno_rewrite.specs.Runs.{AreInLimits};
 
 use crate::Options;
@@ -120,7 +120,7 @@ fn program<'a>(alloc: Global) -> Result<Command<'a>, AllocError>
 }
 
 fn matches<'a>(alloc: Global, words: &'a [String]) -> Result<ArgMatches<'a>, Error>
-    ensures found { IfOk result (λ m. rows_of (found_of m) ≡ found (map string_bytes words.entry.now)) }
+    ensures found { IfOk result (λ m. rows_of (found_of m) ≡ option_rows (map string_bytes words.entry.now)) }
     ensures fault { FailsBy (faults (map string_bytes words.entry.now)) result }
 {
     let program = program(alloc)?;
@@ -168,7 +168,7 @@ fn are_lawful(options: &Options) -> bool
 }
 
 /// `clap`'s own text on a fault.
-fn told(alloc: Global, error: &Error) -> OptionsFault
+fn fault_of_error(alloc: Global, error: &Error) -> OptionsFault
     ensures { Tells (kind_of error.now) result }
 {
     let Ok(text) = format!(in alloc; "{error}") else {
@@ -183,7 +183,7 @@ fn told(alloc: Global, error: &Error) -> OptionsFault
 
 /// The options, where they are within their limits.
 #[tactic(auto, using(crate::proofs::LimitLemmas::in_limits))]
-fn checked(alloc: Global, options: Options) -> Result<Options, OptionsFault>
+fn check_limits(alloc: Global, options: Options) -> Result<Options, OptionsFault>
     ensures checked { IsChecked options result }
     ensures limits { IfOk result (λ o. AreInLimits o) }
 {
@@ -211,7 +211,7 @@ pub fn options_of(alloc: Global, words: &[String]) -> Result<Options, OptionsFau
     ensures plain { words.now ≡ [] → IfOk result (λ o. o ≡ plain_options) }
 {
     match matches(alloc, words) {
-        Ok(matches) => checked(alloc, options_in(&matches)),
-        Err(error) => Err(told(alloc, &error)),
+        Ok(matches) => check_limits(alloc, options_in(&matches)),
+        Err(error) => Err(fault_of_error(alloc, &error)),
     }
 }

@@ -15,8 +15,8 @@
 //! | `program` | `run_program`, from the words and the streams of the program to its status |
 //! | `laws` | what follows from the definitions |
 //!
-//! `RunFault` and `status_of` are those of `sno_document`, `Reason` and `Refusal` those of `sno_listing`, `Name` that of `sno_pattern` and
-//! `ReadFault` that of `sno_read`.
+//! `Mode`, `RunFault` and `status_of` are those of `sno_document`, `Reason` and `Refusal` those of `sno_listing`, `Name` that of
+//! `sno_pattern` and `ReadFault` that of `sno_read`.
 #![tactic(auto)]
 
 mod command_line;
@@ -35,7 +35,7 @@ pub use laws::each_document_has_a_serial_run;
 pub use options::Options;
 pub use program::run_program;
 pub use running::{Report, run, run_serial, run_shared};
-pub use sno_document::{RunFault, status_of};
+pub use sno_document::{Mode, RunFault, status_of};
 pub use sno_listing::{Reason, Refusal};
 pub use sno_pattern::Name;
 pub use sno_read::ReadFault;

@@ -27,7 +27,7 @@ fn note(owners: &mut [Option<usize>], index: usize, place: usize) -> Result<(), 
 }
 
 /// That the receipt's entry is the journal's at its index; `Audit` where it is not.
-fn audited(book: &Book, receipt: &Receipt) -> Result<(), RunFault>
+fn audit(book: &Book, receipt: &Receipt) -> Result<(), RunFault>
     ensures agrees { OnOk result (Agrees book.now.journal receipt.now) }
     ensures fault { IfErr result (λ e. e ≡ Audit) }
 {
@@ -51,7 +51,7 @@ fn take_up(
 {
     match &replies[place] {
         Ok(receipt) => {
-            audited(book, receipt)?;
+            audit(book, receipt)?;
             note(owners, receipt.index, place)?;
             Ok(())
         }

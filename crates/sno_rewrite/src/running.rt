@@ -7,16 +7,16 @@ ghost use Rattle.sno_rewrite.specs.Modes.{mode_of};
 ghost use Rattle.sno_rewrite.specs.Reports.{IsReport, IsOutside};
 ghost use Rattle.sno_rewrite.specs.Runs.{AreInLimits, FailsBy, IsBegun, IsOwn, IsRun, Reports};
 ghost use Rattle.sno_rewrite.specs.Shared.{IsSharedReport};
-ghost use Rattle.sno_rewrite.specs.Histories.{performed_seen};
+ghost use Rattle.sno_rewrite.specs.Histories.{history_seen};
 ghost use Rattle.sno_rewrite.specs.Streams.{RefusesLonger, TakesAtMost};
 ghost use Rattle.std.specs.Io.KnownBytes.{IsAtEnd};
 
 use crate::Options;
-use crate::serial::serial;
-use crate::sharing::shared;
+use crate::serial::perform_serial;
+use crate::sharing::perform_shared;
 use crate::streams::{read_all, write_all};
 use sno_document::{Mode, RunFault, read_document};
-use sno_listing::listed;
+use sno_listing::listing_of;
 use std::alloc::Global;
 use std::io::{Read, Write};
 use std::sync::Wait;
@@ -45,23 +45,23 @@ pub fn run_serial(alloc: Global, bytes: &[u8], options: &Options) -> Result<Repo
     // Any other fault is the first of the bytes.
     ensures fault { IfErr result (λ e. e ≢ Memory → IsDocument (mode_of options.now) bytes.now (Err e)) }
 {
-    let report = reported(alloc, bytes, options.mode(), options.json)?;
+    let report = serial_report(alloc, bytes, options.mode(), options.json)?;
     Ok(report)
 }
 
-fn reported(alloc: Global, bytes: &[u8], mode: Mode, json: bool) -> Result<Report, RunFault>
+fn serial_report(alloc: Global, bytes: &[u8], mode: Mode, json: bool) -> Result<Report, RunFault>
     requires { IsLimit mode.trials }
     ensures found { IfOk result (λ report. IsReport mode json bytes.now report.bytes.items report.refused) }
     ensures fault { IfErr result (λ e. e ≢ Memory → IsDocument mode bytes.now (Err e)) }
 {
     let document = read_document(alloc, bytes, mode)?;
-    let performed = serial(alloc, document)?;
-    let bytes = listed(alloc, &performed.book, &performed.refused, json)?;
+    let performed = perform_serial(alloc, document)?;
+    let bytes = listing_of(alloc, &performed.book, &performed.refused, json)?;
     let refused = performed.refused.len();
     Ok(Report { bytes, refused })
 }
 
-fn reported_shared<T: Threads + Wait + Sync>(
+fn shared_report<T: Threads + Wait + Sync>(
     rt: &T,
     alloc: Global,
     bytes: &[u8],
@@ -75,8 +75,8 @@ fn reported_shared<T: Threads + Wait + Sync>(
     ensures fault { IfErr result (λ e. IsOwn e ⊎ IsDocument (mode_of options.now) bytes.now (Err e)) }
 {
     let document = read_document(alloc, bytes, options.mode())?;
-    let performed = shared(rt, alloc, document, workers, options.tries)?;
-    let bytes = listed(alloc, &performed.book, &performed.refused, options.json)?;
+    let performed = perform_shared(rt, alloc, document, workers, options.tries)?;
+    let bytes = listing_of(alloc, &performed.book, &performed.refused, options.json)?;
     let refused = performed.refused.len();
     Ok(Report { bytes, refused })
 }
@@ -103,7 +103,7 @@ pub fn run_shared<T: Threads + Wait + Sync>(
     ensures fault { IfErr result (λ e. IsOwn e ⊎ IsDocument (mode_of options.now) bytes.now (Err e)) }
 {
     let workers = options.workers.unwrap_or(1);
-    let report = reported_shared(rt, alloc, bytes, workers, options)?;
+    let report = shared_report(rt, alloc, bytes, workers, options)?;
     Ok(report)
 }
 

@@ -6,7 +6,7 @@ ghost use Rattle.sno_document.specs.Reads.{document_seen, IsReady};
 ghost use Rattle.sno_rewrite.specs.Serial.{refuse, advance, run, serial};
 ghost use Rattle.sno_listing.specs.History.{history_of};
 ghost use Rattle.sno_document.specs.Document.{room};
-ghost use Rattle.sno_rewrite.specs.Histories.{performed_seen, HasRoom};
+ghost use Rattle.sno_rewrite.specs.Histories.{history_seen, HasRoom};
 
 use sno_book::{Book, CommitFault, SnapshotFault, fresh_is_free, propose};
 use sno_document::{Document, RunFault};
@@ -17,12 +17,12 @@ use std::sync::Arc;
 
 /// A book on which statements were performed, and those that were refused.
 #[derive(Drop)]
-pub(crate) struct Performed {
+pub(crate) struct BookWithRefusals {
     pub(crate) book: Book,
     pub(crate) refused: Vec<Refusal>,
 }
 
-/// The statement is refused, behind those that are.
+/// The statement is refused, after those that are.
 pub(crate) fn refuse(
     refused: &mut Vec<Refusal>,
     statement: &Statement,
@@ -39,11 +39,11 @@ pub(crate) fn refuse(
 /// One statement performed on the text of its name, as it is now.
 fn advance(
     alloc: Global,
-    performed: &mut Performed,
+    performed: &mut BookWithRefusals,
     statement: &Arc<Statement>,
 ) -> Result<(), RunFault>
     requires { HasRoom performed.old.book 1 }
-    ensures advanced { OnOk result (advance (performed_seen performed.old) (arc_value statement.now) ≡ Some (performed_seen performed.new)) }
+    ensures advanced { OnOk result (advance (history_seen performed.old) (arc_value statement.now) ≡ Some (history_seen performed.new)) }
     ensures opening { OnOk result (performed.new.book.opening ≡ performed.old.book.opening) }
     ensures grown { OnOk result (length performed.new.book.journal ≤ length performed.old.book.journal + 1) }
     ensures memory { IfErr result (λ e. e ≡ Memory) }
@@ -79,11 +79,11 @@ fn advance(
 /// The statements in order.
 fn run(
     alloc: Global,
-    performed: &mut Performed,
+    performed: &mut BookWithRefusals,
     statements: &[Arc<Statement>],
 ) -> Result<(), RunFault>
     requires { HasRoom performed.old.book (length statements.now) }
-    ensures run { OnOk result (run (performed_seen performed.old) (map arc_value statements.now) ≡ Some (performed_seen performed.new)) }
+    ensures run { OnOk result (run (history_seen performed.old) (map arc_value statements.now) ≡ Some (history_seen performed.new)) }
     ensures memory { IfErr result (λ e. e ≡ Memory) }
 {
     for statement in statements {
@@ -93,9 +93,12 @@ fn run(
 }
 
 /// What the statements of the document, performed in order on its texts, do. Each is performed by snapshot, proposal and commit.
-pub(crate) fn serial(alloc: Global, document: Document) -> Result<Performed, RunFault>
+pub(crate) fn perform_serial(
+    alloc: Global,
+    document: Document,
+) -> Result<BookWithRefusals, RunFault>
     requires { IsReady document }
-    ensures serial { IfOk result (λ p. serial (document_seen document) ≡ Some (performed_seen p)) }
+    ensures serial { IfOk result (λ p. serial (document_seen document) ≡ Some (history_seen p)) }
     ensures memory { IfErr result (λ e. e ≡ Memory) }
 {
     let Document {
@@ -103,7 +106,7 @@ pub(crate) fn serial(alloc: Global, document: Document) -> Result<Performed, Run
         statements,
         ..
     } = document;
-    let mut performed = Performed {
+    let mut performed = BookWithRefusals {
         book,
         refused: Vec::new(alloc),
     };

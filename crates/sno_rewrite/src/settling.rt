@@ -7,14 +7,14 @@ ghost use Rattle.sno_book.specs.States.{find};
 ghost use Rattle.sno_book.specs.Views.{state_of};
 ghost use Rattle.sno_desk.specs.Answers.{Answers};
 ghost use Rattle.sno_desk.specs.Turns.{AllAnswer};
-ghost use Rattle.sno_rewrite.specs.Histories.{performed_seen};
+ghost use Rattle.sno_rewrite.specs.Histories.{history_seen};
 ghost use Rattle.sno_rewrite.specs.Owners.{IsAuditOrMemory, IsListed, Lists, is_short, reason_in};
 ghost use Rattle.sno_rewrite.specs.Shared.{HasReached, MayRefuse, Settles};
 ghost use Rattle.sno_document.specs.declared.faults.RunFault.TheVariants.{Audit as AuditFailed, Memory as MemoryRefused};
 ghost use Rattle.sno_listing.specs.declared.refusals.Reason.TheVariants.{NoText as WithoutText, TriesSpent as Spent};
 
 use crate::owners::owners;
-use crate::serial::{Performed, refuse};
+use crate::serial::{BookWithRefusals, refuse};
 use sno_book::Book;
 use sno_desk::{Reply, SubmitFault};
 use sno_document::RunFault;
@@ -144,7 +144,7 @@ fn list_at(
 
 /// The refused statements, in their order.
 #[tactic(auto, using(crate::proofs::SettlingLemmas::lists_none))]
-fn refused(
+fn refusals_of(
     alloc: Global,
     book: &Book,
     statements: &[Arc<Statement>],
@@ -169,7 +169,7 @@ fn is_short(reply: &Reply) -> bool
 }
 
 /// Whether memory was refused for one of the statements.
-fn ran_short(replies: &[Reply]) -> bool
+fn is_any_short(replies: &[Reply]) -> bool
     ensures { result ≡ list_any is_short replies.now }
 {
     replies.iter().any(|reply| is_short(reply))
@@ -180,23 +180,23 @@ fn ran_short(replies: &[Reply]) -> bool
 /// Refused: `Memory` where a reply is `Memory`; then `Audit` where a reply can't be that of a lawful run, or a receipt and the journal
 /// don't agree; `Memory`. The book is dropped then.
 #[tactic(auto, using(crate::proofs::SettlingLemmas::settles))]
-pub(crate) fn settled(
+pub(crate) fn settle_replies(
     alloc: Global,
     book: Book,
     statements: &[Arc<Statement>],
     replies: &[Reply],
     tries: u32,
-) -> Result<Performed, RunFault>
+) -> Result<BookWithRefusals, RunFault>
     requires { AllAnswer (Answers (λ _ _. ⊥) tries) (map arc_value statements.now) replies.now }
     ensures book { IfOk result (λ p. p.book ≡ book) }
-    ensures settles { IfOk result (λ p. Settles tries (map arc_value statements.now) (performed_seen p)) }
+    ensures settles { IfOk result (λ p. Settles tries (map arc_value statements.now) (history_seen p)) }
     ensures memory { list_any is_short replies.now ≡ true → IfErr result (λ e. e ≡ MemoryRefused) }
     ensures fault { IfErr result IsAuditOrMemory }
 {
-    if ran_short(replies) {
+    if is_any_short(replies) {
         return Err(RunFault::Memory);
     }
-    let refused = refused(alloc, &book, statements, replies, tries)?;
+    let refused = refusals_of(alloc, &book, statements, replies, tries)?;
     let _owners = owners(alloc, &book, replies)?;
-    Ok(Performed { book, refused })
+    Ok(BookWithRefusals { book, refused })
 }

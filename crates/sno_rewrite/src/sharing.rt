@@ -4,13 +4,13 @@ ghost use Rattle.std.specs.Arc.{arc_value};
 ghost use Rattle.sno_book.specs.Views.{IsLawful};
 ghost use Rattle.sno_desk.specs.Answers.{Answers};
 ghost use Rattle.sno_desk.specs.Turns.{AllAnswer};
-ghost use Rattle.sno_rewrite.specs.Histories.{performed_seen};
+ghost use Rattle.sno_rewrite.specs.Histories.{history_seen};
 ghost use Rattle.sno_document.specs.Reads.{document_seen, IsReady};
 ghost use Rattle.sno_rewrite.specs.Runs.{IsOwn};
 ghost use Rattle.sno_rewrite.specs.Shared.{IsShared};
 
-use crate::serial::Performed;
-use crate::settling::settled;
+use crate::serial::BookWithRefusals;
+use crate::settling::settle_replies;
 use sno_book::Book;
 use sno_desk::{Desk, DeskFault, OpenGate, Reply, Seat, WorkersFault, close, run_workers};
 use sno_document::{Document, RunFault};
@@ -22,7 +22,7 @@ use std::sync::{Arc, Wait};
 use std::thread::Threads;
 
 /// The book of a document on a desk with that many seats.
-fn opened<L: Ledger>(
+fn open_desk<L: Ledger>(
     alloc: Global,
     blank: Blank,
     book: Book,
@@ -44,7 +44,7 @@ fn opened<L: Ledger>(
 }
 
 /// All seats at work on the statements, and then the desk closed.
-fn worked<L: Ledger + Send + Sync, R: Threads + Wait + Sync>(
+fn work<L: Ledger + Send + Sync, R: Threads + Wait + Sync>(
     rt: &R,
     alloc: Global,
     desk: Desk<L>,
@@ -73,21 +73,21 @@ fn worked<L: Ledger + Send + Sync, R: Threads + Wait + Sync>(
 
 /// The statements of the document performed on its texts by so many workers.
 #[tactic(auto, using(crate::proofs::SettlingLemmas::shares))]
-fn performed<L: Ledger + Send + Sync, R: Threads + Wait + Sync>(
+fn perform_at_desk<L: Ledger + Send + Sync, R: Threads + Wait + Sync>(
     rt: &R,
     alloc: Global,
     blank: Blank,
     document: Document,
     workers: usize,
     tries: u32,
-) -> Result<Performed, RunFault>
+) -> Result<BookWithRefusals, RunFault>
     requires name { blank.name ≡ L.name }
     requires parts { blank.parts ≡ L.parts }
     requires one_each { blank.parts ≡ workers }
     requires few { (1 ≤ workers) × (workers ≤ 16) }
     requires lawful { (1 ≤ tries) × (tries ≤ 1000) }
     requires ready { IsReady document }
-    ensures shared { IfOk result (λ p. IsShared tries (document_seen document) (performed_seen p)) }
+    ensures shared { IfOk result (λ p. IsShared tries (document_seen document) (history_seen p)) }
     ensures fault { IfErr result IsOwn }
 {
     let Document {
@@ -95,9 +95,9 @@ fn performed<L: Ledger + Send + Sync, R: Threads + Wait + Sync>(
         statements,
         ..
     } = document;
-    let (desk, seats) = opened::<L>(alloc, blank, book, workers)?;
-    let (book, replies) = worked(rt, alloc, desk, seats, &statements, tries)?;
-    let performed = settled(alloc, book, &statements, &replies, tries)?;
+    let (desk, seats) = open_desk::<L>(alloc, blank, book, workers)?;
+    let (book, replies) = work(rt, alloc, desk, seats, &statements, tries)?;
+    let performed = settle_replies(alloc, book, &statements, &replies, tries)?;
     Ok(performed)
 }
 
@@ -105,19 +105,19 @@ fn performed<L: Ledger + Send + Sync, R: Threads + Wait + Sync>(
 ///
 /// Refused: `Memory`; `Audit` where the replies and the journal don't agree, `Closing` where the desk does not close. No lawful run meets
 /// the last two.
-pub(crate) fn shared<R: Threads + Wait + Sync>(
+pub(crate) fn perform_shared<R: Threads + Wait + Sync>(
     rt: &R,
     alloc: Global,
     document: Document,
     workers: u32,
     tries: u32,
-) -> Result<Performed, RunFault>
+) -> Result<BookWithRefusals, RunFault>
     requires few { (1 ≤ workers) × (workers ≤ 16) }
     requires lawful { (1 ≤ tries) × (tries ≤ 1000) }
     requires ready { IsReady document }
-    ensures shared { IfOk result (λ p. IsShared tries (document_seen document) (performed_seen p)) }
+    ensures shared { IfOk result (λ p. IsShared tries (document_seen document) (history_seen p)) }
     ensures fault { IfErr result IsOwn }
 {
     let blank = Blank::new(u64::from(workers));
-    performed::<Brand, R>(rt, alloc, blank, document, workers as usize, tries)
+    perform_at_desk::<Brand, R>(rt, alloc, blank, document, workers as usize, tries)
 }

@@ -1,7 +1,7 @@
 //! Bytes from a reader and to a writer.
 ghost use Rattle.std.specs.Prelude.{◌≡◌, ◌<◌, ◌≤◌, ◌+◌, length, IfOk, IfErr, IfSome, OnErr, OnOk, vec_len};
 ghost use Rattle.std.specs.Io.KnownBytes.{Appends, Consumes, IsAtEnd, Keeps};
-ghost use Rattle.sno_rewrite.specs.Streams.{AppendsFront, ConsumesBehind, IsMemoryOrRead, IsWholeInput, IsReadFault, TakesAtMost};
+ghost use Rattle.sno_rewrite.specs.Streams.{AppendsFront, ConsumesAfter, IsMemoryOrRead, IsWholeInput, IsReadFault, TakesAtMost};
 ghost use Rattle.sno_document.specs.declared.faults.RunFault.TheVariants.{Write as WriteFailed};
 
 use sno_document::{MAX_DOCUMENT, RunFault};
@@ -15,7 +15,7 @@ fn read_piece<R: Read>(reader: &mut R, bytes: &mut Vec<u8>, room: usize) -> Resu
     requires { 0 < room }
     ensures more { IfOk result (λ n. vec_len bytes.new ≡ vec_len bytes.old + n) }
     ensures bound { IfOk result (λ n. n ≤ room) }
-    ensures consumed { IfOk result (λ n. ConsumesBehind (R.remaining reader.old) (R.remaining reader.new) bytes.old.items bytes.new.items) }
+    ensures consumed { IfOk result (λ n. ConsumesAfter (R.remaining reader.old) (R.remaining reader.new) bytes.old.items bytes.new.items) }
     ensures end { IfOk result (λ n. n ≡ 0 → IsAtEnd (R.remaining reader.new)) }
     ensures taken { TakesAtMost room (R.remaining reader.old) (R.remaining reader.new) }
     ensures fault { IfErr result IsMemoryOrRead }

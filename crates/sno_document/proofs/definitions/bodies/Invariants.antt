@@ -3,7 +3,7 @@ use Rattle.std.proofs.Common.{◌≡◌, [], drop, map, length, IsTrue}
 use Rattle.std.specs.List.{list_all}
 use Rattle.sno_pattern.specs.Tree.{trees, refs_below}
 use Rattle.sno_document.specs.Document.{bodies_from}
-use Rattle.sno_document.specs.Rows.{pair_seen}
+use Rattle.sno_document.specs.DocumentRows.{pair_seen}
 use Rattle.sno_document.proofs.definitions.bodies.Given as goal
 
 abbrev pub invariant-loop-place : goal.invariant-loop-place

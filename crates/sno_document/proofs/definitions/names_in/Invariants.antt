@@ -1,7 +1,7 @@
 -- The names so far, with the rows that are left, come to the same.
 use Rattle.std.proofs.Common.{◌≡◌, ◌+◌, [], drop, map, length}
 use Rattle.sno_document.specs.Document.{names_from}
-use Rattle.sno_document.specs.Rows.{pair_seen}
+use Rattle.sno_document.specs.DocumentRows.{pair_seen}
 use Rattle.sno_document.proofs.definitions.names_in.Given as goal
 
 abbrev pub invariant-loop-name : goal.invariant-loop-name

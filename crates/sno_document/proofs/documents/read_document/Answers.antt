@@ -3,7 +3,7 @@ use Rattle.std.proofs.Common.{ap, sym, ◌∙◌}
 use Rattle.sno_pattern.specs.Definitions.{Definitions}
 use Rattle.sno_document.specs.Document.{IsDocument, document_with}
 use Rattle.serde_json.specs.View.{view}
-use Rattle.sno_document.specs.Rows.{rows_seen}
+use Rattle.sno_document.specs.DocumentRows.{rows_seen}
 use Rattle.sno_document.specs.Drafts.{drafted_seen}
 use Rattle.sno_document.proofs.FaultLemmas.{reads_err, drafted_from}
 use Rattle.sno_document.proofs.documents.read_document.Goals as goal

@@ -2,7 +2,7 @@
 use Rattle.std.proofs.Common.{◌≡◌, ◌+◌, [], drop, map, length}
 use Rattle.std.specs.Arc.{arc_value}
 use Rattle.sno_document.specs.Document.{statements_from}
-use Rattle.sno_document.specs.Rows.{statement_seen}
+use Rattle.sno_document.specs.DocumentRows.{statement_seen}
 use Rattle.sno_document.proofs.statements.statements.Given as goal
 
 abbrev pub invariant-loop-place : goal.invariant-loop-place

@@ -1,7 +1,7 @@
 -- The texts so far, with the rows that are left, come to the same.
 use Rattle.std.proofs.Common.{◌≡◌, ◌+◌, [], drop, map, length}
 use Rattle.sno_document.specs.Document.{texts_from}
-use Rattle.sno_document.specs.Rows.{pair_seen}
+use Rattle.sno_document.specs.DocumentRows.{pair_seen}
 use Rattle.sno_document.proofs.texts.text_rows.Given as goal
 
 abbrev pub invariant-loop-place : goal.invariant-loop-place

@@ -1,4 +1,4 @@
--- The binding at a place is put, and those behind it are left.
+-- The binding at a place is put, and those after it are left.
 use Rattle.std.proofs.Common.{sym}
 use Rattle.sno_listing.proofs.ListingLemmas.{binding_step}
 use Rattle.sno_listing.proofs.listing.put_bindings.Goals as goal

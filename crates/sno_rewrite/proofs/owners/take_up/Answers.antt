@@ -10,7 +10,7 @@ returns-in_ok-note-in-Ok-clause-owns c =
     owns_more c.args.book.now.journal c.args.replies.now c.args.place c.in-Ok.receipt c.args.owners.now c.note.new.owners c.requires.before
     (slice_get_read c.args.replies.now (length c.args.replies.now) c.args.place c.index-replies-place.result refl c.requires.inside c.index-replies-place.is
     ∙ ap Some c.in-Ok.is)
-    c.in_ok-audited-in-Ok.ensures.agrees (ap (slice_get c.args.owners.now) (sym e) ∙ c.in_ok-note-in-Ok.ensures.free)
+    c.in_ok-audit-in-Ok.ensures.agrees (ap (slice_get c.args.owners.now) (sym e) ∙ c.in_ok-note-in-Ok.ensures.free)
     (c.in_ok-note-in-Ok.ensures.noted ∙ ap (λ (n : ℕ). set c.args.owners.now n (Some c.args.place)) e)
 
 pub returns-in-Err-clause-owns : goal.returns-in-Err-clause-owns

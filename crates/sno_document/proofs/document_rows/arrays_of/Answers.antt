@@ -1,8 +1,8 @@
 -- The fault of an array is that of all, where the arrays before it are read.
 use Rattle.sno_document.specs.Shape.{arrays_of}
-use Rattle.sno_document.specs.Rows.{rows_seen}
+use Rattle.sno_document.specs.DocumentRows.{rows_seen}
 use Rattle.sno_document.proofs.FaultLemmas.{gives_err}
-use Rattle.sno_document.proofs.rows.arrays_of.Goals as goal
+use Rattle.sno_document.proofs.document_rows.arrays_of.Goals as goal
 
 pub returns-in_err-patterns : goal.returns-in_err-patterns
 unfolding arrays_of

@@ -1,10 +1,10 @@
--- Rows of the program by value.
+-- The rows of a document, as the program borrows them, by value.
 use Rattle.std.specs.Prelude.{ℕ, List, map}
 use Rattle.std.specs.Option.{option_map}
 use Rattle.std.specs.Borrow.{Bor}
 use Rattle.sno_document.specs.Shape as written
-use Rattle.sno_document.specs.declared.rows.StatementRow.{StatementRow}
-use Rattle.sno_document.specs.declared.rows.Rows.{Rows}
+use Rattle.sno_document.specs.declared.document_rows.StatementRow.{StatementRow}
+use Rattle.sno_document.specs.declared.document_rows.Rows.{Rows}
 
 abbrev pub pair_seen : Bor (List ℕ) × Bor (List ℕ) → List ℕ × List ℕ
 pair_seen p = (p.0.now, p.1.now)

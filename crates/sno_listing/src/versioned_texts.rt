@@ -1,7 +1,7 @@
-//! The texts of a book, as a listing shows them.
+//! The texts of a book with their names and versions, borrowed from it.
 ghost use Rattle.std.specs.Prelude.{◌≡◌, map, IfOk};
 ghost use Rattle.sno_book.specs.Views.{state_of};
-ghost use Rattle.sno_listing.specs.ShownTexts.{shown};
+ghost use Rattle.sno_listing.specs.VersionedTexts.{text_seen};
 
 use sno_book::Book;
 use sno_pattern::{Text, TextName};
@@ -9,21 +9,24 @@ use std::alloc::{AllocError, Global};
 
 /// A text with its name and its version.
 #[derive(Drop)]
-pub(crate) struct ShownText<'b> {
+pub(crate) struct VersionedText<'b> {
     pub(crate) name: &'b TextName,
     pub(crate) text: &'b Text,
     pub(crate) version: u64,
 }
 
 /// The texts of the book, in their order.
-#[tactic(auto, using(crate::proofs::ShownLemmas::text_there))]
-pub(crate) fn shown_texts(alloc: Global, book: &Book) -> Result<Vec<ShownText<'_>>, AllocError>
-    ensures { IfOk result (λ v. map shown v.items ≡ state_of book.now) }
+#[tactic(auto, using(crate::proofs::VersionedTextLemmas::text_there))]
+pub(crate) fn versioned_texts(
+    alloc: Global,
+    book: &Book,
+) -> Result<Vec<VersionedText<'_>>, AllocError>
+    ensures { IfOk result (λ v. map text_seen v.items ≡ state_of book.now) }
 {
     let mut texts = Vec::with_capacity(alloc, book.len())?;
     for place in 0..book.len() {
         match book.text(place) {
-            Some((name, text, version)) => texts.push(ShownText {
+            Some((name, text, version)) => texts.push(VersionedText {
                 name,
                 text,
                 version,

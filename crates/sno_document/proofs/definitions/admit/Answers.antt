@@ -4,8 +4,8 @@ use Rattle.std.proofs.Math.ListN.{length-map}
 use Rattle.std.proofs.lemmas.Option.{slice_get_read}
 use Rattle.sno_pattern.specs.Tree.{tree_of, trees}
 use Rattle.sno_document.specs.Document.{IsAdmitted}
-use Rattle.sno_document.proofs.CircleLemmas.{no_bad_ref, circle_parts}
-use Rattle.sno_document.proofs.definitions.admitted.Goals as goal
+use Rattle.sno_document.proofs.CycleLemmas.{no_bad_ref, cycle_parts}
+use Rattle.sno_document.proofs.definitions.admit.Goals as goal
 
 pub returns-in-Ok : goal.returns-in-Ok
 returns-in-Ok c = (c.in-Ok.ensures.2, IsAdmitted.guarded c.in-Ok.ensures.1)
@@ -17,8 +17,8 @@ unreachable-requires c =
 
 pub index-requires : goal.index-requires
 index-requires c =
-    let circle = rw c.in-Err-Unguarded.field-0-is at c.in-Err-Unguarded.ensures in
-    let parts = circle_parts (trees c.args.drafted.bodies.items) c.in-Err-Unguarded.cycle.items c.in-Some.first.now circle.1
+    let cycle = rw c.in-Err-Unguarded.field-0-is at c.in-Err-Unguarded.ensures in
+    let parts = cycle_parts (trees c.args.drafted.bodies.items) c.in-Err-Unguarded.cycle.items c.in-Some.first.now cycle.1
     (c.in-Some.ensures.value ∙ ap (λ (l : List ℕ). slice_get l 0) c.deref.ensures.value) in
     let inside = parts.2 in
     let long = c.args.drafted.written.ok.0 in
@@ -26,11 +26,11 @@ index-requires c =
 
 pub returns-in-Some : goal.returns-in-Some
 returns-in-Some c = λ _.
-    let circle = rw c.in-Err-Unguarded.field-0-is at c.in-Err-Unguarded.ensures in
-    let parts = circle_parts (trees c.args.drafted.bodies.items) c.in-Err-Unguarded.cycle.items c.in-Some.first.now circle.1
+    let cycle = rw c.in-Err-Unguarded.field-0-is at c.in-Err-Unguarded.ensures in
+    let parts = cycle_parts (trees c.args.drafted.bodies.items) c.in-Err-Unguarded.cycle.items c.in-Some.first.now cycle.1
     (c.in-Some.ensures.value ∙ ap (λ (l : List ℕ). slice_get l 0) c.deref.ensures.value) in
     let inside = parts.2 in
     let short : c.in-Some.first.now < length c.args.drafted.names = omega (arith, length-map c.args.drafted.bodies.items tree_of, c.requires.as_many) in
-    IsAdmitted.circle c.in-Some.first.now parts.0 parts.1
+    IsAdmitted.cycle c.in-Some.first.now parts.0 parts.1
     (slice_get_read c.args.drafted.names (length c.args.drafted.names) c.in-Some.first.now c.index.result.now refl short
     (c.index.ensures ∙ ap (λ (l : List (List ℕ)). get_or l c.in-Some.first.now c.index.result.now) c.requires.written))

@@ -3,7 +3,7 @@ ghost use Rattle.std.specs.Prelude.{◌≡◌, map, [], codes};
 ghost use Rattle.serde_json.specs.View.{view};
 ghost use Rattle.sno_document.specs.Faults.{Gives};
 ghost use Rattle.sno_document.specs.Shape.{pair_row, statement_row, each_row, pairs_at, statements_at, arrays_of, rows_of};
-ghost use Rattle.sno_document.specs.Rows.{pair_seen, statement_seen, rows_seen};
+ghost use Rattle.sno_document.specs.DocumentRows.{pair_seen, statement_seen, rows_seen};
 
 use crate::RunFault;
 use crate::json::{array_at, optional_bool_at, optional_string_at, string_at};

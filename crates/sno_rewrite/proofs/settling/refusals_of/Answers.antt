@@ -4,7 +4,7 @@ use Rattle.std.proofs.Math.ListN.{length-map}
 use Rattle.sno_book.specs.Views.{state_of}
 use Rattle.sno_desk.specs.Answers.{Answers}
 use Rattle.sno_rewrite.proofs.SettlingLemmas.{as_many, lists_all}
-use Rattle.sno_rewrite.proofs.settling.refused.Goals as goal
+use Rattle.sno_rewrite.proofs.settling.refusals_of.Goals as goal
 
 pub list_at-requires-clause-replied : goal.list_at-requires-clause-replied
 list_at-requires-clause-replied c =

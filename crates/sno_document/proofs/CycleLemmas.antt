@@ -1,4 +1,4 @@
--- Definitions that refer to definitions alone, and the first of a circle of them.
+-- Definitions that refer to definitions alone, and the first of a cycle of them.
 use Rattle.std.proofs.Common.{◌≡◌, ℕ, ◌+◌, ◌<◌, Bool, true, false, not, ◌&&◌, cond, List, [], ◌∷◌, length, Option, Some, None, slice_get, refl, sym, subst, ◌∙◌, IsTrue}
 use Rattle.std.specs.List.{list_all, position_from}
 use Rattle.std.proofs.lemmas.Option.{slice_get_within}
@@ -27,8 +27,8 @@ way_begins bodies i [] j (body, h, u) = there bodies i body h
 way_begins bodies i (x ∷ rest) j h = there bodies i h.0.0 h.0.1
 
 -- the first of a cycle is a definition, and the others follow it
-pub circle_parts : (bodies : List Tree) (cycle : List ℕ) (first : ℕ) → IsFirstCycle bodies cycle → Some first ≡ slice_get cycle 0
+pub cycle_parts : (bodies : List Tree) (cycle : List ℕ) (first : ℕ) → IsFirstCycle bodies cycle → Some first ≡ slice_get cycle 0
     → (others : List ℕ) × IsFirstCycle bodies (first ∷ others) × (first < length bodies)
-circle_parts bodies [] first h is = absurd h.1
-circle_parts bodies (i ∷ rest) first h is =
+cycle_parts bodies [] first h is = absurd h.1
+cycle_parts bodies (i ∷ rest) first h is =
     let same : i ≡ first = cc in (rest, subst (λ k. IsFirstCycle bodies (k ∷ rest)) same h, subst (λ k. k < length bodies) (sym h.1.0 ∙ same) (way_begins bodies h.0 rest h.0 h.1.1))

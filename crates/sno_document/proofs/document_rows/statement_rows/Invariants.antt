@@ -2,8 +2,8 @@
 use Rattle.std.proofs.Common.{◌≡◌, [], drop, map}
 use Rattle.serde_json.specs.View.{view}
 use Rattle.sno_document.specs.Shape.{statement_row, each_row}
-use Rattle.sno_document.specs.Rows.{statement_seen}
-use Rattle.sno_document.proofs.rows.statement_rows.Given as goal
+use Rattle.sno_document.specs.DocumentRows.{statement_seen}
+use Rattle.sno_document.proofs.document_rows.statement_rows.Given as goal
 
 abbrev pub invariant-loop-value : goal.invariant-loop-value
 invariant-loop-value l = each_row statement_row (map statement_seen l.rows.items) (map view (drop l.value-index l.values)) ≡ each_row statement_row [] (map view l.values)

@@ -2,8 +2,8 @@
 use Rattle.std.proofs.Common.{◌≡◌, [], drop, map}
 use Rattle.serde_json.specs.View.{view}
 use Rattle.sno_document.specs.Shape.{pair_row, each_row}
-use Rattle.sno_document.specs.Rows.{pair_seen}
-use Rattle.sno_document.proofs.rows.pair_rows.Given as goal
+use Rattle.sno_document.specs.DocumentRows.{pair_seen}
+use Rattle.sno_document.proofs.document_rows.pair_rows.Given as goal
 
 abbrev pub invariant-loop-value : goal.invariant-loop-value
 invariant-loop-value l = each_row (pair_row l.first l.second) (map pair_seen l.rows.items) (map view (drop l.value-index l.values)) ≡ each_row (pair_row l.first l.second) [] (map view l.values)

@@ -1,4 +1,0 @@
-use Rattle.sno_rewrite.proofs.sharing.shared.Given as goal
-
-abbrev pub ghosts-performed : goal.ghosts-performed
-ghosts-performed g a = record { name = a.blank.name; parts = a.blank.parts }
