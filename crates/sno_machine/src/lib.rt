@@ -21,6 +21,9 @@
 //!                  ^  └──> Mark ──> P ──> Moved
 //!                  └──────────────────────┘       Moved backs up where the round took no character
 //!
+//! ARBNO('a')       Repeat ──>                     of a primitive with at most one end: a round is one node, which does what Mark, the
+//!                  └──> Round ──>                 primitive, Moved and Repeat do, and is its own choice
+//!
 //! P . V            Mark ──> P ──> Later V ──>     what lies past the mark is put after the pending assignments
 //! P $ V            Mark ──> P ──> Now V ──>       .. or is assigned at once
 //!
@@ -54,25 +57,22 @@
 //!
 //! # One match, step by step
 //!
-//! `ARBNO('a') . X 'b'` from cursor 0 of `ab`. Its nodes, with `next` and `other`:
+//! `ARBNO('a') . X 'b'` from cursor 0 of `ab`. Its nodes, with `next` and, where it is named, `other`:
 //!
 //! ```text
-//! 2 'b' → 1    3 Later X → 2    4 Repeat → 3, 7    5 Moved → 4    6 'a' → 5    7 Mark → 6    8 Mark → 4    (0 Halt, 1 Return)
+//! 2 'b' → 1    3 Later X → 2    4 Round 'a' → 3    5 Repeat → 3, 4    6 Mark → 5    (0 Halt, 1 Return)
 //! ```
 //!
 //! ```text
-//! node  cursor  the history after the step, the newest entry last          what happened
-//! 8     0       mark 0                                                     X begins at 0
-//! 4     0       mark 0, choice 7 at 0                                      no round; a round is left as a choice
-//! 3     0       mark 0, choice 7 at 0, pending X 0-0                       X would be the null string
-//! 2     0       mark 0                                                     a trial: there is no `b` at 0; the choice is taken up
-//! 7     0       mark 0, mark 0                                             a round begins at 0
-//! 6     0       mark 0, mark 0                                             a trial: `a`, and the cursor is 1
-//! 5     1       mark 0, mark 0                                             the round took a character; its mark is named no more
-//! 4     1       mark 0, mark 0, choice 7 at 1                              no further round; one is left as a choice
-//! 3     1       mark 0, mark 0, choice 7 at 1, pending X 0-1               X would be `a`
-//! 2     1       the same                                                   a trial: `b`, and the cursor is 2
-//! 1     2       the same                                                   outside all frames: matched 0 to 2, X is `a`
+//! node  cursor  the history after the step, the newest entry last     what happened
+//! 6     0       mark 0                                                X begins at 0
+//! 5     0       mark 0, choice 4 at 0                                 no round; a round is left as a choice
+//! 3     0       mark 0, choice 4 at 0, pending X 0-0                  X would be the null string
+//! 2     0       mark 0                                                a trial: there is no `b` at 0, and the choice is taken up
+//! 4     0       mark 0, choice 4 at 1                                 a trial: `a`, and the cursor is 1; a further round is left as a choice
+//! 3     1       mark 0, choice 4 at 1, pending X 0-1                  X would be `a`
+//! 2     1       the same                                              a trial: `b`, and the cursor is 2
+//! 1     2       the same                                              outside all frames: matched 0 to 2, X is `a`
 //! ```
 //!
 //! | File | What it holds |
@@ -83,6 +83,7 @@
 //! | `progress` | what was done so far: immediate assignments and trials |
 //! | `stepping` | one step: what a node does |
 //! | `leaves` | the patterns without parts |
+//! | `rounds` | rounds of a repetition of a primitive |
 //! | `conditions` | the pending assignments of a success, in their order |
 //! | `running` | one step after the other, from one start |
 //! | `beginnings` | starts at which no match can begin are passed over |
@@ -105,6 +106,7 @@ mod history;
 mod leaves;
 mod nodes;
 mod progress;
+mod rounds;
 mod running;
 mod starts;
 mod stepping;
