@@ -1,110 +1,83 @@
-//! The history of a match: what can still be taken back.
-ghost use Rattle.std.specs.Prelude.{◌≡◌, ◌+◌, ◌++◌, ◌∷◌, [], length, OnOk, IfOk, IfErr, MatchOption};
-ghost use Rattle.sno_machine.specs.History.{Setting, Begins, IsEmpty, IsHistory, TakenUp, context_at, left};
+//! What is put down in the history of a match, and taken up.
+ghost use Rattle.std.specs.Prelude.{◌≡◌, ◌<◌, ◌≤◌, ◌+◌, ◌-◌, ◌^◌, ◌++◌, ◌∷◌, [], length, OnOk, IfOk, IfErr, MatchOption};
+ghost use Rattle.sno_machine.specs.History.{entries_of, Setting, Begins, IsEmpty, IsHistory, TakenUp, context_at, left};
 ghost use Rattle.sno_machine.specs.declared.faults.MatchFault.TheVariants.{Memory};
 
+use crate::entries::{Entry, History, Place};
 use crate::faults::MatchFault;
-use sno_pattern::Name;
 use std::alloc::Global;
-
-/// Where a match stands: the node that is next, the cursor, and the numbers of the list of frames and of the list of pending assignments.
-#[derive(Clone, Copy)]
-pub struct Place {
-    pub node: u32,
-    pub cursor: u32,
-    pub frame: u32,
-    pub pending: u32,
-}
-
-/// An entry of the history. A list of frames, or of pending assignments, is named by how many entries there were once its first one
-/// was put down; 0 is the empty list.
-#[derive(Clone, Copy)]
-pub enum Entry<'a> {
-    /// A choice: when the match backs up, it goes on there.
-    Choice(Place),
-    /// A definition is gone through.
-    Frame {
-        /// The node with which the match goes on after it.
-        node: u32,
-        /// How many references deep it may still go.
-        depth: u32,
-        /// The list of frames outside it.
-        below: u32,
-    },
-    /// A part began here.
-    Mark {
-        /// Where it began.
-        cursor: u32,
-        /// How many references deep it may go.
-        depth: u32,
-        /// The list of frames outside it.
-        below: u32,
-    },
-    /// An assignment that is done if the whole match succeeds.
-    Pending {
-        name: &'a Name,
-        start: u32,
-        end: u32,
-        /// The list of those before it.
-        below: u32,
-    },
-}
-
-/// The entries of a history, the oldest first. It takes memory only when the first one is put down.
-#[derive(Drop)]
-pub struct History<'a> {
-    pub entries: Vec<Entry<'a>>,
-}
 
 impl<'a> History<'a> {
     pub fn new(alloc: Global) -> History<'a>
-        ensures { result.entries.items ≡ [] }
+        ensures { (entries_of result) ≡ [] }
     {
         History {
-            entries: Vec::new(alloc),
+            buffer: Vec::new(alloc),
+            count: 0,
         }
     }
 
     /// Puts an entry down, and answers how many there are then. More than 4,294,967,295 are refused as memory is.
     #[inline(always)]
     pub fn push(&mut self, entry: Entry<'a>) -> Result<u32, MatchFault>
-        ensures entries { OnOk result (self.new.entries.items ≡ self.old.entries.items ++ entry.entry ∷ []) }
-        ensures number { IfOk result (λ n. n ≡ length self.old.entries.items + 1) }
+        ensures entries { OnOk result ((entries_of self.new) ≡ (entries_of self.old) ++ entry.entry ∷ []) }
+        ensures number { IfOk result (λ n. n ≡ length (entries_of self.old) + 1) }
         ensures refused { IfErr result (λ e. e ≡ Memory) }
     {
-        if self.entries.len() >= u32::MAX as usize {
+        if self.count as usize == self.buffer.len() {
+            self.grow(entry)?;
+        }
+        self.buffer[self.count as usize] = entry;
+        self.count += 1;
+        Ok(self.count)
+    }
+
+    /// Makes the buffer longer by four times, from 64 entries on, filled with this one.
+    #[cold]
+    #[inline(never)]
+    fn grow(&mut self, entry: Entry<'a>) -> Result<(), MatchFault>
+        requires { self.old.count ≡ length self.old.buffer.items }
+        ensures entries { (entries_of self.new) ≡ (entries_of self.old) }
+        ensures count { self.new.count ≡ self.old.count }
+        ensures longer { OnOk result (self.old.count < length self.new.buffer.items) }
+        ensures refused { IfErr result (λ e. e ≡ Memory) }
+    {
+        if self.count == u32::MAX {
             return Err(MatchFault::Memory);
         }
-        self.entries.push(entry)?;
-        Ok(self.entries.len() as u32)
+        let room = (u32::MAX - self.count) as usize;
+        let more = (self.count as usize * 3 + 64).min(room);
+        for _ in 0..more {
+            self.buffer.push(entry)?;
+        }
+        Ok(())
     }
 
     /// Drops all entries.
     pub fn clear(&mut self)
-        ensures { self.new.entries.items ≡ [] }
+        ensures { (entries_of self.new) ≡ [] }
     {
-        self.entries.truncate(0);
+        self.count = 0;
     }
 
     /// The entry that the list with this number begins with; none where the list is empty.
     #[inline(always)]
     pub fn entry(&self, number: u32) -> Option<Entry<'a>>
-        ensures { (s : Setting) → IsHistory s self.now.entries.items → MatchOption result (IsEmpty s self.now.entries.items number) (Begins s self.now.entries.items number) }
+        ensures { (s : Setting) → IsHistory s (entries_of self.now) → MatchOption result (IsEmpty s (entries_of self.now) number) (Begins s (entries_of self.now) number) }
     {
         if number == 0 {
             return None;
         }
-        let place = (number - 1) as usize;
-        if self.entries.len() <= place {
+        if self.count < number {
             return None;
         }
-        Some(self.entries[place])
+        Some(self.buffer[(number - 1) as usize])
     }
 
     /// How many references deep the frame goes; `most` outside all.
     #[inline(always)]
     pub fn depth(&self, frame: u32, most: u32) -> u32
-        ensures { (s : Setting) → s.depth ≡ most → IsHistory s self.now.entries.items → result ≡ (context_at s self.now.entries.items frame).depth }
+        ensures { (s : Setting) → s.depth ≡ most → IsHistory s (entries_of self.now) → result ≡ (context_at s (entries_of self.now) frame).depth }
     {
         match self.entry(frame) {
             Some(Entry::Frame { depth, .. }) | Some(Entry::Mark { depth, .. }) => depth,
@@ -115,10 +88,11 @@ impl<'a> History<'a> {
     /// Takes up the newest choice; none where there is none. What was put down since it was left is dropped.
     #[inline(always)]
     pub fn back_up(&mut self) -> Option<Place>
-        ensures { (s : Setting) → IsHistory s self.old.entries.items → MatchOption result (left s self.old.entries.items ≡ []) (TakenUp s self.old.entries.items self.new.entries.items) }
+        ensures { (s : Setting) → IsHistory s (entries_of self.old) → MatchOption result (left s (entries_of self.old) ≡ []) (TakenUp s (entries_of self.old) (entries_of self.new)) }
     {
-        while let Some(entry) = self.entries.pop() {
-            if let Entry::Choice(place) = entry {
+        while self.count != 0 {
+            self.count -= 1;
+            if let Entry::Choice(place) = self.buffer[self.count as usize] {
                 return Some(place);
             }
         }

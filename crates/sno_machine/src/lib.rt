@@ -43,7 +43,7 @@
 //!
 //! # The history
 //!
-//! What can still be taken back stands in one list of entries, the history. Where the match stands is a [`Place`](history::Place): the next
+//! What can still be taken back stands in one list of entries, the history. Where the match stands is a [`Place`](entries::Place): the next
 //! node, the cursor, and two numbers, which name the list of frames and that of pending assignments. A list is named by how many entries
 //! there were once its first one was put down, so it is there as long as that entry is, and lists share what lies below. An entry is
 //!
@@ -79,7 +79,8 @@
 //! |---|---|
 //! | `nodes` | nodes and their operations |
 //! | `compiling` | a pattern is compiled |
-//! | `history` | places, entries, and what is put down and taken up |
+//! | `entries` | places, entries, the history |
+//! | `history` | what is put down in the history, and taken up |
 //! | `progress` | what was done so far: immediate assignments and trials |
 //! | `stepping` | one step: what a node does |
 //! | `leaves` | the patterns without parts |
@@ -101,6 +102,7 @@ mod beginnings;
 mod code;
 mod compiling;
 mod conditions;
+mod entries;
 mod faults;
 mod history;
 mod leaves;

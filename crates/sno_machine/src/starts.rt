@@ -11,8 +11,8 @@ ghost use Rattle.sno_machine.specs.Endings.{end_by, found_of, match_by, Overspen
 ghost use Rattle.sno_machine.specs.declared.faults.MatchFault.TheVariants.{TooManyTrials};
 
 use crate::beginnings::{first_literal, next_start};
+use crate::entries::History;
 use crate::faults::MatchFault;
-use crate::history::History;
 use crate::nodes::Compiled;
 use crate::progress::Progress;
 use crate::running::{Ending, try_start};

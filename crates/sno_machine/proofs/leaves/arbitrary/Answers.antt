@@ -6,16 +6,16 @@ use Rattle.sno_pattern.specs.Results.{results}
 use Rattle.sno_machine.specs.Meaning.{carry, leaf_rest}
 use Rattle.sno_machine.specs.Steps.{steps, leaf_steps}
 use Rattle.sno_machine.specs.Plans.{to_come, steps_to_come}
-use Rattle.sno_machine.specs.History.{context_at, conds_at, onward_at, onward_steps, place_to_come, place_steps, at_node}
-use Rattle.sno_machine.specs.declared.history.Place.{Place}
+use Rattle.sno_machine.specs.History.{entries_of, context_at, conds_at, onward_at, onward_steps, place_to_come, place_steps, at_node}
+use Rattle.sno_machine.specs.declared.entries.Place.{Place}
 use Rattle.sno_machine.proofs.HistoryLaws.{chosen}
 use Rattle.sno_machine.proofs.PrimitiveLaws.{arb_same, arb_steps}
 use Rattle.sno_machine.proofs.leaves.arbitrary.Goals as goal
 
 pub returns : goal.returns
 returns c = λ s r is plan held placed.
-    let old = c.args.history.now.entries.items in
-    let new = c.push.new.self.entries.items in
+    let old = (entries_of c.args.history.now) in
+    let new = (entries_of c.push.new.self) in
     let at = c.args.at in
     let ctx = context_at s old at.frame in
     let a = conds_at old at.pending in

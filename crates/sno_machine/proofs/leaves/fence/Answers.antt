@@ -3,13 +3,13 @@ use Rattle.std.proofs.Common.{◌≡◌, ◌++◌, ◌∷◌, [], ap, sym, ◌�
 use Rattle.sno_pattern.specs.Events.{cut}
 use Rattle.sno_pattern.specs.declared.events.Event.TheVariants.{Halt}
 use Rattle.sno_machine.specs.Plans.{to_come, steps_to_come}
-use Rattle.sno_machine.specs.History.{context_at, conds_at, onward_at, place_to_come, place_steps, at_node}
+use Rattle.sno_machine.specs.History.{entries_of, context_at, conds_at, onward_at, place_to_come, place_steps, at_node}
 use Rattle.sno_machine.proofs.PrimitiveLaws.{fence_same}
 use Rattle.sno_machine.proofs.leaves.fence.Goals as goal
 
 pub returns : goal.returns
 returns c = λ s r halts held placed.
-    let old = c.args.history.now.entries.items in
+    let old = (entries_of c.args.history.now) in
     let at = c.args.at in
     let ctx = context_at s old at.frame in
     let a = conds_at old at.pending in

@@ -4,14 +4,14 @@ use Rattle.sno_pattern.specs.Tree.{tree_of}
 use Rattle.sno_pattern.specs.Events.{cut}
 use Rattle.sno_machine.specs.Steps.{leaf_steps}
 use Rattle.sno_machine.specs.Plans.{to_come, steps_to_come}
-use Rattle.sno_machine.specs.History.{context_at, conds_at, onward_at, onward_steps, place_steps}
+use Rattle.sno_machine.specs.History.{entries_of, context_at, conds_at, onward_at, onward_steps, place_steps}
 use Rattle.sno_machine.proofs.HistoryLaws.{too_many, tried_step}
 use Rattle.sno_machine.proofs.PrimitiveLaws.{leaf_same, leaf_count}
 use Rattle.sno_machine.proofs.leaves.leaf.Goals as goal
 
 pub returns-then-not-try_spend : goal.returns-then-not-try_spend
 returns-then-not-try_spend c = λ s is fits held placed plan.
-    let old = c.args.history.now.entries.items in
+    let old = (entries_of c.args.history.now) in
     let at = c.args.at in
     let ctx = context_at s old at.frame in
     let a = conds_at old at.pending in
@@ -23,7 +23,7 @@ returns-then-not-try_spend c = λ s is fits held placed plan.
 
 pub returns : goal.returns
 returns c = λ s is fits held placed plan.
-    let old = c.args.history.now.entries.items in
+    let old = (entries_of c.args.history.now) in
     let at = c.args.at in
     let ctx = context_at s old at.frame in
     let a = conds_at old at.pending in
