@@ -32,6 +32,7 @@ mod code;
 mod compiling;
 mod conditions;
 mod faults;
+mod heads;
 mod history;
 mod leaves;
 mod nodes;
