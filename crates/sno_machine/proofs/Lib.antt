@@ -5,6 +5,7 @@ pub mod PlanLaws
 pub mod HistoryLaws
 pub mod PrimitiveLaws
 pub mod EndingLaws
+pub mod HeadLaws
 pub mod BeginningLaws
 pub mod StartLaws
 pub mod CompileLaws

@@ -87,6 +87,7 @@
 //! | `rounds` | rounds of a repetition of a primitive |
 //! | `conditions` | the pending assignments of a success, in their order |
 //! | `running` | one step after the other, from one start |
+//! | `heads` | the characters with which a match can begin |
 //! | `beginnings` | starts at which no match can begin are passed over |
 //! | `starts` | the starts in turn |
 //! | `code` | [`compile`] and [`Code::first`] |
@@ -104,6 +105,7 @@ mod compiling;
 mod conditions;
 mod entries;
 mod faults;
+mod heads;
 mod history;
 mod leaves;
 mod nodes;

@@ -1,23 +1,21 @@
 //! A match: the starts in turn, until one of them ends it.
-ghost use Rattle.std.specs.Prelude.{◌≡◌, ◌+◌, ◌<◌, ◌≤◌, ℕ, false, [], length, IfOk, IfErr, IsTrue, MatchResult};
+ghost use Rattle.std.specs.Prelude.{◌≡◌, ◌+◌, ◌*◌, ◌<◌, ◌≤◌, ℕ, false, [], length, IfOk, IfErr, IsTrue, MatchResult};
 ghost use Rattle.std.specs.List.{flat_map};
-ghost use Rattle.std.specs.Option.{option_copied};
 ghost use Rattle.sno_pattern.specs.Tree.{tree_of, refs_below};
 ghost use Rattle.sno_pattern.specs.Results.{enough_depth};
 ghost use Rattle.sno_pattern.specs.Outcome.{outcome, outcome_at, starts, tried_from, trials};
-ghost use Rattle.sno_pattern.specs.Beginnings.{first_literal};
+ghost use Rattle.sno_machine.specs.Beginnings.{AreBeginnings, cost};
 ghost use Rattle.sno_machine.specs.Code.{IsCompiled};
 ghost use Rattle.sno_machine.specs.Endings.{end_by, found_of, match_by, Overspent};
 ghost use Rattle.sno_machine.specs.declared.faults.MatchFault.TheVariants.{TooManyTrials};
 
-use crate::beginnings::{first_literal, next_start};
+use crate::beginnings::Beginnings;
 use crate::entries::History;
 use crate::faults::MatchFault;
 use crate::nodes::Compiled;
 use crate::progress::Progress;
 use crate::running::{Ending, try_start};
-use memchr::memmem::Finder;
-use sno_pattern::{Assigns, Found, Pattern, Rules, Text, a_missing_literal_costs_one_trial};
+use sno_pattern::{Assigns, Found, Rules, Text};
 use std::alloc::Global;
 
 /// What comes of the match, at the depth that is counted here.
@@ -37,16 +35,6 @@ pub fn search(
     let mut progress = Progress::new(alloc, limit);
     let ending = try_all(alloc, code, text.bytes(), most, anchored, &mut progress)?;
     Ok(found(progress, ending))
-}
-
-// A search for the literal that is the first part of the pattern, where it is one.
-fn finder_of(pattern: &Pattern) -> Option<Finder<'_>>
-    ensures { result ≡ first_literal (tree_of pattern.now) }
-{
-    match first_literal(pattern) {
-        None => None,
-        Some(literal) => Some(Finder::new(literal.bytes())),
-    }
 }
 
 // What was found, once no start is left to be tried.
@@ -90,39 +78,41 @@ fn try_all(
         let ending = try_start(alloc, code, text, most, 0, &mut history, progress)?;
         return Ok(ending);
     }
-    let literal = finder_of(code.pattern);
-    let ending = try_starts(
-        alloc,
-        code,
-        text,
-        most,
-        literal.as_ref(),
-        &mut history,
-        progress,
-    )?;
+    let beginnings = Beginnings::of(alloc, code.pattern)?;
+    let ending = try_starts(alloc, code, text, most, &beginnings, &mut history, progress)?;
     Ok(ending)
 }
 
-// Tries one start after the other. Those at which no match can begin are passed over, at one trial each.
+// How many trials it costs to pass over so many starts.
+fn passing(starts: usize, cost: usize) -> usize
+    requires few { starts ≤ 65537 }
+    requires cheap { cost ≤ 64 }
+    ensures { result ≡ starts * cost }
+{
+    starts * cost
+}
+
+// Tries one start after the other. Those at which no match can begin are passed over, at the cost of each.
 fn try_starts<'a>(
     alloc: Global,
     code: &Compiled<'a>,
     text: &[u8],
     most: u32,
-    literal: Option<&Finder>,
+    beginnings: &Beginnings,
     history: &mut History<'a>,
     progress: &mut Progress,
 ) -> Result<Ending, MatchFault>
     requires compiled { IsCompiled code.now.rules.now.bodies (tree_of code.now.pattern.now) code.now.nodes }
     requires short { length text.now ≤ 65536 }
-    requires literal { option_copied literal ≡ first_literal (tree_of code.now.pattern.now) }
+    requires begin { AreBeginnings (tree_of code.now.pattern.now) beginnings.now }
+    requires cheap { cost beginnings.now ≤ 64 }
     ensures ending { IfOk result (λ ending. match_by progress.old (flat_map (tried_from text.now code.now.rules.now.bodies most (tree_of code.now.pattern.now)) (starts text.now false)) ≡ end_by ending progress.new []) }
     ensures refused { IfErr result (Overspent progress.old (flat_map (tried_from text.now code.now.rules.now.bodies most (tree_of code.now.pattern.now)) (starts text.now false))) }
 {
-    a_missing_literal_costs_one_trial();
+    let cost = beginnings.cost();
     let mut start = 0;
-    while let Some(begin) = next_start(text, literal, start) {
-        if !progress.try_spend(begin - start) {
+    while let Some(begin) = beginnings.next(text, start) {
+        if !progress.try_spend(passing(begin - start, cost)) {
             return Err(MatchFault::TooManyTrials);
         }
         match try_start(alloc, code, text, most, begin, history, progress)? {
@@ -130,7 +120,7 @@ fn try_starts<'a>(
             ending => return Ok(ending),
         }
     }
-    if !progress.try_spend(text.len() + 1 - start) {
+    if !progress.try_spend(passing(text.len() + 1 - start, cost)) {
         return Err(MatchFault::TooManyTrials);
     }
     Ok(Ending::Open)
