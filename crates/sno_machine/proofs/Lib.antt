@@ -1,9 +1,11 @@
-mod CarryLaws
-mod TrailLaws
-mod StateLaws
-mod StepLaws
-mod PrimitiveLaws
-mod EndingLaws
-mod Ranges
-mod BeginningLaws
-mod StartLaws
+pub mod Ranges
+pub mod TrailLaws
+pub mod CarryLaws
+pub mod PlanLaws
+pub mod HistoryLaws
+pub mod PrimitiveLaws
+pub mod EndingLaws
+pub mod HeadLaws
+pub mod BeginningLaws
+pub mod StartLaws
+pub mod CompileLaws

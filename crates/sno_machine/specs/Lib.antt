@@ -2,6 +2,10 @@ pub mod Trails
 pub mod Progress
 pub mod Meaning
 pub mod Steps
-pub mod State
+pub mod Plans
+pub mod Code
+pub mod Sources
+pub mod Compiling
+pub mod History
 pub mod Endings
 pub mod Beginnings

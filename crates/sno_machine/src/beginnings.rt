@@ -1,15 +1,76 @@
 //! With what a match begins: starts at which none can begin are passed over.
-ghost use Rattle.std.specs.Prelude.{◌≡◌, ◌+◌, ◌≤◌, length, MatchOption};
+ghost use Rattle.std.specs.Prelude.{◌≡◌, ◌+◌, ◌≤◌, length, IfOk, MatchOption};
 ghost use Rattle.std.specs.Option.{option_copied};
 ghost use Rattle.sno_pattern.specs.Tree.{tree_of};
 ghost use Rattle.sno_pattern.specs.Beginnings.{first_literal};
-ghost use Rattle.sno_machine.specs.Beginnings.{NoneBegin};
+ghost use Rattle.sno_machine.specs.Beginnings.{AreBeginnings, NoneBegin, cost};
 
+use crate::heads::{Head, first_of_heads, heads_of};
 use memchr::memmem::Finder;
-use sno_pattern::{Pattern, Text};
+use sno_pattern::{Pattern, Text, a_missing_literal_costs_one_trial};
+use std::alloc::{AllocError, Global};
 
-/// The literal that is the first part of the pattern, where it is one.
-pub fn first_literal(pattern: &Pattern) -> Option<&Text>
+/// With what a match can begin.
+#[derive(Drop)]
+pub enum Beginnings<'a> {
+    /// With anything.
+    Any,
+    /// With this literal alone.
+    Literal(Finder<'a>),
+    /// With one of these heads.
+    Heads(Vec<Head<'a>>),
+}
+
+impl<'a> Beginnings<'a> {
+    /// With what a match of the pattern can begin. It is refused for want of memory alone.
+    pub fn of(alloc: Global, pattern: &'a Pattern) -> Result<Beginnings<'a>, AllocError>
+        ensures begin { IfOk result (AreBeginnings (tree_of pattern.now)) }
+        ensures few { IfOk result (λ beginnings. cost beginnings ≤ 64) }
+    {
+        a_missing_literal_costs_one_trial();
+        if let Some(literal) = first_literal(pattern) {
+            return Ok(Beginnings::Literal(Finder::new(literal.bytes())));
+        }
+        match heads_of(alloc, pattern)? {
+            None => Ok(Beginnings::Any),
+            Some(heads) => Ok(Beginnings::Heads(heads)),
+        }
+    }
+
+    /// The first cursor from `start` on at which a match can begin.
+    pub fn next(&self, text: &[u8], start: usize) -> Option<usize>
+        requires { start ≤ length text.now + 1 }
+        ensures { MatchOption result (NoneBegin text.now self.now start (length text.now + 1))
+            (λ n. (start ≤ n) × (n ≤ length text.now) × NoneBegin text.now self.now start n) }
+    {
+        if start > text.len() {
+            return None;
+        }
+        let (_, rest) = text.split_at(start);
+        let passed = match self {
+            Beginnings::Any => return Some(start),
+            Beginnings::Literal(literal) => literal.find(rest),
+            Beginnings::Heads(heads) => first_of_heads(heads, rest),
+        };
+        match passed {
+            None => None,
+            Some(passed) => Some(start + passed),
+        }
+    }
+
+    /// How many trials a start costs at which a match can't begin: at most 64 for the beginnings of a pattern.
+    pub fn cost(&self) -> usize
+        ensures { result ≡ cost self.now }
+    {
+        match self {
+            Beginnings::Any | Beginnings::Literal(_) => 1,
+            Beginnings::Heads(heads) => heads.len(),
+        }
+    }
+}
+
+// The literal that is the first part of the pattern, where it is one.
+fn first_literal(pattern: &Pattern) -> Option<&Text>
     ensures { option_copied result ≡ first_literal (tree_of pattern.now) }
 {
     match pattern {
@@ -17,26 +78,5 @@ pub fn first_literal(pattern: &Pattern) -> Option<&Text>
         Pattern::Seq(first, _) => first_literal(first),
         Pattern::Cond(part, _) | Pattern::Imm(part, _) => first_literal(part),
         _ => None,
-    }
-}
-
-/// The first cursor from `start` on at which a match that begins with this literal can begin; each one where there is no literal.
-pub fn next_start(text: &[u8], literal: Option<&Finder>, start: usize) -> Option<usize>
-    requires { start ≤ length text.now + 1 }
-    ensures { MatchOption result (NoneBegin text.now (option_copied literal.entry) start (length text.now + 1))
-        (λ n. (start ≤ n) × (n ≤ length text.now) × NoneBegin text.now (option_copied literal.entry) start n) }
-{
-    if start > text.len() {
-        return None;
-    }
-    match literal {
-        None => Some(start),
-        Some(literal) => {
-            let (_, rest) = text.split_at(start);
-            match literal.find(rest) {
-                None => None,
-                Some(passed) => Some(start + passed),
-            }
-        }
     }
 }

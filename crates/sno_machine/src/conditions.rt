@@ -1,43 +1,30 @@
 //! The conditional assignments of a success.
-ghost use Rattle.std.specs.Prelude.{◌≡◌, ◌<◌, ◌++◌, ◌∷◌, [], IfOk, MatchOption};
-ghost use Rattle.sno_machine.specs.State.{conds_at};
+ghost use Rattle.std.specs.Prelude.{◌≡◌, IfOk};
+ghost use Rattle.sno_machine.specs.History.{entries_of, Setting, IsHistory, conds_at};
 
-use crate::matcher::Matcher;
-use crate::pending::PendingCell;
+use crate::entries::{Entry, History};
 use sno_pattern::Conds;
 use std::alloc::{AllocError, Global};
 
-impl<'a> Matcher<'a> {
-    /// The last assignment of the list with this number; none where the list is empty.
-    fn last_pending(&self, number: usize) -> Option<PendingCell<'a>>
-        ensures { MatchOption result (conds_at self.now.pending.items number ≡ [])
-            (λ x. (conds_at self.now.pending.items number ≡ conds_at self.now.pending.items x.below ++ (x.name.now, x.start, x.end) ∷ []) × (x.below < number)) }
-    {
-        if number == 0 {
-            return None;
-        }
-        if self.pending.len() < number {
-            return None;
-        }
-        let cell = self.pending[number - 1];
-        let below = if cell.below < number { cell.below } else { 0 };
-        Some(PendingCell {
-            name: cell.name,
-            start: cell.start,
-            end: cell.end,
-            below,
-        })
-    }
-
+impl<'a> History<'a> {
     /// The assignments of the list with this number, in the order in which their parts ended.
-    pub fn conditions(&self, alloc: Global, number: usize) -> Result<Conds, AllocError>
-        ensures { IfOk result (λ v. v ≡ conds_at self.now.pending.items number) }
+    pub fn conditions(&self, alloc: Global, number: u32) -> Result<Conds, AllocError>
+        requires { (s : Setting) × IsHistory s (entries_of self.now) }
+        ensures { IfOk result (λ v. v ≡ conds_at (entries_of self.now) number) }
     {
         let mut parts = Vec::new(alloc);
-        let mut left = number;
-        while let Some(cell) = self.last_pending(left) {
-            parts.push((*cell.name, cell.start, cell.end))?;
-            left = cell.below;
+        let mut list = number;
+        while let Some(
+            Entry::Pending {
+                name,
+                start,
+                end,
+                below,
+            },
+        ) = self.entry(list)
+        {
+            parts.push((*name, start as usize, end as usize))?;
+            list = below;
         }
         parts.reverse();
         Ok(Conds::of(parts))

@@ -1,47 +1,120 @@
-//! The matcher: what comes of a match, sought one step after the other.
+//! The matcher: a pattern is compiled to nodes, and the nodes are run.
 //!
-//! [`first`] answers exactly what the definitions of `sno_pattern` say of a match, `outcome` of its `specs/Outcome.antt`. A match that takes more
-//! trials than its limit is refused, and one for which memory is.
+//! [`compile`] makes a [`Code`] of a pattern and of the definitions that it may refer to, and [`Code::first`] answers exactly what the
+//! definitions of `sno_pattern` say of a match, `outcome` of its `specs/Outcome.antt`. A match that takes more trials than its limit is refused,
+//! and one for which memory is.
 //!
-//! What is left to be done once a part has matched, the assignments that are pending and what is left to be tried stand on three stacks.
-//! The first two are lists that share their tails: a choice keeps the number of its lists, and how many cells there were when it was left,
-//! and backing up drops the cells that came since. So no call goes deeper for a longer text or a deeper recursion of definitions, and
-//! memory grows with the steps that can still be taken back.
+//! # Nodes
+//!
+//! A node has an operation, a successor (`next`) and another node (`other`), each named by its number. Below, an arrow to the right is `next`,
+//! and one down is `other`, a node that is left as a choice. Each drawing shows the nodes of a pattern, and where they go on to the right.
+//!
+//! ```text
+//! 'a'              'a' ──>                        a leaf: it costs a trial; `next` where it matches, else the match backs up
+//!
+//! P Q              P ──> Q ──>                    no node of its own
+//!
+//! P | Q            Fork ──> P ──>                 the choice is Q, which goes on to the same node as P
+//!                    └────> Q ──┘
+//!
+//! ARBNO(P)         Repeat ──────────────────>     no round; the choice is a round, which comes back
+//!                  ^  └──> Mark ──> P ──> Moved
+//!                  └──────────────────────┘       Moved backs up where the round took no character
+//!
+//! ARBNO('a')       Repeat ──>                     of a primitive with at most one end: a round is one node, which does what Mark, the
+//!                  └──> Round ──>                 primitive, Moved and Repeat do, and is its own choice
+//!
+//! P . V            Mark ──> P ──> Later V ──>     what lies past the mark is put after the pending assignments
+//! P $ V            Mark ──> P ──> Now V ──>       .. or is assigned at once
+//!
+//! *D               Call D ──>                     the nodes of D, with a frame that says what comes after it
+//!  D's body        P ──> Return                   what comes after it
+//!
+//! BAL              BAL ──>                        the first end; the choice is the further ends
+//!                   └──> Further ──>              the next one; the choice is those past it
+//!
+//! FENCE            FENCE ──>                      the choice is that the whole match fails
+//!                    └──> Halt
+//! ```
+//!
+//! The pattern itself ends in `Return`, too: outside all frames the match has succeeded there. Nodes are written from the last to the first,
+//! so a successor has its number before it is named. Only a round has to come back to a node that was written before it: `Repeat` is
+//! written with no round, and told of it once it is there.
+//!
+//! # The history
+//!
+//! What can still be taken back stands in one list of entries, the history. Where the match stands is a [`Place`](entries::Place): the next
+//! node, the cursor, and two numbers, which name the list of frames and that of pending assignments. A list is named by how many entries
+//! there were once its first one was put down, so it is there as long as that entry is, and lists share what lies below. An entry is
+//!
+//! - a choice: a place at which the match goes on when it backs up;
+//! - a frame: the node after a reference, and how many references deep the definition may still go;
+//! - a mark: the cursor at which a part began;
+//! - a pending assignment: the variable, and the two cursors of its part.
+//!
+//! The newest entries are dropped until a choice is met, and what the choice names lies below it. So to back up is to drop, and nothing else
+//! has to be undone. Immediate assignments aren't in the history: they stay when the match backs up.
+//!
+//! # One match, step by step
+//!
+//! `ARBNO('a') . X 'b'` from cursor 0 of `ab`. Its nodes, with `next` and, where it is named, `other`:
+//!
+//! ```text
+//! 2 'b' → 1    3 Later X → 2    4 Round 'a' → 3    5 Repeat → 3, 4    6 Mark → 5    (0 Halt, 1 Return)
+//! ```
+//!
+//! ```text
+//! node  cursor  the history after the step, the newest entry last     what happened
+//! 6     0       mark 0                                                X begins at 0
+//! 5     0       mark 0, choice 4 at 0                                 no round; a round is left as a choice
+//! 3     0       mark 0, choice 4 at 0, pending X 0-0                  X would be the null string
+//! 2     0       mark 0                                                a trial: there is no `b` at 0, and the choice is taken up
+//! 4     0       mark 0, choice 4 at 1                                 a trial: `a`, and the cursor is 1; a further round is left as a choice
+//! 3     1       mark 0, choice 4 at 1, pending X 0-1                  X would be `a`
+//! 2     1       the same                                              a trial: `b`, and the cursor is 2
+//! 1     2       the same                                              outside all frames: matched 0 to 2, X is `a`
+//! ```
 //!
 //! | File | What it holds |
 //! |---|---|
-//! | `frames`, `pending`, `choices` | what stands on the stacks |
-//! | `matcher` | the stacks, what is next, and putting something on a stack |
+//! | `nodes` | nodes and their operations |
+//! | `compiling` | a pattern is compiled |
+//! | `entries` | places, entries, the history |
+//! | `history` | what is put down in the history, and taken up |
 //! | `progress` | what was done so far: immediate assignments and trials |
-//! | `trying` | a pattern is tried: each kind of pattern is one step |
-//! | `primitives` | the patterns without parts |
-//! | `resuming` | a part has matched, and what is left to be done is done |
-//! | `backing_up` | the newest choice is taken up |
+//! | `stepping` | one step: what a node does |
+//! | `leaves` | the patterns without parts |
+//! | `rounds` | rounds of a repetition of a primitive |
 //! | `conditions` | the pending assignments of a success, in their order |
-//! | `stepping` | one step after the other, from one start |
+//! | `running` | one step after the other, from one start |
+//! | `heads` | the characters with which a match can begin |
 //! | `beginnings` | starts at which no match can begin are passed over |
-//! | `starts` | [`first`] |
+//! | `starts` | the starts in turn |
+//! | `code` | [`compile`] and [`Code::first`] |
 //!
-//! How it is proved: `specs/Meaning.antt` says what is still to come of a match that has come so far, as a list of events, and
-//! `specs/State.antt` says it of the stacks. With what was done so far (`specs/Progress.antt`), each step keeps what is still to come
-//! (`LeadsTo`), and takes one from a number of steps that `specs/Steps.antt` counts beforehand; so a match ends.
+//! How it is proved, in two halves. `specs/Plans.antt` says what a node does and what comes after it, its plan, and what is still to come
+//! by a plan; `specs/Code.antt` gives each node its plan, and `plan_of` lays a pattern out as one. That the nodes of a pattern have its plan is
+//! all that is asked of the compiler. `specs/History.antt` says what is still to come of a place and of a history. With what was done so far
+//! (`specs/Progress.antt`), each step keeps what is still to come (`LeadsTo`), and takes one from a number of steps that `specs/Steps.antt`
+//! counts beforehand; so a match ends. That a pattern's plan means what the pattern does is one lemma (`proofs/PlanLaws.antt`).
 #![tactic(auto)]
 
-mod backing_up;
 mod beginnings;
-mod choices;
+mod code;
+mod compiling;
 mod conditions;
+mod entries;
 mod faults;
-mod frames;
-mod matcher;
-mod pending;
-mod primitives;
+mod heads;
+mod history;
+mod leaves;
+mod nodes;
 mod progress;
-mod resuming;
+mod rounds;
+mod running;
 mod starts;
 mod stepping;
-mod trying;
 
+pub use code::{Code, compile};
 pub use faults::MatchFault;
 pub use sno_pattern::{Assign, Assigns, Conds, Found, Hit, Name, Pattern, Rules, Text, What};
-pub use starts::first;

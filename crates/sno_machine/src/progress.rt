@@ -38,6 +38,7 @@ impl Progress {
     }
 
     /// Does an immediate assignment.
+    #[inline(always)]
     pub fn assign(&mut self, assignment: Assign) -> Result<(), AllocError>
         ensures { OnOk result (self.new ≡ assign assignment self.old) }
     {
@@ -46,6 +47,7 @@ impl Progress {
     }
 
     /// Spends trials, where so many may still be spent; else none. It answers whether it did.
+    #[inline(always)]
     pub fn try_spend(&mut self, count: usize) -> bool
         ensures spent { result ≡ true → self.new ≡ spend count self.old }
         ensures refused { result ≡ false → self.old.limit < self.old.trials + count }

@@ -1,6 +1,6 @@
 //! The matcher beside the plain evaluator, and rows on the matcher alone.
 use crate::row::{Written, admit, name_of};
-use sno_machine::{Assign, Found, MatchFault, What, first};
+use sno_machine::{Assign, Found, MatchFault, What, compile};
 use sno_pattern::{Name, Pattern, Rules, Text};
 use sno_read::read_pattern;
 use std::alloc::Global;
@@ -54,14 +54,8 @@ fn by_matcher(
     limit: u32,
 ) -> Result<Result<Found, MatchFault>, Fail> {
     assert!(rt; case.rules.covers(&case.pattern));
-    Ok(first(
-        rt.alloc(),
-        &case.rules,
-        &case.pattern,
-        &case.text,
-        anchored,
-        limit,
-    ))
+    let code = compile(rt.alloc(), &case.rules, &case.pattern)?;
+    Ok(code.first(rt.alloc(), &case.text, anchored, limit))
 }
 
 fn by_evaluator(
@@ -96,7 +90,7 @@ fn conditions(found: &Found) -> Option<&[(Name, usize, usize)]> {
     Some(hit.conds.as_slice())
 }
 
-static CASES: [Case; 24] = [
+static CASES: [Case; 28] = [
     (&[], "aab", "('a' | 'aa') . X 'b'"),
     (&[], "ab", "('a' | 'ab') RPOS(0)"),
     (&[], "aaa", "ARB . X 'a' RPOS(0)"),
@@ -125,6 +119,10 @@ static CASES: [Case; 24] = [
     ),
     (&[("S", "'a' *S | ''")], "aaab", "*S . A 'a' *S . B 'b'"),
     (&[("S", "LEN(1) $ C *S | ''")], "abc", "*S 'c'"),
+    (&[], "aab", "ARBNO(ARBNO('a')) 'b'"),
+    (&[], "abab", "ARBNO('a' ARBNO('b') . B) . A RPOS(0)"),
+    (&[], "ab", "ARBNO(POS(0)) 'b'"),
+    (&[], "aabb", "ARBNO(SPAN('ab')) $ A ANY('b')"),
 ];
 
 // Both answer the same, and the matcher needs the trials that the evaluator counts.
@@ -196,6 +194,26 @@ fn assignments_that_are_backed_over_stay(rt: HostRuntime) -> Result<(), Fail> {
     let sets = assigns(rt.alloc(), "C", parts.as_slice())?;
     assert_eq!(rt; extent(&found), Some((0, 3)));
     assert_eq!(rt; found.sets.as_slice(), sets.as_slice());
+    Ok(())
+}
+
+// Texts, and where the first `a` or `b` of each is matched.
+static TEXTS: [(&str, Option<(usize, usize)>); 3] = [
+    ("xa", Some((1, 2))),
+    ("b", Some((0, 1))),
+    ("c", None),
+];
+
+#[test]
+fn one_code_matches_many_texts(rt: HostRuntime) -> Result<(), Fail> {
+    let case = read_case(&rt, &(&[], "", "'a' | 'b'"))?;
+    assert!(rt; case.rules.covers(&case.pattern));
+    let code = compile(rt.alloc(), &case.rules, &case.pattern)?;
+    for (characters, expected) in &TEXTS {
+        let text = Text::new(Vec::from_slice(rt.alloc(), characters.as_bytes())?)?;
+        let found = code.first(rt.alloc(), &text, false, LIMIT)?;
+        assert_eq!(rt; extent(&found), *expected);
+    }
     Ok(())
 }
 

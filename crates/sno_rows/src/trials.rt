@@ -1,7 +1,7 @@
 //! Rows on trials: how many a match takes, and that it is refused where it may have one less.
 use crate::row::Task::{Match, MatchAnchored, Replace};
 use crate::row::{Row, Task, Written, admit, limited, performance_line, statement, text_of};
-use sno_machine::{MatchFault, first};
+use sno_machine::{MatchFault, compile};
 use sno_pattern::{MAX_TEXT, Text};
 use sno_statement::Statement;
 use std::alloc::Global;
@@ -35,16 +35,15 @@ fn check_count(
 }
 
 // Why the matcher refuses the statement's match within this limit, if it does.
-fn refusal_of(alloc: Global, statement: &Statement, text: &Text, limit: u32) -> Option<MatchFault> {
-    let found = first(
-        alloc,
-        statement.rules(),
-        statement.pattern(),
-        text,
-        statement.anchored(),
-        limit,
-    );
-    found.err()
+fn refusal_of(
+    alloc: Global,
+    statement: &Statement,
+    text: &Text,
+    limit: u32,
+) -> Result<Option<MatchFault>, Fail> {
+    let code = compile(alloc, statement.rules(), statement.pattern())?;
+    let found = code.first(alloc, text, statement.anchored(), limit);
+    Ok(found.err())
 }
 
 fn check_matcher(
@@ -55,12 +54,12 @@ fn check_matcher(
     shows: &str,
 ) -> Result<(), Fail> {
     assert_eq!(rt;
-        refusal_of(rt.alloc(), statement, text, trials),
+        refusal_of(rt.alloc(), statement, text, trials)?,
         None,
         "{shows}"
     );
     let fewer = trials.saturating_sub(1);
-    let refusal = refusal_of(rt.alloc(), statement, text, fewer);
+    let refusal = refusal_of(rt.alloc(), statement, text, fewer)?;
     assert_eq!(rt; refusal, Some(MatchFault::TooManyTrials), "{shows}");
     Ok(())
 }

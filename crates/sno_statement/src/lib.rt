@@ -38,7 +38,7 @@
 //! # What is not promised
 //!
 //! `Memory` is a possible answer of `perform` at any growth, and no clause says that memory is there; tests show that it is
-//! not always answered. How long a match takes and how much memory and stack it needs are those of `sno_machine::first`.
+//! not always answered. How long a match takes and how much memory and stack it needs are those of `sno_machine::Code::first`.
 #![tactic(auto)]
 
 mod binding;

@@ -9,6 +9,7 @@ ghost use Rattle.sno_statement.specs.Perform.{Gives, GivesText, finish, finish_f
 use crate::lengths::new_length;
 use crate::values::{part, replace};
 use crate::{Bindings, Datum, Outcome, Statement, StatementFault};
+use sno_machine::compile;
 use sno_pattern::{Assign, Found, Hit, Name, Text, What, cursors_lie_within_the_text};
 use sno_read::{Object, Part};
 use std::alloc::{AllocError, Global};
@@ -147,14 +148,8 @@ pub fn perform(
     ensures { Gives result (perform statement.now subject.now) }
 {
     cursors_lie_within_the_text();
-    let found = sno_machine::first(
-        alloc,
-        statement.rules(),
-        statement.pattern(),
-        subject,
-        statement.anchored(),
-        statement.limit(),
-    )?;
+    let code = compile(alloc, statement.rules(), statement.pattern())?;
+    let found = code.first(alloc, subject, statement.anchored(), statement.limit())?;
     let outcome = finish(alloc, statement.object(), subject, &found)?;
     Ok(outcome)
 }

@@ -13,34 +13,34 @@ pub returns-in_err-ending-clause-refused : goal.returns-in_err-ending-clause-ref
 returns-in_err-ending-clause-refused c =
     let e = err_from_is_err_and c.from_residual.result c.from_residual.ensures.1 in
     let t = c.args.text.now in
-    let bodies = c.args.rules.now.bodies in
-    let p = tree_of c.args.pattern.now in
+    let bodies = c.args.code.now.rules.now.bodies in
+    let p = tree_of c.args.code.now.pattern.now in
     let k = c.depth-most.result in
-    let r = c.new-matcher.result.progress in
-    let limit = ap (λ z. z.limit) c.new-matcher.ensures.progress in
-    let all = trials_of t bodies p c.args.anchored k r c.depth-most.ensures (ap (λ z. z.trials) c.new-matcher.ensures.progress) in
+    let r = c.new-progress.result in
+    let limit = ap (λ z. z.limit) c.new-progress.ensures in
+    let all = trials_of t bodies p c.args.anchored k r c.depth-most.ensures (ap (λ z. z.trials) c.new-progress.ensures) in
     let over = subst (λ z. Overspent r (flat_map (tried_from z bodies k p) (starts z c.args.anchored)) c.in_err-ending.field-0.0) c.bytes.ensures.value c.in_err-ending.ensures.refused in
     rw (e.1, e.2) (λ is. let more = overspent_trials r (flat_map (tried_from t bodies k p) (starts t c.args.anchored)) c.in_err-ending.field-0.0 over is in omega (arith, limit, all, more))
 
 pub returns-clause-found : goal.returns-clause-found
 returns-clause-found c =
     let t = c.args.text.now in
-    let bodies = c.args.rules.now.bodies in
-    let p = tree_of c.args.pattern.now in
+    let bodies = c.args.code.now.rules.now.bodies in
+    let p = tree_of c.args.code.now.pattern.now in
     let k = c.depth-most.result in
-    let r = c.new-matcher.result.progress in
-    let same = subst (λ z. match_by r (flat_map (tried_from z bodies k p) (starts z c.args.anchored)) ≡ end_by c.in_ok-ending.ending c.try_all.new.self.progress []) c.bytes.ensures.value c.in_ok-ending.ensures.ending in
-    c.found.ensures.found ∙ ap found_of (sym same) ∙ sym (outcome_by t bodies p c.args.anchored k r c.depth-most.ensures (ap (λ z. z.sets) c.new-matcher.ensures.progress))
+    let r = c.new-progress.result in
+    let same = subst (λ z. match_by r (flat_map (tried_from z bodies k p) (starts z c.args.anchored)) ≡ end_by c.in_ok-ending.ending c.try_all.new.progress []) c.bytes.ensures.value c.in_ok-ending.ensures.ending in
+    c.found.ensures.found ∙ ap found_of (sym same) ∙ sym (outcome_by t bodies p c.args.anchored k r c.depth-most.ensures (ap (λ z. z.sets) c.new-progress.ensures))
 
 pub returns-clause-within : goal.returns-clause-within
 returns-clause-within c =
     let t = c.args.text.now in
-    let bodies = c.args.rules.now.bodies in
-    let p = tree_of c.args.pattern.now in
+    let bodies = c.args.code.now.rules.now.bodies in
+    let p = tree_of c.args.code.now.pattern.now in
     let k = c.depth-most.result in
-    let r = c.new-matcher.result.progress in
-    let limit = ap (λ z. z.limit) c.new-matcher.ensures.progress in
-    let same = subst (λ z. match_by r (flat_map (tried_from z bodies k p) (starts z c.args.anchored)) ≡ end_by c.in_ok-ending.ending c.try_all.new.self.progress []) c.bytes.ensures.value c.in_ok-ending.ensures.ending in
-    let all = trials_of t bodies p c.args.anchored k r c.depth-most.ensures (ap (λ z. z.trials) c.new-matcher.ensures.progress) in
-    let few = within_limit r c.try_all.new.self.progress (flat_map (tried_from t bodies k p) (starts t c.args.anchored)) c.in_ok-ending.ending same c.found.ensures.within in
+    let r = c.new-progress.result in
+    let limit = ap (λ z. z.limit) c.new-progress.ensures in
+    let same = subst (λ z. match_by r (flat_map (tried_from z bodies k p) (starts z c.args.anchored)) ≡ end_by c.in_ok-ending.ending c.try_all.new.progress []) c.bytes.ensures.value c.in_ok-ending.ensures.ending in
+    let all = trials_of t bodies p c.args.anchored k r c.depth-most.ensures (ap (λ z. z.trials) c.new-progress.ensures) in
+    let few = within_limit r c.try_all.new.progress (flat_map (tried_from t bodies k p) (starts t c.args.anchored)) c.in_ok-ending.ending same c.found.ensures.within in
     omega (arith, limit, all, few)

@@ -1,0 +1,57 @@
+//! What a statement does on a text.
+use sno_machine::{Code, MatchFault};
+use sno_pattern::Text;
+use sno_statement::{Outcome, Statement, StatementFault, perform};
+use std::alloc::{AllocError, Global};
+use std::fmt;
+
+/// What a statement does on a text. It is printed as in the line of the statement.
+#[derive(Clone, Copy, Debug, PartialEq, Eq)]
+pub enum Effect {
+    /// The pattern matched between two cursors.
+    Matched { start: usize, end: usize },
+    /// The pattern did not match.
+    Failed,
+    /// The statement is refused.
+    Refused(StatementFault),
+}
+
+impl fmt::Display for Effect {
+    fn fmt<W: fmt::Write>(&self, f: &mut fmt::Formatter<W>) -> fmt::Result {
+        match self {
+            Effect::Matched { start, end } => write!(f, "matched {start} to {end}"),
+            Effect::Failed => write!(f, "failed"),
+            Effect::Refused(fault) => write!(f, "{fault}"),
+        }
+    }
+}
+
+/// What performing the statement on the text does. Refused where memory is.
+pub fn performed(alloc: Global, statement: &Statement, text: &Text) -> Result<Effect, AllocError> {
+    match perform(alloc, statement, text) {
+        Ok(Outcome::Matched { start, end, .. }) => Ok(Effect::Matched { start, end }),
+        Ok(Outcome::Failed { .. }) => Ok(Effect::Failed),
+        Err(StatementFault::Memory) => Err(AllocError),
+        Err(fault) => Ok(Effect::Refused(fault)),
+    }
+}
+
+/// What a match of the statement's compiled pattern does. Refused where memory is.
+pub fn matched(
+    alloc: Global,
+    code: &Code<'_>,
+    statement: &Statement,
+    text: &Text,
+) -> Result<Effect, AllocError> {
+    match code.first(alloc, text, statement.anchored(), statement.limit()) {
+        Ok(found) => Ok(match &found.end {
+            Some(hit) => Effect::Matched {
+                start: hit.start,
+                end: hit.end,
+            },
+            None => Effect::Failed,
+        }),
+        Err(MatchFault::Memory) => Err(AllocError),
+        Err(MatchFault::TooManyTrials) => Ok(Effect::Refused(StatementFault::TooManyTrials)),
+    }
+}

@@ -1,0 +1,59 @@
+//! The line of each statement.
+ghost use Rattle.std.specs.Prelude.{◌≤◌, IfSome};
+
+use crate::effects::{Effect, performed};
+use crate::faults::Fault;
+use crate::timing::timed;
+use sno_book::{Book, SnapshotFault};
+use sno_document::RunFault;
+use sno_pattern::Text;
+use sno_statement::Statement;
+use std::alloc::Global;
+use std::io;
+use std::rt::Clock;
+use std::sync::Arc;
+
+/// The text of the statement as the book has it; none where there is no text of that name.
+fn text_of(book: &Book, statement: &Statement) -> Result<Option<Arc<Text>>, Fault> {
+    match book.snapshot(statement.text()) {
+        Ok(snapshot) => Ok(Some(snapshot.text)),
+        Err(SnapshotFault::NoText) => Ok(None),
+        Err(SnapshotFault::Memory) => Err(Fault::Run(RunFault::Memory)),
+    }
+}
+
+fn written(printed: io::Result<()>) -> Result<(), Fault> {
+    match printed {
+        Ok(()) => Ok(()),
+        Err(_) => Err(Fault::Run(RunFault::Write)),
+    }
+}
+
+/// Prints the line of the statement on the text of its name as the book has it: what it does, or how long that takes, where it is
+/// to be done `times` times in a run and is not refused.
+///
+/// Refused: `Memory`, the faults of timing, and `Write` where the line can't be printed.
+pub fn print_statement<R: Print + Clock>(
+    rt: &R,
+    alloc: Global,
+    book: &Book,
+    statement: &Statement,
+    times: Option<u32>,
+) -> Result<(), Fault>
+    requires { IfSome times (λ n. 1 ≤ n) }
+{
+    let number = statement.number();
+    let Some(text) = text_of(book, statement)? else {
+        return written(println!(rt; "statement {number} no text"));
+    };
+    let effect = performed(alloc, statement, &text)?;
+    match (times, effect) {
+        (None, _) | (_, Effect::Refused(_)) => {
+            written(println!(rt; "statement {number} {effect}"))
+        }
+        (Some(times), _) => {
+            let times = timed(rt, alloc, statement, &text, effect, times)?;
+            written(println!(rt; "statement {number} {times}"))
+        }
+    }
+}

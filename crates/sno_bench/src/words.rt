@@ -1,0 +1,59 @@
+//! The words of the program.
+ghost use Rattle.std.specs.Prelude.{◌≤◌, IfOk, IfSome};
+
+use crate::faults::Fault;
+use sno_document::RunFault;
+use std::env::Args;
+use std::io;
+use std::io::ErrorKind;
+
+const MAX_TIMES: u32 = 1_000_000;
+
+/// The number that a word is, 1 to 1,000,000.
+fn number_in(word: &str) -> Option<u32>
+    ensures { IfSome result (λ n. (1 ≤ n) × (n ≤ 1000000)) }
+{
+    match word.parse::<u32>() {
+        Ok(number) if 1 <= number && number <= MAX_TIMES => Some(number),
+        _ => None,
+    }
+}
+
+/// What the words after the program's name ask for.
+fn times_after_name(words: Args) -> Result<Option<u32>, Fault>
+    ensures { IfOk result (λ times. IfSome times (λ n. (1 ≤ n) × (n ≤ 1000000))) }
+{
+    let mut words = words;
+    let _name = words.next();
+    let Some(option) = words.next() else {
+        return Ok(None);
+    };
+    let Some(number) = words.next() else {
+        return Err(Fault::Usage);
+    };
+    if option.as_str() != "--times" || words.next().is_some() {
+        return Err(Fault::Usage);
+    }
+    match number_in(number.as_str()) {
+        Some(number) => Ok(Some(number)),
+        None => Err(Fault::Usage),
+    }
+}
+
+/// How often a run does each work, by the program's words, its name the first of them; none where nothing is to be timed.
+///
+/// Refused: `Usage` for other words, also one that is no text, and `Memory` where memory is.
+pub fn times_in(words: io::Result<Args>) -> Result<Option<u32>, Fault>
+    ensures { IfOk result (λ times. IfSome times (λ n. (1 ≤ n) × (n ≤ 1000000))) }
+{
+    match words {
+        Ok(words) => {
+            let times = times_after_name(words)?;
+            Ok(times)
+        }
+        Err(error) => Err(match error.kind() {
+            ErrorKind::OutOfMemory => Fault::Run(RunFault::Memory),
+            _ => Fault::Usage,
+        }),
+    }
+}

@@ -1,0 +1,57 @@
+//! What the history of a match is made of.
+ghost use Rattle.std.specs.Prelude.{◌<◌, ◌≤◌, ◌^◌, length};
+
+use sno_pattern::Name;
+
+/// Where a match stands: the node that is next, the cursor, and the numbers of the list of frames and of the list of pending assignments.
+#[derive(Clone, Copy)]
+pub struct Place {
+    pub node: u32,
+    pub cursor: u32,
+    pub frame: u32,
+    pub pending: u32,
+}
+
+/// An entry of the history. A list of frames, or of pending assignments, is named by how many entries there were once its first one
+/// was put down; 0 is the empty list.
+#[derive(Clone, Copy)]
+pub enum Entry<'a> {
+    /// A choice: when the match backs up, it goes on there.
+    Choice(Place),
+    /// A definition is gone through.
+    Frame {
+        /// The node with which the match goes on after it.
+        node: u32,
+        /// How many references deep it may still go.
+        depth: u32,
+        /// The list of frames outside it.
+        below: u32,
+    },
+    /// A part began here.
+    Mark {
+        /// Where it began.
+        cursor: u32,
+        /// How many references deep it may go.
+        depth: u32,
+        /// The list of frames outside it.
+        below: u32,
+    },
+    /// An assignment that is done if the whole match succeeds.
+    Pending {
+        name: &'a Name,
+        start: u32,
+        end: u32,
+        /// The list of those before it.
+        below: u32,
+    },
+}
+
+/// What can still be taken back: the first `count` entries of a buffer, the oldest first. Entries that are dropped leave the buffer as it is,
+/// so it takes memory only where there are more of them than ever before.
+#[derive(Drop)]
+pub struct History<'a> {
+    pub buffer: Vec<Entry<'a>>,
+    pub count: u32,
+    ghost inside: { count ≤ length buffer.items },
+    ghost few: { length buffer.items < 2 ^ 32 },
+}

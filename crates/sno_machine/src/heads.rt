@@ -1,0 +1,156 @@
+//! The characters with which a match can begin.
+ghost use Rattle.std.specs.Prelude.{◌≡◌, ◌≤◌, true, [], ◌∷◌, ◌++◌, length, slice_get, IfOk, IfSome};
+ghost use Rattle.sno_pattern.specs.Tree.{tree_of};
+ghost use Rattle.memchr.specs.Find.{IsFirstByte};
+ghost use Rattle.sno_machine.specs.declared.heads.Head.TheVariants.{Byte};
+ghost use Rattle.sno_machine.specs.Beginnings.{begins, any_begins, AreHeads, Collected};
+
+use memchr::{memchr, memchr2, memchr3};
+use sno_pattern::{Class, Pattern};
+use std::alloc::{AllocError, Global};
+
+// The most heads that are kept of a pattern: a start that is passed over costs at most so many trials.
+const MAX_HEADS: usize = 64;
+
+/// A leaf with which a match can begin, by its first character: none of them matches where another character or none stands.
+#[derive(Clone, Copy)]
+pub enum Head<'a> {
+    /// A literal that is not null: this character.
+    Byte(u8),
+    /// `ANY` or `SPAN`: one of the set.
+    OneOf(&'a Class),
+    /// `NOTANY`: one that is not in the set.
+    NoneOf(&'a Class),
+}
+
+/// The heads of the pattern, at most 64: of each leaf with which a match can begin. None where one of these has no head, as `POS`, `ARB`, a
+/// reference or the null string, and where there are more heads. It is refused for want of memory alone.
+pub fn heads_of<'a>(
+    alloc: Global,
+    pattern: &'a Pattern,
+) -> Result<Option<Vec<Head<'a>>>, AllocError>
+    ensures heads { IfOk result (λ found. IfSome found (λ heads. AreHeads (tree_of pattern.now) heads.items)) }
+    ensures few { IfOk result (λ found. IfSome found (λ heads. length heads.items ≤ 64)) }
+{
+    let mut heads = Vec::new(alloc);
+    let whole = collect(pattern, &mut heads)?;
+    if whole {
+        return Ok(Some(heads));
+    }
+    Ok(None)
+}
+
+// Adds the heads of the pattern. It answers whether each leaf with which a match can begin has one, and there is room for all.
+fn collect<'a>(pattern: &'a Pattern, heads: &mut Vec<Head<'a>>) -> Result<bool, AllocError>
+    requires { length heads.old.items ≤ 64 }
+    ensures collected { IfOk result (λ whole. whole ≡ true → Collected (tree_of pattern.now) heads.old.items heads.new.items) }
+    ensures few { IfOk result (λ _. length heads.new.items ≤ 64) }
+{
+    match pattern {
+        Pattern::Lit(literal) => match literal.bytes().first() {
+            None => Ok(false),
+            Some(first) => {
+                let whole = put(Head::Byte(*first), heads)?;
+                Ok(whole)
+            }
+        },
+        Pattern::AnyOf(class) => {
+            let whole = put(Head::OneOf(class), heads)?;
+            Ok(whole)
+        }
+        Pattern::Span(class) => {
+            let whole = put(Head::OneOf(class), heads)?;
+            Ok(whole)
+        }
+        Pattern::NoneOf(class) => {
+            let whole = put(Head::NoneOf(class), heads)?;
+            Ok(whole)
+        }
+        Pattern::Seq(first, _) => {
+            let whole = collect(first, heads)?;
+            Ok(whole)
+        }
+        Pattern::Alt(first, second) => {
+            let begun = collect(first, heads)?;
+            if !begun {
+                return Ok(false);
+            }
+            let whole = collect(second, heads)?;
+            Ok(whole)
+        }
+        Pattern::Cond(part, _) => {
+            let whole = collect(part, heads)?;
+            Ok(whole)
+        }
+        Pattern::Imm(part, _) => {
+            let whole = collect(part, heads)?;
+            Ok(whole)
+        }
+        _ => Ok(false),
+    }
+}
+
+// Adds a head, where there is room for one more; it answers whether there was.
+fn put<'a>(head: Head<'a>, heads: &mut Vec<Head<'a>>) -> Result<bool, AllocError>
+    requires { length heads.old.items ≤ 64 }
+    ensures added { IfOk result (λ whole. whole ≡ true → heads.new.items ≡ heads.old.items ++ head.entry ∷ []) }
+    ensures few { IfOk result (λ _. length heads.new.items ≤ 64) }
+{
+    if heads.len() >= MAX_HEADS {
+        return Ok(false);
+    }
+    heads.push(head)?;
+    Ok(true)
+}
+
+impl Head<'_> {
+    // Whether the character is one with which it can begin.
+    fn has(&self, character: u8) -> bool
+        ensures { result ≡ begins self.now character }
+    {
+        match self {
+            Head::Byte(byte) => *byte == character,
+            Head::OneOf(class) => class.has(character),
+            Head::NoneOf(class) => !class.has(character),
+        }
+    }
+}
+
+fn any_has(heads: &[Head], character: u8) -> bool
+    ensures { result ≡ any_begins heads.now character }
+{
+    heads.iter().any(|head| head.has(character))
+}
+
+// The byte of the head in this place, where it is one.
+fn byte_at(heads: &[Head], place: usize) -> Option<u8>
+    ensures { IfSome result (λ byte. slice_get heads.now place ≡ Some (Byte byte)) }
+{
+    match heads.get(place) {
+        Some(Head::Byte(byte)) => Some(*byte),
+        _ => None,
+    }
+}
+
+fn first_of_any(heads: &[Head], text: &[u8]) -> Option<usize>
+    ensures { IsFirstByte (any_begins heads.now) text.now result }
+{
+    text.iter().position(|character| any_has(heads, *character))
+}
+
+/// The index of the first character of the text with which one of the heads can begin. Up to three bytes are sought together.
+pub fn first_of_heads(heads: &[Head], text: &[u8]) -> Option<usize>
+    ensures { IsFirstByte (any_begins heads.now) text.now result }
+{
+    match (
+        heads.len(),
+        byte_at(heads, 0),
+        byte_at(heads, 1),
+        byte_at(heads, 2),
+    ) {
+        (1, Some(first), _, _) => memchr(first, text),
+        (2, Some(first), Some(second), _) => memchr2(first, second, text),
+        (3, Some(first), Some(second), Some(third)) => memchr3(first, second, third, text),
+        _ => first_of_any(heads, text),
+    }
+}
