@@ -10,7 +10,8 @@
 //! and one down is `other`, a node that is left as a choice. Each drawing shows the nodes of a pattern, and where they go on to the right.
 //!
 //! ```text
-//! 'a'              'a' ──>                        a leaf: it costs a trial; `next` where it matches, else the match backs up
+//! 'a'              'a' ──>                        a leaf: it costs a trial; `next` where it matches, else the match backs up; a literal of
+//!                                                one character has an operation of its own, as it is met most
 //!
 //! P Q              P ──> Q ──>                    no node of its own
 //!
@@ -84,6 +85,7 @@
 //! | `progress` | what was done so far: immediate assignments and trials |
 //! | `stepping` | one step: what a node does |
 //! | `leaves` | the patterns without parts |
+//! | `characters` | literals of one character |
 //! | `rounds` | rounds of a repetition of a primitive |
 //! | `conditions` | the pending assignments of a success, in their order |
 //! | `running` | one step after the other, from one start |
@@ -100,6 +102,7 @@
 #![tactic(auto)]
 
 mod beginnings;
+mod characters;
 mod code;
 mod compiling;
 mod conditions;
