@@ -1,5 +1,6 @@
 pub mod Trails
 pub mod Progress
+pub mod Told
 pub mod Meaning
 pub mod Steps
 pub mod Plans

@@ -1,33 +1,41 @@
 //! What a match has done so far.
-ghost use Rattle.std.specs.Prelude.{◌≡◌, ◌+◌, ◌<◌, ◌≤◌, true, false, [], OnOk};
+ghost use Rattle.std.specs.Prelude.{◌≡◌, ◌+◌, ◌<◌, ◌≤◌, true, false, [], OnOk, IfOk};
 ghost use Rattle.sno_machine.specs.Progress.{assign, spend};
 
-use sno_pattern::Assign;
+use sno_pattern::{Assign, Name, What};
 use std::alloc::{AllocError, Global};
 use std::marker::Model;
 
+/// An immediate assignment whose name lies in the pattern: a name is 64 characters long, and is copied only into what is found.
+#[derive(Clone, Copy)]
+pub struct Told<'a> {
+    pub name: &'a Name,
+    pub what: What,
+}
+
 /// What a match has done so far: its immediate assignments, which stay when it backs up, and its trials, with how many it may take.
 #[derive(Drop)]
-pub struct Progress {
-    sets: Vec<Assign>,
+pub struct Progress<'a> {
+    sets: Vec<Told<'a>>,
     trials: u32,
     limit: u32,
 }
 
-impl Model for Progress {
-    ghost use Rattle.std.specs.Prelude.{◌≤◌};
+impl<'a> Model for Progress<'a> {
+    ghost use Rattle.std.specs.Prelude.{◌≤◌, map};
     ghost use Rattle.sno_machine.specs.Progress.{Reached};
+    ghost use Rattle.sno_machine.specs.Told.{told_assign};
 
     ghost Value = { Reached };
 
-    ghost view = { λ s. record { sets = s.sets.items; trials = s.trials; limit = s.limit } };
+    ghost view = { λ s. record { sets = map told_assign s.sets.items; trials = s.trials; limit = s.limit } };
 
     ghost invariant = { λ s. s.trials ≤ s.limit };
 }
 
-impl Progress {
+impl<'a> Progress<'a> {
     /// Nothing was done yet, and `limit` trials may be spent.
-    pub fn new(alloc: Global, limit: u32) -> Progress
+    pub fn new(alloc: Global, limit: u32) -> Progress<'a>
         ensures { result ≡ record { sets = []; trials = 0; limit = limit } }
     {
         Progress {
@@ -39,10 +47,10 @@ impl Progress {
 
     /// Does an immediate assignment.
     #[inline(always)]
-    pub fn assign(&mut self, assignment: Assign) -> Result<(), AllocError>
-        ensures { OnOk result (self.new ≡ assign assignment self.old) }
+    pub fn assign(&mut self, name: &'a Name, what: What) -> Result<(), AllocError>
+        ensures { OnOk result (self.new ≡ assign (record { name = name.now; what = what }) self.old) }
     {
-        self.sets.push(assignment)?;
+        self.sets.push(Told { name, what })?;
         Ok(())
     }
 
@@ -60,11 +68,18 @@ impl Progress {
         true
     }
 
-    /// The immediate assignments, in their order.
-    pub fn into_sets(self) -> Vec<Assign>
-        ensures sets { result.items ≡ self.sets }
-        ensures within { self.trials ≤ self.limit }
+    /// The immediate assignments, in their order. Refused only where memory is.
+    pub fn sets(&self, alloc: Global) -> Result<Vec<Assign>, AllocError>
+        ensures sets { IfOk result (λ sets. sets.items ≡ self.now.sets) }
+        ensures within { self.now.trials ≤ self.now.limit }
     {
-        self.sets
+        let mut sets = Vec::new(alloc);
+        for told in &self.sets {
+            sets.push(Assign {
+                name: *told.name,
+                what: told.what,
+            })?;
+        }
+        Ok(sets)
     }
 }

@@ -16,7 +16,7 @@ use crate::nodes::Compiled;
 use crate::progress::Progress;
 use crate::running::{Ending, try_start};
 use sno_pattern::{Assigns, Found, Rules, Text};
-use std::alloc::Global;
+use std::alloc::{AllocError, Global};
 
 /// What comes of the match, at the depth that is counted here.
 pub fn search(
@@ -34,22 +34,24 @@ pub fn search(
     let most = depth(text, code.rules);
     let mut progress = Progress::new(alloc, limit);
     let ending = try_all(alloc, code, text.bytes(), most, anchored, &mut progress)?;
-    Ok(found(progress, ending))
+    let found = found(alloc, &progress, ending)?;
+    Ok(found)
 }
 
 // What was found, once no start is left to be tried.
-fn found(progress: Progress, ending: Ending) -> Found
-    ensures found { result ≡ found_of (end_by ending progress []) }
-    ensures within { progress.trials ≤ progress.limit }
+fn found(alloc: Global, progress: &Progress, ending: Ending) -> Result<Found, AllocError>
+    ensures found { IfOk result (λ found. found ≡ found_of (end_by ending progress.now [])) }
+    ensures within { progress.now.trials ≤ progress.now.limit }
 {
     let end = match ending {
         Ending::Success(hit) => Some(hit),
         Ending::Failure | Ending::Open => None,
     };
-    Found {
-        sets: Assigns::of(progress.into_sets()),
+    let sets = progress.sets(alloc)?;
+    Ok(Found {
+        sets: Assigns::of(sets),
         end,
-    }
+    })
 }
 
 // A depth that is always enough.
@@ -60,13 +62,13 @@ fn depth(text: &Text, rules: &Rules) -> u32
 }
 
 // Tries each start at which a match may begin, until one of them ends the match.
-fn try_all(
+fn try_all<'a>(
     alloc: Global,
-    code: &Compiled,
+    code: &Compiled<'a>,
     text: &[u8],
     most: u32,
     anchored: bool,
-    progress: &mut Progress,
+    progress: &mut Progress<'a>,
 ) -> Result<Ending, MatchFault>
     requires compiled { IsCompiled code.now.rules.now.bodies (tree_of code.now.pattern.now) code.now.nodes }
     requires short { length text.now ≤ 65536 }
@@ -100,7 +102,7 @@ fn try_starts<'a>(
     most: u32,
     beginnings: &Beginnings,
     history: &mut History<'a>,
-    progress: &mut Progress,
+    progress: &mut Progress<'a>,
 ) -> Result<Ending, MatchFault>
     requires compiled { IsCompiled code.now.rules.now.bodies (tree_of code.now.pattern.now) code.now.nodes }
     requires short { length text.now ≤ 65536 }

@@ -30,7 +30,7 @@ returns-clause-found c =
     let k = c.depth-most.result in
     let r = c.new-progress.result in
     let same = subst (λ z. match_by r (flat_map (tried_from z bodies k p) (starts z c.args.anchored)) ≡ end_by c.in_ok-ending.ending c.try_all.new.progress []) c.bytes.ensures.value c.in_ok-ending.ensures.ending in
-    c.found.ensures.found ∙ ap found_of (sym same) ∙ sym (outcome_by t bodies p c.args.anchored k r c.depth-most.ensures (ap (λ z. z.sets) c.new-progress.ensures))
+    c.in_ok-found.ensures.found ∙ ap found_of (sym same) ∙ sym (outcome_by t bodies p c.args.anchored k r c.depth-most.ensures (ap (λ z. z.sets) c.new-progress.ensures))
 
 pub returns-clause-within : goal.returns-clause-within
 returns-clause-within c =
