@@ -7,5 +7,6 @@ pub mod PrimitiveLaws
 pub mod EndingLaws
 pub mod HeadLaws
 pub mod BeginningLaws
+pub mod SeekingLaws
 pub mod StartLaws
 pub mod CompileLaws

@@ -122,8 +122,8 @@ fn any_has(heads: &[Head], character: u8) -> bool
     heads.iter().any(|head| head.has(character))
 }
 
-// The byte of the head in this place, where it is one.
-fn byte_at(heads: &[Head], place: usize) -> Option<u8>
+/// The byte of the head in this place, where it is one.
+pub fn byte_at(heads: &[Head], place: usize) -> Option<u8>
     ensures { IfSome result (λ byte. slice_get heads.now place ≡ Some (Byte byte)) }
 {
     match heads.get(place) {

@@ -25,6 +25,10 @@
 //! ARBNO('a')       Repeat ──>                     of a primitive with at most one end: a round is one node, which does what Mark, the
 //!                  └──> Round ──>                 primitive, Moved and Repeat do, and is its own choice
 //!
+//! ARB 'a'          Seek ──> 'a' ──>               before what begins with a few known characters: one node finds the first end before one
+//!                                                 of them, and is its own choice for the ends past it
+//! ARB . V 'a'      Mark ──> SeekMarked ──> Later V ──> 'a' ──>
+//!
 //! P . V            Mark ──> P ──> Later V ──>     what lies past the mark is put after the pending assignments
 //! P $ V            Mark ──> P ──> Now V ──>       .. or is assigned at once
 //!
@@ -87,9 +91,11 @@
 //! | `leaves` | the patterns without parts |
 //! | `characters` | literals of one character |
 //! | `rounds` | rounds of a repetition of a primitive |
+//! | `seeking` | `ARB` before a part with few heads |
 //! | `conditions` | the pending assignments of a success, in their order |
 //! | `running` | one step after the other, from one start |
 //! | `heads` | the characters with which a match can begin |
+//! | `needles` | few heads, which are sought together |
 //! | `beginnings` | starts at which no match can begin are passed over |
 //! | `starts` | the starts in turn |
 //! | `code` | [`compile`] and [`Code::first`] |
@@ -111,10 +117,12 @@ mod faults;
 mod heads;
 mod history;
 mod leaves;
+mod needles;
 mod nodes;
 mod progress;
 mod rounds;
 mod running;
+mod seeking;
 mod starts;
 mod stepping;
 

@@ -1,0 +1,78 @@
+//! The few heads that are sought together in a text.
+ghost use Rattle.std.specs.Prelude.{◌≡◌, ◌≤◌, length, IfOk, IfSome};
+ghost use Rattle.memchr.specs.Find.{IsFirstByte};
+ghost use Rattle.sno_pattern.specs.Tree.{tree_of};
+ghost use Rattle.sno_machine.specs.Beginnings.{any_begins, heads_in, AreHeads};
+
+use crate::heads::{Head, byte_at, first_of_heads, heads_of};
+use sno_pattern::Pattern;
+use std::alloc::{AllocError, Global};
+
+/// One head, or two or three that are bytes.
+#[derive(Clone, Copy)]
+pub enum Needle<'a> {
+    /// This head.
+    One(Head<'a>),
+    /// One of two bytes.
+    Two(u8, u8),
+    /// One of three bytes.
+    Three(u8, u8, u8),
+}
+
+impl<'a> Needle<'a> {
+    /// The heads of the pattern; none where it has no heads, more than three, or several of which one is no byte. It is refused for want of
+    /// memory alone.
+    pub fn of(alloc: Global, pattern: &'a Pattern) -> Result<Option<Needle<'a>>, AllocError>
+        ensures { IfOk result (λ found. IfSome found (λ needle. AreHeads (tree_of pattern.now) (heads_in needle))) }
+    {
+        match heads_of(alloc, pattern)? {
+            None => Ok(None),
+            Some(heads) => Ok(together(&heads)),
+        }
+    }
+
+    /// How many heads these are.
+    pub fn count(self) -> usize
+        ensures count { result ≡ length (heads_in self.entry) }
+        ensures few { result ≤ 3 }
+    {
+        match self {
+            Needle::One(_) => 1,
+            Needle::Two(_, _) => 2,
+            Needle::Three(_, _, _) => 3,
+        }
+    }
+
+    /// The index of the first character of the text with which one of the heads can begin.
+    pub fn first(self, text: &[u8]) -> Option<usize>
+        ensures { IsFirstByte (any_begins (heads_in self.entry)) text.now result }
+    {
+        match self {
+            Needle::One(head) => first_of_heads(&[head], text),
+            Needle::Two(first, second) => {
+                first_of_heads(&[Head::Byte(first), Head::Byte(second)], text)
+            }
+            Needle::Three(first, second, third) => first_of_heads(
+                &[Head::Byte(first), Head::Byte(second), Head::Byte(third)],
+                text,
+            ),
+        }
+    }
+}
+
+// The heads as a needle, where they are one, or two or three bytes.
+fn together<'a>(heads: &[Head<'a>]) -> Option<Needle<'a>>
+    ensures { IfSome result (λ needle. heads_in needle ≡ heads.now) }
+{
+    match (
+        heads.len(),
+        byte_at(heads, 0),
+        byte_at(heads, 1),
+        byte_at(heads, 2),
+    ) {
+        (1, _, _, _) => Some(Needle::One(heads[0])),
+        (2, Some(first), Some(second), _) => Some(Needle::Two(first, second)),
+        (3, Some(first), Some(second), Some(third)) => Some(Needle::Three(first, second, third)),
+        _ => None,
+    }
+}
