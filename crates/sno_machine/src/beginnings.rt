@@ -22,7 +22,7 @@ pub enum Beginnings<'a> {
 }
 
 impl<'a> Beginnings<'a> {
-    /// With what a match of the pattern can begin. It is refused for want of memory alone.
+    /// With what a match of the pattern can begin. Refused only where memory is.
     pub fn of(alloc: Global, pattern: &'a Pattern) -> Result<Beginnings<'a>, AllocError>
         ensures begin { IfOk result (AreBeginnings (tree_of pattern.now)) }
         ensures few { IfOk result (λ beginnings. cost beginnings ≤ 64) }

@@ -24,7 +24,7 @@ pub enum Head<'a> {
 }
 
 /// The heads of the pattern, at most 64: of each leaf with which a match can begin. None where one of these has no head, as `POS`, `ARB`, a
-/// reference or the null string, and where there are more heads. It is refused for want of memory alone.
+/// reference or the null string, and where there are more heads. Refused only where memory is.
 pub fn heads_of<'a>(
     alloc: Global,
     pattern: &'a Pattern,

@@ -22,6 +22,10 @@
 //!                  ^  └──> Mark ──> P ──> Moved
 //!                  └──────────────────────┘       Moved backs up where the round took no character
 //!
+//! ARBNO('a' P)     Repeat ──>                     of a part that takes a character wherever it ends: a round needs no mark
+//!                  ^  └──> 'a' ──> P ┐
+//!                  └─────────────────┘
+//!
 //! ARBNO('a')       Repeat ──>                     of a primitive with at most one end: a round is one node, which does what Mark, the
 //!                  └──> Round ──>                 primitive, Moved and Repeat do, and is its own choice
 //!
@@ -97,6 +101,7 @@
 //! | `heads` | the characters with which a match can begin |
 //! | `needles` | few heads, which are sought together |
 //! | `beginnings` | starts at which no match can begin are passed over |
+//! | `taking` | the parts that take a character wherever they end |
 //! | `starts` | the starts in turn |
 //! | `code` | [`compile`] and [`Code::first`] |
 //!
@@ -104,7 +109,8 @@
 //! by a plan; `specs/Code.antt` gives each node its plan, and `plan_of` lays a pattern out as one. That the nodes of a pattern have its plan is
 //! all that is asked of the compiler. `specs/History.antt` says what is still to come of a place and of a history. With what was done so far
 //! (`specs/Progress.antt`), each step keeps what is still to come (`LeadsTo`), and takes one from a number of steps that `specs/Steps.antt`
-//! counts beforehand; so a match ends. That a pattern's plan means what the pattern does is one lemma (`proofs/PlanLaws.antt`).
+//! counts beforehand; so a match ends. That a pattern's plan means what the pattern does is one lemma (`proofs/PlanLaws.antt`);
+//! that a round needs no mark where its part always takes a character is another (`proofs/TakingLaws.antt`).
 #![tactic(auto)]
 
 mod beginnings;
@@ -125,6 +131,7 @@ mod running;
 mod seeking;
 mod starts;
 mod stepping;
+mod taking;
 
 pub use code::{Code, compile};
 pub use faults::MatchFault;

@@ -20,8 +20,8 @@ pub enum Needle<'a> {
 }
 
 impl<'a> Needle<'a> {
-    /// The heads of the pattern; none where it has no heads, more than three, or several of which one is no byte. It is refused for want of
-    /// memory alone.
+    /// The heads of the pattern; none where it has no heads, more than three, or several of which one is no byte. Refused only where memory
+    /// is.
     pub fn of(alloc: Global, pattern: &'a Pattern) -> Result<Option<Needle<'a>>, AllocError>
         ensures { IfOk result (λ found. IfSome found (λ needle. AreHeads (tree_of pattern.now) (heads_in needle))) }
     {
@@ -29,6 +29,21 @@ impl<'a> Needle<'a> {
             None => Ok(None),
             Some(heads) => Ok(together(&heads)),
         }
+    }
+
+    /// The heads of the second pattern, where the first one ends in `ARB`; none where that has no use for them.
+    pub fn after(
+        alloc: Global,
+        first: &Pattern,
+        second: &'a Pattern,
+    ) -> Result<Option<Needle<'a>>, AllocError>
+        ensures { IfOk result (λ found. IfSome found (λ needle. AreHeads (tree_of second.now) (heads_in needle))) }
+    {
+        if !ends_in_arb(first) {
+            return Ok(None);
+        }
+        let needle = Needle::of(alloc, second)?;
+        Ok(needle)
     }
 
     /// How many heads these are.
@@ -57,6 +72,17 @@ impl<'a> Needle<'a> {
                 text,
             ),
         }
+    }
+}
+
+// Whether `ARB` may come last in the pattern, so that it can jump to what comes after it.
+fn ends_in_arb(pattern: &Pattern) -> bool {
+    match pattern {
+        Pattern::Arb => true,
+        Pattern::Seq(_, last) => ends_in_arb(last),
+        Pattern::Alt(first, second) => ends_in_arb(first) || ends_in_arb(second),
+        Pattern::Cond(part, _) => ends_in_arb(part),
+        _ => false,
     }
 }
 
