@@ -32,7 +32,7 @@ impl<'a> History<'a> {
         Ok(self.count)
     }
 
-    /// Makes the buffer longer by four times, from 64 entries on, filled with this one.
+    /// Makes the buffer four times as long, 8 entries at first, filled with this one: most matches need few.
     #[cold]
     #[inline(never)]
     fn grow(&mut self, entry: Entry<'a>) -> Result<(), MatchFault>
@@ -46,7 +46,7 @@ impl<'a> History<'a> {
             return Err(MatchFault::Memory);
         }
         let room = (u32::MAX - self.count) as usize;
-        let more = (self.count as usize * 3 + 64).min(room);
+        let more = (self.count as usize * 3 + 8).min(room);
         for _ in 0..more {
             self.buffer.push(entry)?;
         }
