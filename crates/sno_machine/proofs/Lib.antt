@@ -4,6 +4,7 @@ pub mod CarryLaws
 pub mod PlanLaws
 pub mod HistoryLaws
 pub mod PrimitiveLaws
+pub mod BranchLaws
 pub mod TakingLaws
 pub mod EndingLaws
 pub mod HeadLaws

@@ -3,6 +3,7 @@ pub mod Progress
 pub mod Told
 pub mod Meaning
 pub mod Steps
+pub mod Leaves
 pub mod Plans
 pub mod Code
 pub mod Sources

@@ -16,8 +16,8 @@ impl<'a> History<'a> {
         let mut list = number;
         while let Some(
             Entry::Pending {
-                name,
                 start,
+                name,
                 end,
                 below,
             },

@@ -38,8 +38,8 @@ pub enum Entry<'a> {
     },
     /// An assignment that is done if the whole match succeeds.
     Pending {
-        name: &'a Name,
         start: u32,
+        name: &'a Name,
         end: u32,
         /// The list of those before it.
         below: u32,

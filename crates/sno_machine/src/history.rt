@@ -25,17 +25,17 @@ impl<'a> History<'a> {
         ensures refused { IfErr result (λ e. e ≡ Memory) }
     {
         if self.count as usize == self.buffer.len() {
-            self.grow(entry)?;
+            self.grow()?;
         }
         self.buffer[self.count as usize] = entry;
         self.count += 1;
         Ok(self.count)
     }
 
-    /// Makes the buffer four times as long, 8 entries at first, filled with this one: most matches need few.
+    /// Makes the buffer four times as long, 8 entries at first: most matches need few. What fills it is never looked at.
     #[cold]
     #[inline(never)]
-    fn grow(&mut self, entry: Entry<'a>) -> Result<(), MatchFault>
+    fn grow(&mut self) -> Result<(), MatchFault>
         requires { self.old.count ≡ length self.old.buffer.items }
         ensures entries { (entries_of self.new) ≡ (entries_of self.old) }
         ensures count { self.new.count ≡ self.old.count }
@@ -48,7 +48,12 @@ impl<'a> History<'a> {
         let room = (u32::MAX - self.count) as usize;
         let more = (self.count as usize * 3 + 8).min(room);
         for _ in 0..more {
-            self.buffer.push(entry)?;
+            self.buffer.push(Entry::Choice(Place {
+                node: 0,
+                cursor: 0,
+                frame: 0,
+                pending: 0,
+            }))?;
         }
         Ok(())
     }

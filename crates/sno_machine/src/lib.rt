@@ -114,7 +114,7 @@
 #![tactic(auto)]
 
 mod beginnings;
-mod characters;
+mod branching;
 mod code;
 mod compiling;
 mod conditions;
@@ -125,10 +125,12 @@ mod history;
 mod leaves;
 mod needles;
 mod nodes;
+mod other_leaves;
 mod progress;
 mod rounds;
 mod running;
 mod seeking;
+mod singles;
 mod starts;
 mod stepping;
 mod taking;

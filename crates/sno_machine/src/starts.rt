@@ -34,12 +34,12 @@ pub fn search(
     let most = depth(text, code.rules);
     let mut progress = Progress::new(alloc, limit);
     let ending = try_all(alloc, code, text.bytes(), most, anchored, &mut progress)?;
-    let found = found(alloc, &progress, ending)?;
+    let found = report(alloc, &progress, ending)?;
     Ok(found)
 }
 
 // What was found, once no start is left to be tried.
-fn found(alloc: Global, progress: &Progress, ending: Ending) -> Result<Found, AllocError>
+fn report(alloc: Global, progress: &Progress, ending: Ending) -> Result<Found, AllocError>
     ensures found { IfOk result (λ found. found ≡ found_of (end_by ending progress.now [])) }
     ensures within { progress.now.trials ≤ progress.now.limit }
 {
@@ -86,7 +86,7 @@ fn try_all<'a>(
 }
 
 // How many trials it costs to pass over so many starts.
-fn passing(starts: usize, cost: usize) -> usize
+fn price(starts: usize, cost: usize) -> usize
     requires few { starts ≤ 65537 }
     requires cheap { cost ≤ 64 }
     ensures { result ≡ starts * cost }
@@ -114,7 +114,7 @@ fn try_starts<'a>(
     let cost = beginnings.cost();
     let mut start = 0;
     while let Some(begin) = beginnings.next(text, start) {
-        if !progress.try_spend(passing(begin - start, cost)) {
+        if !progress.try_spend(price(begin - start, cost)) {
             return Err(MatchFault::TooManyTrials);
         }
         match try_start(alloc, code, text, most, begin, history, progress)? {
@@ -122,7 +122,7 @@ fn try_starts<'a>(
             ending => return Ok(ending),
         }
     }
-    if !progress.try_spend(passing(text.len() + 1 - start, cost)) {
+    if !progress.try_spend(price(text.len() + 1 - start, cost)) {
         return Err(MatchFault::TooManyTrials);
     }
     Ok(Ending::Open)

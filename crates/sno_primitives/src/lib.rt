@@ -20,3 +20,7 @@ mod tests;
 pub use balance::first_balanced;
 pub use laws::arbitrary_ends_follow_one_another;
 pub use leaves::leaf_end;
+pub use primitives::{
+    any_end, break_end, len_end, literal_end, notany_end, pos_end, rpos_end, rtab_end, span_end,
+    tab_end,
+};

@@ -42,5 +42,5 @@ returns-clause-within c =
     let limit = ap (λ z. z.limit) c.new-progress.ensures in
     let same = subst (λ z. match_by r (flat_map (tried_from z bodies k p) (starts z c.args.anchored)) ≡ end_by c.in_ok-ending.ending c.try_all.new.progress []) c.bytes.ensures.value c.in_ok-ending.ensures.ending in
     let all = trials_of t bodies p c.args.anchored k r c.depth-most.ensures (ap (λ z. z.trials) c.new-progress.ensures) in
-    let few = within_limit r c.try_all.new.progress (flat_map (tried_from t bodies k p) (starts t c.args.anchored)) c.in_ok-ending.ending same c.found.ensures.within in
+    let few = within_limit r c.try_all.new.progress (flat_map (tried_from t bodies k p) (starts t c.args.anchored)) c.in_ok-ending.ending same c.report.ensures.within in
     omega (arith, limit, all, few)

@@ -3,8 +3,8 @@ use Rattle.std.proofs.Common.{◌≡◌, ◌++◌, reverse}
 use Rattle.sno_machine.specs.History.{entries_of, conds_at}
 use Rattle.sno_machine.proofs.entries.History.conditions.Given as goal
 
-abbrev pub invariant-loop-name : goal.invariant-loop-name
-invariant-loop-name l = conds_at (entries_of l.self) l.list ++ reverse l.parts.items ≡ conds_at (entries_of l.self) l.number
+abbrev pub invariant-loop-start : goal.invariant-loop-start
+invariant-loop-start l = conds_at (entries_of l.self) l.list ++ reverse l.parts.items ≡ conds_at (entries_of l.self) l.number
 
-abbrev pub decreases-loop-name : goal.decreases-loop-name
-decreases-loop-name l = l.list
+abbrev pub decreases-loop-start : goal.decreases-loop-start
+decreases-loop-start l = l.list
