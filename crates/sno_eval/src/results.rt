@@ -89,7 +89,7 @@ fn named(
     }
 }
 
-// What the pattern does behind each End of `first`, up to the first Halt.
+// What the pattern does after each End of `first`, up to the first Halt.
 #[cycle(results)]
 fn follow(
     alloc: Global,

@@ -1,14 +1,13 @@
 -- A word of bits, and the table of two.
-use Rattle.std.proofs.Common.{◌≡◌, ℕ, suc, ◌+◌, ◌-◌, ◌*◌, ◌%◌, ◌^◌, ◌<◌, ◌≤◌, Bool, true, false, ◌||◌, cond, List, [], ◌∷◌, length, take, get_or, nat_eq, nat_lt, bit_or, refl, ap, sym, ◌∙◌, arith, inl, inr, w64, ◌⊎◌, eq-eqb, zero-add}
+use Rattle.std.proofs.Common.{◌≡◌, ℕ, zero, suc, ◌+◌, ◌-◌, ◌*◌, ◌/◌, ◌%◌, ◌^◌, ◌<◌, ◌≤◌, Bool, true, false, ◌||◌, List, [], ◌∷◌, length, take, get_or, slice_index, nat_eq, bit_or, refl, ap, sym, ◌∙◌, arith, inl, inr, w64, ◌⊎◌, eq-eqb, zero-add}
 use Rattle.std.specs.Char.{is_ascii}
 use Rattle.std.specs.List.{list_all}
-use Rattle.std.proofs.lemmas.Bool.{ne_eqb, and_parts, ltb-true}
-use Rattle.std.proofs.lemmas.Bool.Decides.{eqb_tells, leb_tells}
+use Rattle.std.proofs.lemmas.Bool.{ne_eqb, and_parts, ltb-true, cases_lt}
+use Rattle.std.proofs.lemmas.Bool.Decides.{eqb_tells}
 use Rattle.std.proofs.lemmas.List.Folds.{list_any_more}
 use Rattle.std.proofs.lemmas.Nat.Bits.{bit_at-zero, bit_at_set_same, bit_at_set_other}
 use Rattle.sno_pattern.specs.Classes.{has}
-use Rattle.sno_pattern.specs.Tables.{is_set, table_has, IsTableOf}
-use Rattle.sno_pattern.specs.declared.tables.Table.{Table}
+use Rattle.sno_pattern.specs.Tables.{is_set}
 
 -- the bits of the members
 abbrev pub Tells : ℕ → List ℕ → ℕ → Type 0
@@ -68,24 +67,41 @@ none_above (m ∷ members) x h high =
     let low : m < 128 = ltb-true m 128 both.0 in
     ap (λ b. b || has members x) (ne_eqb m x (λ is. omega arith)) ∙ none_above members x both.1 high
 
--- the two words tell of every character
-by_words : (members : List ℕ) (table : Table) (x : ℕ) → list_all is_ascii members ≡ true → Tells table.low members 0 → Tells table.high members 64
-    → ((nat_lt x 64 ≡ true) × (suc x ≤ 64)) ⊎ ((nat_lt x 64 ≡ false) × (64 < suc x)) → ((nat_lt x 128 ≡ true) × (suc x ≤ 128)) ⊎ ((nat_lt x 128 ≡ false) × (128 < suc x)) → table_has table x ≡ has members x
-by_words members table x h low high (inl a) b =
-    ap (λ v. cond v (is_set table.low x) (cond (nat_lt x 128) (is_set table.high (x - 64)) false)) a.0
-    ∙ low x (omega arith)
-    ∙ ap (has members) (zero-add x)
-by_words members table x h low high (inr a) (inl b) =
-    let near : x - 64 < 64 = omega arith in
-    let place : 64 + (x - 64) ≡ x = omega arith in
-    ap (λ v. cond v (is_set table.low x) (cond (nat_lt x 128) (is_set table.high (x - 64)) false)) a.0
-    ∙ ap (λ v. cond v (is_set table.high (x - 64)) false) b.0
-    ∙ high (x - 64) near
-    ∙ ap (has members) place
-by_words members table x h low high (inr a) (inr b) =
-    ap (λ v. cond v (is_set table.low x) (cond (nat_lt x 128) (is_set table.high (x - 64)) false)) a.0
-    ∙ ap (λ v. cond v (is_set table.high (x - 64)) false) b.0
-    ∙ sym (none_above members x h (omega arith))
+-- the words of a table
+abbrev pub words : ℕ → ℕ → List ℕ
+words low high = low ∷ high ∷ 0 ∷ 0 ∷ []
 
-pub table_is : (members : List ℕ) (table : Table) → list_all is_ascii members ≡ true → Tells table.low members 0 → Tells table.high members 64 → IsTableOf members table
-table_is members table h low high x = by_words members table x h low high (leb_tells (suc x) 64) (leb_tells (suc x) 128)
+-- beyond the first two there are no bits
+beyond : (low high k : ℕ) → slice_index (words low high) (suc (suc k)) ≡ 0
+beyond low high zero = refl
+beyond low high (suc zero) = refl
+beyond low high (suc (suc k)) = refl
+
+-- the two words tell of every character
+by_words : (members : List ℕ) (low high x : ℕ) → list_all is_ascii members ≡ true → Tells low members 0 → Tells high members 64
+    → (x < 64) ⊎ (64 ≤ x) → (x < 128) ⊎ (128 ≤ x) → is_set (slice_index (words low high) (x / 64)) (x % 64) ≡ has members x
+by_words members low high x h told_low told_high (inl a) b =
+    let word : x / 64 ≡ 0 = omega arith in
+    let place : x % 64 ≡ x = omega arith in
+    ap (λ k. is_set (slice_index (words low high) k) (x % 64)) word
+    ∙ ap (is_set low) place
+    ∙ told_low x a
+    ∙ ap (has members) (zero-add x)
+by_words members low high x h told_low told_high (inr a) (inl b) =
+    let word : x / 64 ≡ 1 = omega arith in
+    let place : x % 64 ≡ x - 64 = omega arith in
+    let there : 64 + (x - 64) ≡ x = omega arith in
+    ap (λ k. is_set (slice_index (words low high) k) (x % 64)) word
+    ∙ ap (is_set high) place
+    ∙ told_high (x - 64) (omega arith)
+    ∙ ap (has members) there
+by_words members low high x h told_low told_high (inr a) (inr b) =
+    let word : x / 64 ≡ suc (suc (x / 64 - 2)) = omega arith in
+    ap (λ k. is_set (slice_index (words low high) k) (x % 64)) word
+    ∙ ap (λ w. is_set w (x % 64)) (beyond low high (x / 64 - 2))
+    ∙ ap (λ n. nat_eq n 1) (bit_at-zero (x % 64))
+    ∙ sym (none_above members x h b)
+
+pub table_is : (members : List ℕ) (low high : ℕ) → list_all is_ascii members ≡ true → Tells low members 0 → Tells high members 64
+    → (x : ℕ) → is_set (slice_index (words low high) (x / 64)) (x % 64) ≡ has members x
+table_is members low high h told_low told_high x = by_words members low high x h told_low told_high (cases_lt x 64) (cases_lt x 128)

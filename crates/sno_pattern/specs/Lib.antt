@@ -1,4 +1,4 @@
-pub mod Padded
+pub mod Padding
 pub mod Identifiers
 pub mod TextNames
 pub mod Texts

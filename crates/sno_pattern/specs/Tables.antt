@@ -1,5 +1,5 @@
 -- Tables of characters.
-use Rattle.std.specs.Prelude.{◌≡◌, ℕ, ◌-◌, Bool, false, List, nat_eq, nat_lt, if◌then◌else◌}
+use Rattle.std.specs.Prelude.{◌≡◌, ℕ, ◌/◌, ◌%◌, Bool, List, nat_eq, slice_index}
 use Rattle.std.specs.Int.{bit_at}
 use Rattle.sno_pattern.specs.Classes.{has}
 use Rattle.sno_pattern.specs.declared.tables.Table.{Table}
@@ -10,7 +10,7 @@ is_set word place = nat_eq (bit_at word place) 1
 
 -- whether a table has a character
 abbrev pub table_has : Table → ℕ → Bool
-table_has table x = if nat_lt x 64 then is_set table.low x else if nat_lt x 128 then is_set table.high (x - 64) else false
+table_has table x = is_set (slice_index table.words (x / 64)) (x % 64)
 
 -- a table that has the members, and no other character
 abbrev pub IsTableOf : List ℕ → Table → Type 0

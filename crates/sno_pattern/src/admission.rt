@@ -36,7 +36,7 @@ fn takes(marks: &[bool], pattern: &Pattern) -> bool
 }
 
 // The first definition that takes by the marks and has none.
-fn unmarked(bodies: &[Pattern], marks: &[bool]) -> Option<usize>
+fn find_unmarked(bodies: &[Pattern], marks: &[bool]) -> Option<usize>
     requires { length marks.now ≡ length bodies.now }
     ensures { MatchOption result (AreComplete (trees bodies.now) marks.now) (λ i. IsUnmarked (trees bodies.now) marks.now i) }
 {
@@ -55,13 +55,13 @@ fn mark(bodies: &[Pattern], marks: &mut [bool])
     ensures as_many { length marks.new ≡ length bodies.now }
     ensures exact { AreExact (trees bodies.now) marks.new }
 {
-    while let Some(number) = unmarked(bodies, marks) {
+    while let Some(number) = find_unmarked(bodies, marks) {
         marks[number] = true;
     }
 }
 
 // Which definitions take.
-fn taking(alloc: Global, bodies: &[Pattern]) -> Result<Vec<bool>, AllocError>
+fn marks_of(alloc: Global, bodies: &[Pattern]) -> Result<Vec<bool>, AllocError>
     ensures { IfOk result (λ v. (length v.items ≡ length bodies.now) × AreExact (trees bodies.now) v.items) }
 {
     let mut marks = vec![in alloc; false; bodies.len()]?;
@@ -69,7 +69,7 @@ fn taking(alloc: Global, bodies: &[Pattern]) -> Result<Vec<bool>, AllocError>
     Ok(marks)
 }
 
-// Puts the unguarded references of the pattern behind those found so far. Whether the pattern takes is answered.
+// Puts the unguarded references of the pattern after those found so far. Whether the pattern takes is answered.
 fn find_unguarded(
     marks: &[bool],
     pattern: &Pattern,
@@ -201,7 +201,7 @@ pub(crate) fn first_cycle(
     requires { IsTrue (list_all (refs_below (length bodies.now)) (trees bodies.now)) }
     ensures { IfOk result (λ r. MatchOption r (Guarded (trees bodies.now)) (λ l. IsFirstCycle (trees bodies.now) l.items)) }
 {
-    let marks = taking(alloc, bodies)?;
+    let marks = marks_of(alloc, bodies)?;
     for start in 0..bodies.len() {
         let found = cycle_from(alloc, bodies, &marks, start)?;
         if let Some(cycle) = found {

@@ -42,7 +42,16 @@ impl Class {
         Some(Class { members, table })
     }
 
+    /// The characters that it was made of, in the order and as often as they stood there.
+    #[inline(always)]
+    pub fn members(&self) -> &[u8]
+        ensures { result.now ≡ self.now }
+    {
+        self.members.as_slice()
+    }
+
     /// Whether the character is a member.
+    #[inline(always)]
     pub fn has(&self, character: u8) -> bool
         ensures { result ≡ has self.now character }
     {
@@ -68,7 +77,7 @@ impl PartialEq for Class {
     ghost laws = { partial_equiv_from_equiv nat_list_eq_equiv };
 
     fn eq(&self, other: &Class) -> bool {
-        self.members.as_slice() == other.members.as_slice()
+        self.members() == other.members()
     }
 }
 

@@ -39,7 +39,7 @@ pub enum RulesFault {
     /// The definition with this number, the first of such, refers past the last.
     #[error("bad reference in definition {0}")]
     BadRef(usize),
-    /// Definitions that refer to one another in a circle without taking a character.
+    /// Definitions on a cycle of references that takes no character.
     #[error("unguarded")]
     Unguarded(Vec<usize>),
     /// Memory was refused.

@@ -26,7 +26,7 @@ pub struct Name {
 impl Model for Name {
     ghost use Rattle.std.specs.Prelude.{◌≡◌, ◌-◌, ◌≤◌, ◌++◌, ℕ, List, length, take, replicate, IsTrue};
     ghost use Rattle.sno_pattern.specs.Identifiers.{is_name};
-    ghost use Rattle.sno_pattern.specs.Padded.{length-front, front-padded};
+    ghost use Rattle.sno_pattern.specs.Padding.{length-front, front-padding};
 
     ghost Value = { List ℕ };
 
@@ -39,7 +39,7 @@ impl Model for Name {
     ghost inverse = { λ name. record { letters = name ++ replicate (64 - length name) 0; len = length name } };
 
     ghost inverse_ok = { λ s h i. record {
-      letters = front-padded s.letters s.len h.0 h.1 h.2 i;
+      letters = front-padding s.letters s.len h.0 h.1 h.2 i;
       len = length-front s.letters s.len h.0 h.1 i;
     } };
 }
@@ -52,12 +52,13 @@ impl Name {
         if !is_name(bytes) {
             return None;
         }
-        let letters = padded(bytes);
+        let letters = pad(bytes);
         let len = bytes.len() as u8;
         Some(Name { letters, len })
     }
 
     /// The characters of the name, 1 to 64 of them.
+    #[inline(always)]
     pub fn bytes(&self) -> &[u8]
         ensures value { result.now ≡ self.now }
         ensures name { IsTrue (is_name self.now) }
@@ -74,8 +75,8 @@ impl Name {
     }
 }
 
-// The characters, with zeros behind them.
-fn padded(characters: &[u8]) -> [u8; 64]
+// The characters, with zeros after them.
+fn pad(characters: &[u8]) -> [u8; 64]
     requires { length characters.now ≤ 64 }
     ensures { result ≡ characters.now ++ replicate (64 - length characters.now) 0 }
 {

@@ -5,11 +5,10 @@ ghost use Rattle.std.specs.List.{list_all};
 ghost use Rattle.sno_pattern.specs.Classes.{has};
 ghost use Rattle.sno_pattern.specs.Tables.{IsTableOf, is_set, table_has};
 
-// A bit for each ASCII character: the first 64 of them are in `low`.
+// A bit for each byte, 64 of them in a word. Those of bytes above 127 are 0.
 #[derive(Clone, Copy)]
 pub struct Table {
-    low: u64,
-    high: u64,
+    words: [u64; 4],
 }
 
 impl Table {
@@ -19,21 +18,16 @@ impl Table {
         ensures { IsTableOf members.now result }
     {
         Table {
-            low: word_of(members, 0),
-            high: word_of(members, 64),
+            words: [word_of(members, 0), word_of(members, 64), 0, 0],
         }
     }
 
+    // Whether the character is one of them. There is no branch in it.
+    #[inline(always)]
     pub fn has(&self, character: u8) -> bool
         ensures { result ≡ table_has self.now character }
     {
-        if character < 64 {
-            is_set(self.low, character)
-        } else if character < 128 {
-            is_set(self.high, character - 64)
-        } else {
-            false
-        }
+        is_set(self.words[(character / 64) as usize], character % 64)
     }
 }
 
@@ -51,6 +45,8 @@ fn word_of(members: &[u8], first: u8) -> u64
     word
 }
 
+// Whether the bit at a place is 1.
+#[inline(always)]
 #[tactic(auto, using(std::proofs::lemmas::Nat::Bits::shr_and_one))]
 fn is_set(word: u64, place: u8) -> bool
     requires { place < 64 }

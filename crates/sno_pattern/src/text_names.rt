@@ -63,6 +63,7 @@ impl TextName {
     }
 
     /// The characters, 1 to 255 of them.
+    #[inline(always)]
     pub fn bytes(&self) -> &[u8]
         ensures value { result.now ≡ self.now }
         ensures name { IsTrue (is_text_name self.now) }

@@ -60,6 +60,7 @@ impl Text {
     }
 
     /// The characters.
+    #[inline(always)]
     pub fn bytes(&self) -> &[u8]
         ensures value { result.now ≡ self.now }
         ensures short { length self.now ≤ 65536 }

@@ -1,2 +1,2 @@
-mod LeafLaws
 mod BalancedEnds
+mod Seeking

@@ -6,6 +6,7 @@ ghost use Rattle.sno_primitives.specs.Depth.{depth_after};
 /// The first cursor past `c` up to which the text from `c` on is balanced in parentheses; none where there is none.
 ///
 /// From an end that came back, the next call gives the next end of `BAL` from `c`. It takes no memory, and reads no character past the end.
+#[inline]
 pub fn first_balanced(text: &[u8], c: usize) -> Option<usize>
     requires { c ≤ length text.now }
     ensures exact { MatchOption result (bal_ends text.now c ≡ []) (λ e. bal_ends text.now c ≡ e ∷ bal_ends text.now e) }
@@ -22,7 +23,8 @@ pub fn first_balanced(text: &[u8], c: usize) -> Option<usize>
     None
 }
 
-// How many parentheses are open behind the character; none where it closes one that isn't open.
+// How many parentheses are open after the character; none where it closes one that isn't open.
+#[inline(always)]
 fn depth_after(depth: usize, character: u8) -> Option<usize>
     requires { depth + 1 < 2 ^ 64 }
     ensures exact { result ≡ depth_after depth character }

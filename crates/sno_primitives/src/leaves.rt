@@ -4,15 +4,15 @@ ghost use Rattle.sno_pattern.specs.Tree.{tree_of};
 ghost use Rattle.sno_primitives.specs.Leaves.{is_single, leaf_ends};
 
 use crate::primitives::{
-    any_end, break_end, len_end, literal_end, notany_end, pos_end, rpos_end, rtab_end, span_end,
-    tab_end,
+    any_end, len_end, literal_end, notany_end, pos_end, rpos_end, rtab_end, tab_end,
 };
+use crate::runs::{break_end, span_end};
 use sno_pattern::Pattern;
 
 /// Where the primitive ends from the cursor; none where it fails there.
 ///
 /// The end is no cursor before `c` and none behind the text. The call takes no memory.
-#[tactic(auto, using(crate::proofs::LeafLaws::leaf_within))]
+#[inline(always)]
 pub fn leaf_end(text: &[u8], pattern: &Pattern, c: usize) -> Option<usize>
     requires within { c ≤ length text.now }
     requires single { IsTrue (is_single (tree_of pattern.now)) }

@@ -2,11 +2,12 @@
 //!
 //! | Function | What it promises |
 //! |---|---|
-//! | [`leaf_end`] | the one end of a primitive that has at most one |
+//! | [`literal_end`], [`len_end`], [`pos_end`], [`rpos_end`], [`tab_end`], [`rtab_end`], [`any_end`], [`notany_end`], [`span_end`], [`break_end`] | the one end of that primitive |
+//! | [`leaf_end`] | the one end of a primitive that has at most one, by its pattern |
 //! | [`first_balanced`] | the first end of `BAL`; from each end, the next one is the first |
 //! | [`arbitrary_ends_follow_one_another`] | the ends of `ARB` are the cursor and those of the next cursor |
 //!
-//! By these three a matcher goes through the ends of any primitive in order, one at a time, and takes no memory for them.
+//! By the last three a matcher goes through the ends of any primitive in order, one at a time, and takes no memory for them.
 //! The ends themselves are defined in `specs/Ends.antt` of `sno_pattern`; `specs/Leaves.antt` has them by the tree.
 #![tactic(auto)]
 
@@ -14,6 +15,7 @@ mod balance;
 mod laws;
 mod leaves;
 mod primitives;
+mod runs;
 #[cfg(test)]
 mod tests;
 
@@ -21,6 +23,6 @@ pub use balance::first_balanced;
 pub use laws::arbitrary_ends_follow_one_another;
 pub use leaves::leaf_end;
 pub use primitives::{
-    any_end, break_end, len_end, literal_end, notany_end, pos_end, rpos_end, rtab_end, span_end,
-    tab_end,
+    any_end, len_end, literal_end, notany_end, pos_end, rpos_end, rtab_end, tab_end,
 };
+pub use runs::{break_end, span_end};

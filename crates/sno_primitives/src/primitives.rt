@@ -1,14 +1,18 @@
-//! Where the primitives end.
-ghost use Rattle.std.specs.Prelude.{◌≡◌, ◌+◌, ◌-◌, ◌≤◌, not, length, drop, nat_eq, nat_lt, nat_le, option_to_list};
-ghost use Rattle.std.specs.List.{starts_with, take_while};
-ghost use Rattle.sno_pattern.specs.Classes.{has};
-ghost use Rattle.sno_pattern.specs.Ends.{literal_ends, len_ends, pos_ends, rpos_ends, tab_ends, rtab_ends, any_ends, notany_ends, span_ends, break_ends};
+//! Where the primitives end that look at a place, at a length or at the next character.
+ghost use Rattle.std.specs.Prelude.{◌≡◌, ◌+◌, ◌-◌, ◌≤◌, length, drop, nat_eq, nat_le, option_to_list, IfSome};
+ghost use Rattle.std.specs.List.{starts_with};
+ghost use Rattle.sno_pattern.specs.Ends.{literal_ends, len_ends, pos_ends, rpos_ends, tab_ends, rtab_ends, any_ends, notany_ends};
 
 use sno_pattern::Class;
 
+/// Where the literal ends that stands at the cursor; none where it doesn't stand there.
+///
+/// The end is no cursor before `c` and none behind the text. The call takes no memory.
+#[inline(always)]
 pub fn literal_end(text: &[u8], literal: &[u8], c: usize) -> Option<usize>
     requires { c ≤ length text.now }
-    ensures { option_to_list result ≡ literal_ends text.now literal.now c }
+    ensures exact { option_to_list result ≡ literal_ends text.now literal.now c }
+    ensures behind { IfSome result (λ e. (c ≤ e) × (e ≤ length text.now)) }
 {
     let (_, rest) = text.split_at(c);
     if rest.starts_with(literal) {
@@ -18,9 +22,14 @@ pub fn literal_end(text: &[u8], literal: &[u8], c: usize) -> Option<usize>
     }
 }
 
+/// Where `LEN(n)` ends from the cursor: `n` characters on; none where there are fewer.
+///
+/// The end is no cursor before `c` and none behind the text. The call takes no memory.
+#[inline(always)]
 pub fn len_end(text: &[u8], n: usize, c: usize) -> Option<usize>
     requires { c ≤ length text.now }
-    ensures { option_to_list result ≡ len_ends text.now n c }
+    ensures exact { option_to_list result ≡ len_ends text.now n c }
+    ensures behind { IfSome result (λ e. (c ≤ e) × (e ≤ length text.now)) }
 {
     if n <= text.len() - c {
         Some(c + n)
@@ -29,21 +38,36 @@ pub fn len_end(text: &[u8], n: usize, c: usize) -> Option<usize>
     }
 }
 
+/// Where `POS(n)` ends from the cursor: there, if it is cursor `n`; none otherwise.
+///
+/// The call takes no memory.
+#[inline(always)]
 pub fn pos_end(n: usize, c: usize) -> Option<usize>
-    ensures { option_to_list result ≡ pos_ends n c }
+    ensures exact { option_to_list result ≡ pos_ends n c }
+    ensures here { IfSome result (λ e. e ≡ c) }
 {
     if c == n { Some(c) } else { None }
 }
 
+/// Where `RPOS(n)` ends from the cursor: there, if `n` characters are left; none otherwise.
+///
+/// The call takes no memory.
+#[inline(always)]
 pub fn rpos_end(text: &[u8], n: usize, c: usize) -> Option<usize>
     requires { c ≤ length text.now }
-    ensures { option_to_list result ≡ rpos_ends text.now n c }
+    ensures exact { option_to_list result ≡ rpos_ends text.now n c }
+    ensures behind { IfSome result (λ e. (c ≤ e) × (e ≤ length text.now)) }
 {
     if n == text.len() - c { Some(c) } else { None }
 }
 
+/// Where `TAB(n)` ends from the cursor: at cursor `n`; none where that lies before `c` or behind the text.
+///
+/// The call takes no memory.
+#[inline(always)]
 pub fn tab_end(text: &[u8], n: usize, c: usize) -> Option<usize>
-    ensures { option_to_list result ≡ tab_ends text.now n c }
+    ensures exact { option_to_list result ≡ tab_ends text.now n c }
+    ensures behind { IfSome result (λ e. (c ≤ e) × (e ≤ length text.now)) }
 {
     if c <= n && n <= text.len() {
         Some(n)
@@ -52,9 +76,14 @@ pub fn tab_end(text: &[u8], n: usize, c: usize) -> Option<usize>
     }
 }
 
+/// Where `RTAB(n)` ends from the cursor: where `n` characters are left; none where that lies before `c`, or there are fewer.
+///
+/// The call takes no memory.
+#[inline(always)]
 pub fn rtab_end(text: &[u8], n: usize, c: usize) -> Option<usize>
     requires { c ≤ length text.now }
-    ensures { option_to_list result ≡ rtab_ends text.now n c }
+    ensures exact { option_to_list result ≡ rtab_ends text.now n c }
+    ensures behind { IfSome result (λ e. (c ≤ e) × (e ≤ length text.now)) }
 {
     if n <= text.len() - c {
         Some(text.len() - n)
@@ -63,9 +92,14 @@ pub fn rtab_end(text: &[u8], n: usize, c: usize) -> Option<usize>
     }
 }
 
+/// Where `ANY(set)` ends from the cursor: one character on, if it is in the set; none if it isn't, or the text ends here.
+///
+/// The call takes no memory.
+#[inline(always)]
 pub fn any_end(text: &[u8], set: &Class, c: usize) -> Option<usize>
     requires { c ≤ length text.now }
-    ensures { option_to_list result ≡ any_ends text.now set.now c }
+    ensures exact { option_to_list result ≡ any_ends text.now set.now c }
+    ensures behind { IfSome result (λ e. (c ≤ e) × (e ≤ length text.now)) }
 {
     let (_, rest) = text.split_at(c);
     match rest.split_first() {
@@ -74,49 +108,18 @@ pub fn any_end(text: &[u8], set: &Class, c: usize) -> Option<usize>
     }
 }
 
+/// Where `NOTANY(set)` ends from the cursor: one character on, if it isn't in the set; none if it is, or the text ends here.
+///
+/// The call takes no memory.
+#[inline(always)]
 pub fn notany_end(text: &[u8], set: &Class, c: usize) -> Option<usize>
     requires { c ≤ length text.now }
-    ensures { option_to_list result ≡ notany_ends text.now set.now c }
+    ensures exact { option_to_list result ≡ notany_ends text.now set.now c }
+    ensures behind { IfSome result (λ e. (c ≤ e) × (e ≤ length text.now)) }
 {
     let (_, rest) = text.split_at(c);
     match rest.split_first() {
         Some((next, _)) if !set.has(*next) => Some(c + 1),
         _ => None,
-    }
-}
-
-// How many characters in a row are in the set.
-fn run_in(rest: &[u8], set: &Class) -> usize
-    ensures { result ≡ length (take_while (has set.now) rest.now) }
-{
-    rest.iter().take_while(|x| set.has(**x)).count()
-}
-
-// How many characters in a row are not in the set.
-fn run_outside(rest: &[u8], set: &Class) -> usize
-    ensures { result ≡ length (take_while (λ x. not (has set.now x)) rest.now) }
-{
-    rest.iter().take_while(|x| !set.has(**x)).count()
-}
-
-pub fn span_end(text: &[u8], set: &Class, c: usize) -> Option<usize>
-    requires { c ≤ length text.now }
-    ensures { option_to_list result ≡ span_ends text.now set.now c }
-{
-    let (_, rest) = text.split_at(c);
-    let run = run_in(rest, set);
-    if run != 0 { Some(c + run) } else { None }
-}
-
-pub fn break_end(text: &[u8], set: &Class, c: usize) -> Option<usize>
-    requires { c ≤ length text.now }
-    ensures { option_to_list result ≡ break_ends text.now set.now c }
-{
-    let (_, rest) = text.split_at(c);
-    let run = run_outside(rest, set);
-    if run < rest.len() {
-        Some(c + run)
-    } else {
-        None
     }
 }

@@ -1,5 +1,8 @@
 //! Each call once; the ends are read off the texts.
-use crate::{first_balanced, leaf_end};
+use crate::{
+    any_end, break_end, first_balanced, leaf_end, len_end, literal_end, notany_end, pos_end,
+    rpos_end, rtab_end, span_end, tab_end,
+};
 use sno_pattern::{Class, Pattern, Text};
 use std::process::Abort;
 use std::test::Fail;
@@ -49,5 +52,54 @@ fn members_of_low_and_high_codes_are_found(rt: HostRuntime) -> Result<(), Fail> 
     assert_eq!(rt; leaf_end(text, &any, 1), Some(2));
     assert_eq!(rt; leaf_end(text, &any, 2), None);
     assert_eq!(rt; leaf_end(text, &any, 3), None);
+    Ok(())
+}
+
+// 'ba', LEN(2), POS(2), RPOS(3), TAB(4) and RTAB(1) from 2 on xabac
+#[test]
+fn places_and_lengths_have_one_end(rt: HostRuntime) -> Result<(), Fail> {
+    let text = b"xabac".as_slice();
+    assert_eq!(rt; literal_end(text, b"ba", 2), Some(4));
+    assert_eq!(rt; len_end(text, 2, 2), Some(4));
+    assert_eq!(rt; pos_end(2, 2), Some(2));
+    assert_eq!(rt; rpos_end(text, 3, 2), Some(2));
+    assert_eq!(rt; tab_end(text, 4, 2), Some(4));
+    assert_eq!(rt; rtab_end(text, 1, 2), Some(4));
+    Ok(())
+}
+
+// ANY('ab'), NOTANY('ab') and SPAN('ab') on xabac
+#[test]
+fn sets_have_one_end(rt: HostRuntime) -> Result<(), Fail> {
+    let text = b"xabac".as_slice();
+    let set = Class::new(Vec::from_slice(rt.alloc(), b"ab")?).ok_or("no set")?;
+    assert_eq!(rt; any_end(text, &set, 1), Some(2));
+    assert_eq!(rt; notany_end(text, &set, 0), Some(1));
+    assert_eq!(rt; span_end(text, &set, 1), Some(4));
+    Ok(())
+}
+
+// BREAK of one to four members on a text of which the last character alone is in each
+#[test]
+fn few_and_many_members_stop_alike(rt: HostRuntime) -> Result<(), Fail> {
+    let alloc = rt.alloc();
+    let text = b"the first of many characters;".as_slice();
+    let one = Class::new(Vec::from_slice(alloc, b";")?).ok_or("no set")?;
+    let two = Class::new(Vec::from_slice(alloc, b"1;")?).ok_or("no set")?;
+    let three = Class::new(Vec::from_slice(alloc, b"12;")?).ok_or("no set")?;
+    let four = Class::new(Vec::from_slice(alloc, b"123;")?).ok_or("no set")?;
+    assert_eq!(rt; break_end(text, &one, 4), Some(28));
+    assert_eq!(rt; break_end(text, &two, 4), Some(28));
+    assert_eq!(rt; break_end(text, &three, 4), Some(28));
+    assert_eq!(rt; break_end(text, &four, 4), Some(28));
+    assert_eq!(rt; break_end(text, &four, 29), None);
+    Ok(())
+}
+
+// the members of a set, as they were given
+#[test]
+fn members_come_back_as_they_stood(rt: HostRuntime) -> Result<(), Fail> {
+    let set = Class::new(Vec::from_slice(rt.alloc(), b"cabc")?).ok_or("no set")?;
+    assert_eq!(rt; set.members(), b"cabc".as_slice());
     Ok(())
 }

@@ -77,7 +77,7 @@ fn refuses(rt: &(impl AllocGlobal + Abort), text: &[u8], want: ReadFault) -> Res
 }
 
 // A piece of text so many times, between two others.
-fn repeated(
+fn repeat(
     rt: &impl AllocGlobal,
     before: &[u8],
     piece: &[u8],
@@ -263,7 +263,7 @@ fn sets(rt: HostRuntime) -> Result<(), Fail> {
 }
 
 #[test]
-fn parts_repeated(rt: HostRuntime) -> Result<(), Fail> {
+fn repetitions_of_parts(rt: HostRuntime) -> Result<(), Fail> {
     let part = Box::new(rt.alloc(), lit(&rt, b"\n)(")?)?;
     reads(&rt, b"ARBNO('\n)(')", Pattern::Arbno(part))
 }
@@ -314,41 +314,41 @@ fn definitions(rt: HostRuntime) -> Result<(), Fail> {
 
 #[test]
 fn longest_text(rt: HostRuntime) -> Result<(), Fail> {
-    let inside = repeated(&rt, b"", b"a", 4_094, b"")?;
+    let inside = repeat(&rt, b"", b"a", 4_094, b"")?;
     reads(
         &rt,
-        &repeated(&rt, b"'", b"a", 4_094, b"'")?,
+        &repeat(&rt, b"'", b"a", 4_094, b"'")?,
         lit(&rt, &inside)?,
     )?;
     refuses(
         &rt,
-        &repeated(&rt, b"", b" ", 4_096, b"")?,
+        &repeat(&rt, b"", b" ", 4_096, b"")?,
         ReadFault::Empty(4_096),
     )?;
     refuses(
         &rt,
-        &repeated(&rt, b"", b" ", 4_097, b"")?,
+        &repeat(&rt, b"", b" ", 4_097, b"")?,
         ReadFault::TooLong(4_096),
     )?;
     refuses(
         &rt,
-        &repeated(&rt, b"", b"\xC3", 4_097, b"")?,
+        &repeat(&rt, b"", b"\xC3", 4_097, b"")?,
         ReadFault::TooLong(4_096),
     )
 }
 
 #[test]
 fn longest_object(rt: HostRuntime) -> Result<(), Fail> {
-    let longest = repeated(&rt, b"", b" ", 4_096, b"")?;
+    let longest = repeat(&rt, b"", b" ", 4_096, b"")?;
     assert_eq!(rt; object_fault(&rt, &longest)?, None);
-    let more = repeated(&rt, b"", b" ", 4_097, b"")?;
+    let more = repeat(&rt, b"", b" ", 4_097, b"")?;
     assert_eq!(rt; object_fault(&rt, &more)?, Some(ReadFault::TooLong(4_096)));
     Ok(())
 }
 
 #[test]
 fn longest_name(rt: HostRuntime) -> Result<(), Fail> {
-    let longest = repeated(&rt, b"", b"a", 64, b"")?;
+    let longest = repeat(&rt, b"", b"a", 64, b"")?;
     let names = Names::new(rt.alloc(), &[name_of(&longest)?])?;
     assert!(rt; read_pattern(rt.alloc(), &names, 1, &longest)? == Pattern::Ref(0));
     Ok(())
@@ -358,78 +358,78 @@ fn longest_name(rt: HostRuntime) -> Result<(), Fail> {
 fn names_too_long(rt: HostRuntime) -> Result<(), Fail> {
     refuses(
         &rt,
-        &repeated(&rt, b"", b"a", 64, b"")?,
+        &repeat(&rt, b"", b"a", 64, b"")?,
         ReadFault::UnknownName(0),
     )?;
     refuses(
         &rt,
-        &repeated(&rt, b"", b"a", 65, b"")?,
+        &repeat(&rt, b"", b"a", 65, b"")?,
         ReadFault::TooLong(0),
     )?;
     refuses(
         &rt,
-        &repeated(&rt, b"'a' . ", b"a", 65, b"")?,
+        &repeat(&rt, b"'a' . ", b"a", 65, b"")?,
         ReadFault::TooLong(6),
     )?;
     refuses(
         &rt,
-        &repeated(&rt, b"*", b"a", 65, b"")?,
+        &repeat(&rt, b"*", b"a", 65, b"")?,
         ReadFault::TooLong(1),
     )
 }
 
 #[test]
 fn open_groups(rt: HostRuntime) -> Result<(), Fail> {
-    let inner = repeated(&rt, b"", b"(", 100, b"''")?;
-    reads(&rt, &repeated(&rt, &inner, b")", 100, b"")?, lit(&rt, b"")?)?;
+    let inner = repeat(&rt, b"", b"(", 100, b"''")?;
+    reads(&rt, &repeat(&rt, &inner, b")", 100, b"")?, lit(&rt, b"")?)?;
     refuses(
         &rt,
-        &repeated(&rt, b"", b"(", 101, b"")?,
+        &repeat(&rt, b"", b"(", 101, b"")?,
         ReadFault::TooDeep(100),
     )?;
     refuses(
         &rt,
-        &repeated(&rt, b"", b"(", 100, b"LEN(1)")?,
+        &repeat(&rt, b"", b"(", 100, b"LEN(1)")?,
         ReadFault::TooDeep(103),
     )?;
     refuses(
         &rt,
-        &repeated(&rt, b"", b"(", 100, b"LEN")?,
+        &repeat(&rt, b"", b"(", 100, b"LEN")?,
         ReadFault::Unexpected(103),
     )
 }
 
 #[test]
 fn open_calls(rt: HostRuntime) -> Result<(), Fail> {
-    let inner = repeated(&rt, b"", b"ARBNO(", 100, b"''")?;
-    let most = repeated(&rt, &inner, b")", 100, b"")?;
+    let inner = repeat(&rt, b"", b"ARBNO(", 100, b"''")?;
+    let most = repeat(&rt, &inner, b")", 100, b"")?;
     assert_eq!(rt; depth_of(&pattern(&rt, &most)?), 101);
     refuses(
         &rt,
-        &repeated(&rt, b"", b"ARBNO(", 101, b"")?,
+        &repeat(&rt, b"", b"ARBNO(", 101, b"")?,
         ReadFault::TooDeep(605),
     )
 }
 
 #[test]
 fn quoted_parentheses(rt: HostRuntime) -> Result<(), Fail> {
-    let quoted = repeated(&rt, b"'", b"(", 101, b"'")?;
+    let quoted = repeat(&rt, b"'", b"(", 101, b"'")?;
     assert_eq!(rt; depth_of(&pattern(&rt, &quoted)?), 1);
     Ok(())
 }
 
 #[test]
 fn deepest_tree(rt: HostRuntime) -> Result<(), Fail> {
-    let deepest = repeated(&rt, b"''", b" ''", 999, b"")?;
+    let deepest = repeat(&rt, b"''", b" ''", 999, b"")?;
     assert_eq!(rt; depth_of(&pattern(&rt, &deepest)?), 1_000);
     refuses(
         &rt,
-        &repeated(&rt, b"''", b" ''", 1_000, b"")?,
+        &repeat(&rt, b"''", b" ''", 1_000, b"")?,
         ReadFault::TooDeep(3_002),
     )?;
     refuses(
         &rt,
-        &repeated(&rt, b"''", b" ''", 1_000, b" )")?,
+        &repeat(&rt, b"''", b" ''", 1_000, b" )")?,
         ReadFault::Unexpected(3_003),
     )
 }

@@ -1,7 +1,7 @@
 -- What is copied stands in front of the zeros that are left.
 use Rattle.std.proofs.Common.{ap, length, ◌++◌, ℕ, List}
 use Rattle.std.proofs.lemmas.List.{drop-replicate}
-use Rattle.sno_pattern.proofs.identifiers.padded.Goals as goal
+use Rattle.sno_pattern.proofs.identifiers.pad.Goals as goal
 
 pub returns : goal.returns
 returns c =

@@ -1,0 +1,80 @@
+//! Where the primitives end that go over many characters: `SPAN` and `BREAK`.
+ghost use Rattle.std.specs.Prelude.{◌≡◌, ◌+◌, ◌≤◌, not, length, drop, nat_eq, nat_lt, option_to_list, IfSome};
+ghost use Rattle.std.specs.List.{take_while};
+ghost use Rattle.sno_pattern.specs.Classes.{has};
+ghost use Rattle.sno_pattern.specs.Ends.{span_ends, break_ends};
+ghost use Rattle.memchr.specs.Find.{IsFirstByte};
+
+use memchr::{memchr, memchr2, memchr3};
+use sno_pattern::Class;
+
+// How many characters in a row are in the set.
+#[inline(always)]
+fn run_in(rest: &[u8], set: &Class) -> usize
+    ensures { result ≡ length (take_while (has set.now) rest.now) }
+{
+    rest.iter().take_while(|x| set.has(**x)).count()
+}
+
+// The index of the first character that is in the set, by the set's table.
+#[inline(always)]
+fn first_by_table(rest: &[u8], set: &Class) -> Option<usize>
+    ensures { IsFirstByte (has set.now) rest.now result }
+{
+    rest.iter().position(|x| set.has(*x))
+}
+
+// The same, where the set has one, two or three members. It stands by itself, since a search for bytes is long code.
+#[inline(never)]
+fn first_by_bytes(rest: &[u8], set: &Class) -> Option<usize>
+    ensures { IsFirstByte (has set.now) rest.now result }
+{
+    match set.members() {
+        [only] => memchr(*only, rest),
+        [first, second] => memchr2(*first, *second, rest),
+        [first, second, third] => memchr3(*first, *second, *third, rest),
+        _ => first_by_table(rest, set),
+    }
+}
+
+// The index of the first character that is in the set. Up to three members are sought as bytes.
+#[inline(always)]
+fn first_in(rest: &[u8], set: &Class) -> Option<usize>
+    ensures { IsFirstByte (has set.now) rest.now result }
+{
+    if set.members().len() <= 3 {
+        first_by_bytes(rest, set)
+    } else {
+        first_by_table(rest, set)
+    }
+}
+
+/// Where `SPAN(set)` ends from the cursor: past all characters in a row that are in the set; none where the next one isn't, or the text ends here.
+///
+/// The end is no cursor before `c` and none behind the text. The call takes no memory.
+#[inline(always)]
+pub fn span_end(text: &[u8], set: &Class, c: usize) -> Option<usize>
+    requires { c ≤ length text.now }
+    ensures exact { option_to_list result ≡ span_ends text.now set.now c }
+    ensures behind { IfSome result (λ e. (c ≤ e) × (e ≤ length text.now)) }
+{
+    let (_, rest) = text.split_at(c);
+    let run = run_in(rest, set);
+    if run != 0 { Some(c + run) } else { None }
+}
+
+/// Where `BREAK(set)` ends from the cursor: before the first character from here on that is in the set; none where there is no such.
+///
+/// The end is no cursor before `c` and none behind the text. The call takes no memory.
+#[inline(always)]
+pub fn break_end(text: &[u8], set: &Class, c: usize) -> Option<usize>
+    requires { c ≤ length text.now }
+    ensures exact { option_to_list result ≡ break_ends text.now set.now c }
+    ensures behind { IfSome result (λ e. (c ≤ e) × (e ≤ length text.now)) }
+{
+    let (_, rest) = text.split_at(c);
+    match first_in(rest, set) {
+        Some(passed) => Some(c + passed),
+        None => None,
+    }
+}
