@@ -2,11 +2,12 @@
 ghost use Rattle.std.specs.Prelude.{◌≡◌, ◌≤◌, true, [], ◌∷◌, ◌++◌, length, slice_get, IfOk, IfSome};
 ghost use Rattle.sno_pattern.specs.Tree.{tree_of};
 ghost use Rattle.memchr.specs.Find.{IsFirstByte};
-ghost use Rattle.sno_machine.specs.declared.heads.Head.TheVariants.{Byte};
+ghost use Rattle.sno_machine.specs.declared.heads.Head.TheVariants.{Byte, OneOf};
 ghost use Rattle.sno_machine.specs.Beginnings.{begins, any_begins, AreHeads, Collected};
 
 use memchr::{memchr, memchr2, memchr3};
 use sno_pattern::{Class, Pattern};
+use sno_primitives::first_in;
 use std::alloc::{AllocError, Global};
 
 // The most heads that are kept of a pattern: a start that is passed over costs at most so many trials.
@@ -138,6 +139,29 @@ fn first_of_any(heads: &[Head], text: &[u8]) -> Option<usize>
     text.iter().position(|character| any_has(heads, *character))
 }
 
+// The set that is the only head, where there is one head and it is a set.
+fn only_class<'a>(heads: &[Head<'a>]) -> Option<&'a Class>
+    ensures { IfSome result (λ class. (length heads.now ≡ 1) × (slice_get heads.now 0 ≡ Some (OneOf class))) }
+{
+    if heads.len() != 1 {
+        return None;
+    }
+    match heads.get(0) {
+        Some(Head::OneOf(class)) => Some(class),
+        _ => None,
+    }
+}
+
+// The same as `first_of_heads`, for heads that aren't bytes alone. A set is sought by itself where it is the only head.
+fn first_of_others(heads: &[Head], text: &[u8]) -> Option<usize>
+    ensures { IsFirstByte (any_begins heads.now) text.now result }
+{
+    match only_class(heads) {
+        Some(class) => first_in(text, class),
+        None => first_of_any(heads, text),
+    }
+}
+
 /// The index of the first character of the text with which one of the heads can begin. Up to three bytes are sought together.
 pub fn first_of_heads(heads: &[Head], text: &[u8]) -> Option<usize>
     ensures { IsFirstByte (any_begins heads.now) text.now result }
@@ -151,6 +175,6 @@ pub fn first_of_heads(heads: &[Head], text: &[u8]) -> Option<usize>
         (1, Some(first), _, _) => memchr(first, text),
         (2, Some(first), Some(second), _) => memchr2(first, second, text),
         (3, Some(first), Some(second), Some(third)) => memchr3(first, second, third, text),
-        _ => first_of_any(heads, text),
+        _ => first_of_others(heads, text),
     }
 }

@@ -3,6 +3,7 @@
 //! | Function | What it promises |
 //! |---|---|
 //! | [`literal_end`], [`len_end`], [`pos_end`], [`rpos_end`], [`tab_end`], [`rtab_end`], [`any_end`], [`notany_end`], [`span_end`], [`break_end`] | the one end of that primitive |
+//! | [`first_in`] | the first character that is in a set |
 //! | [`leaf_end`] | the one end of a primitive that has at most one, by its pattern |
 //! | [`first_balanced`] | the first end of `BAL`; from each end, the next one is the first |
 //! | [`arbitrary_ends_follow_one_another`] | the ends of `ARB` are the cursor and those of the next cursor |
@@ -25,4 +26,4 @@ pub use leaves::leaf_end;
 pub use primitives::{
     any_end, len_end, literal_end, notany_end, pos_end, rpos_end, rtab_end, tab_end,
 };
-pub use runs::{break_end, span_end};
+pub use runs::{break_end, first_in, span_end};

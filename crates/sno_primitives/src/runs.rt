@@ -37,9 +37,11 @@ fn first_by_bytes(rest: &[u8], set: &Class) -> Option<usize>
     }
 }
 
-// The index of the first character that is in the set. Up to three members are sought as bytes.
+/// The index of the first character of the text that is in the set; none where there is no such.
+///
+/// Where the set was made of up to three characters, they are sought as bytes. The call takes no memory.
 #[inline(always)]
-fn first_in(rest: &[u8], set: &Class) -> Option<usize>
+pub fn first_in(rest: &[u8], set: &Class) -> Option<usize>
     ensures { IsFirstByte (has set.now) rest.now result }
 {
     if set.members().len() <= 3 {
