@@ -32,7 +32,7 @@ impl<'a> History<'a> {
         Ok(self.count)
     }
 
-    /// Makes the buffer four times as long, 8 entries at first: most matches need few. What fills it is never looked at.
+    /// Makes the buffer twice as long and longer, 8 entries at first: most matches need few. What fills it is never looked at.
     #[cold]
     #[inline(never)]
     fn grow(&mut self) -> Result<(), MatchFault>
@@ -46,7 +46,7 @@ impl<'a> History<'a> {
             return Err(MatchFault::Memory);
         }
         let room = (u32::MAX - self.count) as usize;
-        let more = (self.count as usize * 3 + 8).min(room);
+        let more = (self.count as usize + 8).min(room);
         for _ in 0..more {
             self.buffer.push(Entry::Choice(Place {
                 node: 0,
