@@ -10,13 +10,13 @@
 //! and one down is `other`, a node that is left as a choice. Each drawing shows the nodes of a pattern, and where they go on to the right.
 //!
 //! ```text
-//! 'a'              'a' ──>                        a leaf: it costs a trial; `next` where it matches, else the match backs up; a literal of
-//!                                                one character has an operation of its own, as it is met most
+//! 'a'              'a' ──>                        a primitive with at most one end: it costs a trial; `next` where it matches, else the match
+//!                                                backs up
 //!
 //! P Q              P ──> Q ──>                    no node of its own
 //!
-//! P | Q            Fork ──> P ──>                 the choice is Q, which goes on to the same node as P
-//!                    └────> Q ──┘
+//! P | Q            Fork ──> P ──>                 the choice is Q, which goes on to the same node as P; where P begins with a primitive with at
+//!                    └────> Q ──┘                most one end, it is tried at once, and no choice is left where it fails
 //!
 //! ARBNO(P)         Repeat ──────────────────>     no round; the choice is a round, which comes back
 //!                  ^  └──> Mark ──> P ──> Moved
@@ -36,7 +36,8 @@
 //! P . V            Mark ──> P ──> Later V ──>     what lies past the mark is put after the pending assignments
 //! P $ V            Mark ──> P ──> Now V ──>       .. or is assigned at once
 //!
-//! *D               Call D ──>                     the nodes of D, with a frame that says what comes after it
+//! *D               Call D ──>                     the nodes of D, with a frame that says what comes after it; where nothing comes after it in
+//!                                                the definition that refers to it, the frame says what comes after that one
 //!  D's body        P ──> Return                   what comes after it
 //!
 //! BAL              BAL ──>                        the first end; the choice is the further ends
@@ -84,6 +85,8 @@
 //! 1     2       the same                                              outside all frames: matched 0 to 2, X is `a`
 //! ```
 //!
+//! Without the ` . X`, `'b'` would come right after `Repeat` and `Round`, and be tried by them: then no choice is left at cursor 0.
+//!
 //! | File | What it holds |
 //! |---|---|
 //! | `nodes` | nodes and their operations |
@@ -92,8 +95,9 @@
 //! | `history` | what is put down in the history, and taken up |
 //! | `progress` | what was done so far: immediate assignments and trials |
 //! | `stepping` | one step: what a node does |
-//! | `leaves` | the patterns without parts |
-//! | `characters` | literals of one character |
+//! | `branching` | one node, and another one as a choice |
+//! | `singles` | the primitives that have at most one end |
+//! | `other_leaves`, `leaves` | the other patterns without parts |
 //! | `rounds` | rounds of a repetition of a primitive |
 //! | `seeking` | `ARB` before a part with few heads |
 //! | `conditions` | the pending assignments of a success, in their order |
