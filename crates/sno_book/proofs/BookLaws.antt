@@ -11,6 +11,7 @@ use Rattle.sno_book.specs.Entries.{after_of}
 use Rattle.sno_book.specs.Journals.{HasStep}
 use Rattle.sno_book.specs.Openings.{Opening, IsOpening, names_in, start}
 use Rattle.sno_book.specs.Views.{View, state_of, and_then}
+use Rattle.sno_book.specs.Books.{Book, view_of}
 use Rattle.sno_book.specs.Proposals.{Proposed, entry_of}
 use Rattle.sno_book.specs.Commits.{place_in, full, beside, at_place, refusal}
 use Rattle.sno_book.specs.VersionedTexts.{Keeps, with_names}
@@ -102,29 +103,29 @@ keeps_more v p old new keeps performed h put as_many =
     }
 
 -- the place of a name lies among the texts
-pub place_inside : (v : View) (stored : List StoredText) (name : List ℕ) (k : ℕ) → Keeps v stored → place_in v name ≡ Some k → k < length stored
-place_inside v stored name k keeps placed =
-    let inside = stands_inside name k (names_in v.opening.texts) (stands_at name k (names_in v.opening.texts) placed) in
-    omega (arith, inside, keeps.as_many, length-map v.opening.texts (λ (t : List ℕ × List ℕ). t.0))
+pub place_inside : (b : Book) (stored : List StoredText) (name : List ℕ) (k : ℕ) → Keeps (view_of b) stored → place_in (view_of b) name ≡ Some k → k < length stored
+place_inside b stored name k keeps placed =
+    let inside = stands_inside name k (names_in b.opening.texts) (stands_at name k (names_in b.opening.texts) placed) in
+    omega (arith, inside, keeps.as_many, length-map b.opening.texts (λ (t : List ℕ × List ℕ). t.0))
 
 -- what stands there is the text of that name
-pub stands_there : (v : View) (stored : List StoredText) (name : List ℕ) (k : ℕ) (s : StoredText) → Keeps v stored → place_in v name ≡ Some k
-    → slice_get stored k ≡ Some s → slice_get (state_of v) k ≡ Some (record { name = name; text = arc_value s.text; version = s.version })
-stands_there v stored name k s keeps placed there =
-    ap (λ (l : State). slice_get l k) (sym keeps.texts) ∙ get_at name k (names_in v.opening.texts) stored s (stands_at name k (names_in v.opening.texts) placed) there
+pub stands_there : (b : Book) (stored : List StoredText) (name : List ℕ) (k : ℕ) (s : StoredText) → Keeps (view_of b) stored → place_in (view_of b) name ≡ Some k
+    → slice_get stored k ≡ Some s → slice_get (state_of (view_of b)) k ≡ Some (record { name = name; text = arc_value s.text; version = s.version })
+stands_there b stored name k s keeps placed there =
+    ap (λ (l : State). slice_get l k) (sym keeps.texts) ∙ get_at name k (names_in b.opening.texts) stored s (stands_at name k (names_in b.opening.texts) placed) there
 
 -- and it is what is found by the name
-pub found_there : (v : View) (stored : List StoredText) (name : List ℕ) (k : ℕ) (s : StoredText) → Keeps v stored → place_in v name ≡ Some k
-    → slice_get stored k ≡ Some s → find name (state_of v) ≡ Some (record { name = name; text = arc_value s.text; version = s.version })
-found_there v stored name k s keeps placed there =
-    let names = names_in v.opening.texts in
+pub found_there : (b : Book) (stored : List StoredText) (name : List ℕ) (k : ℕ) (s : StoredText) → Keeps (view_of b) stored → place_in (view_of b) name ≡ Some k
+    → slice_get stored k ≡ Some s → find name (state_of (view_of b)) ≡ Some (record { name = name; text = arc_value s.text; version = s.version })
+found_there b stored name k s keeps placed there =
+    let names = names_in b.opening.texts in
     let at = stands_at name k names placed in
     ap (λ (l : State). find name l) (sym keeps.texts) ∙ find_held name k names stored _ at (get_at name k names stored s at there)
 
 -- where no text has the name, none is found by it
-pub found_none : (v : View) (stored : List StoredText) (name : List ℕ) → Keeps v stored → place_in v name ≡ None → find name (state_of v) ≡ None
-found_none v stored name keeps none =
-    ap (λ (l : State). find name l) (sym keeps.texts) ∙ find_none name 0 (names_in v.opening.texts) stored none
+pub found_none : (b : Book) (stored : List StoredText) (name : List ℕ) → Keeps (view_of b) stored → place_in (view_of b) name ≡ None → find name (state_of (view_of b)) ≡ None
+found_none b stored name keeps none =
+    ap (λ (l : State). find name l) (sym keeps.texts) ∙ find_none name 0 (names_in b.opening.texts) stored none
 
 -- no version of a lawful book is higher than there are entries
 pub version_small : (v : View) (stored : List StoredText) (k : ℕ) (s : StoredText) → Keeps v stored → slice_get stored k ≡ Some s → s.version ≤ length v.journal
@@ -183,9 +184,9 @@ row_held k (u ∷ texts) [] t s row there = cc
 row_held zero (u ∷ texts) (x ∷ stored) t s row there = let a : u ≡ t = cc in let b : x ≡ s = cc in λ i. Some (record { name = (a i).0; text = arc_value (b i).text; version = (b i).version })
 row_held (suc k) (u ∷ texts) (x ∷ stored) t s row there = row_held k texts stored t s row there
 
-pub row_there : (v : View) (stored : List StoredText) (k : ℕ) (t : List ℕ × List ℕ) (s : StoredText) → Keeps v stored → slice_get v.opening.texts k ≡ Some t
-    → slice_get stored k ≡ Some s → slice_get (state_of v) k ≡ Some (record { name = t.0; text = arc_value s.text; version = s.version })
-row_there v stored k t s keeps row there = ap (λ (l : State). slice_get l k) (sym keeps.texts) ∙ row_held k v.opening.texts stored t s row there
+pub row_there : (b : Book) (stored : List StoredText) (k : ℕ) (t : List ℕ × List ℕ) (s : StoredText) → Keeps (view_of b) stored → slice_get b.opening.texts k ≡ Some t
+    → slice_get stored k ≡ Some s → slice_get (state_of (view_of b)) k ≡ Some (record { name = t.0; text = arc_value s.text; version = s.version })
+row_there b stored k t s keeps row there = ap (λ (l : State). slice_get l k) (sym keeps.texts) ∙ row_held k b.opening.texts stored t s row there
 
 row_short : (k : ℕ) (texts : List (List ℕ × List ℕ)) (stored : List StoredText) → slice_get texts k ≡ None → slice_get (with_names (names_in texts) stored) k ≡ None
 row_short k [] stored row = refl
@@ -193,16 +194,16 @@ row_short k (t ∷ texts) [] row = refl
 row_short zero (t ∷ texts) (s ∷ stored) row = cc
 row_short (suc k) (t ∷ texts) (s ∷ stored) row = row_short k texts stored row
 
-pub row_none : (v : View) (stored : List StoredText) (k : ℕ) → Keeps v stored → slice_get v.opening.texts k ≡ None → slice_get (state_of v) k ≡ None
-row_none v stored k keeps row = ap (λ (l : State). slice_get l k) (sym keeps.texts) ∙ row_short k v.opening.texts stored row
+pub row_none : (b : Book) (stored : List StoredText) (k : ℕ) → Keeps (view_of b) stored → slice_get b.opening.texts k ≡ None → slice_get (state_of (view_of b)) k ≡ None
+row_none b stored k keeps row = ap (λ (l : State). slice_get l k) (sym keeps.texts) ∙ row_short k b.opening.texts stored row
 
 inside_row : (k : ℕ) (texts : List (List ℕ × List ℕ)) (t : List ℕ × List ℕ) → slice_get texts k ≡ Some t → k < length texts
 inside_row k [] t row = cc
 inside_row zero (u ∷ texts) t row = omega arith
 inside_row (suc k) (u ∷ texts) t row = let h = inside_row k texts t row in omega (arith, h)
 
-pub row_inside : (v : View) (stored : List StoredText) (k : ℕ) (t : List ℕ × List ℕ) → Keeps v stored → slice_get v.opening.texts k ≡ Some t → k < length stored
-row_inside v stored k t keeps row = let h = inside_row k v.opening.texts t row in omega (arith, h, keeps.as_many)
+pub row_inside : (b : Book) (stored : List StoredText) (k : ℕ) (t : List ℕ × List ℕ) → Keeps (view_of b) stored → slice_get b.opening.texts k ≡ Some t → k < length stored
+row_inside b stored k t keeps row = let h = inside_row k b.opening.texts t row in omega (arith, h, keeps.as_many)
 
 held_many : (names : List (List ℕ)) (stored : List StoredText) → length stored ≡ length names → length stored ≡ length (with_names names stored)
 held_many [] [] h = refl
@@ -211,7 +212,7 @@ held_many (n ∷ names) [] h = refl
 held_many (n ∷ names) (s ∷ stored) h = let rest = held_many names stored (omega (arith, h)) in omega (arith, rest)
 
 -- as many texts stand as there are
-pub state_many : (v : View) (stored : List StoredText) → Keeps v stored → length stored ≡ length (state_of v)
-state_many v stored keeps =
-    held_many (names_in v.opening.texts) stored (keeps.as_many ∙ sym (length-map {B = List ℕ} v.opening.texts (λ (t : List ℕ × List ℕ). t.0)))
+pub state_many : (b : Book) (stored : List StoredText) → Keeps (view_of b) stored → length stored ≡ length (state_of (view_of b))
+state_many b stored keeps =
+    held_many (names_in b.opening.texts) stored (keeps.as_many ∙ sym (length-map {B = List ℕ} b.opening.texts (λ (t : List ℕ × List ℕ). t.0)))
     ∙ ap (λ (l : State). length l) keeps.texts

@@ -15,14 +15,14 @@ pub same_self : (t : List ℕ) → same t t ≡ true
 same_self [] = refl
 same_self (c ∷ t) = and_from (nat_eq c c) (same t t) (eq-eqb c c refl) (same_self t)
 
-same_equal : (s t : List ℕ) → s ≡ t → same s t ≡ true
+pub same_equal : (s t : List ℕ) → s ≡ t → same s t ≡ true
 same_equal s t h = rw h (same_self t)
 
-not_full : (n room : ℕ) (b : Bool) → nat_eq n room ≡ b → n ≢ room → cond b (Some Full) None ≡ None
+pub not_full : (n room : ℕ) (b : Bool) → nat_eq n room ≡ b → n ≢ room → cond b (Some Full) None ≡ None
 not_full n room true is h = absurd (h (eqb-true n room is))
 not_full n room false is h = refl
 
-chosen : (a b : Bool) (x : Option CommitFault) (e g : CommitFault) → a ≡ true → b ≡ true → cond a (cond b x (Some e)) (Some g) ≡ x
+pub chosen : (a b : Bool) (x : Option CommitFault) (e g : CommitFault) → a ≡ true → b ≡ true → cond a (cond b x (Some e)) (Some g) ≡ x
 chosen true true x e g h k = refl
 chosen true false x e g h k = cc
 chosen false b x e g h k = cc

@@ -1,11 +1,12 @@
 -- What becomes of a proposal at a book.
-use Rattle.std.specs.Prelude.{◌≡◌, ◌≢◌, ℕ, List, length, nat_eq, Option, Some, None, Result, Ok, Err, slice_get, if◌then◌else◌}
+use Rattle.std.specs.Prelude.{◌≡◌, ◌≢◌, ◌<◌, ◌+◌, ◌^◌, ℕ, List, length, nat_eq, Option, Some, None, Result, Ok, Err, slice_get, if◌then◌else◌}
 use Rattle.sno_pattern.specs.Identifiers.{same}
 use Rattle.sno_pattern.specs.NameList.{place_of}
 use Rattle.sno_book.specs.States.{VersionedText, find}
 use Rattle.sno_book.specs.Journals.{HasStep, step}
 use Rattle.sno_book.specs.Openings.{names_in}
 use Rattle.sno_book.specs.Views.{View, state_of, and_then}
+use Rattle.sno_book.specs.Books.{Book, view_of}
 use Rattle.sno_book.specs.Proposals.{Proposed, Received, entry_of}
 use Rattle.sno_book.specs.declared.faults.CommitFault.{CommitFault}
 use Rattle.sno_book.specs.declared.faults.CommitFault.TheVariants as fault
@@ -52,6 +53,21 @@ pub record IsRefused (before after : View) (p back : Proposed) (e : CommitFault)
   pub memory : e ≡ fault.Memory → refusal before p ≡ None
   pub unchanged : after ≡ before
   pub handed_back : back ≡ p
+
+-- the text at the proposal's place has the statement's name, the proposal's version and its characters; there is room for one entry more, and the
+-- version can rise
+pub record Fits (v : View) (p : Proposed) : Type 0 where
+  pub there : slice_get (state_of v) p.place ≡ Some (record { name = p.statement.text; text = p.text; version = p.version })
+  pub room : length v.journal < v.opening.room
+  pub rises : p.version + 1 < 2 ^ 64
+
+-- no refusal holds; opening and journal are as they were, memory is kept for one entry more, and what is ready is the proposal, which fits
+pub record IsReady (before after : Book) (p ready : Proposed) : Type 0 where
+  pub free : refusal (view_of before) p ≡ None
+  pub unchanged : view_of after ≡ view_of before
+  pub kept : 0 < after.spare
+  pub holds : ready ≡ p
+  pub fits : Fits (view_of after) ready
 
 -- a snapshot of the text of this name: its place, and its characters and version as they stand
 pub record IsSnapshot (v : View) (name : List ℕ) (snapshot : Snapshot) : Type 0 where

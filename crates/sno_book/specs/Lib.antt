@@ -3,6 +3,7 @@ pub mod Entries
 pub mod Journals
 pub mod Openings
 pub mod Views
+pub mod Books
 pub mod Proposals
 pub mod Commits
 pub mod Audits

@@ -1,12 +1,10 @@
 -- Views: an opening with the entries that followed it.
-use Rattle.std.specs.Prelude.{◌≡◌, ◌≤◌, ℕ, List, length, refl, [], ◌∷◌, ◌++◌, Result, Ok, Err}
+use Rattle.std.specs.Prelude.{◌≤◌, List, length, refl, [], ◌∷◌, ◌++◌}
 use Rattle.std.specs.Coded.{Coded, code_by, coded×, coded_list}
 use Rattle.sno_book.specs.States.{State}
 use Rattle.sno_book.specs.Entries.{Entry, entry_code}
 use Rattle.sno_book.specs.Journals.{Legal, replay}
-use Rattle.sno_book.specs.Openings.{Opening, IsOpening, opening_code, start, opening_of}
-use Rattle.sno_book.specs.declared.faults.BookFault.{BookFault}
-use Rattle.sno_book.specs.declared.faults.BookFault.TheVariants as fault
+use Rattle.sno_book.specs.Openings.{Opening, IsOpening, opening_code, start}
 
 pub record View : Type 0 where
   pub opening : Opening
@@ -29,10 +27,3 @@ pub record IsLawful (v : View) : Type 0 where
 -- one entry more
 abbrev pub and_then : View → Entry → View
 and_then v entry = record { opening = v.opening; journal = v.journal ++ entry ∷ [] }
-
--- a book of these texts has that opening and no entry
-abbrev pub OpensView : Result View BookFault → List (List ℕ × List ℕ) → ℕ → Type 0
-OpensView (Ok v) texts room = (opening_of texts room ≡ Ok v.opening) × (v.journal ≡ [])
-OpensView (Err fault.TooMany) texts room = opening_of texts room ≡ Err fault.TooMany
-OpensView (Err (fault.Duplicate place)) texts room = opening_of texts room ≡ Err (fault.Duplicate place)
-OpensView (Err fault.Memory) texts room = length texts ≤ 1024

@@ -1,11 +1,11 @@
 //! Books.
-ghost use Rattle.std.specs.Prelude.{◌≡◌, ◌≤◌, IfOk, IfErr, IfSome, IfNone, None, Some, [], length, nat_eq, slice_get};
+ghost use Rattle.std.specs.Prelude.{◌≡◌, ◌≤◌, ◌<◌, ◌+◌, ◌↔◌, IsTrue, IfOk, IfErr, OnErr, IfSome, IfNone, None, Some, [], length, nat_eq, slice_get};
 ghost use Rattle.std.specs.Option.{option_map};
 ghost use Rattle.std.specs.Arc.{arc_value};
 ghost use Rattle.sno_book.specs.States.{find};
-ghost use Rattle.sno_book.specs.Proposals.{entry_of};
-ghost use Rattle.sno_book.specs.Views.{IsLawful, OpensView, state_of};
-ghost use Rattle.sno_book.specs.Commits.{place_in, GivesSnapshot, IsAccepted, IsRefused, beside, refusal};
+ghost use Rattle.sno_book.specs.Views.{IsLawful, state_of};
+ghost use Rattle.sno_book.specs.Books.{OpensBook, view_of};
+ghost use Rattle.sno_book.specs.Commits.{place_in, GivesSnapshot, IsAccepted, IsRefused, IsReady, Fits, beside, refusal};
 
 use crate::ready::Ready;
 use crate::start::{Start, start_of};
@@ -26,15 +26,16 @@ pub struct Book {
 }
 
 impl Model for Book {
+    ghost use Rattle.std.specs.Prelude.{◌-◌, vec_len, vec_capacity};
     ghost use Rattle.std.specs.Arc.{arc_value};
-    ghost use Rattle.sno_book.specs.Views.{View, view_code};
+    ghost use Rattle.sno_book.specs.Books.{Book, book_code};
     ghost use Rattle.sno_book.specs.VersionedTexts.{Keeps};
 
-    ghost Value = { View };
+    ghost Value = { Book };
 
-    ghost coded = { view_code };
+    ghost coded = { book_code };
 
-    ghost view = { λ s. record { opening = arc_value s.opening; journal = s.journal.items } };
+    ghost view = { λ s. record { opening = arc_value s.opening; journal = s.journal.items; spare = vec_capacity s.journal - vec_len s.journal } };
 
     ghost invariant = { λ s. Keeps (record { opening = arc_value s.opening; journal = s.journal.items }) s.versioned_texts.items };
 }
@@ -47,7 +48,7 @@ impl Book {
     #[tactic(auto, using(crate::proofs::BookLaws::keeps_first))]
     pub fn new(alloc: Global, texts: Vec<(TextName, Text)>, room: u32) -> Result<Book, BookFault>
         requires { room ≤ 1000000 }
-        ensures { OpensView result texts.items room }
+        ensures { OpensBook result texts.items room }
     {
         let Start {
             opening,
@@ -63,7 +64,7 @@ impl Book {
     /// The journal, in the order in which its entries were accepted.
     pub fn journal(&self) -> &[Entry]
         ensures journal { result.now ≡ self.now.journal }
-        ensures lawful { IsLawful self.now }
+        ensures lawful { IsLawful (view_of self.now) }
     {
         self.journal.as_slice()
     }
@@ -79,7 +80,7 @@ impl Book {
     #[tactic(auto, using(crate::proofs::BookLaws::state_many))]
     pub fn len(&self) -> usize
         ensures opening { result ≡ length self.now.opening.texts }
-        ensures state { result ≡ length (state_of self.now) }
+        ensures state { result ≡ length (state_of (view_of self.now)) }
     {
         self.versioned_texts.len()
     }
@@ -94,8 +95,8 @@ impl Book {
     /// The text at a place, from 0, with its name and its version, as all entries of the journal leave it; none from [`Book::len`] on.
     #[tactic(auto, using(crate::proofs::BookLaws::row_there, crate::proofs::BookLaws::row_none, crate::proofs::BookLaws::row_inside))]
     pub fn text(&self, place: usize) -> Option<(&TextName, &Arc<Text>, u64)>
-        ensures found { IfSome result (λ t. slice_get (state_of self.now) place ≡ Some (record { name = t.0.now; text = arc_value t.1.now; version = t.2 })) }
-        ensures none { IfNone result (slice_get (state_of self.now) place ≡ None) }
+        ensures found { IfSome result (λ t. slice_get (state_of (view_of self.now)) place ≡ Some (record { name = t.0.now; text = arc_value t.1.now; version = t.2 })) }
+        ensures none { IfNone result (slice_get (state_of (view_of self.now)) place ≡ None) }
     {
         let (name, _) = self.opening.row(place)?;
         let versioned = text_at(&self.versioned_texts, place);
@@ -105,10 +106,10 @@ impl Book {
     /// The place of this name, and the text there.
     #[tactic(auto, using(crate::proofs::BookLaws::place_inside, crate::proofs::BookLaws::stands_there, crate::proofs::BookLaws::found_there, crate::proofs::BookLaws::found_none))]
     fn versioned_text(&self, name: &TextName) -> Option<(usize, &VersionedText)>
-        ensures found { IfSome result (λ r. (place_in self.now name.now ≡ Some r.0) × (slice_get (state_of self.now) r.0
+        ensures found { IfSome result (λ r. (place_in (view_of self.now) name.now ≡ Some r.0) × (slice_get (state_of (view_of self.now)) r.0
             ≡ Some (record { name = name.now; text = arc_value r.1.now.text; version = r.1.now.version }))
-            × (find name.now (state_of self.now) ≡ Some (record { name = name.now; text = arc_value r.1.now.text; version = r.1.now.version }))) }
-        ensures none { IfNone result ((place_in self.now name.now ≡ None) × (find name.now (state_of self.now) ≡ None)) }
+            × (find name.now (state_of (view_of self.now)) ≡ Some (record { name = name.now; text = arc_value r.1.now.text; version = r.1.now.version }))) }
+        ensures none { IfNone result ((place_in (view_of self.now) name.now ≡ None) × (find name.now (state_of (view_of self.now)) ≡ None)) }
     {
         let place = self.opening.place(name)?;
         Some((place, text_at(&self.versioned_texts, place)))
@@ -118,7 +119,7 @@ impl Book {
     ///
     /// Refused, in this order: `NoText` exactly where the book has no text of that name, `Memory`. The book stays as it is.
     pub fn snapshot(&self, name: &TextName) -> Result<Snapshot, SnapshotFault>
-        ensures { GivesSnapshot result self.now name.now }
+        ensures { GivesSnapshot result (view_of self.now) name.now }
     {
         let Some((place, versioned)) = self.versioned_text(name) else {
             return Err(SnapshotFault::NoText);
@@ -135,7 +136,7 @@ impl Book {
 
     /// Why the text that stands at the proposal's place is not the one that the proposal is for, or why nothing more is accepted.
     fn refusal_beside(&self, versioned: &VersionedText, proposal: &Proposal) -> Option<CommitFault>
-        ensures { result ≡ beside self.now proposal.now (Some (record { name = []; text = arc_value versioned.now.text; version = versioned.now.version })) }
+        ensures { result ≡ beside (view_of self.now) proposal.now (Some (record { name = []; text = arc_value versioned.now.text; version = versioned.now.version })) }
     {
         if proposal.version() != versioned.version {
             return Some(CommitFault::Changed {
@@ -155,7 +156,7 @@ impl Book {
     /// Why the proposal is not accepted, if it is not, unless memory is refused.
     #[tactic(auto, using(crate::proofs::BookLaws::refusal_there))]
     fn refusal(&self, proposal: &Proposal) -> Option<CommitFault>
-        ensures { result ≡ refusal self.now proposal.now }
+        ensures { result ≡ refusal (view_of self.now) proposal.now }
     {
         let Some((place, versioned)) = self.versioned_text(proposal.statement().text()) else {
             return Some(CommitFault::NoText);
@@ -166,11 +167,48 @@ impl Book {
         self.refusal_beside(versioned, proposal)
     }
 
-    /// Appends the entry, and puts the new text in place of the old one.
-    fn accept(&mut self, ready: Ready) -> Result<Receipt, (CommitFault, Proposal)>
-        requires { refusal self.old ready.proposal ≡ None }
-        ensures accepted { IfOk result (λ receipt. IsAccepted self.old self.new ready.proposal receipt) }
-        ensures refused { IfErr result (λ r. IsRefused self.old self.new ready.proposal r.1 r.0) }
+    /// Whether memory is kept for one entry more. It takes no memory.
+    pub fn has_spare(&self) -> bool
+        ensures { IsTrue result ↔ 0 < self.now.spare }
+    {
+        self.journal.len() < self.journal.capacity()
+    }
+
+    /// Takes all the memory that accepting a proposal needs, and changes nothing else: texts, journal and room are as they were. The proposal can
+    /// then be accepted by [`Book::finish`], or taken back by [`Ready::back`].
+    ///
+    /// On `Ok` the book keeps memory for one entry more, and the proposal fits it as it stands.
+    ///
+    /// Refused as [`Book::commit`] refuses, in its order. After each refusal the book is as it was, the memory that it keeps too, and the same
+    /// proposal comes back.
+    pub fn prepare(&mut self, proposal: Proposal) -> Result<Ready, (CommitFault, Proposal)>
+        ensures ready { IfOk result (λ ready. IsReady self.old self.new proposal ready) }
+        ensures refused { IfErr result (λ r. IsRefused (view_of self.old) (view_of self.new) proposal r.1 r.0) }
+        ensures same { OnErr result (self.new ≡ self.old) }
+    {
+        if let Some(fault) = self.refusal(&proposal) {
+            return Err((fault, proposal));
+        }
+        let ready = match Ready::of(proposal) {
+            Ok(ready) => ready,
+            Err(proposal) => return Err((CommitFault::Memory, proposal)),
+        };
+        let Ok(()) = self.journal.reserve(1) else {
+            return Err((CommitFault::Memory, ready.back()));
+        };
+        Ok(ready)
+    }
+
+    /// Accepts a proposal that was prepared: its entry is the last of the journal, and its new text, where it has one, is in place, with a version
+    /// one higher, also where the characters are the same. It takes no memory, and the book keeps memory for one entry less than before.
+    ///
+    /// The book keeps memory for one entry more ([`Book::has_spare`]), and the proposal fits it: the text at its place has its name, its version and
+    /// its characters, and the journal has fewer entries than there is room for. After [`Book::prepare`] both hold until the book is changed.
+    pub fn finish(&mut self, ready: Ready) -> Receipt
+        requires kept { 0 < self.old.spare }
+        requires fits { Fits (view_of self.old) ready }
+        ensures accepted { IsAccepted (view_of self.old) (view_of self.new) ready result }
+        ensures spare { self.new.spare + 1 ≡ self.old.spare }
     {
         let Ready {
             proposal,
@@ -179,31 +217,26 @@ impl Book {
         } = ready;
         let index = self.journal.len();
         let place = proposal.place();
-        match self.journal.push(entry) {
-            Ok(()) => {}
-            Err(_) => return Err((CommitFault::Memory, proposal)),
-        }
+        self.journal.push_reserved(entry);
         put(&mut self.versioned_texts, place, after);
-        Ok(proposal.receipt(index))
+        proposal.receipt(index)
     }
 
-    /// Accepts a proposal: its entry is the last of the journal, and its new text, where it has one, is in place, with a version
-    /// one higher, also where the characters are the same.
+    /// Accepts a proposal, as [`Book::prepare`] and then [`Book::finish`] do: its entry is the last of the journal, and its new text, where it has
+    /// one, is in place, with a version one higher, also where the characters are the same.
     ///
     /// Refused, in this order: `NoText` where the book has no text of the statement's name, or has it at another place than the
     /// snapshot's; `Changed` where the text has another version than the snapshot, with both; `Foreign` where it has other characters;
     /// `Full` where the journal has as many entries as there is room for; `Memory`. After each the book is as it was, and the same proposal
     /// comes back.
     pub fn commit(&mut self, proposal: Proposal) -> Result<Receipt, (CommitFault, Proposal)>
-        ensures accepted { IfOk result (λ receipt. IsAccepted self.old self.new proposal receipt) }
-        ensures refused { IfErr result (λ r. IsRefused self.old self.new proposal r.1 r.0) }
+        ensures accepted { IfOk result (λ receipt. IsAccepted (view_of self.old) (view_of self.new) proposal receipt) }
+        ensures refused { IfErr result (λ r. IsRefused (view_of self.old) (view_of self.new) proposal r.1 r.0) }
+        ensures same { OnErr result (self.new ≡ self.old) }
     {
-        if let Some(fault) = self.refusal(&proposal) {
-            return Err((fault, proposal));
-        }
-        match Ready::of(proposal) {
-            Ok(ready) => self.accept(ready),
-            Err(proposal) => Err((CommitFault::Memory, proposal)),
+        match self.prepare(proposal) {
+            Ok(ready) => Ok(self.finish(ready)),
+            Err(refused) => Err(refused),
         }
     }
 }

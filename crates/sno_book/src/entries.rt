@@ -1,10 +1,10 @@
 //! What a commit leaves.
-ghost use Rattle.std.specs.Prelude.{◌≡◌, Ok};
-ghost use Rattle.std.specs.Arc.{arc_value};
-ghost use Rattle.sno_statement.specs.Perform.{done_of, perform};
+ghost use Rattle.std.specs.Prelude.{◌≡◌, Ok, IfOk};
+ghost use Rattle.sno_statement.specs.Perform.{perform};
 
 use sno_pattern::Text;
 use sno_statement::{Outcome, Statement};
+use std::alloc::AllocError;
 use std::marker::Model;
 use std::sync::Arc;
 
@@ -29,6 +29,21 @@ impl Model for Entry {
     ghost coded = { entry_code };
 
     ghost view = { λ s. record { statement = arc_value s.statement; version = s.version; done = done_of (arc_value s.outcome) } };
+}
+
+impl Entry {
+    /// An equal entry, which shares the statement and the outcome. The entry stays as it is.
+    ///
+    /// Refused where memory is.
+    pub fn share(&self) -> Result<Entry, AllocError>
+        ensures { IfOk result (λ entry. entry ≡ self.now) }
+    {
+        Ok(Entry {
+            statement: Arc::try_clone(&self.statement)?,
+            version: self.version,
+            outcome: Arc::try_clone(&self.outcome)?,
+        })
+    }
 }
 
 /// What comes of an accepted proposal. Its entry's outcome is always that of the entry's statement performed on the text that the

@@ -4,6 +4,7 @@
 //! statement on a snapshot and makes a [`Proposal`]; it takes no lock and the book needn't be at hand. [`Book::commit`] accepts the
 //! proposal only where the text still stands as the snapshot has it. It then appends one [`Entry`] to the journal, puts the new text in
 //! place, where the statement replaced something, and raises that text's version by one. A [`Receipt`] says where the entry stands.
+//! [`Book::prepare`] and [`Book::finish`] are the two halves of a commit: all that can be refused, and then the step.
 //!
 //! # What is promised, and where
 //!
@@ -13,6 +14,8 @@
 //! - **A commit is one step, a refusal none** (`Book::commit`, `specs/Commits.antt`). `accepted`: the proposal's entry is appended, it
 //!   has a step from the texts as they were, and the texts are what the step leaves. `refused`: which refusal comes is exact, the book is
 //!   what it was, and the same proposal comes back. `Memory` is answered only where no other refusal holds.
+//! - **A prepared commit isn't refused** (`Book::prepare`, `Book::finish`). What is [`Ready`] holds every share that the commit needs, and the
+//!   book keeps memory for its entry, so `finish` has no refusal and takes no memory. `prepare` changes nothing but the memory that is kept.
 //! - **Nothing is made up.** A [`Proposal`] keeps by its type that its outcome is what its statement does to its text, and a
 //!   [`Receipt`] that its entry's outcome is.
 //! - **Receipts can be audited.** [`Book::audit`] compares entries by value, wherever they lie in memory.
@@ -23,7 +26,7 @@
 //! - `src/books.rt`: [`Book`] and its calls. `src/start.rt`: how it begins. `src/audits.rt`: the audit.
 //! - `src/openings.rt`: [`Opening`], the texts and the room that a book was given.
 //! - `src/snapshots.rt`, `src/proposals.rt`, `src/entries.rt`: [`Snapshot`], [`Proposal`], [`Entry`] and [`Receipt`].
-//! - `src/ready.rt`: what a commit needs, made before it changes anything. `src/versioned_texts.rt`: the texts at their places.
+//! - `src/ready.rt`: [`Ready`], what a commit needs, made before it changes anything. `src/versioned_texts.rt`: the texts at their places.
 //! - `src/same_patterns.rt`, `src/same_statements.rt`, `src/same_outcomes.rt`: equality by value.
 //! - `src/faults.rt`: the refusals. `src/laws.rt`: the laws.
 //!
@@ -54,6 +57,7 @@ pub use faults::{BookFault, CommitFault, SnapshotFault};
 pub use laws::{fresh_is_free, versions_count_entries, versions_only_rise};
 pub use openings::Opening;
 pub use proposals::{Proposal, propose};
+pub use ready::Ready;
 pub use snapshots::Snapshot;
 pub use sno_pattern::{Text, TextName};
 pub use sno_statement::{Outcome, Statement, StatementFault};

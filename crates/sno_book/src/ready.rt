@@ -1,4 +1,4 @@
-//! What a commit needs, made before it changes anything.
+//! Proposals that were prepared: what a commit needs, made before it changes anything.
 ghost use Rattle.std.specs.Prelude.{◌≡◌, IfOk, IfErr};
 ghost use Rattle.std.specs.Option.{option_map};
 ghost use Rattle.std.specs.Arc.{arc_value};
@@ -10,16 +10,31 @@ use crate::{Entry, Proposal};
 use sno_pattern::Text;
 use sno_statement::Outcome;
 use std::alloc::AllocError;
+use std::marker::Model;
 use std::sync::Arc;
 
-/// A proposal with its entry for the journal, and its new text for the book, both shared.
+/// A proposal with every share that its commit needs: its entry for the journal, and its new text for the book.
 #[derive(Drop)]
-pub(crate) struct Ready {
+pub struct Ready {
     pub(crate) proposal: Proposal,
     pub(crate) entry: Entry,
     pub(crate) after: Option<Arc<Text>>,
-    ghost same: { entry ≡ entry_of proposal },
-    ghost renews: { option_map arc_value after ≡ after_of proposal.done },
+}
+
+impl Model for Ready {
+    ghost use Rattle.std.specs.Prelude.{◌≡◌};
+    ghost use Rattle.std.specs.Option.{option_map};
+    ghost use Rattle.std.specs.Arc.{arc_value};
+    ghost use Rattle.sno_book.specs.Entries.{after_of};
+    ghost use Rattle.sno_book.specs.Proposals.{Proposed, proposed_code, entry_of};
+
+    ghost Value = { Proposed };
+
+    ghost coded = { proposed_code };
+
+    ghost view = { λ s. s.proposal };
+
+    ghost invariant = { λ s. (s.entry ≡ entry_of s.proposal) × (option_map arc_value s.after ≡ after_of s.proposal.done) };
 }
 
 /// The new text of an outcome, shared.
@@ -38,7 +53,7 @@ fn after(outcome: &Outcome) -> Result<Option<Arc<Text>>, AllocError>
 impl Ready {
     /// The proposal with all that its commit needs; or the proposal alone, where memory is refused.
     pub(crate) fn of(proposal: Proposal) -> Result<Ready, Proposal>
-        ensures ready { IfOk result (λ r. r.proposal ≡ proposal) }
+        ensures ready { IfOk result (λ ready. ready ≡ proposal) }
         ensures back { IfErr result (λ p. p ≡ proposal) }
     {
         let Ok(entry) = proposal.entry() else {
@@ -52,5 +67,19 @@ impl Ready {
             entry,
             after,
         })
+    }
+
+    /// The entry that the commit appends.
+    pub fn entry(&self) -> &Entry
+        ensures { result.now ≡ entry_of self.now }
+    {
+        &self.entry
+    }
+
+    /// The proposal, as it was before it was prepared. It takes no memory; the shares are dropped.
+    pub fn back(self) -> Proposal
+        ensures { result ≡ self }
+    {
+        self.proposal
     }
 }

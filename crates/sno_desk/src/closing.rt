@@ -2,6 +2,7 @@
 ghost use Rattle.std.specs.Prelude.{◌≡◌, ◌≢◌, ◌<◌, ◌↔◌, IfOk, IfErr, IsTrue, length, slice_get, sum_by};
 ghost use Rattle.std.specs.Arc.{arc_value};
 ghost use Rattle.sno_book.specs.Views.{IsLawful};
+ghost use Rattle.sno_book.specs.Books.{view_of};
 ghost use Rattle.sno_desk.specs.Closings.{book_in};
 
 use crate::locked::Locked;
@@ -78,7 +79,7 @@ pub fn close<L: Ledger>(desk: Desk<L>, seats: Vec<Seat<L>>) -> Result<Book, (Clo
     ensures opening { IfOk result (λ book. book.opening ≡ arc_value desk.opening) }
     ensures another { IfErr result (λ r. r.1.opening ≢ arc_value desk.opening) }
     ensures counted { length (book_in result).journal ≡ sum_by (λ s. s.accepted) seats.items }
-    ensures lawful { IsLawful (book_in result) }
+    ensures lawful { IsLawful (view_of (book_in result)) }
 {
     let Desk { opening, lock } = desk;
     let book = lock.into_inner().into_book(seats);

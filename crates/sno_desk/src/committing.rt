@@ -1,5 +1,6 @@
 //! Snapshots and commits through a seat.
 ghost use Rattle.std.specs.Prelude.{◌≡◌, ◌+◌, IfOk, IfErr, OnOk, OnErr};
+ghost use Rattle.sno_book.specs.Books.{view_of};
 ghost use Rattle.sno_book.specs.Commits.{GivesSnapshot, IsAccepted, IsRefused};
 ghost use Rattle.sno_desk.specs.Receipts.{IsFor, IsCause, NamesVersion, StandsAfter};
 
@@ -13,7 +14,7 @@ use std::sync::ledger::Ledger;
 impl<L: Ledger> Locked<L> {
     /// The text of this name as it stands in the book.
     fn snapshot(&self, name: &TextName) -> Result<Snapshot, SnapshotFault>
-        ensures { GivesSnapshot result self.now.book name.now }
+        ensures { GivesSnapshot result (view_of self.now.book) name.now }
     {
         self.book.snapshot(name)
     }
@@ -24,10 +25,10 @@ impl<L: Ledger> Locked<L> {
         seat: &mut Seat<L>,
         proposal: Proposal,
     ) -> Result<Receipt, (CommitFault, Proposal)>
-        ensures accepted { IfOk result (λ r. IsAccepted self.old.book self.new.book proposal r) }
+        ensures accepted { IfOk result (λ r. IsAccepted (view_of self.old.book) (view_of self.new.book) proposal r) }
         ensures index { IfOk result (λ r. StandsAfter L.parts seat.old.accepted r) }
         ensures counted { OnOk result (seat.new.accepted ≡ seat.old.accepted + 1) }
-        ensures refused { IfErr result (λ r. IsRefused self.old.book self.new.book proposal r.1 r.0) }
+        ensures refused { IfErr result (λ r. IsRefused (view_of self.old.book) (view_of self.new.book) proposal r.1 r.0) }
         ensures version { IfErr result (λ r. NamesVersion L.parts seat.old.accepted r.0) }
         ensures same { OnErr result (seat.new.accepted ≡ seat.old.accepted) }
     {

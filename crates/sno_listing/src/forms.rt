@@ -1,5 +1,6 @@
 //! The listing of a book.
 ghost use Rattle.std.specs.Prelude.{◌≡◌, IfOk};
+ghost use Rattle.sno_book.specs.Books.{view_of};
 ghost use Rattle.sno_listing.specs.History.{history_of};
 ghost use Rattle.sno_listing.specs.Forms.{listing_by};
 
@@ -18,7 +19,7 @@ pub fn listing_of(
     refused: &[Refusal],
     json: bool,
 ) -> Result<Vec<u8>, AllocError>
-    ensures { IfOk result (λ v. v.items ≡ listing_by json (history_of book.now refused.now)) }
+    ensures { IfOk result (λ v. v.items ≡ listing_by json (history_of (view_of book.now) refused.now)) }
 {
     let texts = versioned_texts(alloc, book)?;
     let journal = book.journal();

@@ -1,6 +1,7 @@
 //! The texts of a book with their names and versions, borrowed from it.
 ghost use Rattle.std.specs.Prelude.{◌≡◌, map, IfOk};
 ghost use Rattle.sno_book.specs.Views.{state_of};
+ghost use Rattle.sno_book.specs.Books.{view_of};
 ghost use Rattle.sno_listing.specs.VersionedTexts.{text_seen};
 
 use sno_book::Book;
@@ -21,7 +22,7 @@ pub(crate) fn versioned_texts(
     alloc: Global,
     book: &Book,
 ) -> Result<Vec<VersionedText<'_>>, AllocError>
-    ensures { IfOk result (λ v. map text_seen v.items ≡ state_of book.now) }
+    ensures { IfOk result (λ v. map text_seen v.items ≡ state_of (view_of book.now)) }
 {
     let mut texts = Vec::with_capacity(alloc, book.len())?;
     for place in 0..book.len() {

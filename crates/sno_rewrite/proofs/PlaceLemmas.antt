@@ -8,6 +8,7 @@ use Rattle.sno_book.specs.Journals.{replay, step}
 use Rattle.sno_book.specs.Openings.{names_in, start}
 use Rattle.sno_book.specs.States.{VersionedText, State, find, raise, renew, renew_by}
 use Rattle.sno_book.specs.Views.{View, state_of}
+use Rattle.sno_book.specs.Books.{Book, view_of}
 use Rattle.sno_book.proofs.Places.{StandsAt, stands_at}
 
 names : State → List (List ℕ)
@@ -59,10 +60,11 @@ found_none name i (held ∷ state) h =
     none_if (same name held.name) i (position_from (same name) (i + 1) (names state)) held (find name state) h (found_none name (i + 1) state)
 
 -- what is found by the name is what stands at its place
-pub found_by_place : (v : View) (name : List ℕ) (k : ℕ) → place_of (names_in v.opening.texts) name ≡ Some k → find name (state_of v) ≡ slice_get (state_of v) k
-found_by_place v name k placed =
-    found_at name k (state_of v) (subst (λ l. StandsAt name l k) (sym (names_kept v)) (stands_at name k (names_in v.opening.texts) placed))
+pub found_by_place : (book : Book) (name : List ℕ) (k : ℕ) → place_of (names_in book.opening.texts) name ≡ Some k
+    → find name (state_of (view_of book)) ≡ slice_get (state_of (view_of book)) k
+found_by_place book name k placed =
+    found_at name k (state_of (view_of book)) (subst (λ l. StandsAt name l k) (sym (names_kept (view_of book))) (stands_at name k (names_in book.opening.texts) placed))
 
 -- what has no place is not found
-pub found_nowhere : (v : View) (name : List ℕ) → place_of (names_in v.opening.texts) name ≡ None → find name (state_of v) ≡ None
-found_nowhere v name nowhere = found_none name 0 (state_of v) (ap (λ (l : List (List ℕ)). place_of l name) (names_kept v) ∙ nowhere)
+pub found_nowhere : (book : Book) (name : List ℕ) → place_of (names_in book.opening.texts) name ≡ None → find name (state_of (view_of book)) ≡ None
+found_nowhere book name nowhere = found_none name 0 (state_of (view_of book)) (ap (λ (l : List (List ℕ)). place_of l name) (names_kept (view_of book)) ∙ nowhere)

@@ -1,5 +1,5 @@
 -- What a statement does to a book.
-use Rattle.std.proofs.Common.{◌≡◌, ℕ, Bool, true, false, cond, List, [], ◌∷◌, ◌++◌, length, nat_lt, Option, Some, None, Result, Ok, Err, refl, ap, sym, subst, ◌∙◌}
+use Rattle.std.proofs.Common.{◌≡◌, ◌≢◌, ℕ, Bool, true, false, cond, List, [], ◌∷◌, ◌++◌, length, nat_lt, Option, Some, None, Result, Ok, Err, refl, ap, sym, subst, ◌∙◌, arith}
 use Rattle.std.specs.Prelude.{option_and_then}
 use Rattle.std.specs.Option.{option_map}
 use Rattle.std.specs.Arc.{arc_value}
@@ -15,8 +15,13 @@ use Rattle.sno_statement.specs.declared.outcomes.StatementFault.TheVariants as f
 use Rattle.sno_book.specs.States.{VersionedText, find}
 use Rattle.sno_book.specs.Entries.{Entry}
 use Rattle.sno_book.specs.Views.{View, state_of}
+use Rattle.sno_book.specs.Books.{Book, view_of}
+use Rattle.sno_book.specs.Laws.{FreshIsFree}
+use Rattle.sno_book.specs.declared.faults.CommitFault.{CommitFault}
+use Rattle.sno_book.specs.declared.faults.CommitFault.TheVariants as commits
+use Rattle.sno_rewrite.specs.Histories.{HasRoom}
 use Rattle.sno_book.specs.Proposals.{Proposed, Proposes, GivesProposal, Received, entry_of}
-use Rattle.sno_book.specs.Commits.{IsSnapshot, GivesSnapshot, IsAccepted}
+use Rattle.sno_book.specs.Commits.{IsSnapshot, GivesSnapshot, IsAccepted, IsRefused, refusal}
 use Rattle.sno_book.specs.declared.faults.SnapshotFault.{SnapshotFault}
 use Rattle.sno_book.specs.declared.faults.SnapshotFault.TheVariants as snapshots
 use Rattle.sno_book.specs.declared.snapshots.Snapshot.{Snapshot}
@@ -139,3 +144,18 @@ pub too_many : (s other : Task) (snapshot : Snapshot) (e : StatementFault) → s
 too_many s other snapshot fault.TooManyTrials same is h = ap (λ (t : Task). perform t (arc_value snapshot.text)) (sym same) ∙ h
 too_many s other snapshot fault.Memory same is h = cc
 too_many s other snapshot fault.TextTooLong same is h = cc
+
+-- ---- a proposal on a text as it stands
+
+refused_memory : (v : View) (p : Proposed) (e : CommitFault) → refusal v p ≡ None → (e ≢ commits.Memory → refusal v p ≡ Some e) → e ≡ commits.Memory
+refused_memory v p commits.Memory none cause = refl
+refused_memory v p commits.NoText none cause = let is = cause (λ q. cc) in cc
+refused_memory v p (commits.Changed seen now) none cause = let is = cause (λ q. cc) in cc
+refused_memory v p commits.Foreign none cause = let is = cause (λ q. cc) in cc
+refused_memory v p commits.Full none cause = let is = cause (λ q. cc) in cc
+
+-- is refused for memory alone, where there is room
+pub only_memory : FreshIsFree → (book : Book) (after : View) (s : Task) (snapshot : Snapshot) (p back : Proposed) (e : CommitFault) → HasRoom book 1
+    → IsSnapshot (view_of book) s.text snapshot → Proposes p s snapshot → IsRefused (view_of book) after p back e → e ≡ commits.Memory
+only_memory law book after s snapshot p back e has_room taken proposed refused =
+    refused_memory (view_of book) p e (law (view_of book) snapshot s p taken proposed (λ (full : length book.journal ≡ book.opening.room). omega (arith, full, has_room.opening, has_room.few))) refused.cause

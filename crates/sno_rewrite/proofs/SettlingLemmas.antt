@@ -8,7 +8,8 @@ use Rattle.std.specs.Prelude.{IsSome}
 use Rattle.sno_statement.specs.Task.{Task}
 use Rattle.sno_book.specs.Proposals.{Received}
 use Rattle.sno_book.specs.States.{State}
-use Rattle.sno_book.specs.Views.{IsLawful, View, state_of}
+use Rattle.sno_book.specs.Views.{IsLawful, state_of}
+use Rattle.sno_book.specs.Books.{Book, view_of}
 use Rattle.sno_book.specs.Journals.{Legal, replay}
 use Rattle.sno_book.specs.Openings.{Opening, start}
 use Rattle.sno_desk.specs.Answers.{Answers}
@@ -105,10 +106,10 @@ module _ (tries : ℕ) (state : State) where
       (subst (λ l. Lists tries state (take i statements) l refused) (take_all i replies even) h)
 
 -- what is listed beside a book whose entries are all owned
-pub settles : (shuts : ℕ → ℕ → Type 0) (tries : ℕ) (book : View) (statements : List Task) (replies : List (Result Received SubmitFault))
+pub settles : (shuts : ℕ → ℕ → Type 0) (tries : ℕ) (book : Book) (statements : List Task) (replies : List (Result Received SubmitFault))
     (owners : List (Option ℕ)) (refused : List Refusal) → AllAnswer (Answers shuts tries) statements replies
-    → Owns book.journal replies (length replies) owners → All (λ o. IsSome o) owners → Lists tries (state_of book) statements replies refused
-    → Settles tries statements (history_of book refused)
+    → Owns book.journal replies (length replies) owners → All (λ o. IsSome o) owners → Lists tries (state_of (view_of book)) statements replies refused
+    → Settles tries statements (history_of (view_of book) refused)
 settles shuts tries book statements replies owners refused answered owns all lists =
     let filled = fill owners all in
     record {
@@ -120,8 +121,8 @@ settles shuts tries book statements replies owners refused answered owns all lis
     }
 
 -- what is settled beside a lawful book that began with the document's texts
-pub shares : (tries : ℕ) (d : Document) (book : View) (before : Opening) (refused : List Refusal) → book.opening ≡ before → before.texts ≡ d.texts
-    → IsLawful book → Settles tries d.statements (history_of book refused) → IsShared tries d (history_of book refused)
+pub shares : (tries : ℕ) (d : Document) (book : Book) (before : Opening) (refused : List Refusal) → book.opening ≡ before → before.texts ≡ d.texts
+    → IsLawful (view_of book) → Settles tries d.statements (history_of (view_of book) refused) → IsShared tries d (history_of (view_of book) refused)
 shares tries d book before refused began texts lawful settled =
     let same : book.opening.texts ≡ d.texts = ap (λ (o : Opening). o.texts) began ∙ texts in
     record {

@@ -5,6 +5,7 @@ ghost use Rattle.std.specs.Option.{option_map};
 ghost use Rattle.std.specs.Arc.{arc_value};
 ghost use Rattle.sno_book.specs.States.{find};
 ghost use Rattle.sno_book.specs.Views.{state_of};
+ghost use Rattle.sno_book.specs.Books.{view_of};
 ghost use Rattle.sno_desk.specs.Answers.{Answers};
 ghost use Rattle.sno_desk.specs.Turns.{AllAnswer};
 ghost use Rattle.sno_rewrite.specs.Histories.{history_seen};
@@ -26,7 +27,7 @@ use std::sync::Arc;
 /// The version of the statement's text, where the book has the text.
 #[tactic(auto, using(crate::proofs::PlaceLemmas::found_by_place, crate::proofs::PlaceLemmas::found_nowhere))]
 fn version_in(book: &Book, statement: &Statement) -> Option<u64>
-    ensures { result ≡ option_map (λ held. held.version) (find statement.now.text (state_of book.now)) }
+    ensures { result ≡ option_map (λ held. held.version) (find statement.now.text (state_of (view_of book.now))) }
 {
     let place = book.opening().place(statement.text())?;
     let (_, _, version) = book.text(place)?;
@@ -36,7 +37,7 @@ fn version_in(book: &Book, statement: &Statement) -> Option<u64>
 /// That the book has no text of the statement's name; `Audit` where it has one.
 fn without_text(book: &Book, statement: &Statement) -> Result<Reason, RunFault>
     ensures reason { IfOk result (λ reason. reason ≡ WithoutText) }
-    ensures none { IfOk result (λ _. find statement.now.text (state_of book.now) ≡ None) }
+    ensures none { IfOk result (λ _. find statement.now.text (state_of (view_of book.now)) ≡ None) }
     ensures fault { IfErr result (λ e. e ≡ AuditFailed) }
 {
     match version_in(book, statement) {
@@ -57,7 +58,7 @@ fn with_tries_spent(
     ensures reason { IfOk result (λ reason. reason ≡ Spent seen now) }
     ensures later { IfOk result (λ _. seen < now) }
     ensures many { IfOk result (λ _. tries ≤ now) }
-    ensures reached { IfOk result (λ _. HasReached (state_of book.now) statement.now.text now) }
+    ensures reached { IfOk result (λ _. HasReached (state_of (view_of book.now)) statement.now.text now) }
     ensures fault { IfErr result (λ e. e ≡ AuditFailed) }
 {
     let Some(version) = version_in(book, statement) else {
@@ -79,7 +80,7 @@ fn reason(
 ) -> Result<Reason, RunFault>
     requires { Answers (λ _ _. ⊥) tries statement.now (Err fault.now) }
     ensures reason { IfOk result (λ reason. reason_in fault.now ≡ Some reason) }
-    ensures may { IfOk result (λ reason. MayRefuse tries (state_of book.now) statement.now reason) }
+    ensures may { IfOk result (λ reason. MayRefuse tries (state_of (view_of book.now)) statement.now reason) }
     ensures fault { IfErr result IsAuditOrMemory }
 {
     match *fault {
@@ -107,7 +108,7 @@ fn list(
     refused: &mut Vec<Refusal>,
 ) -> Result<(), RunFault>
     requires { Answers (λ _ _. ⊥) tries statement.now reply.now }
-    ensures listed { OnOk result (IsListed tries (state_of book.now) statement.now reply.now refused.old.items refused.new.items) }
+    ensures listed { OnOk result (IsListed tries (state_of (view_of book.now)) statement.now reply.now refused.old.items refused.new.items) }
     ensures fault { IfErr result IsAuditOrMemory }
 {
     match reply {
@@ -132,8 +133,8 @@ fn list_at(
     requires inside { place < length statements.now }
     requires replied { place < length replies.now }
     requires answers { AllAnswer (Answers (λ _ _. ⊥) tries) (map arc_value statements.now) replies.now }
-    requires before { Lists tries (state_of book.now) (take place (map arc_value statements.now)) (take place replies.now) refused.old.items }
-    ensures lists { OnOk result (Lists tries (state_of book.now) (take (place + 1) (map arc_value statements.now)) (take (place + 1) replies.now) refused.new.items) }
+    requires before { Lists tries (state_of (view_of book.now)) (take place (map arc_value statements.now)) (take place replies.now) refused.old.items }
+    ensures lists { OnOk result (Lists tries (state_of (view_of book.now)) (take (place + 1) (map arc_value statements.now)) (take (place + 1) replies.now) refused.new.items) }
     ensures fault { IfErr result IsAuditOrMemory }
 {
     let statement = &statements[place];
@@ -152,7 +153,7 @@ fn refusals_of(
     tries: u32,
 ) -> Result<Vec<Refusal>, RunFault>
     requires { AllAnswer (Answers (λ _ _. ⊥) tries) (map arc_value statements.now) replies.now }
-    ensures lists { IfOk result (λ v. Lists tries (state_of book.now) (map arc_value statements.now) replies.now v.items) }
+    ensures lists { IfOk result (λ v. Lists tries (state_of (view_of book.now)) (map arc_value statements.now) replies.now v.items) }
     ensures fault { IfErr result IsAuditOrMemory }
 {
     let mut refused = Vec::new(alloc);

@@ -2,6 +2,7 @@
 ghost use Rattle.std.specs.Prelude.{◌≡◌, ◌≤◌, [], length, map, IfOk, IfErr};
 ghost use Rattle.std.specs.Arc.{arc_value};
 ghost use Rattle.sno_book.specs.Views.{IsLawful};
+ghost use Rattle.sno_book.specs.Books.{view_of};
 ghost use Rattle.sno_desk.specs.Answers.{Answers};
 ghost use Rattle.sno_desk.specs.Turns.{AllAnswer};
 ghost use Rattle.sno_rewrite.specs.Histories.{history_seen};
@@ -56,7 +57,7 @@ fn work<L: Ledger + Send + Sync, R: Threads + Wait + Sync>(
     requires few { (1 ≤ length seats.items) × (length seats.items ≤ 16) }
     requires lawful { (1 ≤ tries) × (tries ≤ 1000) }
     ensures opening { IfOk result (λ r. r.0.opening ≡ arc_value desk.opening) }
-    ensures lawful { IfOk result (λ r. IsLawful r.0) }
+    ensures lawful { IfOk result (λ r. IsLawful (view_of r.0)) }
     ensures answers { IfOk result (λ r. AllAnswer (Answers (λ _ _. ⊥) tries) (map arc_value statements.now) r.1.items) }
     ensures fault { IfErr result IsOwn }
 {

@@ -3,7 +3,8 @@ use crate::row;
 use crate::row::Task;
 use crate::row::Task::{Match, Replace};
 use sno_book::{
-    Book, BookFault, CommitFault, Opening, Proposal, Receipt, Snapshot, SnapshotFault, propose,
+    Book, BookFault, CommitFault, Entry, Opening, Proposal, Receipt, Snapshot, SnapshotFault,
+    propose,
 };
 use sno_pattern::{Text, TextName};
 use sno_statement::{Outcome, Statement, StatementFault};
@@ -95,6 +96,33 @@ fn refuse(book: &mut Book, proposal: Proposal) -> Result<(CommitFault, Proposal)
     match book.commit(proposal) {
         Ok(_) => Err("accepted".into()),
         Err(refusal) => Ok(refusal),
+    }
+}
+
+// Why the proposal can't be prepared, and the proposal that came back.
+fn refuse_to_prepare(book: &mut Book, proposal: Proposal) -> Result<(CommitFault, Proposal), Fail> {
+    match book.prepare(proposal) {
+        Ok(_) => Err("prepared".into()),
+        Err(refusal) => Ok(refusal),
+    }
+}
+
+// The proposal prepared, and taken back again.
+fn prepare_and_take_back(book: &mut Book, proposal: Proposal) -> Result<Proposal, Fail> {
+    match book.prepare(proposal) {
+        Ok(ready) => Ok(ready.back()),
+        Err(_) => Err("refused".into()),
+    }
+}
+
+// The proposal prepared and then accepted, with a share of the entry that it makes.
+fn prepare_and_finish(book: &mut Book, proposal: Proposal) -> Result<(Entry, Receipt), Fail> {
+    match book.prepare(proposal) {
+        Ok(ready) => {
+            let shared = ready.entry().share()?;
+            Ok((shared, book.finish(ready)))
+        }
+        Err(_) => Err("refused".into()),
     }
 }
 
@@ -227,6 +255,40 @@ fn failures_of_one_version_are_all_accepted(rt: HostRuntime) -> Result<(), Fail>
     check_accepted(&rt, &mut book, first, 0)?;
     check_accepted(&rt, &mut book, second, 1)?;
     check_line(&rt, &book, "T a 0, 2")
+}
+
+#[test]
+fn a_prepared_proposal_changes_nothing(rt: HostRuntime) -> Result<(), Fail> {
+    let mut book = new_book(rt.alloc(), &[("T", "a")])?;
+    let proposed = proposal(&rt, &book, "T", A_TO_B)?;
+    assert!(rt; !book.has_spare());
+    let back = prepare_and_take_back(&mut book, proposed)?;
+    assert_eq!(rt; back.statement().number(), 1);
+    assert!(rt; book.has_spare());
+    check_line(&rt, &book, "T a 0, 0")
+}
+
+#[test]
+fn a_prepared_proposal_is_accepted(rt: HostRuntime) -> Result<(), Fail> {
+    let mut book = new_book(rt.alloc(), &[("T", "a")])?;
+    let proposed = proposal(&rt, &book, "T", A_TO_B)?;
+    let (shared, receipt) = prepare_and_finish(&mut book, proposed)?;
+    assert_eq!(rt; (shared.statement.number(), shared.version), (1, 0));
+    assert_eq!(rt; receipt.index, 0);
+    assert_eq!(rt; receipt.text.bytes(), b"a".as_slice());
+    check_line(&rt, &book, "T b 1, 1")?;
+    check_audit(&rt, &book, &[receipt], Ok(()))
+}
+
+#[test]
+fn an_older_match_cannot_be_prepared(rt: HostRuntime) -> Result<(), Fail> {
+    let mut book = new_book(rt.alloc(), &[("T", "a")])?;
+    let kept = proposal(&rt, &book, "T", A_TO_B)?;
+    perform(&rt, &mut book, A_TO_B)?;
+    let (fault, back) = refuse_to_prepare(&mut book, kept)?;
+    assert_eq!(rt; fault, CommitFault::Changed { seen: 0, now: 1 });
+    assert_eq!(rt; back.statement().number(), 1);
+    check_line(&rt, &book, "T b 1, 1")
 }
 
 fn check_audit(
