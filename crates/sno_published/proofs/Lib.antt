@@ -1,0 +1,5 @@
+pub mod Prefixes
+pub mod Adding
+pub mod LastEntries
+pub mod Replays
+pub mod Views

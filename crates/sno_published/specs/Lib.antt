@@ -1,0 +1,8 @@
+pub mod Histories
+pub mod HistoryRule
+pub mod Changes
+pub mod StoredTexts
+pub mod Tables
+pub mod Keeping
+pub mod Screens
+pub mod Viewings

@@ -1,0 +1,80 @@
+//! Fronts.
+ghost use Rattle.std.specs.Prelude.{◌≡◌, ◌<◌, ◌^◌, ◌++◌, ◌∷◌, [], length, MatchBool};
+ghost use Rattle.sno_published.specs.Histories.{AreOfOneLine, GoesOn};
+ghost use Rattle.sno_published.specs.HistoryRule.{length_of};
+
+use crate::rule::{Add, Law, Nothing};
+use logbook::{Offer, Seen, Word};
+use sno_book::Entry;
+use std::marker::Model;
+
+/// A beginning of a history, as it was seen. It keeps nothing but how many entries there are. Contracts see which history it is of, and the entries.
+#[derive(Drop)]
+pub struct Front {
+    pub(crate) count: u64,
+    pub(crate) seen: Seen<Entry, u64, Law>,
+}
+
+impl Model for Front {
+    ghost use Rattle.std.specs.Prelude.{◌≡◌, length};
+    ghost use Rattle.sno_published.specs.Histories.{Beginning, beginning_code};
+
+    ghost Value = { Beginning };
+
+    ghost coded = { beginning_code };
+
+    ghost view = { λ s. record { history = s.seen.book; entries = s.seen.log } };
+
+    ghost invariant = { λ s. s.count ≡ length s.seen.log };
+}
+
+impl Front {
+    /// How many entries it has.
+    pub fn count(&self) -> u64
+        ensures { result ≡ length self.now.entries }
+    {
+        self.count
+    }
+
+    /// A copy. It takes no memory.
+    pub fn again(&self) -> Front
+        ensures { result ≡ self.now }
+    {
+        Front {
+            count: self.count,
+            seen: self.seen.again(),
+        }
+    }
+
+    /// That of two fronts of one history the shorter begins the longer. Nothing is changed.
+    pub fn learn(&self, other: &Front)
+        requires { other.now.history ≡ self.now.history }
+        ensures { AreOfOneLine self.now.entries other.now.entries }
+    {
+        let mut both = self.seen.again();
+        both.learn(&other.seen);
+    }
+
+    /// Adds an entry behind all that was seen, by the history's word, and says whether it did. It did not where the history has gone on.
+    pub(crate) fn grow(&mut self, word: &Word<Entry, u64, Law>, entry: &Entry) -> bool
+        requires history { word.now ≡ length_of self.old.history }
+        requires room { length self.old.entries < 2 ^ 62 }
+        ensures history { self.new.history ≡ self.old.history }
+        ensures entries { MatchBool result (self.new.entries ≡ self.old.entries ++ entry.now ∷ []) (GoesOn self.old.entries self.new.entries) }
+    {
+        let count = self.count;
+        let mut offer: Offer<Entry, u64, Law, Nothing> = self
+            .seen
+            .plain::<Nothing, Entry, Add>(entry);
+        let mut pen = self.seen.no_pen();
+        let found = word.compare_exchange::<Add, Nothing>(
+            count,
+            count + 1,
+            &mut self.seen,
+            &mut offer,
+            &mut pen,
+        );
+        self.count = if found == count { count + 1 } else { found };
+        found == count
+    }
+}

@@ -1,0 +1,63 @@
+//! Histories.
+ghost use Rattle.std.specs.Prelude.{◌≡◌, ◌<◌, ◌^◌, ◌++◌, ◌∷◌, [], length, MatchBool};
+ghost use Rattle.sno_published.specs.Histories.{GoesOn};
+
+use crate::Front;
+use crate::rule::Law;
+use logbook::{Seen, Start, Word};
+use sno_book::Entry;
+use std::marker::Model;
+
+/// A list of entries that only grows, with the front that has seen the whole of it. The program keeps nothing but how many entries there are; what they
+/// are is known to whoever has a [`Front`]. Contracts see which history it is, and its entries.
+#[derive(Drop)]
+pub struct History {
+    length: Word<Entry, u64, Law>,
+    front: Front,
+}
+
+impl Model for History {
+    ghost use Rattle.std.specs.Prelude.{◌≡◌};
+    ghost use Rattle.sno_published.specs.Histories.{Beginning, beginning_code};
+    ghost use Rattle.sno_published.specs.HistoryRule.{length_of};
+
+    ghost Value = { Beginning };
+
+    ghost coded = { beginning_code };
+
+    ghost view = { λ s. s.front };
+
+    ghost invariant = { λ s. s.length ≡ length_of s.front.history };
+}
+
+impl History {
+    /// A new history with no entry. It takes no memory.
+    pub fn new() -> History
+        ensures { result.entries ≡ [] }
+    {
+        let (seen, mut first, _second) = Seen::open(Start::alone(), 0, 0);
+        History {
+            length: Word::tracked(0, &mut first),
+            front: Front { count: 0, seen },
+        }
+    }
+
+    /// The front that has seen the whole history.
+    pub fn front(&self) -> &Front
+        ensures { result.now ≡ self.now }
+    {
+        &self.front
+    }
+
+    /// Adds an entry behind the others, and says whether it did. It waits for nobody and takes no memory.
+    ///
+    /// It did not exactly if the history has gone on without this front, which has seen the whole of it then. No lawful run meets this, as nobody else
+    /// can add to the history.
+    pub fn add(&mut self, entry: &Entry) -> bool
+        requires room { length self.old.entries < 2 ^ 62 }
+        ensures history { self.new.history ≡ self.old.history }
+        ensures entries { MatchBool result (self.new.entries ≡ self.old.entries ++ entry.now ∷ []) (GoesOn self.old.entries self.new.entries) }
+    {
+        self.front.grow(&self.length, entry)
+    }
+}

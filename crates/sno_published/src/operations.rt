@@ -1,0 +1,146 @@
+//! Operations on a table.
+ghost use Rattle.std.specs.Prelude.{◌≡◌, ◌++◌, ◌∷◌, [], ℕ, Some, IfSome, IfOk};
+ghost use Rattle.sno_book.specs.Entries.{Entry as Published};
+ghost use Rattle.sno_book.specs.Journals.{HasStep, replay};
+ghost use Rattle.sno_book.specs.Openings.{start};
+ghost use Rattle.sno_published.specs.Changes.{last_of};
+
+use crate::{Front, Naming};
+use sno_book::Entry;
+use std::alloc::AllocError;
+use std::marker::{Model, PhantomData};
+use std::sync::{Arc, OnceLock};
+
+/// What becomes known of an operation only once it stands in the log: the history with its entry, beside the attempt that ended in the same entry.
+#[derive(Drop)]
+pub struct Given<L: Naming> {
+    front: Front,
+    tried: Front,
+    of: PhantomData<L>,
+}
+
+impl<L: Naming> Model for Given<L> {
+    ghost use Rattle.std.specs.Prelude.{◌≡◌};
+    ghost use Rattle.std.specs.Coded.{coded×};
+    ghost use Rattle.sno_published.specs.Histories.{Beginning, beginning_code};
+    ghost use Rattle.sno_published.specs.Changes.{last_of};
+
+    ghost Value = { Beginning × Beginning };
+
+    ghost coded = { coded× beginning_code beginning_code };
+
+    ghost view = { λ s. (s.front, s.tried) };
+
+    ghost invariant = { λ s. (s.front.history ≡ L.book) × (s.tried.history ≡ L.tries) × (last_of s.front.entries ≡ last_of s.tried.entries) };
+}
+
+impl<L: Naming> Given<L> {
+    /// The history with an entry, beside the attempt with the same entry.
+    pub(crate) fn new(front: Front, tried: Front) -> Given<L>
+        requires histories { (front.history ≡ L.book) × (tried.history ≡ L.tries) }
+        requires entry { last_of front.entries ≡ last_of tried.entries }
+    {
+        Given {
+            front,
+            tried,
+            of: PhantomData,
+        }
+    }
+
+    /// The history with the entry of this attempt behind these entries, if that is what is known.
+    fn front_after(&self, before: &Front, tried: &Front) -> Option<Front>
+        requires { (before.now.history ≡ L.book) × (tried.now.history ≡ L.tries) }
+        ensures history { IfSome result (λ front. front.history ≡ L.book) }
+        ensures entries { IfSome result (λ front. (entry : Published) → last_of tried.now.entries ≡ Some entry → front.entries ≡ before.now.entries ++ entry ∷ []) }
+    {
+        if self.tried.count() != tried.count() || self.front.count() <= before.count() {
+            return None;
+        }
+        if self.front.count() - before.count() != 1 {
+            return None;
+        }
+        self.tried.learn(tried);
+        before.learn(&self.front);
+        Some(self.front.again())
+    }
+}
+
+/// An entry that is to be published, and after which entries. By its type it has a step from the texts that these leave.
+#[derive(Drop)]
+pub struct Operation<L: Naming> {
+    entry: Entry,
+    before: Front,
+    tried: Front,
+    slot: Arc<OnceLock<Given<L>>>,
+}
+
+impl<L: Naming> Model for Operation<L> {
+    ghost use Rattle.std.specs.Prelude.{◌≡◌, Some};
+    ghost use Rattle.sno_book.specs.Journals.{HasStep, replay};
+    ghost use Rattle.sno_book.specs.Openings.{start};
+    ghost use Rattle.sno_published.specs.Changes.{Change, change_code, last_of};
+
+    ghost Value = { Change };
+
+    ghost coded = { change_code };
+
+    ghost view = { λ s. record { before = s.before.entries; entry = s.entry } };
+
+    ghost invariant = { λ s. (s.before.history ≡ L.book) × (s.tried.history ≡ L.tries) × (last_of s.tried.entries ≡ Some s.entry) × HasStep (replay (start L.opening) s.before.entries) s.entry };
+}
+
+/// A share of the entry.
+fn share(entry: &Entry) -> Result<Entry, AllocError>
+    ensures { IfOk result (λ e. e ≡ entry.now) }
+{
+    Ok(Entry {
+        statement: Arc::try_clone(&entry.statement)?,
+        version: entry.version,
+        outcome: Arc::try_clone(&entry.outcome)?,
+    })
+}
+
+impl<L: Naming> Operation<L> {
+    /// The operation that publishes this entry after these, by this attempt and with this slot for what is known later.
+    pub(crate) fn new(
+        entry: &Entry,
+        before: &Front,
+        tried: &Front,
+        slot: &Arc<OnceLock<Given<L>>>,
+    ) -> Result<Operation<L>, AllocError>
+        requires histories { (before.now.history ≡ L.book) × (tried.now.history ≡ L.tries) }
+        requires entry { last_of tried.now.entries ≡ Some entry.now }
+        requires step { HasStep (replay (start L.opening) before.now.entries) entry.now }
+        ensures { IfOk result (λ operation. operation ≡ record { before = before.now.entries; entry = entry.now }) }
+    {
+        Ok(Operation {
+            entry: share(entry)?,
+            before: before.again(),
+            tried: tried.again(),
+            slot: Arc::try_clone(slot)?,
+        })
+    }
+
+    /// The entry.
+    pub(crate) fn entry(&self) -> &Entry
+        ensures { result.now ≡ self.now.entry }
+    {
+        &self.entry
+    }
+
+    /// The entries after which it is published.
+    pub(crate) fn before(&self) -> &Front
+        ensures before { result.now ≡ record { history = L.book; entries = self.now.before } }
+        ensures step { HasStep (replay (start L.opening) self.now.before) self.now.entry }
+    {
+        &self.before
+    }
+
+    /// The history with the entry, if it is known yet.
+    pub(crate) fn after(&self) -> Option<Front>
+        ensures { IfSome result (λ front. front ≡ record { history = L.book; entries = self.now.before ++ self.now.entry ∷ [] }) }
+    {
+        let given = self.slot.get()?;
+        given.front_after(&self.before, &self.tried)
+    }
+}

@@ -1,0 +1,51 @@
+//! The rule of a history, and the step that adds an entry.
+use logbook::{Gain, Plain, Play, Rule};
+use sno_book::Entry;
+
+/// The history's word is the number of its entries.
+pub struct Law;
+
+impl Rule<Entry, u64> for Law {
+    ghost use Rattle.std.specs.Prelude.{[]};
+    ghost use base.Fml.{ftrue};
+    ghost use Rattle.sno_published.specs.HistoryRule.{IsCounted};
+
+    ghost holds = { λ cells log. IsCounted cells log };
+
+    ghost first = { [] };
+
+    ghost hinted = { λ n log. Unit {0} };
+
+    ghost shows = { λ log. [] };
+
+    ghost keeps = { λ names log. ftrue };
+
+    ghost moves = { λ ask before after answer. Unit {0} };
+}
+
+/// Nothing is kept beside a history, so nothing is gained.
+pub struct Nothing;
+
+impl Gain<Entry, u64> for Nothing {
+    ghost use base.Fml.{ftrue};
+
+    ghost after = { λ names about answer. ftrue };
+}
+
+/// The step that adds an entry.
+pub struct Add;
+
+impl Play<Entry, u64> for Add {
+    ghost use Rattle.sno_published.specs.HistoryRule.{Adds};
+
+    ghost then = { Adds };
+}
+
+/// The step asks for the entry.
+impl Plain<Entry, Entry, u64> for Add {
+    ghost use Rattle.std.specs.Prelude.{None};
+
+    ghost ask = { λ entry. entry };
+
+    ghost state = { λ entry. None };
+}

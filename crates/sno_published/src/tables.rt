@@ -1,0 +1,115 @@
+//! Tables.
+ghost use Rattle.std.specs.Prelude.{◌≡◌, ◌++◌, ◌∷◌, [], IfOk, MatchResult};
+ghost use Rattle.std.specs.Arc.{arc_value};
+ghost use Rattle.std.specs.Option.{option_map};
+ghost use Rattle.sno_book.specs.Journals.{HasStep, Legal, replay};
+ghost use Rattle.sno_book.specs.Openings.{start};
+ghost use Rattle.sno_published.specs.Tables.{text_after, text_at};
+
+use crate::stored_texts::{StoredText, first_texts, renew, stored_at};
+use crate::{Front, Naming, Operation};
+use left_right::Absorb;
+use sno_book::{Entry, Opening, Text};
+use std::alloc::{AllocError, Global};
+use std::marker::{Model, PhantomData};
+use std::sync::Arc;
+
+/// The texts after some entries, with their versions. By its type the entries are a beginning of the desk's history, they are legal from the desk's
+/// opening, and the texts and versions are what they leave. Contracts see the entries.
+#[derive(Drop)]
+pub struct Table<L: Naming> {
+    opening: Arc<Opening>,
+    stored: Vec<StoredText>,
+    front: Front,
+    of: PhantomData<L>,
+}
+
+impl<L: Naming> Model for Table<L> {
+    ghost use Rattle.std.specs.Prelude.{◌≡◌, List};
+    ghost use Rattle.std.specs.Coded.{coded_list};
+    ghost use Rattle.std.specs.Arc.{arc_value};
+    ghost use Rattle.sno_book.specs.Entries.{Entry, entry_code};
+    ghost use Rattle.sno_published.specs.StoredTexts.{IsReplay};
+
+    ghost Value = { List Entry };
+
+    ghost coded = { coded_list entry_code };
+
+    ghost view = { λ s. s.front.entries };
+
+    ghost invariant = { λ s. (arc_value s.opening ≡ L.opening) × (s.front.history ≡ L.book) × IsReplay L.opening s.front.entries s.stored.items };
+}
+
+impl<L: Naming> Table<L> {
+    /// The texts of an opening before the first entry.
+    ///
+    /// Refused only where memory is.
+    pub fn new(alloc: Global, opening: &Arc<Opening>, front: &Front) -> Result<Table<L>, AllocError>
+        requires opening { arc_value opening.now ≡ L.opening }
+        requires front { front.now ≡ record { history = L.book; entries = [] } }
+        ensures { IfOk result (λ table. table ≡ []) }
+    {
+        Ok(Table {
+            opening: Arc::try_clone(opening)?,
+            stored: first_texts(alloc, opening)?,
+            front: front.again(),
+            of: PhantomData,
+        })
+    }
+
+    /// The front that has seen the table's entries.
+    pub fn front(&self) -> &Front
+        ensures front { result.now ≡ record { history = L.book; entries = self.now } }
+        ensures legal { Legal (start L.opening) self.now }
+    {
+        &self.front
+    }
+
+    /// The text at a place, from 0, and its version, as the table's entries leave them; none past the last text.
+    pub fn text(&self, place: usize) -> Option<(&Arc<Text>, u64)>
+        ensures { option_map (λ t. text_at L.opening place (arc_value t.0.now) t.1) result ≡ text_after L.opening self.now place }
+    {
+        match stored_at(&self.stored, place) {
+            Some(stored) => Some((&stored.text, stored.version)),
+            None => None,
+        }
+    }
+
+    /// Takes in the next entry, with the front that has seen it.
+    fn take_in(&mut self, entry: &Entry, front: Front) -> Result<(), AllocError>
+        requires step { HasStep (replay (start L.opening) self.old) entry.now }
+        requires front { front ≡ record { history = L.book; entries = self.old ++ entry.now ∷ [] } }
+        ensures { MatchResult result (λ _. self.new ≡ self.old ++ entry.now ∷ []) (λ _. self.new ≡ self.old) }
+    {
+        renew(&mut self.stored, &self.opening, entry)?;
+        self.front = front;
+        Ok(())
+    }
+}
+
+impl<L: Naming> Absorb<Operation<L>> for Table<L> {
+    ghost use Rattle.std.specs.Prelude.{◌++◌, ◌∷◌, []};
+
+    // A clause reads an array as a list, of any length.
+    type State = [Entry; 0];
+
+    ghost state = { λ entries. entries };
+
+    ghost applied = { λ entries change. entries ++ change.entry ∷ [] };
+
+    fn absorb_first(
+        &mut self,
+        operation: &Operation<L>,
+        _other: &Table<L>,
+    ) -> Result<(), AllocError> {
+        let Some(front) = operation.after() else {
+            return Err(AllocError);
+        };
+        let before = operation.before();
+        if self.front.count() != before.count() {
+            return Err(AllocError);
+        }
+        self.front.learn(before);
+        self.take_in(operation.entry(), front)
+    }
+}

@@ -1,0 +1,194 @@
+//! Viewers.
+ghost use Rattle.std.specs.Prelude.{◌≡◌, ◌≢◌, ◌⊎◌, IfOk, IfErr, IfSome, OnOk, MatchBool, MatchResult, Decides, [], length};
+ghost use Rattle.std.specs.Arc.{arc_value};
+ghost use Rattle.std.specs.Option.{option_map, option_map_or};
+ghost use mathlib.Core.List.{IsPrefix};
+ghost use Rattle.left_right.specs.Sides.{view};
+ghost use Rattle.sno_book.specs.Journals.{Legal};
+ghost use Rattle.sno_book.specs.Openings.{start};
+ghost use Rattle.sno_published.specs.Histories.{GoesOn};
+ghost use Rattle.sno_published.specs.Tables.{text_after, text_at};
+ghost use Rattle.sno_published.specs.Viewings.{IsCause};
+ghost use Rattle.sno_published.specs.declared.faults.ViewFault.TheVariants.{Memory};
+
+use crate::{Front, Kept, Naming, Screen, See, Seeing, Table, ViewFault};
+use left_right::reader::{Reader, Reading};
+use sno_book::Text;
+use std::alloc::AllocError;
+use std::marker::Model;
+use std::sync::Arc;
+
+/// A reader of what one screen shows, which never waits. By its type what it has seen is a legal beginning of the screen's history. Contracts see the
+/// entries that it has seen or was told of.
+#[derive(Drop)]
+pub struct Viewer<L: Naming> {
+    reader: Option<Reader<Table<L>, Seeing, Kept<L>>>,
+    front: Front,
+}
+
+impl<L: Naming> Model for Viewer<L> {
+    ghost use Rattle.std.specs.Prelude.{◌≡◌, [], IfSome};
+    ghost use Rattle.std.specs.Option.{option_map_or};
+    ghost use mathlib.Core.List.{IsPrefix};
+    ghost use Rattle.left_right.specs.Sides.{view as view_at};
+    ghost use Rattle.sno_book.specs.Journals.{Legal};
+    ghost use Rattle.sno_book.specs.Openings.{start};
+    ghost use Rattle.sno_published.specs.Viewings.{Viewing, viewing_code};
+
+    ghost Value = { Viewing };
+
+    ghost coded = { viewing_code };
+
+    ghost view = { λ s. record { shown = option_map_or (λ r. view_at r.place) s.reader []; seen = s.front.entries } };
+
+    ghost invariant = { λ s. (s.front.history ≡ L.book) × Legal (start L.opening) s.front.entries × IfSome s.reader (λ r. IsPrefix (view_at r.place) s.front.entries) };
+}
+
+/// Goes on to the table's front, unless that is the shorter one, and says whether it did.
+fn go_on<L: Naming>(front: &mut Front, table: &Table<L>) -> bool
+    requires { front.old.history ≡ L.book }
+    ensures history { front.new.history ≡ L.book }
+    ensures legal { Legal (start L.opening) table.now }
+    ensures entries { MatchBool result ((front.new.entries ≡ table.now) × IsPrefix front.old.entries table.now) ((front.new ≡ front.old) × GoesOn table.now front.old.entries) }
+{
+    let shown = table.front();
+    front.learn(shown);
+    if shown.count() < front.count() {
+        return false;
+    }
+    *front = shown.again();
+    true
+}
+
+/// A share of the text at a place of a table.
+fn share<L: Naming>(table: &Table<L>, place: usize) -> Result<Option<(Arc<Text>, u64)>, ViewFault>
+    ensures found { IfOk result (λ o. option_map (λ t. text_at L.opening place (arc_value t.0) t.1) o ≡ text_after L.opening table.now place) }
+    ensures memory { IfErr result (λ e. e ≡ Memory) }
+{
+    let Some((text, version)) = table.text(place) else {
+        return Ok(None);
+    };
+    match Arc::try_clone(text) {
+        Ok(text) => Ok(Some((text, version))),
+        Err(_) => Err(ViewFault::Memory),
+    }
+}
+
+/// Shares the text at a place, and leaves.
+fn look<L: Naming>(
+    reading: Reading<Table<L>, Seeing, Kept<L>>,
+    place: usize,
+) -> (
+    Reader<Table<L>, Seeing, Kept<L>>,
+    Result<Option<(Arc<Text>, u64)>, ViewFault>,
+)
+    ensures reader { view result.0.place ≡ view reading.place }
+    ensures found { IfOk result.1 (λ o. option_map (λ t. text_at L.opening place (arc_value t.0) t.1) o ≡ text_after L.opening reading.part.value place) }
+    ensures memory { IfErr result.1 (λ e. e ≡ Memory) }
+{
+    let found = share(reading.get(), place);
+    (reading.leave(), found)
+}
+
+/// Enters what is shown, and goes on to it.
+fn begin<L: Naming>(
+    reader: &mut Option<Reader<Table<L>, Seeing, Kept<L>>>,
+    front: &mut Front,
+) -> Result<Reading<Table<L>, Seeing, Kept<L>>, ViewFault>
+    requires history { front.old.history ≡ L.book }
+    requires reader { IfSome reader.old (λ r. IsPrefix (view r.place) front.old.entries) }
+    ensures history { front.new.history ≡ L.book }
+    ensures begins { IsPrefix front.old.entries front.new.entries }
+    ensures reader { IfSome reader.new (λ r. IsPrefix (view r.place) front.new.entries) }
+    ensures entered { MatchResult result (λ reading. (reading.part.value ≡ front.new.entries) × (view reading.place ≡ front.new.entries) × Legal (start L.opening) front.new.entries)
+        (λ e. (e ≢ Memory) × IsCause e (record { shown = option_map_or (λ r. view r.place) reader.old []; seen = front.old.entries }) (record { shown = option_map_or (λ r. view r.place) reader.new []; seen = front.new.entries })) }
+{
+    let Some(outside) = reader.take() else {
+        return Err(ViewFault::Ended);
+    };
+    let reading = match outside.enter_as::<See>() {
+        Ok(reading) => reading,
+        Err(outside) => {
+            *reader = Some(outside);
+            return Err(ViewFault::Ended);
+        }
+    };
+    if go_on(front, reading.get()) {
+        return Ok(reading);
+    }
+    *reader = Some(reading.leave());
+    Err(ViewFault::Behind)
+}
+
+impl<L: Naming> Viewer<L> {
+    /// How many entries it has seen or was told of.
+    pub fn seen(&self) -> u64
+        ensures seen { result ≡ length self.now.seen }
+        ensures legal { Legal (start L.opening) self.now.seen }
+    {
+        self.front.count()
+    }
+
+    /// Sees what is shown. It waits for nobody and takes no memory.
+    ///
+    /// Refused: `Ended`; `Behind`, which only a viewer meets that was told of more than it had found shown. What it has seen stays as it was.
+    pub fn enter(&mut self) -> Result<(), ViewFault>
+        ensures begins { IsPrefix self.old.seen self.new.seen }
+        ensures shown { OnOk result (self.new.seen ≡ self.new.shown) }
+        ensures refused { IfErr result (λ e. (e ≢ Memory) × IsCause e self.old self.new) }
+    {
+        let reading = begin(&mut self.reader, &mut self.front)?;
+        self.reader = Some(reading.leave());
+        Ok(())
+    }
+
+    /// Sees what is shown, and answers a share of the text at a place, from 0, with its version; none past the last text. It waits for nobody.
+    ///
+    /// Refused, in this order: `Ended` and `Behind` as by [`Viewer::enter`]; `Memory`, and then what is shown was seen.
+    pub fn text(&mut self, place: usize) -> Result<Option<(Arc<Text>, u64)>, ViewFault>
+        ensures begins { IsPrefix self.old.seen self.new.seen }
+        ensures shown { OnOk result (self.new.seen ≡ self.new.shown) }
+        ensures found { IfOk result (λ o. option_map (λ t. text_at L.opening place (arc_value t.0) t.1) o ≡ text_after L.opening self.new.seen place) }
+        ensures refused { IfErr result (λ e. IsCause e self.old self.new) }
+    {
+        let reading = begin(&mut self.reader, &mut self.front)?;
+        let (outside, found) = look(reading, place);
+        self.reader = Some(outside);
+        found
+    }
+
+    /// Is told what a screen of its own desk shows: the longer of the two lists is what it has seen from now on. It waits for nobody and takes no memory.
+    pub fn learn(&mut self, screen: &Screen<L>)
+        ensures begins { IsPrefix self.old.seen self.new.seen }
+        ensures told { IsPrefix screen.now self.new.seen }
+        ensures one { (self.new.seen ≡ self.old.seen) ⊎ (self.new.seen ≡ screen.now) }
+    {
+        let _ = go_on(&mut self.front, screen.table());
+    }
+
+    /// Whether it has seen just what a screen of its own desk shows.
+    pub fn is_level(&self, screen: &Screen<L>) -> bool
+        ensures { Decides result (self.now.seen ≡ screen.now) }
+    {
+        let shown = screen.table().front();
+        if self.front.count() != shown.count() {
+            return false;
+        }
+        self.front.learn(shown);
+        true
+    }
+}
+
+/// A viewer, from its reader, which has seen nothing yet, and from what a table shows.
+pub(crate) fn viewer_of<L: Naming>(
+    reader: Reader<Table<L>, Seeing, Kept<L>>,
+    table: &Table<L>,
+) -> Viewer<L>
+    requires { view reader.place ≡ [] }
+    ensures { result ≡ record { shown = []; seen = table.now } }
+{
+    Viewer {
+        reader: Some(reader),
+        front: table.front().again(),
+    }
+}
