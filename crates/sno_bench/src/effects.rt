@@ -1,4 +1,8 @@
 //! What a statement does on a text.
+ghost use Rattle.std.specs.Prelude.{◌≡◌, IfOk};
+ghost use Rattle.sno_statement.specs.Perform.{perform};
+ghost use Rattle.sno_bench.specs.Effects.{effect_of_performing, effect_of_matching};
+
 use sno_machine::{Code, MatchFault};
 use sno_pattern::Text;
 use sno_statement::{Outcome, Statement, StatementFault, perform};
@@ -27,7 +31,13 @@ impl fmt::Display for Effect {
 }
 
 /// What performing the statement on the text does. Refused where memory is.
-pub fn performed(alloc: Global, statement: &Statement, text: &Text) -> Result<Effect, AllocError> {
+pub fn effect_of_performing(
+    alloc: Global,
+    statement: &Statement,
+    text: &Text,
+) -> Result<Effect, AllocError>
+    ensures { IfOk result (λ effect. effect ≡ effect_of_performing (perform statement.now text.now)) }
+{
     match perform(alloc, statement, text) {
         Ok(Outcome::Matched { start, end, .. }) => Ok(Effect::Matched { start, end }),
         Ok(Outcome::Failed { .. }) => Ok(Effect::Failed),
@@ -36,13 +46,16 @@ pub fn performed(alloc: Global, statement: &Statement, text: &Text) -> Result<Ef
     }
 }
 
-/// What a match of the statement's compiled pattern does. Refused where memory is.
-pub fn matched(
+/// What a match by the code does, anchored as the statement says and within its limit of trials. The code is to be that of the statement's
+/// pattern. Refused where memory is.
+pub fn effect_of_matching(
     alloc: Global,
     code: &Code<'_>,
     statement: &Statement,
     text: &Text,
-) -> Result<Effect, AllocError> {
+) -> Result<Effect, AllocError>
+    ensures { IfOk result (λ effect. effect ≡ effect_of_matching code.now statement.now.anchored statement.now.limit text.now) }
+{
     match code.first(alloc, text, statement.anchored(), statement.limit()) {
         Ok(found) => Ok(match &found.end {
             Some(hit) => Effect::Matched {

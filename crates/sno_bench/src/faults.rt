@@ -1,4 +1,7 @@
 //! Why the program ends without its lines.
+ghost use Rattle.std.specs.Prelude.{◌≡◌};
+ghost use Rattle.sno_bench.specs.Faults.{status};
+
 use sno_document::{RunFault, status_of};
 use std::alloc::AllocError;
 use thiserror::Error;
@@ -22,7 +25,9 @@ pub enum Fault {
 
 impl Fault {
     /// The status with which the program ends: 3 for its words, otherwise that of the run's fault, and 4 where there is none.
-    pub fn status(&self) -> u8 {
+    pub fn status(&self) -> u8
+        ensures { result ≡ status self.now }
+    {
         match self {
             Fault::Usage => 3,
             Fault::Run(fault) => status_of(fault),

@@ -1,9 +1,9 @@
 //! The line of each statement.
 ghost use Rattle.std.specs.Prelude.{◌≤◌, IfSome};
 
-use crate::effects::{Effect, performed};
+use crate::effects::{Effect, effect_of_performing};
 use crate::faults::Fault;
-use crate::timing::timed;
+use crate::timing::time;
 use sno_book::{Book, SnapshotFault};
 use sno_document::RunFault;
 use sno_pattern::Text;
@@ -22,7 +22,8 @@ fn text_of(book: &Book, statement: &Statement) -> Result<Option<Arc<Text>>, Faul
     }
 }
 
-fn written(printed: io::Result<()>) -> Result<(), Fault> {
+/// What printing a line came to, as a fault of the program.
+fn result_of_printing(printed: io::Result<()>) -> Result<(), Fault> {
     match printed {
         Ok(()) => Ok(()),
         Err(_) => Err(Fault::Run(RunFault::Write)),
@@ -44,16 +45,16 @@ pub fn print_statement<R: Print + Clock>(
 {
     let number = statement.number();
     let Some(text) = text_of(book, statement)? else {
-        return written(println!(rt; "statement {number} no text"));
+        return result_of_printing(println!(rt; "statement {number} no text"));
     };
-    let effect = performed(alloc, statement, &text)?;
+    let effect = effect_of_performing(alloc, statement, &text)?;
     match (times, effect) {
         (None, _) | (_, Effect::Refused(_)) => {
-            written(println!(rt; "statement {number} {effect}"))
+            result_of_printing(println!(rt; "statement {number} {effect}"))
         }
         (Some(times), _) => {
-            let times = timed(rt, alloc, statement, &text, effect, times)?;
-            written(println!(rt; "statement {number} {times}"))
+            let times = time(rt, alloc, statement, &text, effect, times)?;
+            result_of_printing(println!(rt; "statement {number} {times}"))
         }
     }
 }

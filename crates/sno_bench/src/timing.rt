@@ -1,7 +1,7 @@
 //! The least time of some runs.
 ghost use Rattle.std.specs.Prelude.{◌≤◌};
 
-use crate::effects::{Effect, matched, performed};
+use crate::effects::{Effect, effect_of_matching, effect_of_performing};
 use crate::faults::Fault;
 use sno_machine::{Code, compile};
 use sno_pattern::Text;
@@ -42,7 +42,7 @@ impl fmt::Display for Times {
     }
 }
 
-fn now<C: Clock>(clock: &C) -> Result<Instant, Fault> {
+fn read_clock<C: Clock>(clock: &C) -> Result<Instant, Fault> {
     match Instant::now(clock) {
         Ok(now) => Ok(now),
         Err(_) => Err(Fault::Clock),
@@ -57,15 +57,15 @@ fn run<C: Clock, F: Fn() -> Result<(), Fault>>(
 ) -> Result<Duration, Fault>
     requires { F.IsAlwaysCallable work.now }
 {
-    let start = now(clock)?;
+    let start = read_clock(clock)?;
     for _ in 0..times {
         work()?;
     }
-    Ok(now(clock)?.duration_since(start))
+    Ok(read_clock(clock)?.duration_since(start))
 }
 
 /// What the work takes once, by the quickest of the runs.
-fn least<C: Clock, F: Fn() -> Result<(), Fault>>(
+fn least_time<C: Clock, F: Fn() -> Result<(), Fault>>(
     clock: &C,
     times: u32,
     work: F,
@@ -101,7 +101,7 @@ fn match_once(
     text: &Text,
     expected: Effect,
 ) -> Result<(), Fault> {
-    let effect = matched(alloc, code, statement, text)?;
+    let effect = effect_of_matching(alloc, code, statement, text)?;
     expect(effect, expected)
 }
 
@@ -111,7 +111,7 @@ fn perform_once(
     text: &Text,
     expected: Effect,
 ) -> Result<(), Fault> {
-    let effect = performed(alloc, statement, text)?;
+    let effect = effect_of_performing(alloc, statement, text)?;
     expect(effect, expected)
 }
 
@@ -119,7 +119,7 @@ fn perform_once(
 /// `times` times in a run. The matches and the statement have to do what is expected, which is no refusal.
 ///
 /// Refused with the first fault of the runs: `Run` with `Memory`, `Clock`, and `Differs` where something else was done.
-pub fn timed<C: Clock>(
+pub fn time<C: Clock>(
     clock: &C,
     alloc: Global,
     statement: &Statement,
@@ -130,13 +130,13 @@ pub fn timed<C: Clock>(
     requires { 1 ≤ times }
 {
     let code = compile(alloc, statement.rules(), statement.pattern())?;
-    let compile = least(clock, times, || compile_once(alloc, statement))?;
-    let matching = least(
+    let compile = least_time(clock, times, || compile_once(alloc, statement))?;
+    let matching = least_time(
         clock,
         times,
         || match_once(alloc, &code, statement, text, expected),
     )?;
-    let perform = least(
+    let perform = least_time(
         clock,
         times,
         || perform_once(alloc, statement, text, expected),

@@ -10,7 +10,7 @@ use crate::definitions::{admit, definitions};
 use crate::document_rows::{Rows, rows_of};
 use crate::statements::statements;
 use crate::texts::texts;
-use crate::trees::value_of;
+use crate::trees::value_in;
 use crate::{Mode, RunFault};
 use json::Scratch;
 use sno_book::Book;
@@ -59,7 +59,7 @@ pub fn read_document(alloc: Global, bytes: &[u8], mode: Mode) -> Result<Document
     ensures ready { IfOk result (λ d. IsReady d) }
 {
     let mut scratch = Scratch::new(alloc);
-    let value = value_of(alloc, bytes, &mut scratch)?;
+    let value = value_in(alloc, bytes, &mut scratch)?;
     let rows = rows_of(alloc, &value)?;
     drop(value);
     let drafted = definitions(alloc, &rows.patterns)?;

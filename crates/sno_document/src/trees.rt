@@ -142,7 +142,7 @@ fn parse<'t>(
 
 /// The tree of a document. Its strings are borrowed from the bytes or, where they have escapes, from `scratch`.
 #[tactic(auto, unfolding(crate::specs::Document::value_in))]
-pub(crate) fn value_of<'t>(
+pub(crate) fn value_in<'t>(
     alloc: Global,
     bytes: &'t [u8],
     scratch: &'t mut Scratch,

@@ -10,13 +10,13 @@ use sno_read::Part;
 
 /// How many digits a number has.
 #[tactic(auto, using(crate::proofs::Decimals::one_digit, crate::proofs::Decimals::one_digit_more))]
-fn count_digits(number: u32) -> usize
+fn decimal_length(number: u32) -> usize
     ensures { result ≡ length (decimal number) }
 {
     if number < 10 {
         return 1;
     }
-    count_digits(number / 10) + 1
+    decimal_length(number / 10) + 1
 }
 
 /// How many characters a part's value has.
@@ -30,7 +30,7 @@ fn part_length(part: &Part, bindings: &Bindings) -> usize
         Part::Var(name) => match bindings.value(name) {
             None => 0,
             Some(Datum::Str(text)) => text.bytes().len(),
-            Some(Datum::Int(number)) => count_digits(*number),
+            Some(Datum::Int(number)) => decimal_length(*number),
         },
     }
 }

@@ -1,5 +1,0 @@
--- A digit fewer each time.
-use Rattle.sno_statement.proofs.lengths.+count_digits.Given as goal
-
-abbrev pub decreases-count_digits : goal.decreases-count_digits
-decreases-count_digits l = l.number
