@@ -4,20 +4,20 @@ ghost use Rattle.std.specs.Prelude.{◌≡◌, []};
 use sno_published::History;
 use std::sync::ledger;
 
-/// A ledger, a history and the attempts at it, each still without an entry: what a desk is begun with. All that belongs to one desk bears their names,
+/// A ledger, a history and the attempts at it: what a desk is begun with. All that belongs to one desk bears their names,
 /// by its type. It takes no memory.
 #[derive(Drop)]
 pub struct Blank {
     pub(crate) ledger: ledger::Blank,
     pub(crate) history: History,
     pub(crate) attempts: History,
-    ghost fresh: { history.entries ≡ [] },
 }
 
 impl Blank {
     /// A blank for a ledger of so many parts, one for each seat.
     pub fn new(parts: u64) -> Blank
-        ensures { result.ledger.parts ≡ parts }
+        ensures parts { result.ledger.parts ≡ parts }
+        ensures fresh { result.history.entries ≡ [] }
     {
         Blank {
             ledger: ledger::Blank::new(parts),

@@ -25,15 +25,15 @@ impl<L: Naming> Locked<L> {
         seat: &mut Seat<L>,
         ready: Ready,
     ) -> Result<Receipt, Proposal>
-        requires level { (screen ≡ self.old.book.journal) × (seat.old.viewer.seen ≡ self.old.book.journal) }
-        requires kept { 0 < self.old.book.spare }
-        requires free { refusal (view_of self.old.book) ready ≡ None }
-        requires fits { Fits (view_of self.old.book) ready }
+        requires level { (screen ≡ self.old.journal) × (seat.old.viewer.seen ≡ self.old.journal) }
+        requires kept { 0 < self.old.spare }
+        requires free { refusal (view_of self.old) ready ≡ None }
+        requires fits { Fits (view_of self.old) ready }
         requires performed { IsPerformed ready.origin ready.place ready.version ready.statement ready.done }
-        requires kin { Kin ready.origin (view_of self.old.book) }
+        requires kin { Kin ready.origin (view_of self.old) }
         ensures receipt { IfOk result (λ r. IsFor r ready) }
         ensures index { IfOk result (λ r. StandsAfter L.parts seat.old.accepted r) }
-        ensures at_end { IfOk result (λ r. r.index ≡ length self.old.book.journal) }
+        ensures at_end { IfOk result (λ r. r.index ≡ length self.old.journal) }
         ensures told { IfOk result (λ r. IsTold L.opening seat.new.viewer.seen r) }
         ensures begins { Begins seat.old.viewer.seen seat.new.viewer.seen }
         ensures counted { OnOk result (seat.new.accepted ≡ seat.old.accepted + 1) }

@@ -1,7 +1,4 @@
 //! Desks.
-ghost use Rattle.std.specs.Prelude.{◌≡◌};
-ghost use Rattle.std.specs.Arc.{arc_value};
-
 use crate::locked::Locked;
 use sno_book::Opening;
 use sno_published::Naming;
@@ -14,7 +11,6 @@ pub struct Desk<L: Naming> {
     pub(crate) opening: Arc<Opening>,
     pub(crate) alloc: Global,
     pub(crate) lock: Mutex<Locked<L>>,
-    ghost opens: { arc_value opening ≡ L.opening },
 }
 
 impl<L: Naming> Desk<L> {

@@ -58,6 +58,7 @@ mod locked;
 mod seats;
 mod starting;
 mod submitting;
+mod windows;
 mod workers;
 
 pub use blanks::Blank;

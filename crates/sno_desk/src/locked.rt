@@ -1,8 +1,9 @@
 //! What lies under a desk's lock.
-ghost use Rattle.std.specs.Prelude.{◌≡◌, IfSome, Some, length};
+ghost use Rattle.std.specs.Prelude.{◌≡◌, Some, length};
 
 use sno_book::Book;
 use sno_published::{Naming, Screen, Spent};
+use std::marker::Model;
 use std::sync::Wait;
 use std::sync::ledger::{self, Share};
 
@@ -15,11 +16,19 @@ pub(crate) struct Locked<L: Naming> {
     pub(crate) spent: Option<Spent<L>>,
     pub(crate) total: ledger::Book<L>,
     pub(crate) rest: Share<L>,
-    ghost opens: { book.opening ≡ L.opening },
-    ghost shows: { IfSome screen (λ s. s ≡ book.journal) },
-    ghost counted: { length book.journal ≡ total.total },
-    ghost no_part: { rest.parts ≡ 0 },
-    ghost no_amount: { rest.amount ≡ 0 },
+}
+
+impl<L: Naming> Model for Locked<L> {
+    ghost use Rattle.std.specs.Prelude.{◌≡◌, IfSome, length};
+    ghost use Rattle.sno_book.specs.Books.{Book, book_code};
+
+    ghost Value = { Book };
+
+    ghost coded = { book_code };
+
+    ghost view = { λ s. s.book };
+
+    ghost invariant = { λ s. (s.book.opening ≡ L.opening) × IfSome s.screen (λ x. x ≡ s.book.journal) × (length s.book.journal ≡ s.total.total) × (s.rest.parts ≡ 0) × (s.rest.amount ≡ 0) };
 }
 
 /// Puts a screen into its place; one that stood there is ended.

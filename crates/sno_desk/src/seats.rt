@@ -4,8 +4,9 @@ ghost use Rattle.std.specs.Arc.{arc_value};
 ghost use mathlib.Core.List.{IsPrefix};
 ghost use Rattle.sno_desk.specs.Seen.{GivesSeen, StaysBehind};
 
+use crate::windows::Window;
 use crate::{SnapshotFault, SubmitFault};
-use sno_book::{Opening, Origin, Receipt, Snapshot};
+use sno_book::{Opening, Receipt, Snapshot};
 use sno_pattern::TextName;
 use sno_published::{Naming, Screen, Viewer};
 use std::collections::VecDeque;
@@ -21,12 +22,10 @@ pub type Reply = Result<Receipt, SubmitFault>;
 pub struct Seat<L: Naming> {
     pub(crate) accepted: u64,
     pub(crate) share: Share<L>,
-    pub(crate) opening: Arc<Opening>,
-    pub(crate) viewer: Viewer<L>,
+    pub(crate) viewer: Window<L>,
     pub(crate) replies: Option<VecDeque<Reply>>,
     ghost one_part: { share.parts ≡ 1 },
     ghost backed: { share.amount ≡ accepted },
-    ghost opens: { arc_value opening ≡ L.opening },
 }
 
 impl<L: Naming> Seat<L> {
@@ -41,7 +40,7 @@ impl<L: Naming> Seat<L> {
     pub fn seen(&self) -> u64
         ensures { result ≡ length self.now.viewer.seen }
     {
-        self.viewer.seen()
+        self.viewer.viewer.seen()
     }
 
     /// The text of this name as it is shown, shared. It takes no lock and waits for nobody. On `Ok` it is the text at the place that the name has in
@@ -56,18 +55,7 @@ impl<L: Naming> Seat<L> {
         ensures behind { IfErr result (λ e. StaysBehind e self.old.viewer.seen self.new.viewer.seen) }
         ensures same { self.new.accepted ≡ self.old.accepted }
     {
-        let Some(place) = self.opening.place(name) else {
-            return Err(SnapshotFault::NoText);
-        };
-        match self.viewer.text(place) {
-            Ok(Some((text, version))) => {
-                let _ = self.viewer.seen();
-                let _ = self.opening.len();
-                Ok(Snapshot::new(Origin::of(&self.viewer), place, version, text))
-            }
-            Ok(None) => Err(SnapshotFault::NoText),
-            Err(fault) => Err(SnapshotFault::from(fault)),
-        }
+        self.viewer.snapshot(name)
     }
 
     /// Sees all that a screen shows, which it is told first, and says whether it has seen just that.
@@ -76,11 +64,7 @@ impl<L: Naming> Seat<L> {
         ensures level { MatchBool result (self.new.viewer.seen ≡ screen.now) (Unit {0}) }
         ensures accepted { self.new.accepted ≡ self.old.accepted }
     {
-        self.viewer.learn(screen);
-        match self.viewer.enter() {
-            Ok(()) => self.viewer.is_level(screen),
-            Err(_) => false,
-        }
+        self.viewer.see_all(screen)
     }
 
     /// Is told what a screen shows.
@@ -103,8 +87,7 @@ impl<L: Naming> Seat<L> {
         Seat {
             accepted: 0,
             share,
-            opening,
-            viewer,
+            viewer: Window { opening, viewer },
             replies: None,
         }
     }

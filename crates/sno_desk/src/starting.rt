@@ -66,7 +66,7 @@ fn screen_of<L: Naming>(
     seats: usize,
 ) -> Result<(Screen<L>, ledger::Book<L>, Share<L>), AllocError>
     requires name { (blank.ledger.name ≡ L.name) × (blank.ledger.parts ≡ L.parts) }
-    requires histories { (blank.history.history ≡ L.book) × (blank.attempts.history ≡ L.tries) }
+    requires histories { (blank.history ≡ record { history = L.book; entries = [] }) × (blank.attempts.history ≡ L.tries) }
     requires few { (1 ≤ seats) × (seats ≤ 16) }
     requires opening { arc_value opening.now ≡ L.opening }
     ensures screen { IfOk result (λ d. d.0 ≡ []) }
@@ -86,7 +86,7 @@ fn screen_of<L: Naming>(
 impl<L: Naming> Desk<L> {
     /// A desk over this book, with whose opening it begins, and its seats, each with a share of 0 and nothing seen. It may wait where it is refused.
     ///
-    /// From 1 to 16 seats; the blank has as many parts; `L` stands for the blank and for the book's opening; the book's journal is empty.
+    /// From 1 to 16 seats; the blank is new and has as many parts; `L` stands for the blank and for the book's opening; the book's journal is empty.
     ///
     /// Refused: `Memory`; `NoReader`, where there was no place for a reader. The book comes back as it was, and the blank is spent.
     pub fn new<R: Wait>(
@@ -97,7 +97,7 @@ impl<L: Naming> Desk<L> {
         seats: usize,
     ) -> Result<(Desk<L>, Vec<Seat<L>>), (DeskFault, Book)>
         requires name { (blank.ledger.name ≡ L.name) × (blank.ledger.parts ≡ L.parts) }
-        requires histories { (blank.history.history ≡ L.book) × (blank.attempts.history ≡ L.tries) }
+        requires histories { (blank.history ≡ record { history = L.book; entries = [] }) × (blank.attempts.history ≡ L.tries) }
         requires opening { book.opening ≡ L.opening }
         requires one_each { blank.ledger.parts ≡ seats }
         requires few { (1 ≤ seats) × (seats ≤ 16) }
