@@ -1,3 +1,4 @@
 pub mod Ascii
 pub mod Decimals
 pub mod Entries
+pub mod Rounds
