@@ -39,7 +39,7 @@
 //! - `src/binding.rt`: [`Bindings`], by value a list of distinct variables with their values, and [`Datum`].
 //! - `src/outcomes.rt`: [`Outcome`] and [`StatementFault`].
 //! - `proofs/Ascii.antt`: what is put together from ASCII is ASCII, so a new text is refused for its length alone.
-//! - `proofs/Rounds.antt`: what one round more comes to.
+//! - `proofs/Rounds.antt`: what one round more comes to; `proofs/NotMemory.antt`: by its definition no statement is refused memory.
 //!
 //! # What is not promised
 //!
