@@ -19,7 +19,7 @@ use Rattle.sno_book.specs.Starts.{contents, first_contents}
 use Rattle.sno_book.specs.declared.faults.CommitFault.{CommitFault}
 use Rattle.sno_book.specs.declared.faults.CommitFault.TheVariants.{NoText}
 use Rattle.sno_book.specs.declared.versioned_texts.VersionedText.{VersionedText as StoredText}
-use Rattle.sno_book.proofs.Places.{same_is, stands_at, stands_inside, find_held, find_none, get_at, held_small}
+use Rattle.sno_book.proofs.Places.{stands_at, stands_inside, find_held, find_none, get_at, held_small}
 use Rattle.sno_book.proofs.Steps.{replay_snoc, legal_snoc, below_replayed, below_started, VersionsBelow}
 
 -- what holds where nothing refuses the proposal
@@ -28,7 +28,6 @@ pub record IsFree (v : View) (p : Proposed) : Type 0 where
   pub placed : place_in v p.statement.text ≡ Some p.place
   pub there : slice_get (state_of v) p.place ≡ Some versioned
   pub version : p.version ≡ versioned.version
-  pub text : p.text ≡ versioned.text
   pub room : length v.journal ≢ v.opening.room
 
 some_never : {A : Type 0} (b : Bool) (x : A) → cond b (Some x) None ≡ None → b ≡ false
@@ -38,22 +37,20 @@ some_never false x h = refl
 room_free : (v : View) → full v ≡ None → length v.journal ≢ v.opening.room
 room_free v h = eqb-false (length v.journal) v.opening.room (some_never (nat_eq (length v.journal) v.opening.room) _ h)
 
-beside_if : (v : View) (a b : Bool) (e g : CommitFault) → cond a (cond b (full v) (Some e)) (Some g) ≡ None → (a ≡ true) × (b ≡ true) × (full v ≡ None)
-beside_if v true true e g h = (refl, refl, h)
-beside_if v true false e g h = cc
-beside_if v false b e g h = cc
+beside_if : (v : View) (a : Bool) (g : CommitFault) → cond a (full v) (Some g) ≡ None → (a ≡ true) × (full v ≡ None)
+beside_if v true g h = (refl, h)
+beside_if v false g h = cc
 
 beside_free : (v : View) (p : Proposed) (o : Option VersionedText) → place_in v p.statement.text ≡ Some p.place → slice_get (state_of v) p.place ≡ o → beside v p o ≡ None → IsFree v p
 beside_free v p None placed there h = cc
 beside_free v p (Some versioned) placed there h =
-    let bs = beside_if v (nat_eq p.version versioned.version) (same p.text versioned.text) _ _ h in
+    let bs = beside_if v (nat_eq p.version versioned.version) _ h in
     record {
       versioned = versioned;
       placed = placed;
       there = there;
       version = eqb-true p.version versioned.version bs.0;
-      text = same_is p.text versioned.text bs.1;
-      room = room_free v bs.2;
+      room = room_free v bs.1;
     }
 
 place_if : (v : View) (p : Proposed) (place : ℕ) (b : Bool) → nat_eq place p.place ≡ b → place_in v p.statement.text ≡ Some place
@@ -72,8 +69,9 @@ pub free : (v : View) (p : Proposed) → refusal v p ≡ None → IsFree v p
 free v p h = place_free v p (place_in v p.statement.text) refl h
 
 -- the entry has a step from the book's texts
-pub free_step : (v : View) (p : Proposed) (stored : List StoredText) → Keeps v stored → perform p.statement p.text ≡ Ok p.done → IsFree v p → HasStep (state_of v) (entry_of p)
-free_step v p stored keeps performed is_free =
+pub free_step : (v : View) (p : Proposed) (stored : List StoredText) → Keeps v stored → (is_free : IsFree v p) → perform p.statement is_free.versioned.text ≡ Ok p.done
+    → HasStep (state_of v) (entry_of p)
+free_step v p stored keeps is_free performed =
     let names = names_in v.opening.texts in
     let at = stands_at p.statement.text p.place names is_free.placed in
     let there : slice_get (with_names names stored) p.place ≡ Some is_free.versioned = ap (λ (s : State). slice_get s p.place) keeps.texts ∙ is_free.there in
@@ -82,16 +80,15 @@ free_step v p stored keeps performed is_free =
       versioned = is_free.versioned;
       found = ap (λ (s : State). find p.statement.text s) (sym keeps.texts) ∙ found;
       at_version = sym is_free.version;
-      performed = ap (λ (t : List ℕ). perform p.statement t) (sym is_free.text) ∙ performed;
+      performed = performed;
     }
 
 -- the book with one more entry
-pub keeps_more : (v : View) (p : Proposed) (old new : List StoredText) → Keeps v old → perform p.statement p.text ≡ Ok p.done → refusal v p ≡ None
+pub keeps_more : (v : View) (p : Proposed) (old new : List StoredText) → Keeps v old → (is_free : IsFree v p) → perform p.statement is_free.versioned.text ≡ Ok p.done
     → with_names (names_in v.opening.texts) new ≡ renew_by p.statement.text (after_of p.done) (with_names (names_in v.opening.texts) old) → length new ≡ length old
     → Keeps (and_then v (entry_of p)) new
-keeps_more v p old new keeps performed h put as_many =
-    let f = free v p h in
-    let step = free_step v p old keeps performed f in
+keeps_more v p old new keeps f performed put as_many =
+    let step = free_step v p old keeps f performed in
     record {
       lawful = record {
         opening = keeps.lawful.opening;

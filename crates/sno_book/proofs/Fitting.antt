@@ -1,24 +1,28 @@
 -- Proposals that fit a book: exactly those that nothing refuses.
-use Rattle.std.proofs.Common.{◌≡◌, ℕ, zero, suc, ◌+◌, Bool, false, cond, List, [], ◌∷◌, length, nat_eq, Some, None, slice_get, refl, ap, sym, subst, ◌∙◌, arith}
+use Rattle.std.proofs.Common.{◌≡◌, ◌<◌, ℕ, zero, suc, ◌+◌, Bool, false, cond, List, [], ◌∷◌, ◌++◌, length, nat_eq, Some, None, Ok, slice_get, refl, ap, sym, subst, ◌∙◌, arith}
+use Rattle.std.specs.Arc.{arc_value}
 use Rattle.std.specs.List.{position_from}
 use Rattle.std.proofs.lemmas.Bool.{eq-eqb}
 use Rattle.sno_pattern.specs.Identifiers.{same}
 use Rattle.sno_pattern.specs.NameList.{IsNone, AreApart, place_of}
 use Rattle.sno_pattern.proofs.Repeats.{repeats_are_found}
+use Rattle.sno_statement.specs.Perform.{perform}
 use Rattle.sno_book.specs.States.{VersionedText, State}
 use Rattle.sno_book.specs.Entries.{Entry}
-use Rattle.sno_book.specs.Openings.{names_in}
-use Rattle.sno_book.specs.Views.{View}
+use Rattle.sno_book.specs.Openings.{names_in, start}
+use Rattle.sno_book.specs.Views.{View, IsLawful, Kin, state_of, and_then}
 use Rattle.sno_book.specs.Books.{Book, view_of}
-use Rattle.sno_book.specs.Proposals.{Proposed}
-use Rattle.sno_book.specs.Commits.{place_in, full, refusal, Fits}
+use Rattle.sno_book.specs.Origins.{Stands, IsPerformed}
+use Rattle.sno_book.specs.Proposals.{Proposed, Received, entry_of}
+use Rattle.sno_book.specs.Commits.{place_in, full, refusal, Fits, IsAccepted}
 use Rattle.sno_book.specs.VersionedTexts.{Keeps, with_names}
-use Rattle.sno_book.specs.declared.faults.CommitFault.TheVariants.{Changed, Foreign}
+use Rattle.sno_book.specs.declared.faults.CommitFault.TheVariants.{Changed}
 use Rattle.sno_book.specs.declared.versioned_texts.VersionedText.{VersionedText as StoredText}
 use Rattle.sno_book.proofs.Places.{StandsAt, stands_at, same_is}
-use Rattle.sno_book.proofs.BookLaws.{free, refusal_there}
-use Rattle.sno_book.proofs.Rising.{versions_count_entries}
-use Rattle.sno_book.proofs.Fresh.{same_self, same_equal, chosen, not_full}
+use Rattle.sno_book.proofs.Steps.{replay_snoc}
+use Rattle.sno_book.proofs.BookLaws.{IsFree, free, free_step, place_inside, refusal_there, stands_there}
+use Rattle.sno_book.proofs.Rising.{versions_count_entries, kin_agree}
+use Rattle.sno_book.proofs.Fresh.{same_equal, chosen, not_full}
 
 -- what stands at the place of a name has that name
 named_at : (name : List ℕ) (k : ℕ) (names : List (List ℕ)) (stored : List StoredText) (versioned : VersionedText) → StandsAt name names k
@@ -65,7 +69,8 @@ fits v p stored keeps unrefused =
     let named = named_at p.statement.text p.place names stored f.versioned (stands_at p.statement.text p.place names f.placed) there in
     let count = versions_count_entries v p.place f.versioned f.there in
     record {
-      there = f.there ∙ (λ i. Some (record { name = named i; text = sym f.text i; version = sym f.version i }));
+      text = f.versioned.text;
+      there = f.there ∙ (λ i. Some (record { name = named i; text = f.versioned.text; version = sym f.version i }));
       room = omega (arith, keeps.lawful.within, f.room);
       rises = omega (arith, count, f.version, keeps.lawful.within, keeps.lawful.opening.room);
     }
@@ -74,20 +79,33 @@ fits v p stored keeps unrefused =
 pub fits_free : (v : View) (p : Proposed) (stored : List StoredText) → Keeps v stored → Fits v p → refusal v p ≡ None
 fits_free v p stored keeps h =
     let names = names_in v.opening.texts in
-    let versioned : VersionedText = record { name = p.statement.text; text = p.text; version = p.version } in
+    let versioned : VersionedText = record { name = p.statement.text; text = h.text; version = p.version } in
     let there : slice_get (with_names names stored) p.place ≡ Some versioned = ap (λ (s : State). slice_get s p.place) keeps.texts ∙ h.there in
     let apart = (repeats_are_found names).0 keeps.lawful.opening.apart in
     let placed : place_in v p.statement.text ≡ Some p.place = placed_at p.place p.statement.text names apart (name_there p.place names stored versioned there) in
     refusal_there v p p.place versioned placed refl h.there
-    ∙ chosen (nat_eq p.version p.version) (same p.text p.text) (full v) Foreign (Changed p.version p.version) (eq-eqb p.version p.version refl) (same_self p.text)
+    ∙ chosen (nat_eq p.version p.version) (full v) (Changed p.version p.version) (eq-eqb p.version p.version refl)
     ∙ not_full (length v.journal) v.opening.room (nat_eq (length v.journal) v.opening.room) refl (λ same. omega (arith, h.room, same))
 
--- the same of a book as its type has it, and of what was prepared
-pub unrefused : (b book : Book) (p ready : Proposed) (stored : List StoredText) → b ≡ book → p ≡ ready → Keeps (view_of b) stored → Fits (view_of book) ready
-    → refusal (view_of b) p ≡ None
-unrefused b book p ready stored same holds keeps h =
-    let here : Fits (view_of b) ready = subst (λ (c : Book). Fits (view_of c) ready) (sym same) h in
-    fits_free (view_of b) p stored keeps (subst (λ (q : Proposed). Fits (view_of b) q) (sym holds) here)
+-- the place of a proposal that nothing refuses lies among the texts
+pub place_free : (b book : Book) (p : Proposed) (stored : List StoredText) → b ≡ book → Keeps (view_of b) stored → refusal (view_of book) p ≡ None → p.place < length stored
+place_free b book p stored equal keeps none =
+    let f = free (view_of b) p (ap (λ (c : Book). refusal (view_of c) p) equal ∙ none) in place_inside b stored p.statement.text p.place keeps f.placed
+
+-- the text in the book is the one that the proposal's statement was performed on
+pub stands_still : (b book : Book) (p : Proposed) (stored : List StoredText) (s : StoredText) → b ≡ book → Keeps (view_of b) stored → refusal (view_of book) p ≡ None
+    → Kin p.origin (view_of book) → IsPerformed p.origin p.place p.version p.statement p.done → slice_get stored p.place ≡ Some s
+    → Stands p.origin p.place p.version (arc_value s.text)
+stands_still b book p stored s equal keeps none kin performed at =
+    let f = free (view_of b) p (ap (λ (c : Book). refusal (view_of c) p) equal ∙ none) in
+    let there = stands_there b stored p.statement.text p.place s keeps f.placed at in
+    let is : f.versioned ≡ record { name = p.statement.text; text = arc_value s.text; version = s.version } = cc in
+    let here : Kin p.origin (view_of b) = subst (λ (c : Book). Kin p.origin (view_of c)) (sym equal) kin in
+    let before : VersionedText = record { name = performed.stands.name; text = performed.text; version = p.version } in
+    let now : VersionedText = record { name = p.statement.text; text = arc_value s.text; version = s.version } in
+    let text : performed.text ≡ arc_value s.text =
+    kin_agree p.origin (view_of b) here p.place before now performed.stands.there there (f.version ∙ ap (λ (x : VersionedText). x.version) is) in
+    subst (λ (t : List ℕ). Stands p.origin p.place p.version t) text performed.stands
 
 pub fits_still : (b book : Book) (p ready : Proposed) (stored : List StoredText) (journal : List Entry) → b ≡ book → ready ≡ p → journal ≡ b.journal → Keeps (view_of b) stored
     → refusal (view_of book) p ≡ None → Fits (record { opening = b.opening; journal = journal }) ready
@@ -96,3 +114,62 @@ fits_still b book p ready stored journal same holds still keeps none =
     let now : Fits (record { opening = b.opening; journal = journal }) p =
     subst (λ (j : List Entry). Fits (record { opening = b.opening; journal = j }) p) (sym still) here in
     subst (λ (q : Proposed). Fits (record { opening = b.opening; journal = journal }) q) (sym holds) now
+
+-- what was prepared, at a book that it fits
+module _ (b book : Book) (p ready : Proposed) (stored : List StoredText) (text : List ℕ) (equal : b ≡ book) (holds : p ≡ ready) (keeps : Keeps (view_of b) stored)
+    (fit : Fits (view_of book) ready) (kin : Kin ready.origin (view_of book)) (stands : Stands p.origin p.place p.version text) (performed : perform p.statement text ≡ Ok p.done) where
+  fit_here : Fits (view_of b) p
+  fit_here =
+      let here : Fits (view_of b) ready = subst (λ (c : Book). Fits (view_of c) ready) (sym equal) fit in
+      subst (λ (q : Proposed). Fits (view_of b) q) (sym holds) here
+
+  kin_here : Kin p.origin (view_of b)
+  kin_here =
+      let here : Kin ready.origin (view_of b) = subst (λ (c : Book). Kin ready.origin (view_of c)) (sym equal) kin in
+      subst (λ (q : Proposed). Kin q.origin (view_of b)) (sym holds) here
+
+  none_here : refusal (view_of b) p ≡ None
+  none_here = fits_free (view_of b) p stored keeps fit_here
+
+  -- nothing refuses it
+  pub free_here : IsFree (view_of b) p
+  free_here = free (view_of b) p none_here
+
+  -- its statement was performed on the book's text
+  pub performed_here : perform p.statement free_here.versioned.text ≡ Ok p.done
+  performed_here =
+      let before : VersionedText = record { name = stands.name; text = text; version = p.version } in
+      let agree : text ≡ free_here.versioned.text = kin_agree p.origin (view_of b) kin_here p.place before free_here.versioned stands.there free_here.there free_here.version in
+      ap (λ (t : List ℕ). perform p.statement t) (sym agree) ∙ performed
+
+  -- and so it is accepted
+  pub accepted : (journal : List Entry) (given : Received) → journal ≡ b.journal ++ entry_of p ∷ []
+      → given ≡ record { index = length b.journal; entry = entry_of p; text = text } → IsAccepted (view_of book) (record { opening = b.opening; journal = journal }) ready given
+  accepted journal given grown received =
+      let v : View = view_of b in
+      let appended : record { opening = v.opening; journal = journal } ≡ and_then v (entry_of p) = ap (λ (j : List Entry). record { opening = v.opening; journal = j }) grown in
+      let before : VersionedText = record { name = stands.name; text = text; version = p.version } in
+      let now : VersionedText = record { name = p.statement.text; text = fit_here.text; version = p.version } in
+      let agree : text ≡ fit_here.text = kin_agree p.origin v kin_here p.place before now stands.there fit_here.there refl in
+      let given_text : text ≡ given.text = sym (ap (λ (r : Received). r.text) received) in
+      let is : IsAccepted v (record { opening = b.opening; journal = journal }) p given = record {
+        free = none_here;
+        appended = appended;
+        has_step = free_step v p stored keeps free_here performed_here;
+        stepped = ap (λ (w : View). state_of w) appended ∙ replay_snoc (start v.opening) v.journal (entry_of p);
+        index = ap (λ (r : Received). r.index) received;
+        entry = ap (λ (r : Received). r.entry) received;
+        text = fit_here.there ∙ ap (λ (t : List ℕ). Some (record { name = p.statement.text; text = t; version = p.version })) (sym agree ∙ given_text);
+        seen = subst (λ (t : List ℕ). Stands p.origin p.place p.version t) given_text stands;
+      } in
+      let at_book : IsAccepted (view_of book) (record { opening = b.opening; journal = journal }) p given =
+      subst (λ (c : Book). IsAccepted (view_of c) (record { opening = b.opening; journal = journal }) p given) equal is in
+      subst (λ (q : Proposed). IsAccepted (view_of book) (record { opening = b.opening; journal = journal }) q given) holds at_book
+
+-- a text as it stands in a book
+pub stands_in : (book : Book) (origin : View) (name taken text : List ℕ) (place version : ℕ) → origin ≡ view_of book → IsLawful (view_of book) → text ≡ taken
+    → slice_get (state_of (view_of book)) place ≡ Some (record { name = name; text = taken; version = version }) → Stands origin place version text
+stands_in book origin name taken text place version from lawful same_text there =
+    let here : Stands (view_of book) place version taken = record { lawful = lawful; name = name; there = there } in
+    let at : Stands origin place version taken = subst (λ (v : View). Stands v place version taken) (sym from) here in
+    subst (λ (t : List ℕ). Stands origin place version t) (sym same_text) at

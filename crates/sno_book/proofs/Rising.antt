@@ -5,8 +5,8 @@ use Rattle.sno_book.specs.States.{VersionedText, State, find, raise, renew, rene
 use Rattle.sno_book.specs.Entries.{Entry, after_of}
 use Rattle.sno_book.specs.Journals.{step, replay}
 use Rattle.sno_book.specs.Openings.{Opening, start}
-use Rattle.sno_book.specs.Views.{state_of}
-use Rattle.sno_book.specs.Laws.{OnlyRises, VersionsOnlyRise, VersionsCountEntries}
+use Rattle.sno_book.specs.Views.{View, IsPrefix, state_of}
+use Rattle.sno_book.specs.Laws.{OnlyRises, VersionsOnlyRise, VersionsOnlyRiseInPlace, KinAgree, VersionsCountEntries}
 use Rattle.sno_book.proofs.Steps.{VersionsBelow, below_replayed, below_started}
 
 -- what is found after a step: what was found before it, or a text of a version one higher
@@ -48,12 +48,49 @@ replay_append : (state : State) (journal more : List Entry) → replay state (jo
 replay_append state [] more = refl
 replay_append state (e ∷ journal) more = replay_append (step state e) journal more
 
+-- the texts after the later view are those after the earlier one and the entries that follow
+later_state : (earlier later : View) (prefix : IsPrefix earlier later) → state_of later ≡ replay (state_of earlier) prefix.more
+later_state earlier later prefix =
+    ap (λ (o : Opening). replay (start o) later.journal) prefix.opening ∙ ap (λ (j : List Entry). replay (start earlier.opening) j) prefix.journal
+    ∙ replay_append (start earlier.opening) earlier.journal prefix.more
+
 pub versions_only_rise : VersionsOnlyRise
 versions_only_rise earlier later prefix name before after h g =
-    let same : state_of later ≡ replay (state_of earlier) prefix.more =
-    ap (λ (o : Opening). replay (start o) later.journal) prefix.opening ∙ ap (λ (j : List Entry). replay (start earlier.opening) j) prefix.journal
-    ∙ replay_append (start earlier.opening) earlier.journal prefix.more in
-    rises name (state_of earlier) prefix.more before after h (ap (λ (s : State). find name s) (sym same) ∙ g)
+    rises name (state_of earlier) prefix.more before after h (ap (λ (s : State). find name s) (sym (later_state earlier later prefix)) ∙ g)
+
+-- ---- a text by its place
+
+-- what stands at a place after a step: what stood there before it, or a text of that name and of a version one higher
+renewed_there : (name text : List ℕ) (k : ℕ) (state : State) (versioned : VersionedText) → slice_get state k ≡ Some versioned → Goes (slice_get (renew name text state) k) versioned
+renewed_there name text k [] versioned there = cc
+renewed_there name text zero (here ∷ state) versioned there = first (same name here.name)
+  where
+    first : (b : Bool) → Goes (slice_get (cond b (raise here text ∷ state) (here ∷ renew name text state)) 0) versioned
+    first true = let same : here ≡ versioned = cc in record { next = raise here text; is = refl; rises = inr (ap (λ (x : VersionedText). x.version + 1) same) }
+    first false = stays _ versioned there
+renewed_there name text (suc k) (here ∷ state) versioned there = later (same name here.name) (renewed_there name text k state versioned there)
+  where
+    later : (b : Bool) → Goes (slice_get (renew name text state) k) versioned → Goes (slice_get (cond b (raise here text ∷ state) (here ∷ renew name text state)) (suc k)) versioned
+    later true r = stays _ versioned there
+    later false r = r
+
+renewed_there_by : (name : List ℕ) (text : Option (List ℕ)) (k : ℕ) (state : State) (versioned : VersionedText) → slice_get state k ≡ Some versioned → Goes (slice_get (renew_by name text state) k) versioned
+renewed_there_by name None k state versioned there = stays _ versioned there
+renewed_there_by name (Some text) k state versioned there = renewed_there name text k state versioned there
+
+rises_there : (k : ℕ) (state : State) (journal : List Entry) (before after : VersionedText) → slice_get state k ≡ Some before → slice_get (replay state journal) k ≡ Some after → OnlyRises before after
+rises_there k state [] before after h g =
+    let same : before ≡ after = cc in rw same (record { version = omega arith; text = λ _. refl })
+rises_there k state (e ∷ journal) before after h g =
+    let s = renewed_there_by e.statement.text (after_of e.done) k state before h in onward before s.next after s.rises (rises_there k (step state e) journal s.next after s.is g)
+
+pub versions_only_rise_in_place : VersionsOnlyRiseInPlace
+versions_only_rise_in_place earlier later prefix place before after h g =
+    rises_there place (state_of earlier) prefix.more before after h (ap (λ (s : State). slice_get s place) (sym (later_state earlier later prefix)) ∙ g)
+
+pub kin_agree : KinAgree
+kin_agree one other (inl prefix) place text its there its_there same = (versions_only_rise_in_place one other prefix place text its there its_there).text same
+kin_agree one other (inr prefix) place text its there its_there same = sym ((versions_only_rise_in_place other one prefix place its text its_there there).text (sym same))
 
 below_at : (n k : ℕ) (state : State) (versioned : VersionedText) → slice_get state k ≡ Some versioned → VersionsBelow n state → versioned.version ≤ n
 below_at n k [] versioned there h = cc

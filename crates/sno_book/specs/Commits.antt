@@ -1,19 +1,18 @@
 -- What becomes of a proposal at a book.
 use Rattle.std.specs.Prelude.{◌≡◌, ◌≢◌, ◌<◌, ◌+◌, ◌^◌, ℕ, List, length, nat_eq, Option, Some, None, Result, Ok, Err, slice_get, if◌then◌else◌}
-use Rattle.sno_pattern.specs.Identifiers.{same}
 use Rattle.sno_pattern.specs.NameList.{place_of}
 use Rattle.sno_book.specs.States.{VersionedText, find}
 use Rattle.sno_book.specs.Journals.{HasStep, step}
 use Rattle.sno_book.specs.Openings.{names_in}
 use Rattle.sno_book.specs.Views.{View, state_of, and_then}
 use Rattle.sno_book.specs.Books.{Book, view_of}
+use Rattle.sno_book.specs.Origins.{Stands}
 use Rattle.sno_book.specs.Proposals.{Proposed, Received, entry_of}
 use Rattle.sno_book.specs.declared.faults.CommitFault.{CommitFault}
 use Rattle.sno_book.specs.declared.faults.CommitFault.TheVariants as fault
 use Rattle.sno_book.specs.declared.faults.SnapshotFault.{SnapshotFault}
 use Rattle.sno_book.specs.declared.faults.SnapshotFault.TheVariants as snapshots
-use Rattle.sno_book.specs.declared.snapshots.Snapshot.{Snapshot}
-use Rattle.std.specs.Arc.{arc_value}
+use Rattle.sno_book.specs.Snapshots.{Snapshot}
 
 -- the place of the text of this name
 abbrev pub place_in : View → List ℕ → Option ℕ
@@ -23,29 +22,31 @@ place_in v name = place_of (names_in v.opening.texts) name
 abbrev pub full : View → Option CommitFault
 full v = if nat_eq (length v.journal) v.opening.room then Some fault.Full else None
 
--- the text has the proposal's version, and then its characters
+-- the text has the proposal's version
 abbrev pub beside : View → Proposed → Option VersionedText → Option CommitFault
 beside v p None = Some fault.NoText
-beside v p (Some versioned) = if nat_eq p.version versioned.version then (if same p.text versioned.text then full v else Some fault.Foreign) else Some (fault.Changed p.version versioned.version)
+beside v p (Some versioned) = if nat_eq p.version versioned.version then full v else Some (fault.Changed p.version versioned.version)
 
 -- the text of the statement's name stands at the snapshot's place
 abbrev pub at_place : View → Proposed → Option ℕ → Option CommitFault
 at_place v p None = Some fault.NoText
 at_place v p (Some place) = if nat_eq place p.place then beside v p (slice_get (state_of v) place) else Some fault.NoText
 
--- the first refusal that holds, unless memory is refused: no text of that name at that place, another version, other characters, a full
--- journal
+-- the first refusal that holds, unless memory is refused: no text of that name at that place, another version, a full journal
 abbrev pub refusal : View → Proposed → Option CommitFault
 refusal v p = at_place v p (place_in v p.statement.text)
 
 -- no refusal holds; the entry is appended, at the index that the receipt names, and it is one step: it has a step from the texts
--- as they were, and they are now what the step makes of them
+-- as they were, and they are now what the step makes of them. The receipt's text is the book's, and the one after the proposal's view
 pub record IsAccepted (before after : View) (p : Proposed) (given : Received) : Type 0 where
   pub free : refusal before p ≡ None
   pub appended : after ≡ and_then before (entry_of p)
   pub has_step : HasStep (state_of before) (entry_of p)
   pub stepped : state_of after ≡ step (state_of before) (entry_of p)
-  pub received : given ≡ record { index = length before.journal; entry = entry_of p; text = p.text }
+  pub index : given.index ≡ length before.journal
+  pub entry : given.entry ≡ entry_of p
+  pub text : slice_get (state_of before) p.place ≡ Some (record { name = p.statement.text; text = given.text; version = p.version })
+  pub seen : Stands p.origin p.place p.version given.text
 
 -- the refusal is the first that holds, or `Memory` where none does; nothing is changed, and the proposal comes back
 pub record IsRefused (before after : View) (p back : Proposed) (e : CommitFault) : Type 0 where
@@ -54,10 +55,10 @@ pub record IsRefused (before after : View) (p back : Proposed) (e : CommitFault)
   pub unchanged : after ≡ before
   pub handed_back : back ≡ p
 
--- the text at the proposal's place has the statement's name, the proposal's version and its characters; there is room for one entry more, and the
--- version can rise
+-- the text at the proposal's place has the statement's name and the proposal's version; there is room for one entry more, and the version can rise
 pub record Fits (v : View) (p : Proposed) : Type 0 where
-  pub there : slice_get (state_of v) p.place ≡ Some (record { name = p.statement.text; text = p.text; version = p.version })
+  pub text : List ℕ
+  pub there : slice_get (state_of v) p.place ≡ Some (record { name = p.statement.text; text = text; version = p.version })
   pub room : length v.journal < v.opening.room
   pub rises : p.version + 1 < 2 ^ 64
 
@@ -69,11 +70,12 @@ pub record IsReady (before after : Book) (p ready : Proposed) : Type 0 where
   pub holds : ready ≡ p
   pub fits : Fits (view_of after) ready
 
--- a snapshot of the text of this name: its place, and its characters and version as they stand
+-- a snapshot of the text of this name: the view, the text's place in it, and its characters and version as they stand
 pub record IsSnapshot (v : View) (name : List ℕ) (snapshot : Snapshot) : Type 0 where
+  pub origin : snapshot.origin ≡ v
   pub place : place_in v name ≡ Some snapshot.place
-  pub there : slice_get (state_of v) snapshot.place ≡ Some (record { name = name; text = arc_value snapshot.text; version = snapshot.version })
-  pub found : find name (state_of v) ≡ Some (record { name = name; text = arc_value snapshot.text; version = snapshot.version })
+  pub there : slice_get (state_of v) snapshot.place ≡ Some (record { name = name; text = snapshot.text; version = snapshot.version })
+  pub found : find name (state_of v) ≡ Some (record { name = name; text = snapshot.text; version = snapshot.version })
 
 -- a snapshot exactly where there is a text of that name, unless memory is refused
 abbrev pub GivesSnapshot : Result Snapshot SnapshotFault → View → List ℕ → Type 0

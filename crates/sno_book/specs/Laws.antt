@@ -1,18 +1,11 @@
 -- Laws of views, each the contract of a function in `src/laws.rt`.
-use Rattle.std.specs.Prelude.{◌≡◌, ◌≢◌, ◌≤◌, ℕ, List, length, ◌++◌, Some, None, slice_get}
+use Rattle.std.specs.Prelude.{◌≡◌, ◌≢◌, ◌≤◌, ℕ, List, length, Some, None, slice_get}
 use Rattle.sno_statement.specs.Task.{Task}
 use Rattle.sno_book.specs.Proposals.{Proposed, Proposes}
 use Rattle.sno_book.specs.Commits.{IsSnapshot, refusal}
-use Rattle.sno_book.specs.declared.snapshots.Snapshot.{Snapshot}
+use Rattle.sno_book.specs.Snapshots.{Snapshot}
 use Rattle.sno_book.specs.States.{VersionedText, find}
-use Rattle.sno_book.specs.Entries.{Entry}
-use Rattle.sno_book.specs.Views.{View, state_of}
-
--- the second view has the first one's opening, and its journal begins with the first one's
-pub record IsPrefix (earlier later : View) : Type 0 where
-  pub opening : later.opening ≡ earlier.opening
-  pub more : List Entry
-  pub journal : later.journal ≡ earlier.journal ++ more
+use Rattle.sno_book.specs.Views.{View, IsPrefix, Kin, state_of}
 
 -- a text's version is no higher after the earlier view than after the later one, and with the same version it has the same characters
 pub record OnlyRises (before after : VersionedText) : Type 0 where
@@ -23,6 +16,16 @@ abbrev pub VersionsOnlyRise : Type 0
 VersionsOnlyRise = (earlier later : View) → IsPrefix earlier later → (name : List ℕ) (before after : VersionedText) → find name (state_of earlier) ≡ Some before
     → find name (state_of later) ≡ Some after → OnlyRises before after
 
+-- the same of the texts at one place
+abbrev pub VersionsOnlyRiseInPlace : Type 0
+VersionsOnlyRiseInPlace = (earlier later : View) → IsPrefix earlier later → (place : ℕ) (before after : VersionedText) → slice_get (state_of earlier) place ≡ Some before
+    → slice_get (state_of later) place ≡ Some after → OnlyRises before after
+
+-- of two views of which one begins the other, the texts at one place have the same characters where they have the same version
+abbrev pub KinAgree : Type 0
+KinAgree = (one other : View) → Kin one other → (place : ℕ) (text its : VersionedText) → slice_get (state_of one) place ≡ Some text
+    → slice_get (state_of other) place ≡ Some its → text.version ≡ its.version → text.text ≡ its.text
+
 -- no text has a version above the number of entries
 abbrev pub VersionsCountEntries : Type 0
 VersionsCountEntries = (v : View) (place : ℕ) (versioned : VersionedText) → slice_get (state_of v) place ≡ Some versioned → versioned.version ≤ length v.journal
@@ -31,3 +34,7 @@ VersionsCountEntries = (v : View) (place : ℕ) (versioned : VersionedText) → 
 abbrev pub FreshIsFree : Type 0
 FreshIsFree = (v : View) (snapshot : Snapshot) (s : Task) (p : Proposed) → IsSnapshot v s.text snapshot → Proposes p s snapshot → length v.journal ≢ v.opening.room
     → refusal v p ≡ None
+
+-- and its view is the book's
+abbrev pub FreshIsKin : Type 0
+FreshIsKin = (v : View) (snapshot : Snapshot) (s : Task) (p : Proposed) → IsSnapshot v s.text snapshot → Proposes p s snapshot → Kin p.origin v

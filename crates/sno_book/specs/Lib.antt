@@ -4,6 +4,8 @@ pub mod Journals
 pub mod Openings
 pub mod Views
 pub mod Books
+pub mod Origins
+pub mod Snapshots
 pub mod Proposals
 pub mod Commits
 pub mod Audits

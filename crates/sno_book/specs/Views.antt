@@ -1,5 +1,5 @@
 -- Views: an opening with the entries that followed it.
-use Rattle.std.specs.Prelude.{◌≤◌, List, length, refl, [], ◌∷◌, ◌++◌}
+use Rattle.std.specs.Prelude.{◌≡◌, ◌⊎◌, ◌≤◌, List, length, refl, [], ◌∷◌, ◌++◌}
 use Rattle.std.specs.Coded.{Coded, code_by, coded×, coded_list}
 use Rattle.sno_book.specs.States.{State}
 use Rattle.sno_book.specs.Entries.{Entry, entry_code}
@@ -23,6 +23,16 @@ pub record IsLawful (v : View) : Type 0 where
   pub opening : IsOpening v.opening
   pub legal : Legal (start v.opening) v.journal
   pub within : length v.journal ≤ v.opening.room
+
+-- the second view has the first one's opening, and its journal begins with the first one's
+pub record IsPrefix (earlier later : View) : Type 0 where
+  pub opening : later.opening ≡ earlier.opening
+  pub more : List Entry
+  pub journal : later.journal ≡ earlier.journal ++ more
+
+-- of the two views one begins the other
+abbrev pub Kin : View → View → Type 0
+Kin one other = IsPrefix one other ⊎ IsPrefix other one
 
 -- one entry more
 abbrev pub and_then : View → Entry → View

@@ -3,14 +3,16 @@ ghost use Rattle.std.specs.Prelude.{◌≡◌, ◌≤◌, ◌<◌, ◌+◌, ◌�
 ghost use Rattle.std.specs.Option.{option_map};
 ghost use Rattle.std.specs.Arc.{arc_value};
 ghost use Rattle.sno_book.specs.States.{find};
-ghost use Rattle.sno_book.specs.Views.{IsLawful, state_of};
+ghost use Rattle.sno_book.specs.Views.{IsLawful, Kin, state_of};
 ghost use Rattle.sno_book.specs.Books.{OpensBook, view_of};
 ghost use Rattle.sno_book.specs.Commits.{place_in, GivesSnapshot, IsAccepted, IsRefused, IsReady, Fits, beside, refusal};
 
 use crate::ready::Ready;
 use crate::start::{Start, start_of};
 use crate::versioned_texts::{VersionedText, put, text_at};
-use crate::{BookFault, CommitFault, Entry, Opening, Proposal, Receipt, Snapshot, SnapshotFault};
+use crate::{
+    BookFault, CommitFault, Entry, Opening, Origin, Proposal, Receipt, Snapshot, SnapshotFault,
+};
 use sno_pattern::{Text, TextName};
 use std::alloc::Global;
 use std::marker::Model;
@@ -125,11 +127,10 @@ impl Book {
             return Err(SnapshotFault::NoText);
         };
         match Arc::try_clone(&versioned.text) {
-            Ok(text) => Ok(Snapshot {
-                place,
-                version: versioned.version,
-                text,
-            }),
+            Ok(text) => {
+                let _ = self.journal();
+                Ok(Snapshot::new(Origin::of(self), place, versioned.version, text))
+            }
             Err(_) => Err(SnapshotFault::Memory),
         }
     }
@@ -143,9 +144,6 @@ impl Book {
                 seen: proposal.version(),
                 now: versioned.version,
             });
-        }
-        if proposal.text().bytes() != versioned.text.bytes() {
-            return Some(CommitFault::Foreign);
         }
         if self.journal.len() == self.opening.room() as usize {
             return Some(CommitFault::Full);
@@ -179,9 +177,12 @@ impl Book {
     ///
     /// On `Ok` the book keeps memory for one entry more, and the proposal fits it as it stands.
     ///
+    /// The proposal is of a view of the book: of that view and the book's one begins the other.
+    ///
     /// Refused as [`Book::commit`] refuses, in its order. After each refusal the book is as it was, the memory that it keeps too, and the same
     /// proposal comes back.
     pub fn prepare(&mut self, proposal: Proposal) -> Result<Ready, (CommitFault, Proposal)>
+        requires { Kin proposal.origin (view_of self.old) }
         ensures ready { IfOk result (λ ready. IsReady self.old self.new proposal ready) }
         ensures refused { IfErr result (λ r. IsRefused (view_of self.old) (view_of self.new) proposal r.1 r.0) }
         ensures same { OnErr result (self.new ≡ self.old) }
@@ -189,7 +190,8 @@ impl Book {
         if let Some(fault) = self.refusal(&proposal) {
             return Err((fault, proposal));
         }
-        let ready = match Ready::of(proposal) {
+        let versioned = text_at(&self.versioned_texts, proposal.place());
+        let ready = match Ready::of(proposal, &versioned.text) {
             Ok(ready) => ready,
             Err(proposal) => return Err((CommitFault::Memory, proposal)),
         };
@@ -202,11 +204,13 @@ impl Book {
     /// Accepts a proposal that was prepared: its entry is the last of the journal, and its new text, where it has one, is in place, with a version
     /// one higher, also where the characters are the same. It takes no memory, and the book keeps memory for one entry less than before.
     ///
-    /// The book keeps memory for one entry more ([`Book::has_spare`]), and the proposal fits it: the text at its place has its name, its version and
-    /// its characters, and the journal has fewer entries than there is room for. After [`Book::prepare`] both hold until the book is changed.
+    /// The book keeps memory for one entry more ([`Book::has_spare`]), and the proposal fits it: the text at its place has its name and its version,
+    /// and the journal has fewer entries than there is room for. After [`Book::prepare`] both hold until the book is changed. The proposal is of a
+    /// view of the book: of that view and the book's one begins the other.
     pub fn finish(&mut self, ready: Ready) -> Receipt
         requires kept { 0 < self.old.spare }
         requires fits { Fits (view_of self.old) ready }
+        requires kin { Kin ready.origin (view_of self.old) }
         ensures accepted { IsAccepted (view_of self.old) (view_of self.new) ready result }
         ensures spare { self.new.spare + 1 ≡ self.old.spare }
     {
@@ -214,22 +218,25 @@ impl Book {
             proposal,
             entry,
             after,
+            text,
         } = ready;
         let index = self.journal.len();
         let place = proposal.place();
         self.journal.push_reserved(entry);
         put(&mut self.versioned_texts, place, after);
-        proposal.receipt(index)
+        proposal.receipt(index, text)
     }
 
     /// Accepts a proposal, as [`Book::prepare`] and then [`Book::finish`] do: its entry is the last of the journal, and its new text, where it has
     /// one, is in place, with a version one higher, also where the characters are the same.
     ///
+    /// The proposal is of a view of the book: of that view and the book's one begins the other. So is one on a snapshot of this book.
+    ///
     /// Refused, in this order: `NoText` where the book has no text of the statement's name, or has it at another place than the
-    /// snapshot's; `Changed` where the text has another version than the snapshot, with both; `Foreign` where it has other characters;
-    /// `Full` where the journal has as many entries as there is room for; `Memory`. After each the book is as it was, and the same proposal
-    /// comes back.
+    /// snapshot's; `Changed` where the text has another version than the snapshot, with both; `Full` where the journal has as many entries as
+    /// there is room for; `Memory`. After each the book is as it was, and the same proposal comes back.
     pub fn commit(&mut self, proposal: Proposal) -> Result<Receipt, (CommitFault, Proposal)>
+        requires { Kin proposal.origin (view_of self.old) }
         ensures accepted { IfOk result (λ receipt. IsAccepted (view_of self.old) (view_of self.new) proposal receipt) }
         ensures refused { IfErr result (λ r. IsRefused (view_of self.old) (view_of self.new) proposal r.1 r.0) }
         ensures same { OnErr result (self.new ≡ self.old) }

@@ -63,9 +63,6 @@ pub enum CommitFault {
         /// The version of the text.
         now: u64,
     },
-    /// The text has the snapshot's version, but other characters: the snapshot is of another book.
-    #[error("of another book")]
-    Foreign,
     /// The journal has as many entries as it may hold.
     #[error("full")]
     Full,

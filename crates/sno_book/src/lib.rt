@@ -2,7 +2,7 @@
 //!
 //! A [`Book`] begins with texts at version 0 and an empty journal. A [`Snapshot`] shares a text as it stands. [`propose`] performs a
 //! statement on a snapshot and makes a [`Proposal`]; it takes no lock and the book needn't be at hand. [`Book::commit`] accepts the
-//! proposal only where the text still stands as the snapshot has it. It then appends one [`Entry`] to the journal, puts the new text in
+//! proposal only where the text still has the snapshot's version. It then appends one [`Entry`] to the journal, puts the new text in
 //! place, where the statement replaced something, and raises that text's version by one. A [`Receipt`] says where the entry stands.
 //! [`Book::prepare`] and [`Book::finish`] are the two halves of a commit: all that can be refused, and then the step.
 //!
@@ -16,15 +16,20 @@
 //!   what it was, and the same proposal comes back. `Memory` is answered only where no other refusal holds.
 //! - **A prepared commit isn't refused** (`Book::prepare`, `Book::finish`). What is [`Ready`] holds every share that the commit needs, and the
 //!   book keeps memory for its entry, so `finish` has no refusal and takes no memory. `prepare` changes nothing but the memory that is kept.
-//! - **Nothing is made up.** A [`Proposal`] keeps by its type that its outcome is what its statement does to its text, and a
-//!   [`Receipt`] that its entry's outcome is.
+//! - **The version decides.** A [`Snapshot`] and a [`Proposal`] keep the view from which they come, an opening with the entries that followed it,
+//!   without bytes ([`Origin`]). A commit asks for a proposal of a view of the book: of that view and the book's one begins the other (`Kin`,
+//!   `specs/Views.antt`). Where a text has one version after both, it has the same characters ([`kin_agree`]), so no characters are compared.
+//! - **Nothing is made up.** A [`Proposal`] keeps by its type that its outcome is what its statement does to the text that stands at its place
+//!   after its view, and a [`Receipt`] that its entry's outcome is what the statement does to the receipt's text.
 //! - **Receipts can be audited.** [`Book::audit`] compares entries by value, wherever they lie in memory.
-//! - **Laws**: [`versions_only_rise`], [`versions_count_entries`], [`fresh_is_free`] (`specs/Laws.antt`).
+//! - **Laws**: [`versions_only_rise`], [`versions_only_rise_in_place`], [`kin_agree`], [`versions_count_entries`], [`fresh_is_free`],
+//!   [`fresh_is_kin`] (`specs/Laws.antt`).
 //!
 //! What each file has:
 //!
 //! - `src/books.rt`: [`Book`] and its calls. `src/start.rt`: how it begins. `src/audits.rt`: the audit.
 //! - `src/openings.rt`: [`Opening`], the texts and the room that a book was given.
+//! - `src/origins.rt`: [`Origin`], a view that is kept without bytes.
 //! - `src/snapshots.rt`, `src/proposals.rt`, `src/entries.rt`: [`Snapshot`], [`Proposal`], [`Entry`] and [`Receipt`].
 //! - `src/ready.rt`: [`Ready`], what a commit needs, made before it changes anything. `src/versioned_texts.rt`: the texts at their places.
 //! - `src/same_patterns.rt`, `src/same_statements.rt`, `src/same_outcomes.rt`: equality by value.
@@ -32,7 +37,7 @@
 //!
 //! # What is not promised
 //!
-//! That memory is there. A commit costs a look-up of one name, a comparison of one text and a push: neither the number of texts nor the
+//! That memory is there. A commit costs a look-up of one name and a push: neither the number of texts nor the
 //! journal's length counts, which the benchmark shows and no clause says. Nothing is shared between threads here.
 #![tactic(auto)]
 
@@ -42,6 +47,7 @@ mod entries;
 mod faults;
 mod laws;
 mod openings;
+mod origins;
 mod proposals;
 mod ready;
 mod same_outcomes;
@@ -54,8 +60,12 @@ mod versioned_texts;
 pub use books::Book;
 pub use entries::{Entry, Receipt};
 pub use faults::{BookFault, CommitFault, SnapshotFault};
-pub use laws::{fresh_is_free, versions_count_entries, versions_only_rise};
+pub use laws::{
+    fresh_is_free, fresh_is_kin, kin_agree, versions_count_entries, versions_only_rise,
+    versions_only_rise_in_place,
+};
 pub use openings::Opening;
+pub use origins::{Origin, ViewSource};
 pub use proposals::{Proposal, propose};
 pub use ready::Ready;
 pub use snapshots::Snapshot;

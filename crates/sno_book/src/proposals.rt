@@ -2,28 +2,32 @@
 ghost use Rattle.std.specs.Prelude.{◌≡◌, Ok, IfOk};
 ghost use Rattle.std.specs.Arc.{arc_value};
 ghost use Rattle.sno_statement.specs.Perform.{perform, done_of};
+ghost use Rattle.sno_book.specs.Origins.{IsPerformed};
 ghost use Rattle.sno_book.specs.Proposals.{GivesProposal, entry_of};
 
-use crate::{Entry, Receipt, Snapshot};
+use crate::{Entry, Origin, Receipt, Snapshot};
 use sno_pattern::Text;
 use sno_statement::{Outcome, Statement, StatementFault, perform};
 use std::alloc::{AllocError, Global};
 use std::marker::Model;
 use std::sync::Arc;
 
-/// A statement with a snapshot and what came of the statement on the snapshot's text. It is accepted by a book where the text still
-/// stands as the snapshot has it.
+/// A statement with what came of it, and the place and version of the text that it was performed on. By its type that is what the statement does to
+/// the text that stands there after the view from which the snapshot came. It is accepted by a book of that view where the text still has the
+/// version.
 #[derive(Drop)]
 pub struct Proposal {
     pub(crate) statement: Arc<Statement>,
-    pub(crate) snapshot: Snapshot,
+    pub(crate) place: usize,
+    pub(crate) version: u64,
+    pub(crate) origin: Origin,
     pub(crate) outcome: Arc<Outcome>,
 }
 
 impl Model for Proposal {
-    ghost use Rattle.std.specs.Prelude.{◌≡◌, Ok};
     ghost use Rattle.std.specs.Arc.{arc_value};
-    ghost use Rattle.sno_statement.specs.Perform.{perform, done_of};
+    ghost use Rattle.sno_statement.specs.Perform.{done_of};
+    ghost use Rattle.sno_book.specs.Origins.{IsPerformed};
     ghost use Rattle.sno_book.specs.Proposals.{Proposed, proposed_code};
 
     ghost Value = { Proposed };
@@ -32,20 +36,20 @@ impl Model for Proposal {
 
     ghost view = { λ s. record {
       statement = arc_value s.statement;
-      place = s.snapshot.place;
-      version = s.snapshot.version;
-      text = arc_value s.snapshot.text;
+      place = s.place;
+      version = s.version;
+      origin = s.origin;
       done = done_of (arc_value s.outcome);
     } };
 
-    ghost invariant = { λ s. perform (arc_value s.statement) (arc_value s.snapshot.text) ≡ Ok (done_of (arc_value s.outcome)) };
+    ghost invariant = { λ s. IsPerformed s.origin s.place s.version (arc_value s.statement) (done_of (arc_value s.outcome)) };
 }
 
 impl Proposal {
     /// The statement.
     pub fn statement(&self) -> &Statement
         ensures statement { result.now ≡ self.now.statement }
-        ensures performed { perform self.now.statement self.now.text ≡ Ok self.now.done }
+        ensures performed { IsPerformed self.now.origin self.now.place self.now.version self.now.statement self.now.done }
     {
         &self.statement
     }
@@ -54,22 +58,15 @@ impl Proposal {
     pub fn version(&self) -> u64
         ensures { result ≡ self.now.version }
     {
-        self.snapshot.version
+        self.version
     }
 
     /// The place of that text.
     pub fn place(&self) -> usize
         ensures place { result ≡ self.now.place }
-        ensures performed { perform self.now.statement self.now.text ≡ Ok self.now.done }
+        ensures performed { IsPerformed self.now.origin self.now.place self.now.version self.now.statement self.now.done }
     {
-        self.snapshot.place
-    }
-
-    /// The characters of that text.
-    pub fn text(&self) -> &Text
-        ensures { result.now ≡ self.now.text }
-    {
-        &self.snapshot.text
+        self.place
     }
 
     /// What came of the statement.
@@ -87,28 +84,30 @@ impl Proposal {
     {
         Ok(Entry {
             statement: Arc::try_clone(&self.statement)?,
-            version: self.snapshot.version,
+            version: self.version,
             outcome: Arc::try_clone(&self.outcome)?,
         })
     }
 
-    /// The receipt of an entry at this index.
-    pub(crate) fn receipt(self, index: usize) -> Receipt
-        ensures { result ≡ record { index = index; entry = entry_of self; text = self.text } }
+    /// The receipt of an entry at this index, with the text that the statement was performed on.
+    pub(crate) fn receipt(self, index: usize, text: Arc<Text>) -> Receipt
+        requires { perform self.statement (arc_value text) ≡ Ok self.done }
+        ensures { result ≡ record { index = index; entry = entry_of self; text = arc_value text } }
     {
         let Proposal {
             statement,
-            snapshot,
+            version,
             outcome,
+            ..
         } = self;
         Receipt {
             index,
             entry: Entry {
                 statement,
-                version: snapshot.version,
+                version,
                 outcome,
             },
-            text: snapshot.text,
+            text,
         }
     }
 }
@@ -127,9 +126,17 @@ pub fn propose(
 {
     let outcome = perform(alloc, &statement, &snapshot.text)?;
     let outcome = Arc::new(alloc, outcome)?;
+    let Snapshot {
+        place,
+        version,
+        origin,
+        ..
+    } = snapshot;
     Ok(Proposal {
         statement,
-        snapshot,
+        place,
+        version,
+        origin,
         outcome,
     })
 }

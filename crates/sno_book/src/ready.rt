@@ -4,6 +4,7 @@ ghost use Rattle.std.specs.Option.{option_map};
 ghost use Rattle.std.specs.Arc.{arc_value};
 ghost use Rattle.sno_statement.specs.Perform.{done_of};
 ghost use Rattle.sno_book.specs.Entries.{after_of};
+ghost use Rattle.sno_book.specs.Origins.{Stands};
 ghost use Rattle.sno_book.specs.Proposals.{entry_of};
 
 use crate::{Entry, Proposal};
@@ -13,20 +14,20 @@ use std::alloc::AllocError;
 use std::marker::Model;
 use std::sync::Arc;
 
-/// A proposal with every share that its commit needs: its entry for the journal, and its new text for the book.
+/// A proposal with every share that its commit needs: its entry for the journal, its new text for the book, and the book's text, on which its
+/// statement was performed, for the receipt.
 #[derive(Drop)]
 pub struct Ready {
     pub(crate) proposal: Proposal,
     pub(crate) entry: Entry,
     pub(crate) after: Option<Arc<Text>>,
+    pub(crate) text: Arc<Text>,
 }
 
 impl Model for Ready {
-    ghost use Rattle.std.specs.Prelude.{◌≡◌};
     ghost use Rattle.std.specs.Option.{option_map};
     ghost use Rattle.std.specs.Arc.{arc_value};
-    ghost use Rattle.sno_book.specs.Entries.{after_of};
-    ghost use Rattle.sno_book.specs.Proposals.{Proposed, proposed_code, entry_of};
+    ghost use Rattle.sno_book.specs.Proposals.{Proposed, proposed_code, IsPrepared};
 
     ghost Value = { Proposed };
 
@@ -34,7 +35,7 @@ impl Model for Ready {
 
     ghost view = { λ s. s.proposal };
 
-    ghost invariant = { λ s. (s.entry ≡ entry_of s.proposal) × (option_map arc_value s.after ≡ after_of s.proposal.done) };
+    ghost invariant = { λ s. IsPrepared s.proposal s.entry (option_map arc_value s.after) (arc_value s.text) };
 }
 
 /// The new text of an outcome, shared.
@@ -51,8 +52,10 @@ fn after(outcome: &Outcome) -> Result<Option<Arc<Text>>, AllocError>
 }
 
 impl Ready {
-    /// The proposal with all that its commit needs; or the proposal alone, where memory is refused.
-    pub(crate) fn of(proposal: Proposal) -> Result<Ready, Proposal>
+    /// The proposal with all that its commit needs; or the proposal alone, where memory is refused. The text is the one on which its statement was
+    /// performed.
+    pub(crate) fn of(proposal: Proposal, text: &Arc<Text>) -> Result<Ready, Proposal>
+        requires { Stands proposal.origin proposal.place proposal.version (arc_value text.now) }
         ensures ready { IfOk result (λ ready. ready ≡ proposal) }
         ensures back { IfErr result (λ p. p ≡ proposal) }
     {
@@ -62,10 +65,14 @@ impl Ready {
         let Ok(after) = after(proposal.outcome()) else {
             return Err(proposal);
         };
+        let Ok(text) = Arc::try_clone(text) else {
+            return Err(proposal);
+        };
         Ok(Ready {
             proposal,
             entry,
             after,
+            text,
         })
     }
 

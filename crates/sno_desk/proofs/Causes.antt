@@ -1,95 +1,123 @@
 -- What a book's refusal says of the proposal.
-use Rattle.std.proofs.Common.{◌≡◌, ◌≢◌, ◌≤◌, ℕ, zero, suc, Bool, true, false, Some, None, Option, List, [], ◌∷◌, length, refl, sym, ap, subst, arith}
-use Rattle.std.specs.Prelude.{nat_eq, nat_lt, slice_get, if◌then◌else◌, Ok, Err, IfOk, IfErr}
-use Rattle.std.proofs.lemmas.Bool.{eqb-false, ltb-true}
-use Rattle.sno_desk.specs.declared.faults.SubmitFault.TheVariants as submit
+use Rattle.std.proofs.Common.{◌≡◌, ◌≢◌, ◌≤◌, ◌<◌, ℕ, zero, suc, Bool, true, false, Some, None, Option, List, [], ◌∷◌, ◌++◌, length, refl, sym, ap, subst, ◌∙◌, inl, inr, arith, append_assoc}
+use Rattle.std.specs.Prelude.{nat_eq, slice_get, if◌then◌else◌, Ok, Err, IfOk, IfErr}
+use Rattle.std.proofs.lemmas.Bool.{eqb-true, eqb-false}
+use mathlib.Core.List.{IsPrefix as Begins}
 use Rattle.sno_pattern.specs.Identifiers.{same}
-use Rattle.sno_book.specs.Views.{View, IsLawful, state_of}
+use Rattle.sno_book.specs.Books.{Book, view_of}
+use Rattle.sno_book.specs.Entries.{Entry}
+use Rattle.sno_book.specs.Journals.{HasStep}
+use Rattle.sno_book.specs.Openings.{Opening}
+use Rattle.sno_book.specs.Origins.{IsPerformed}
+use Rattle.sno_book.specs.Views.{View, IsLawful, IsPrefix, Kin, state_of}
 use Rattle.sno_book.specs.States.{VersionedText, State, find}
 use Rattle.sno_book.specs.Commits.{IsAccepted, IsRefused, refusal, at_place, beside, full, place_in}
-use Rattle.sno_book.specs.Proposals.{Proposed, Received}
-use Rattle.sno_book.specs.Laws.{VersionsCountEntries}
-use Rattle.sno_book.specs.declared.faults.CommitFault.{CommitFault}
+use Rattle.sno_book.specs.Proposals.{Proposed, Received, entry_of}
+use Rattle.sno_book.specs.Laws.{KinAgree, VersionsCountEntries}
+use Rattle.sno_book.specs.declared.faults.CommitFault.{CommitFault as BookRefusal}
 use Rattle.sno_book.specs.declared.faults.CommitFault.TheVariants as fault
+use Rattle.sno_book.proofs.BookLaws.{IsFree, free}
+use Rattle.sno_statement.specs.Perform.{perform}
+use Rattle.sno_desk.specs.declared.faults.CommitFault.{CommitFault}
+use Rattle.sno_desk.specs.declared.faults.CommitFault.TheVariants as commit
+use Rattle.sno_desk.specs.declared.faults.SubmitFault.TheVariants as submit
 use Rattle.sno_desk.specs.Receipts.{IsCause, NamesVersion, StandsAfter}
-use Rattle.sno_statement.specs.Task.{Task}
-use Rattle.sno_desk.specs.Answers.{Answer, Answers, MayFollow, SpentAt}
-use Rattle.sno_desk.specs.Faults.{of_commit}
+use Rattle.sno_desk.specs.Seen.{HasVersion, view_after}
+use Rattle.sno_desk.specs.Answers.{Answer, MayFollow, SpentAt}
+use Rattle.sno_desk.specs.Faults.{of_book, of_commit}
+use Rattle.sno_desk.proofs.Standing.{standing}
 
 -- what holds of each refusal that may come holds of the one that comes
-module _ (v : View) (p : Proposed) (P : CommitFault → Type 0) (no_text : P fault.NoText) (foreign : P fault.Foreign) (at_end : P fault.Full)
-    (another : (place : ℕ) (held : VersionedText) → slice_get (state_of v) place ≡ Some held → p.version ≢ held.version → P (fault.Changed p.version held.version)) where
-  carried : (e d : CommitFault) → P e → Some e ≡ Some d → P d
+module _ (v : View) (p : Proposed) (P : BookRefusal → Type 0) (no_text : place_in v p.statement.text ≢ Some p.place → P fault.NoText)
+    (at_end : length v.journal ≡ v.opening.room → P fault.Full)
+    (another : (held : VersionedText) → slice_get (state_of v) p.place ≡ Some held → p.version ≢ held.version → P (fault.Changed p.version held.version)) where
+  carried : (e d : BookRefusal) → P e → Some e ≡ Some d → P d
   carried e d k h = let q : e ≡ d = cc in subst P q k
 
-  of_full : (e : CommitFault) (b : Bool) → (if b then Some fault.Full else None) ≡ Some e → P e
-  of_full e true h = carried fault.Full e at_end h
-  of_full e false h = absurd cc
+  of_full : (e : BookRefusal) (b : Bool) → nat_eq (length v.journal) v.opening.room ≡ b → (if b then Some fault.Full else None) ≡ Some e → P e
+  of_full e true was h = carried fault.Full e (at_end (eqb-true (length v.journal) v.opening.room was)) h
+  of_full e false was h = absurd cc
 
-  of_same : (e : CommitFault) (b : Bool) → (if b then full v else Some fault.Foreign) ≡ Some e → P e
-  of_same e true h = of_full e _ h
-  of_same e false h = carried fault.Foreign e foreign h
+  of_version : (e : BookRefusal) (held : VersionedText) (b : Bool) → slice_get (state_of v) p.place ≡ Some held → nat_eq p.version held.version ≡ b
+      → (if b then full v else Some (fault.Changed p.version held.version)) ≡ Some e → P e
+  of_version e held true there was h = of_full e (nat_eq (length v.journal) v.opening.room) refl h
+  of_version e held false there was h = carried (fault.Changed p.version held.version) e (another held there (eqb-false p.version held.version was)) h
 
-  of_version : (e : CommitFault) (place : ℕ) (held : VersionedText) (b : Bool) → slice_get (state_of v) place ≡ Some held → nat_eq p.version held.version ≡ b
-      → (if b then (if same p.text held.text then full v else Some fault.Foreign) else Some (fault.Changed p.version held.version)) ≡ Some e → P e
-  of_version e place held true there was h = of_same e _ h
-  of_version e place held false there was h = carried (fault.Changed p.version held.version) e (another place held there (eqb-false p.version held.version was)) h
+  of_there : (e : BookRefusal) (held : VersionedText) → slice_get (state_of v) p.place ≡ Some held → beside v p (Some held) ≡ Some e → P e
+  of_there e held there h = of_version e held (nat_eq p.version held.version) there refl h
 
-  of_held : (e : CommitFault) (place : ℕ) (o : Option VersionedText) → slice_get (state_of v) place ≡ o → beside v p o ≡ Some e → P e
-  of_held e place None there h = carried fault.NoText e no_text h
-  of_held e place (Some held) there h = of_version e place held (nat_eq p.version held.version) there refl h
+  of_place : (e : BookRefusal) (place : ℕ) (b : Bool) → nat_eq place p.place ≡ b → place_in v p.statement.text ≡ Some place
+      → (if b then beside v p (slice_get (state_of v) place) else Some fault.NoText) ≡ Some e → P e
+  of_place e place true was at h =
+      let same : place ≡ p.place = eqb-true place p.place was in
+      let stood = standing v.opening v.journal p.statement.text place at in
+      let there = ap (λ (k : ℕ). slice_get (state_of v) k) (sym same) ∙ stood.there in
+      of_there e stood.held there (ap (λ (o : Option VersionedText). beside v p o) (sym stood.there) ∙ h)
+  of_place e place false was at h =
+      let apart : place ≢ p.place = eqb-false place p.place was in
+      carried fault.NoText e (no_text (λ q. let same : place ≡ p.place = cc (at, q) in apart same)) h
 
-  of_place : (e : CommitFault) (place : ℕ) (b : Bool) → (if b then beside v p (slice_get (state_of v) place) else Some fault.NoText) ≡ Some e → P e
-  of_place e place true h = of_held e place (slice_get (state_of v) place) refl h
-  of_place e place false h = carried fault.NoText e no_text h
+  of_at : (e : BookRefusal) (o : Option ℕ) → place_in v p.statement.text ≡ o → at_place v p o ≡ Some e → P e
+  of_at e None at h = carried fault.NoText e (no_text (λ q. absurd (cc (at, q)))) h
+  of_at e (Some place) at h = of_place e place (nat_eq place p.place) refl at h
 
-  of_at : (e : CommitFault) (o : Option ℕ) → at_place v p o ≡ Some e → P e
-  of_at e None h = carried fault.NoText e no_text h
-  of_at e (Some place) h = of_place e place (nat_eq place p.place) h
+  by_refusal : (e : BookRefusal) → refusal v p ≡ Some e → P e
+  by_refusal e h = of_at e (place_in v p.statement.text) refl h
 
-  by_refusal : (e : CommitFault) → refusal v p ≡ Some e → P e
-  by_refusal e h = of_at e (place_in v p.statement.text) h
+-- the desk's refusal has its cause in the view that the seat has seen, which is the book's
+pub cause : (before after : View) (p back : Proposed) (e : BookRefusal) (opening : Opening) (seen : List Entry) → IsRefused before after p back e
+    → before.opening ≡ opening → before.journal ≡ seen → IsCause (of_book e) opening seen p
+cause before after p back e opening seen refused opens is = subst (λ (o : Opening). IsCause (of_book e) o seen p) opens (subst (λ (l : List Entry). IsCause (of_book e) before.opening l p) is (by_cause e refused.cause))
+  where
+    by_rule : (d : BookRefusal) → refusal before p ≡ Some d → IsCause (of_book d) before.opening before.journal p
+    by_rule d h = by_refusal before p (λ d. IsCause (of_book d) before.opening before.journal p) (λ q. q) (λ q. q)
+      (λ held there differ. (refl, (λ q. differ (sym q)), record { text = held.text; name = held.name; there = there })) d h
 
-pub changed : (v : View) (p : Proposed) (e : CommitFault) → refusal v p ≡ Some e → IsCause e p
-changed v p e h = by_refusal v p (λ d. IsCause d p) tt tt tt (λ place held there differ. (refl, λ q. differ (sym q))) e h
+    by_cause : (d : BookRefusal) → (d ≢ fault.Memory → refusal before p ≡ Some d) → IsCause (of_book d) before.opening before.journal p
+    by_cause fault.NoText h = by_rule fault.NoText (h (λ q. cc))
+    by_cause (fault.Changed seen now) h = by_rule (fault.Changed seen now) (h (λ q. cc))
+    by_cause fault.Full h = by_rule fault.Full (h (λ q. cc))
+    by_cause fault.Memory h = tt
 
 -- the version that a refusal names is one that a text can have
-pub named : (before after : View) (p back : Proposed) (e : CommitFault) (seats accepted total : ℕ) → IsRefused before after p back e → IsLawful before → VersionsCountEntries
-    → (seats ≡ 1 → accepted ≡ total) → length before.journal ≡ total → NamesVersion seats accepted e
+pub named : (before after : View) (p back : Proposed) (e : BookRefusal) (seats accepted total : ℕ) → IsRefused before after p back e → IsLawful before → VersionsCountEntries
+    → (seats ≡ 1 → accepted ≡ total) → length before.journal ≡ total → NamesVersion seats accepted (of_book e)
 named before after p back (fault.Changed seen now) seats accepted total refused lawful law alone counted =
-    by_refusal before p (NamesVersion seats accepted) tt tt tt
-    (λ place held there differ.
-    let small = law before place held there in
+    by_refusal before p (λ d. NamesVersion seats accepted (of_book d)) (λ _. tt) (λ _. tt)
+    (λ held there differ.
+    let small = law before p.place held there in
     record { within = omega (arith, small, lawful.within, lawful.opening.room); alone = λ one. let all = alone one in omega (arith, small, all, counted) })
     (fault.Changed seen now) (refused.cause (λ q. cc))
 named before after p back fault.NoText seats accepted total refused lawful law alone counted = tt
-named before after p back fault.Foreign seats accepted total refused lawful law alone counted = tt
 named before after p back fault.Full seats accepted total refused lawful law alone counted = tt
 named before after p back fault.Memory seats accepted total refused lawful law alone counted = tt
 
 -- and so is the one that a submit answers
 pub spent : (seats accepted : ℕ) (e : CommitFault) → NamesVersion seats accepted e → SpentAt seats accepted (of_commit e)
-spent seats accepted (fault.Changed seen now) h = by_test (nat_lt seen now)
-  where
-    by_test : (b : Bool) → SpentAt seats accepted (if b then submit.TriesSpent seen now else submit.Foreign)
-    by_test true = h
-    by_test false = tt
-spent seats accepted fault.NoText h = tt
-spent seats accepted fault.Foreign h = tt
-spent seats accepted fault.Full h = tt
-spent seats accepted fault.Memory h = tt
+spent seats accepted (commit.Changed seen now) h = h
+spent seats accepted commit.NoText h = tt
+spent seats accepted commit.Full h = tt
+spent seats accepted commit.Memory h = tt
+spent seats accepted commit.Stopped h = tt
 
--- a submit's tries are spent only where the text's version is above the snapshot's
-pub risen : (shuts : ℕ → ℕ → Type 0) (tries : ℕ) (s : Task) (e : CommitFault) → Answers shuts tries s (Err (of_commit e))
-risen shuts tries s (fault.Changed seen now) = by_test (nat_lt seen now) refl
-  where
-    by_test : (b : Bool) → nat_lt seen now ≡ b → Answers shuts tries s (Err (if b then submit.TriesSpent seen now else submit.Foreign))
-    by_test true e = ltb-true seen now e
-    by_test false e = tt
-risen shuts tries s fault.NoText = tt
-risen shuts tries s fault.Foreign = tt
-risen shuts tries s fault.Full = tt
-risen shuts tries s fault.Memory = tt
+-- ---- views
+
+-- what begins the seat's view is kin to the book's view, which that one begins
+pub kin : (origin : View) (b : Book) (opening : Opening) (old new : List Entry) → IsPrefix origin (view_after opening old) → Begins old new → new ≡ b.journal
+    → b.opening ≡ opening → Kin origin (view_of b)
+kin origin b opening old new prefix begins level opens =
+    inl (record { opening = opens ∙ prefix.opening; more = prefix.more ++ begins.0;
+      journal = sym level ∙ (sym begins.1 ∙ (ap (λ (l : List Entry). l ++ begins.0) prefix.journal ∙ append_assoc origin.journal prefix.more begins.0)) })
+
+-- a proposal that nothing refuses has a step
+pub has_step : (v : View) (p : Proposed) → refusal v p ≡ None → IsPerformed p.origin p.place p.version p.statement p.done → Kin p.origin v → KinAgree → HasStep (state_of v) (entry_of p)
+has_step v p none performed kin law =
+    let is_free = free v p none in
+    let stood = standing v.opening v.journal p.statement.text p.place is_free.placed in
+    let held : is_free.versioned ≡ stood.held = cc (is_free.there, stood.there) in
+    let version : stood.held.version ≡ p.version = ap (λ (x : VersionedText). x.version) (sym held) ∙ sym is_free.version in
+    let text : performed.text ≡ stood.held.text = law p.origin v kin p.place _ stood.held performed.stands.there stood.there (sym version) in
+    record { versioned = stood.held; found = stood.found; at_version = version; performed = subst (λ (l : List ℕ). perform p.statement l ≡ Ok p.done) text performed.performed }
 
 -- ---- receipts
 
@@ -110,8 +138,8 @@ version_counts before after p given a law =
     let there = place_of p.statement.text (state_of before) held a.has_step.found in
     let small : held.version ≤ length before.journal = law before there.0 held there.1 in
     let at : held.version ≡ p.version = a.has_step.at_version in
-    let entry : given.entry.version ≡ p.version = ap (λ r. r.entry.version) a.received in
-    let index : given.index ≡ length before.journal = ap (λ r. r.index) a.received in
+    let entry : given.entry.version ≡ p.version = ap (λ (r : Entry). r.version) a.entry in
+    let index : given.index ≡ length before.journal = a.index in
     omega arith
 
 -- an answer that stands as a receipt, or is refused at a version, may follow

@@ -1,4 +1,5 @@
 pub mod Causes
 pub mod Crossings
 pub mod Openings
+pub mod Standing
 pub mod Turns

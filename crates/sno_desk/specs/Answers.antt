@@ -1,12 +1,17 @@
 -- What a submit answers.
-use Rattle.std.specs.Prelude.{◌≡◌, ◌<◌, ◌≤◌, ℕ, Bool, true, false, List, length, Result, Ok, Err, IsTrue}
+use Rattle.std.specs.Prelude.{◌≡◌, ◌≢◌, ◌<◌, ◌≤◌, ◌+◌, ℕ, Bool, true, false, List, length, Some, None, Result, Ok, Err, IsTrue}
 use Rattle.std.specs.List.{list_all}
 use Rattle.std.specs.Char.{is_ascii}
 use Rattle.sno_statement.specs.Task.{Task}
 use Rattle.sno_statement.specs.Perform.{perform}
 use Rattle.sno_statement.specs.declared.outcomes.StatementFault.{StatementFault}
 use Rattle.sno_statement.specs.declared.outcomes.StatementFault.TheVariants as statement
+use Rattle.sno_book.specs.Entries.{Entry}
+use Rattle.sno_book.specs.Openings.{Opening}
 use Rattle.sno_book.specs.Proposals.{Received}
+use Rattle.sno_book.specs.States.{VersionedText}
+use Rattle.sno_published.specs.Tables.{text_after}
+use Rattle.sno_desk.specs.Seen.{HasVersion, IsTold, place_in}
 use Rattle.sno_desk.specs.Receipts.{CanStandAt, StandsAfter}
 use Rattle.sno_desk.specs.declared.faults.SubmitFault.{SubmitFault}
 use Rattle.sno_desk.specs.declared.faults.SubmitFault.TheVariants as submit
@@ -29,18 +34,61 @@ pub record IsRefusedOnSome (s : Task) (refused : StatementFault) : Type 0 where
   pub ascii : IsTrue (list_all is_ascii text)
   pub performed : perform s text ≡ Err refused
 
+-- no text exactly where the opening has none of the statement's name
+abbrev pub IsNamed : Opening → Task → Answer → Type 0
+IsNamed opening s (Ok receipt) = place_in opening s.text ≢ None
+IsNamed opening s (Err submit.NoText) = place_in opening s.text ≡ None
+IsNamed opening s (Err submit.GateShut) = place_in opening s.text ≢ None
+IsNamed opening s (Err submit.TextTooLong) = place_in opening s.text ≢ None
+IsNamed opening s (Err submit.Stopped) = place_in opening s.text ≢ None
+IsNamed opening s (Err submit.Full) = place_in opening s.text ≢ None
+IsNamed opening s (Err submit.Memory) = place_in opening s.text ≢ None
+IsNamed opening s (Err (submit.TriesSpent seen now)) = place_in opening s.text ≢ None
+IsNamed opening s (Err submit.TooManyTrials) = place_in opening s.text ≢ None
+
 -- the receipt's entry has the statement; the gate was shut only where it may be; the statement is refused so on some text; the text rose from the version
--- that the last try saw to a higher one
-abbrev pub Answers : (ℕ → ℕ → Type 0) → ℕ → Task → Answer → Type 0
-Answers shuts tries s (Ok receipt) = receipt.entry.statement ≡ s
-Answers shuts tries s (Err submit.NoText) = Unit {0}
-Answers shuts tries s (Err submit.GateShut) = MayShut shuts s.number tries
-Answers shuts tries s (Err submit.TextTooLong) = IsRefusedOnSome s statement.TextTooLong
-Answers shuts tries s (Err submit.Foreign) = Unit {0}
-Answers shuts tries s (Err submit.Full) = Unit {0}
-Answers shuts tries s (Err submit.Memory) = Unit {0}
-Answers shuts tries s (Err (submit.TriesSpent seen now)) = seen < now
-Answers shuts tries s (Err submit.TooManyTrials) = IsRefusedOnSome s statement.TooManyTrials
+-- that the last try saw to a higher one, and by one with each try
+abbrev pub Says : (ℕ → ℕ → Type 0) → ℕ → ℕ → Task → Answer → Type 0
+Says shuts tries lost s (Ok receipt) = receipt.entry.statement ≡ s
+Says shuts tries lost s (Err submit.NoText) = Unit {0}
+Says shuts tries lost s (Err submit.GateShut) = MayShut shuts s.number tries
+Says shuts tries lost s (Err submit.TextTooLong) = IsRefusedOnSome s statement.TextTooLong
+Says shuts tries lost s (Err submit.Stopped) = Unit {0}
+Says shuts tries lost s (Err submit.Full) = Unit {0}
+Says shuts tries lost s (Err submit.Memory) = Unit {0}
+Says shuts tries lost s (Err (submit.TriesSpent seen now)) = (seen < now) × (lost ≤ now)
+Says shuts tries lost s (Err submit.TooManyTrials) = IsRefusedOnSome s statement.TooManyTrials
+
+-- what a submit may answer, whatever its seat has seen
+abbrev pub Answers : (ℕ → ℕ → Type 0) → ℕ → Opening → Task → Answer → Type 0
+Answers shuts tries opening s answer = IsNamed opening s answer × Says shuts tries tries s answer
+
+-- performing the statement on the text of its name, as these entries leave it, is refused so
+pub record IsRefusedOn (opening : Opening) (entries : List Entry) (s : Task) (refused : StatementFault) : Type 0 where
+  pub place : ℕ
+  pub named : place_in opening s.text ≡ Some place
+  pub held : VersionedText
+  pub there : text_after opening entries place ≡ Some held
+  pub performed : perform s held.text ≡ Err refused
+
+-- the text of the statement's name has this version after the later entries, and one lower by at least the number of lost tries after the earlier ones
+pub record HasRisen (opening : Opening) (earlier later : List Entry) (s : Task) (lost now : ℕ) : Type 0 where
+  pub place : ℕ
+  pub named : place_in opening s.text ≡ Some place
+  pub versioned : HasVersion opening later place now
+  pub risen : (version : ℕ) → HasVersion opening earlier place version → version + lost ≤ now
+
+-- what the answer says of what the seat had seen before and has seen now
+abbrev pub AnswersAt : ℕ → Opening → List Entry → List Entry → Task → Answer → Type 0
+AnswersAt tries opening before after s (Ok receipt) = (length before ≤ receipt.index) × IsTold opening after receipt
+AnswersAt tries opening before after s (Err submit.NoText) = Unit {0}
+AnswersAt tries opening before after s (Err submit.GateShut) = Unit {0}
+AnswersAt tries opening before after s (Err submit.TextTooLong) = IsRefusedOn opening after s statement.TextTooLong
+AnswersAt tries opening before after s (Err submit.Stopped) = Unit {0}
+AnswersAt tries opening before after s (Err submit.Full) = length after ≡ opening.room
+AnswersAt tries opening before after s (Err submit.Memory) = Unit {0}
+AnswersAt tries opening before after s (Err (submit.TriesSpent seen now)) = HasRisen opening before after s tries now
+AnswersAt tries opening before after s (Err submit.TooManyTrials) = IsRefusedOn opening after s statement.TooManyTrials
 
 -- tries are spent at a version that a text can have
 abbrev pub SpentAt : ℕ → ℕ → SubmitFault → Type 0
@@ -48,7 +96,7 @@ SpentAt seats accepted (submit.TriesSpent seen now) = CanStandAt seats accepted 
 SpentAt seats accepted submit.NoText = Unit {0}
 SpentAt seats accepted submit.GateShut = Unit {0}
 SpentAt seats accepted submit.TextTooLong = Unit {0}
-SpentAt seats accepted submit.Foreign = Unit {0}
+SpentAt seats accepted submit.Stopped = Unit {0}
 SpentAt seats accepted submit.Full = Unit {0}
 SpentAt seats accepted submit.Memory = Unit {0}
 SpentAt seats accepted submit.TooManyTrials = Unit {0}
@@ -60,7 +108,7 @@ is_lost (Err (submit.TriesSpent seen now)) = true
 is_lost (Err submit.NoText) = false
 is_lost (Err submit.GateShut) = false
 is_lost (Err submit.TextTooLong) = false
-is_lost (Err submit.Foreign) = false
+is_lost (Err submit.Stopped) = false
 is_lost (Err submit.Full) = false
 is_lost (Err submit.Memory) = false
 is_lost (Err submit.TooManyTrials) = false

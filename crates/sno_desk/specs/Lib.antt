@@ -2,4 +2,5 @@ pub mod Answers
 pub mod Closings
 pub mod Faults
 pub mod Receipts
+pub mod Seen
 pub mod Turns

@@ -8,7 +8,9 @@ ghost use Rattle.sno_desk.specs.Closings.{book_in};
 use crate::locked::Locked;
 use crate::{CloseFault, Desk, Seat};
 use sno_book::{Book, Opening};
-use std::sync::ledger::{Ledger, Share};
+use sno_published::Naming;
+use std::sync::Wait;
+use std::sync::ledger::Share;
 
 /// Whether the rows at a place of two openings are the same by value: name and characters.
 fn same_row(one: &Opening, other: &Opening, place: usize) -> bool
@@ -40,7 +42,7 @@ fn is_same(one: &Opening, other: &Opening) -> bool
 }
 
 /// The seats' shares put together.
-fn gather<L: Ledger>(seats: Vec<Seat<L>>, rest: &mut Share<L>)
+fn gather<L: Naming>(seats: Vec<Seat<L>>, rest: &mut Share<L>)
     requires none { (rest.old.parts ≡ 0) × (rest.old.amount ≡ 0) }
     ensures parts { rest.new.parts ≡ length seats.items }
     ensures amount { rest.new.amount ≡ sum_by (λ s. s.accepted) seats.items }
@@ -50,39 +52,45 @@ fn gather<L: Ledger>(seats: Vec<Seat<L>>, rest: &mut Share<L>)
     }
 }
 
-impl<L: Ledger> Locked<L> {
+impl<L: Naming> Locked<L> {
     /// The book, whose journal has as many entries as these seats have accepted: they are all there are.
-    fn into_book(self, seats: Vec<Seat<L>>) -> Book
+    fn into_book<R: Wait>(self, rt: &R, seats: Vec<Seat<L>>) -> Book
         requires all { length seats.items ≡ L.parts }
-        ensures { length result.journal ≡ sum_by (λ s. s.accepted) seats.items }
+        ensures opening { result.opening ≡ L.opening }
+        ensures counted { length result.journal ≡ sum_by (λ s. s.accepted) seats.items }
     {
-        let Locked {
-            book,
-            mut total,
-            mut rest,
-        } = self;
+        let (book, mut total, mut rest) = self.into_parts(rt);
         gather(seats, &mut rest);
         total.audit(&mut rest);
         book
     }
 }
 
-/// Closes a desk, and gives its book back. The seats are all the seats of the desk: as many as its ledger has parts.
+/// Closes a desk, and gives its book back. The seats are all the seats of the desk: as many as its ledger has parts. The call waits for readers that
+/// still read.
 ///
 /// On `Ok` the book's opening is the one that the desk began with, its journal is lawful from there, and it has as many entries as the seats have
-/// accepted. The call waits for nobody and takes no memory.
+/// accepted. The call takes no memory.
 ///
 /// Refused: `Opening`, exactly if the book's opening is not, by value, the desk's. No lawful run meets it. The book comes back with its journal,
 /// which is lawful from the book's own opening and has as many entries as the seats have accepted.
-pub fn close<L: Ledger>(desk: Desk<L>, seats: Vec<Seat<L>>) -> Result<Book, (CloseFault, Book)>
+pub fn close<L: Naming, R: Wait>(
+    rt: &R,
+    desk: Desk<L>,
+    seats: Vec<Seat<L>>,
+) -> Result<Book, (CloseFault, Book)>
     requires all { length seats.items ≡ L.parts }
     ensures opening { IfOk result (λ book. book.opening ≡ arc_value desk.opening) }
     ensures another { IfErr result (λ r. r.1.opening ≢ arc_value desk.opening) }
     ensures counted { length (book_in result).journal ≡ sum_by (λ s. s.accepted) seats.items }
     ensures lawful { IsLawful (view_of (book_in result)) }
 {
-    let Desk { opening, lock } = desk;
-    let book = lock.into_inner().into_book(seats);
+    let Desk {
+        opening,
+        alloc: _alloc,
+        lock,
+    } = desk;
+    let book = lock.into_inner().into_book(rt, seats);
     let _ = book.journal();
     if is_same(book.opening(), &opening) {
         Ok(book)

@@ -1,89 +1,152 @@
-//! Snapshots and commits through a seat.
-ghost use Rattle.std.specs.Prelude.{◌≡◌, ◌+◌, IfOk, IfErr, OnOk, OnErr};
+//! Commits through a seat.
+ghost use Rattle.std.specs.Prelude.{◌≡◌, ◌≤◌, ◌<◌, ◌+◌, IfOk, IfErr, OnOk, OnErr, None, length};
+ghost use mathlib.Core.List.{IsPrefix as Begins};
 ghost use Rattle.sno_book.specs.Books.{view_of};
-ghost use Rattle.sno_book.specs.Commits.{GivesSnapshot, IsAccepted, IsRefused};
-ghost use Rattle.sno_desk.specs.Receipts.{IsFor, IsCause, NamesVersion, StandsAfter};
+ghost use Rattle.sno_book.specs.Commits.{Fits, refusal};
+ghost use Rattle.sno_book.specs.Origins.{IsPerformed};
+ghost use Rattle.sno_book.specs.Views.{IsPrefix, Kin};
+ghost use Rattle.sno_desk.specs.Receipts.{IsCause, IsFor, NamesVersion, StandsAfter};
+ghost use Rattle.sno_desk.specs.Seen.{IsTold, view_after};
 
-use crate::locked::Locked;
-use crate::{Desk, Seat};
-use sno_book::{CommitFault, Proposal, Receipt, Snapshot, SnapshotFault, versions_count_entries};
-use sno_pattern::TextName;
-use std::sync::Wait;
-use std::sync::ledger::Ledger;
+use crate::locked::{Locked, put_screen, put_spent};
+use crate::{CommitFault, Desk, Seat};
+use sno_book::{Proposal, Ready, Receipt, kin_agree, versions_count_entries};
+use sno_published::{Naming, Screen, Unpublished};
+use std::alloc::Global;
+use std::sync::{MutexGuard, Wait};
 
-impl<L: Ledger> Locked<L> {
-    /// The text of this name as it stands in the book.
-    fn snapshot(&self, name: &TextName) -> Result<Snapshot, SnapshotFault>
-        ensures { GivesSnapshot result (view_of self.now.book) name.now }
-    {
-        self.book.snapshot(name)
-    }
-
-    /// Commits the proposal to the book, and counts it where it was accepted: of the seat and of the total alike.
-    fn commit(
+impl<L: Naming> Locked<L> {
+    /// Publishes a proposal that was prepared, and then accepts it and counts it: of the seat and of the total alike.
+    fn publish<R: Wait>(
         &mut self,
+        rt: &R,
+        alloc: Global,
+        screen: Screen<L>,
         seat: &mut Seat<L>,
-        proposal: Proposal,
-    ) -> Result<Receipt, (CommitFault, Proposal)>
-        ensures accepted { IfOk result (λ r. IsAccepted (view_of self.old.book) (view_of self.new.book) proposal r) }
+        ready: Ready,
+    ) -> Result<Receipt, Proposal>
+        requires level { (screen ≡ self.old.journal) × (seat.old.viewer.seen ≡ self.old.journal) }
+        requires kept { 0 < self.old.spare }
+        requires free { refusal (view_of self.old) ready ≡ None }
+        requires fits { Fits (view_of self.old) ready }
+        requires performed { IsPerformed ready.origin ready.place ready.version ready.statement ready.done }
+        requires kin { Kin ready.origin (view_of self.old) }
+        ensures receipt { IfOk result (λ r. IsFor r ready) }
         ensures index { IfOk result (λ r. StandsAfter L.parts seat.old.accepted r) }
+        ensures at_end { IfOk result (λ r. r.index ≡ length self.old.journal) }
+        ensures told { IfOk result (λ r. IsTold L.opening seat.new.viewer.seen r) }
+        ensures begins { Begins seat.old.viewer.seen seat.new.viewer.seen }
         ensures counted { OnOk result (seat.new.accepted ≡ seat.old.accepted + 1) }
-        ensures refused { IfErr result (λ r. IsRefused (view_of self.old.book) (view_of self.new.book) proposal r.1 r.0) }
-        ensures version { IfErr result (λ r. NamesVersion L.parts seat.old.accepted r.0) }
+        ensures back { IfErr result (λ p. p ≡ ready) }
         ensures same { OnErr result (seat.new.accepted ≡ seat.old.accepted) }
     {
-        let _ = self.book.journal();
+        kin_agree();
         versions_count_entries();
-        seat.audit(&mut self.total);
-        let receipt = match self.book.commit(proposal) {
-            Ok(receipt) => receipt,
-            Err(refused) => return Err(refused),
-        };
         let _ = self.book.journal();
+        let _ = self.book.opening().room();
+        seat.audit(&mut self.total);
+        let screen = match screen.publish(rt, alloc, ready.entry()) {
+            Ok(screen) => screen,
+            Err(Unpublished::Memory(screen)) => {
+                put_screen(rt, &mut self.screen, screen);
+                return Err(ready.back());
+            }
+            Err(Unpublished::Stopped(spent)) => {
+                put_spent(rt, &mut self.spent, spent);
+                return Err(ready.back());
+            }
+        };
+        let receipt = self.book.finish(ready);
+        let _ = self.book.journal();
+        seat.learn(&screen);
+        put_screen(rt, &mut self.screen, screen);
         seat.count(&mut self.total);
         Ok(receipt)
     }
+
+    /// Commits the proposal to the book, and publishes and counts it where it was accepted.
+    fn commit<R: Wait>(
+        &mut self,
+        rt: &R,
+        alloc: Global,
+        seat: &mut Seat<L>,
+        proposal: Proposal,
+    ) -> Result<Receipt, (CommitFault, Proposal)>
+        requires view { IsPrefix proposal.origin (view_after L.opening seat.old.viewer.seen) }
+        ensures receipt { IfOk result (λ r. IsFor r proposal) }
+        ensures index { IfOk result (λ r. StandsAfter L.parts seat.old.accepted r) }
+        ensures later { IfOk result (λ r. length seat.old.viewer.seen ≤ r.index) }
+        ensures told { IfOk result (λ r. IsTold L.opening seat.new.viewer.seen r) }
+        ensures begins { Begins seat.old.viewer.seen seat.new.viewer.seen }
+        ensures counted { OnOk result (seat.new.accepted ≡ seat.old.accepted + 1) }
+        ensures back { IfErr result (λ r. r.1 ≡ proposal) }
+        ensures cause { IfErr result (λ r. IsCause r.0 L.opening seat.new.viewer.seen proposal) }
+        ensures version { IfErr result (λ r. NamesVersion L.parts seat.old.accepted r.0) }
+        ensures same { OnErr result (seat.new.accepted ≡ seat.old.accepted) }
+    {
+        let Some(screen) = self.screen.take() else {
+            return Err((CommitFault::Stopped, proposal));
+        };
+        if !seat.see_all(&screen) {
+            put_screen(rt, &mut self.screen, screen);
+            return Err((CommitFault::Stopped, proposal));
+        }
+        versions_count_entries();
+        let _ = self.book.journal();
+        let _ = proposal.statement();
+        seat.audit(&mut self.total);
+        let ready = match self.book.prepare(proposal) {
+            Ok(ready) => ready,
+            Err((fault, proposal)) => {
+                put_screen(rt, &mut self.screen, screen);
+                return Err((CommitFault::from(fault), proposal));
+            }
+        };
+        match self.publish(rt, alloc, screen, seat, ready) {
+            Ok(receipt) => Ok(receipt),
+            Err(proposal) => Err((CommitFault::Memory, proposal)),
+        }
+    }
 }
 
-impl<L: Ledger> Desk<L> {
-    /// A share of the text of this name as it is while the lock is held. The call waits for nothing but the lock; the seat's share stays as it is.
+impl<L: Naming> Desk<L> {
+    /// Commits a proposal to the book under the lock, publishes its entry, and counts it for the seat if it is accepted. The call waits for the lock,
+    /// and for readers that still read what was shown before the last entry.
     ///
-    /// Refused, in this order: `NoText`, where the book has no text of that name; `Memory`. Nothing is changed.
-    pub fn snapshot<R: Wait>(
-        &self,
-        rt: &R,
-        _seat: &mut Seat<L>,
-        name: &TextName,
-    ) -> Result<Snapshot, SnapshotFault>
-        ensures { _seat.new.accepted ≡ _seat.old.accepted }
-    {
-        self.lock.lock(rt).snapshot(name)
-    }
-
-    /// Commits a proposal to the book under the lock, and counts it for the seat if it is accepted. The call waits for nothing but the lock.
+    /// The view from which the proposal comes begins what the seat has seen. So does that of a proposal on a snapshot of the seat.
     ///
     /// On `Ok` the receipt's entry is the proposal's, its text is the one that the proposal was made for, and the seat's share is one higher. The
-    /// receipt's index is no lower than the share was, as the entries that the seat had accepted come before it; if there is no other seat it is
-    /// the share. The entry's version is no higher than the index.
+    /// seat was told a legal list of entries that ends in the receipt's; it has as many before that one as the receipt's index. What the seat has
+    /// seen begins with this list, and with all that it had seen before. The index is no lower than the number of entries that the seat had seen, and
+    /// no lower than its share was; if there is no other seat it is the share. The entry's version is no higher than the index.
     ///
-    /// Refused as `Book::commit` refuses, in this order: `NoText`, `Changed` with the proposal's version and the text's, `Foreign`, `Full`,
-    /// `Memory`. The text's version in `Changed` is another one than the proposal's, at most a million, and at most the seat's share if there is
-    /// no other seat. After each refusal the share is the same, no entry is added, and the same proposal comes back.
-    #[tactic(auto, using(crate::proofs::Causes::changed))]
+    /// Refused, in this order: `Stopped`, where a publish of this desk was refused before, or nothing more is shown to the seat; `NoText`, where the
+    /// opening has no text of the statement's name, or has it at another place than the snapshot's; `Changed` with the proposal's version and the
+    /// text's, which it has after all that the seat has seen now, and which is at most a million, and at most the seat's share if there is no other
+    /// seat; `Full`, where the seat has seen as many entries as there is room for; `Memory`, and if it was refused to the publish itself the desk is
+    /// stopped: it accepts nothing more, and can be closed. After each refusal the share is the same, no entry is added, what the seat has seen begins
+    /// with what it had seen, and the same proposal comes back.
     pub fn commit<R: Wait>(
         &self,
         rt: &R,
         seat: &mut Seat<L>,
         proposal: Proposal,
     ) -> Result<Receipt, (CommitFault, Proposal)>
+        requires view { IsPrefix proposal.origin (view_after L.opening seat.old.viewer.seen) }
         ensures receipt { IfOk result (λ r. IsFor r proposal) }
         ensures index { IfOk result (λ r. StandsAfter L.parts seat.old.accepted r) }
+        ensures later { IfOk result (λ r. length seat.old.viewer.seen ≤ r.index) }
+        ensures told { IfOk result (λ r. IsTold L.opening seat.new.viewer.seen r) }
+        ensures begins { Begins seat.old.viewer.seen seat.new.viewer.seen }
         ensures counted { OnOk result (seat.new.accepted ≡ seat.old.accepted + 1) }
         ensures back { IfErr result (λ r. r.1 ≡ proposal) }
-        ensures cause { IfErr result (λ r. IsCause r.0 proposal) }
+        ensures cause { IfErr result (λ r. IsCause r.0 L.opening seat.new.viewer.seen proposal) }
         ensures version { IfErr result (λ r. NamesVersion L.parts seat.old.accepted r.0) }
         ensures same { OnErr result (seat.new.accepted ≡ seat.old.accepted) }
     {
-        self.lock.lock(rt).commit(seat, proposal)
+        let mut guard = self.lock.lock(rt);
+        let answer = guard.commit(rt, self.alloc, seat, proposal);
+        MutexGuard::unlock(guard);
+        answer
     }
 }

@@ -1,5 +1,6 @@
 //! Why a desk refuses.
-use sno_book::{CommitFault, SnapshotFault};
+use sno_book::CommitFault as BookRefusal;
+use sno_published::ViewFault;
 use sno_statement::StatementFault;
 use std::alloc::{AllocError, AllocFailed};
 use thiserror::Error;
@@ -8,6 +9,48 @@ use thiserror::Error;
 #[derive(Clone, Copy, Debug, PartialEq, Eq, Error)]
 pub enum DeskFault {
     /// Memory was refused.
+    #[error("out of memory")]
+    Memory,
+    /// There was no place for a reader.
+    #[error("no place for a reader")]
+    NoReader,
+}
+
+/// Why a seat has no snapshot.
+#[derive(Clone, Copy, Debug, PartialEq, Eq, Error)]
+pub enum SnapshotFault {
+    /// The desk's opening has no text of that name.
+    #[error("no text")]
+    NoText,
+    /// Nothing is shown to the seat any more.
+    #[error("stopped")]
+    Stopped,
+    /// The text could not be shared.
+    #[error("out of memory")]
+    Memory,
+}
+
+/// Why a proposal is not accepted at a desk. No entry was added.
+#[derive(Clone, Copy, Debug, PartialEq, Eq, Error)]
+pub enum CommitFault {
+    /// The desk was stopped by a publish that was refused, or nothing is shown to the seat any more.
+    #[error("stopped")]
+    Stopped,
+    /// The opening has no text of the statement's name, or has it at another place than the snapshot's.
+    #[error("no text")]
+    NoText,
+    /// The text has another version than the snapshot.
+    #[error("changed from version {seen} to {now}")]
+    Changed {
+        /// The version of the snapshot.
+        seen: u64,
+        /// The version of the text.
+        now: u64,
+    },
+    /// The journal has as many entries as it may hold.
+    #[error("full")]
+    Full,
+    /// Memory was refused. Where it was refused to the publish itself, the desk is stopped.
     #[error("out of memory")]
     Memory,
 }
@@ -24,9 +67,9 @@ pub enum SubmitFault {
     /// The new text would have had more than 65,536 characters.
     #[error("text too long")]
     TextTooLong,
-    /// The snapshot was of another book: its version is above the text's, or the characters differ. No lawful run meets this.
-    #[error("of another book")]
-    Foreign,
+    /// The desk was stopped, or nothing is shown to the seat any more.
+    #[error("stopped")]
+    Stopped,
     /// The journal has as many entries as it may hold.
     #[error("full")]
     Full,
@@ -62,6 +105,36 @@ pub enum WorkersFault {
     Memory,
 }
 
+impl From<ViewFault> for SnapshotFault {
+    ghost use Rattle.std.specs.Prelude.{◌≡◌};
+    ghost use Rattle.sno_desk.specs.Faults.{of_view};
+
+    ghost from_gives = { λ fault e. e ≡ of_view fault };
+
+    fn from(fault: ViewFault) -> SnapshotFault {
+        match fault {
+            ViewFault::Ended | ViewFault::Behind => SnapshotFault::Stopped,
+            ViewFault::Memory => SnapshotFault::Memory,
+        }
+    }
+}
+
+impl From<BookRefusal> for CommitFault {
+    ghost use Rattle.std.specs.Prelude.{◌≡◌};
+    ghost use Rattle.sno_desk.specs.Faults.{of_book};
+
+    ghost from_gives = { λ fault e. e ≡ of_book fault };
+
+    fn from(fault: BookRefusal) -> CommitFault {
+        match fault {
+            BookRefusal::NoText => CommitFault::NoText,
+            BookRefusal::Changed { seen, now } => CommitFault::Changed { seen, now },
+            BookRefusal::Full => CommitFault::Full,
+            BookRefusal::Memory => CommitFault::Memory,
+        }
+    }
+}
+
 impl From<SnapshotFault> for SubmitFault {
     ghost use Rattle.std.specs.Prelude.{◌≡◌};
     ghost use Rattle.sno_desk.specs.Faults.{of_snapshot};
@@ -71,6 +144,7 @@ impl From<SnapshotFault> for SubmitFault {
     fn from(fault: SnapshotFault) -> SubmitFault {
         match fault {
             SnapshotFault::NoText => SubmitFault::NoText,
+            SnapshotFault::Stopped => SubmitFault::Stopped,
             SnapshotFault::Memory => SubmitFault::Memory,
         }
     }
@@ -99,11 +173,9 @@ impl From<CommitFault> for SubmitFault {
 
     fn from(fault: CommitFault) -> SubmitFault {
         match fault {
+            CommitFault::Stopped => SubmitFault::Stopped,
             CommitFault::NoText => SubmitFault::NoText,
-            CommitFault::Changed { seen, now } if seen < now => {
-                SubmitFault::TriesSpent { seen, now }
-            }
-            CommitFault::Changed { .. } | CommitFault::Foreign => SubmitFault::Foreign,
+            CommitFault::Changed { seen, now } => SubmitFault::TriesSpent { seen, now },
             CommitFault::Full => SubmitFault::Full,
             CommitFault::Memory => SubmitFault::Memory,
         }

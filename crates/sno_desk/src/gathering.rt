@@ -7,15 +7,15 @@ ghost use Rattle.sno_desk.specs.Answers.{Answer};
 ghost use Rattle.sno_desk.specs.Turns.{Deals, HasTurns};
 
 use crate::{Reply, Seat, WorkersFault};
+use sno_published::Naming;
 use sno_statement::Statement;
 use std::alloc::{AllocError, Global};
 use std::collections::VecDeque;
 use std::sync::Arc;
-use std::sync::ledger::Ledger;
 
 /// The replies that the seats have kept, a queue for each. `Memory` where a seat kept none, as memory was refused to it, or where it is refused
 /// here.
-pub(crate) fn collect<L: Ledger>(
+pub(crate) fn collect<L: Naming>(
     alloc: Global,
     seats: &mut [Seat<L>],
 ) -> Result<VecDeque<VecDeque<Reply>>, WorkersFault>

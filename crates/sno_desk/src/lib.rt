@@ -47,6 +47,7 @@
 //! - That memory is there.
 #![tactic(auto)]
 
+mod blanks;
 mod closing;
 mod committing;
 mod desk;
@@ -57,16 +58,19 @@ mod locked;
 mod seats;
 mod starting;
 mod submitting;
+mod windows;
 mod workers;
 
+pub use blanks::Blank;
 pub use closing::close;
 pub use desk::Desk;
-pub use faults::{CloseFault, DeskFault, SubmitFault, WorkersFault};
+pub use faults::{
+    CloseFault, CommitFault, DeskFault, SnapshotFault, SubmitFault, WorkersFault,
+};
 pub use gates::{Gate, OpenGate};
 pub use seats::{Reply, Seat};
-pub use sno_book::{
-    Book, CommitFault, Entry, Opening, Proposal, Receipt, Snapshot, SnapshotFault, propose,
-};
+pub use sno_book::{Book, Entry, Opening, Proposal, Receipt, Snapshot, propose};
 pub use sno_pattern::{Text, TextName};
+pub use sno_published::Naming;
 pub use sno_statement::{Outcome, Statement, StatementFault};
 pub use workers::run_workers;

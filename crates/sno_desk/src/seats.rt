@@ -1,25 +1,34 @@
 //! Seats.
-ghost use Rattle.std.specs.Prelude.{◌≡◌, ◌+◌, ◌<◌, ◌≤◌, ◌^◌};
+ghost use Rattle.std.specs.Prelude.{◌≡◌, ◌+◌, ◌<◌, ◌≤◌, ◌^◌, MatchBool, OnOk, IfErr, length};
+ghost use Rattle.std.specs.Arc.{arc_value};
+ghost use mathlib.Core.List.{IsPrefix};
+ghost use Rattle.sno_desk.specs.Seen.{GivesSeen, StaysBehind};
 
-use crate::SubmitFault;
-use sno_book::Receipt;
+use crate::windows::Window;
+use crate::{SnapshotFault, SubmitFault};
+use sno_book::{Opening, Receipt, Snapshot};
+use sno_pattern::TextName;
+use sno_published::{Naming, Screen, Viewer};
 use std::collections::VecDeque;
-use std::sync::ledger::{self, Ledger, Share};
+use std::sync::Arc;
+use std::sync::ledger::{self, Share};
 
 /// What a submit answers.
 pub type Reply = Result<Receipt, SubmitFault>;
 
-/// A place at a desk. It counts the proposals that were accepted through it, and holds that count as its share of the desk's ledger.
+/// A place at a desk. It counts the proposals that were accepted through it, and holds that count as its share of the desk's ledger. It sees the texts
+/// without the lock, and what it has seen never goes back.
 #[derive(Drop)]
-pub struct Seat<L: Ledger> {
+pub struct Seat<L: Naming> {
     pub(crate) accepted: u64,
     pub(crate) share: Share<L>,
+    pub(crate) viewer: Window<L>,
     pub(crate) replies: Option<VecDeque<Reply>>,
     ghost one_part: { share.parts ≡ 1 },
     ghost backed: { share.amount ≡ accepted },
 }
 
-impl<L: Ledger> Seat<L> {
+impl<L: Naming> Seat<L> {
     /// How many proposals were accepted through this seat. It begins as 0.
     pub fn accepted(&self) -> u64
         ensures { result ≡ self.now.accepted }
@@ -27,15 +36,58 @@ impl<L: Ledger> Seat<L> {
         self.accepted
     }
 
+    /// How many entries the seat has seen or was told of.
+    pub fn seen(&self) -> u64
+        ensures { result ≡ length self.now.viewer.seen }
+    {
+        self.viewer.viewer.seen()
+    }
+
+    /// The text of this name as it is shown, shared. It takes no lock and waits for nobody. On `Ok` it is the text at the place that the name has in
+    /// the opening, as the entries leave it that the seat has seen now; these begin with all that the seat had seen or was told of.
+    ///
+    /// Refused, in this order: `NoText` exactly where the opening has no text of that name, and nothing more is seen; `Stopped`, and nothing more is
+    /// seen; `Memory`, and what is shown was seen.
+    pub fn snapshot(&mut self, name: &TextName) -> Result<Snapshot, SnapshotFault>
+        ensures gives { GivesSeen result L.opening self.new.viewer.seen name.now }
+        ensures begins { IsPrefix self.old.viewer.seen self.new.viewer.seen }
+        ensures shown { OnOk result (self.new.viewer.seen ≡ self.new.viewer.shown) }
+        ensures behind { IfErr result (λ e. StaysBehind e self.old.viewer.seen self.new.viewer.seen) }
+        ensures same { self.new.accepted ≡ self.old.accepted }
+    {
+        self.viewer.snapshot(name)
+    }
+
+    /// Sees all that a screen shows, which it is told first, and says whether it has seen just that.
+    pub(crate) fn see_all(&mut self, screen: &Screen<L>) -> bool
+        ensures begins { IsPrefix self.old.viewer.seen self.new.viewer.seen }
+        ensures level { MatchBool result (self.new.viewer.seen ≡ screen.now) (Unit {0}) }
+        ensures accepted { self.new.accepted ≡ self.old.accepted }
+    {
+        self.viewer.see_all(screen)
+    }
+
+    /// Is told what a screen shows.
+    pub(crate) fn learn(&mut self, screen: &Screen<L>)
+        ensures begins { IsPrefix self.old.viewer.seen self.new.viewer.seen }
+        ensures told { IsPrefix screen.now self.new.viewer.seen }
+        ensures accepted { self.new.accepted ≡ self.old.accepted }
+    {
+        self.viewer.learn(screen);
+    }
+
     /// A seat with a part of the ledger and nothing accepted.
-    pub(crate) fn new(share: Share<L>) -> Seat<L>
+    pub(crate) fn new(share: Share<L>, opening: Arc<Opening>, viewer: Viewer<L>) -> Seat<L>
         requires part { share.parts ≡ 1 }
         requires amount { share.amount ≡ 0 }
-        ensures { result.accepted ≡ 0 }
+        requires opening { arc_value opening ≡ L.opening }
+        ensures accepted { result.accepted ≡ 0 }
+        ensures viewer { result.viewer ≡ viewer }
     {
         Seat {
             accepted: 0,
             share,
+            viewer: Window { opening, viewer },
             replies: None,
         }
     }
@@ -45,6 +97,7 @@ impl<L: Ledger> Seat<L> {
         ensures backed { self.old.accepted ≤ total.old.total }
         ensures alone { L.parts ≡ 1 → self.old.accepted ≡ total.old.total }
         ensures accepted { self.new.accepted ≡ self.old.accepted }
+        ensures viewer { self.new.viewer ≡ self.old.viewer }
         ensures total { total.new.total ≡ total.old.total }
     {
         total.audit(&mut self.share);
@@ -54,6 +107,7 @@ impl<L: Ledger> Seat<L> {
     pub(crate) fn count(&mut self, total: &mut ledger::Book<L>)
         requires { self.old.accepted + 1 < 2 ^ 64 }
         ensures accepted { self.new.accepted ≡ self.old.accepted + 1 }
+        ensures viewer { self.new.viewer ≡ self.old.viewer }
         ensures total { total.new.total ≡ total.old.total + 1 }
     {
         total.add(&mut self.share, 1);
@@ -63,6 +117,7 @@ impl<L: Ledger> Seat<L> {
     /// Takes the replies that the seat has kept away from it.
     pub(crate) fn take_replies(&mut self) -> Option<VecDeque<Reply>>
         ensures taken { result ≡ self.old.replies }
+        ensures viewer { self.new.viewer ≡ self.old.viewer }
         ensures same { self.new.accepted ≡ self.old.accepted }
     {
         self.replies.take()
@@ -74,9 +129,8 @@ impl<L: Ledger> Seat<L> {
         ensures amount { result.amount ≡ self.accepted }
     {
         let Seat {
-            accepted: _,
             share,
-            replies: _,
+            ..
         } = self;
         share
     }

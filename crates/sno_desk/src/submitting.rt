@@ -1,14 +1,15 @@
 //! Submits: snapshot, gate, matching and commit, until the text doesn't change during one of these attempts.
-ghost use Rattle.std.specs.Prelude.{◌≡◌, ◌+◌, ◌≤◌, true, IfOk, IfErr};
+ghost use Rattle.std.specs.Prelude.{◌≡◌, ◌+◌, ◌≤◌, true, IfOk, IfErr, length};
 ghost use Rattle.std.specs.Arc.{arc_value};
-ghost use Rattle.sno_desk.specs.Answers.{Answers, SpentAt, receipts_in, is_lost};
+ghost use mathlib.Core.List.{IsPrefix};
+ghost use Rattle.sno_desk.specs.Answers.{Answers, AnswersAt, Says, IsNamed, SpentAt, receipts_in, is_lost};
 ghost use Rattle.sno_desk.specs.Receipts.{StandsAfter};
 
 use crate::{Desk, Gate, Seat, SubmitFault};
 use sno_book::{Receipt, propose};
+use sno_published::Naming;
 use sno_statement::Statement;
 use std::alloc::Global;
-use std::sync::ledger::Ledger;
 use std::sync::{Arc, Wait};
 
 /// Whether the text changed under the try.
@@ -19,9 +20,9 @@ fn is_lost(answer: &Result<Receipt, SubmitFault>) -> bool
     matches!(answer, Err(SubmitFault::TriesSpent { .. }))
 }
 
-impl<L: Ledger> Desk<L> {
+impl<L: Naming> Desk<L> {
     /// Attempt number `attempt` of `tries`. If the text changes during it, the answer is that all tries are spent.
-    #[tactic(auto, using(crate::proofs::Causes::spent, crate::proofs::Causes::risen))]
+    #[tactic(auto, using(crate::proofs::Causes::spent))]
     fn attempt<R: Wait, G: Gate>(
         &self,
         rt: &R,
@@ -33,16 +34,20 @@ impl<L: Ledger> Desk<L> {
         gate: &G,
     ) -> Result<Receipt, SubmitFault>
         requires in_turn { (1 ≤ attempt) × (attempt ≤ tries) }
-        ensures answer { Answers (G.shuts gate.now) tries (arc_value statement.now) result }
+        ensures named { IsNamed L.opening (arc_value statement.now) result }
+        ensures says { Says (G.shuts gate.now) tries 1 (arc_value statement.now) result }
+        ensures at { AnswersAt 1 L.opening seat.old.viewer.seen seat.new.viewer.seen (arc_value statement.now) result }
+        ensures begins { IsPrefix seat.old.viewer.seen seat.new.viewer.seen }
         ensures index { IfOk result (λ r. StandsAfter L.parts seat.old.accepted r) }
         ensures spent { IfErr result (λ e. SpentAt L.parts seat.old.accepted e) }
         ensures counted { seat.new.accepted ≡ seat.old.accepted + receipts_in result }
     {
-        let snapshot = self.snapshot(rt, seat, statement.text())?;
+        let snapshot = seat.snapshot(statement.text())?;
         if !gate.pass(rt, statement.number(), attempt) {
             return Err(SubmitFault::GateShut);
         }
         let shared = Arc::try_clone(statement)?;
+        snapshot.check();
         let _text = snapshot.text.bytes();
         let proposal = propose(alloc, shared, snapshot)?;
         match self.commit(rt, seat, proposal) {
@@ -62,7 +67,9 @@ impl<L: Ledger> Desk<L> {
         gate: &G,
     ) -> Result<Receipt, SubmitFault>
         requires { 1 ≤ tries }
-        ensures answer { Answers (G.shuts gate.now) tries (arc_value statement.now) result }
+        ensures answer { Answers (G.shuts gate.now) tries L.opening (arc_value statement.now) result }
+        ensures at { AnswersAt tries L.opening seat.old.viewer.seen seat.new.viewer.seen (arc_value statement.now) result }
+        ensures begins { IsPrefix seat.old.viewer.seen seat.new.viewer.seen }
         ensures index { IfOk result (λ r. StandsAfter L.parts seat.old.accepted r) }
         ensures spent { IfErr result (λ e. SpentAt L.parts seat.old.accepted e) }
         ensures counted { seat.new.accepted ≡ seat.old.accepted + receipts_in result }
@@ -87,7 +94,9 @@ impl<L: Ledger> Desk<L> {
         gate: &G,
     ) -> Result<Receipt, SubmitFault>
         requires { (1 ≤ tries) × (tries ≤ 1000) }
-        ensures answer { Answers (G.shuts gate.now) tries (arc_value statement.now) result }
+        ensures answer { Answers (G.shuts gate.now) tries L.opening (arc_value statement.now) result }
+        ensures at { AnswersAt tries L.opening seat.old.viewer.seen seat.new.viewer.seen (arc_value statement.now) result }
+        ensures begins { IsPrefix seat.old.viewer.seen seat.new.viewer.seen }
         ensures index { IfOk result (λ r. StandsAfter L.parts seat.old.accepted r) }
         ensures spent { IfErr result (λ e. SpentAt L.parts seat.old.accepted e) }
         ensures counted { seat.new.accepted ≡ seat.old.accepted + receipts_in result }
@@ -108,9 +117,11 @@ impl<L: Ledger> Desk<L> {
     /// `Err` the share is the same, and no entry was added.
     ///
     /// Refused, in the order in which an attempt meets it: `NoText` if the book has no text of the statement's name; `GateShut`, only if the gate
-    /// may be shut for the statement's number at an attempt from 1 to `tries`; `TooManyTrials` and `TextTooLong`, only if there is a text on which
-    /// performing the statement is refused so; `Foreign`; `Full`; `Memory`, at whichever step it is refused; `TriesSpent` with the version that the last attempt saw and
-    /// the text's version at its commit, which is higher, at most a million, and at most the seat's share if there is no other seat.
+    /// may be shut for the statement's number at an attempt from 1 to `tries`; `TooManyTrials` and `TextTooLong`, only if performing the
+    /// statement on the text, as the seat has seen it now, is refused so; `Stopped` as [`Desk::commit`] and [`Seat::snapshot`] say; `Full`, where the
+    /// seat has seen as many entries as there is room for; `Memory`, at whichever step it is refused; `TriesSpent` with the version that the last
+    /// attempt saw and the text's version at its commit, which is higher, and higher by at least `tries` than the one that the seat had seen, at most a
+    /// million, and at most the seat's share if there is no other seat.
     pub fn submit<R: Wait, G: Gate>(
         &self,
         rt: &R,
@@ -121,7 +132,9 @@ impl<L: Ledger> Desk<L> {
         gate: &G,
     ) -> Result<Receipt, SubmitFault>
         requires { (1 ≤ tries) × (tries ≤ 1000) }
-        ensures answer { Answers (G.shuts gate.now) tries (arc_value statement) result }
+        ensures answer { Answers (G.shuts gate.now) tries L.opening (arc_value statement) result }
+        ensures at { AnswersAt tries L.opening seat.old.viewer.seen seat.new.viewer.seen (arc_value statement) result }
+        ensures begins { IsPrefix seat.old.viewer.seen seat.new.viewer.seen }
         ensures index { IfOk result (λ r. StandsAfter L.parts seat.old.accepted r) }
         ensures spent { IfErr result (λ e. SpentAt L.parts seat.old.accepted e) }
         ensures counted { seat.new.accepted ≡ seat.old.accepted + receipts_in result }

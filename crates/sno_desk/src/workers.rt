@@ -10,17 +10,17 @@ ghost use Rattle.sno_desk.specs.Turns.{AllAnswer, FollowInOrder, Goes, HasWorked
 use crate::gathering::{collect, in_order};
 use crate::{Desk, Gate, Reply, Seat, WorkersFault};
 use sno_book::{Book, Receipt};
+use sno_published::Naming;
 use sno_statement::Statement;
 use std::alloc::{AllocError, Global};
 use std::collections::VecDeque;
-use std::sync::ledger::Ledger;
 use std::sync::{Arc, Wait};
 use std::thread;
 use std::thread::Threads;
 
 /// What all workers share.
 #[derive(Drop)]
-struct Shift<'a, L: Ledger, G: Gate> {
+struct Shift<'a, L: Naming, G: Gate> {
     desk: &'a Desk<L>,
     jobs: &'a [Arc<Statement>],
     workers: usize,
@@ -30,7 +30,7 @@ struct Shift<'a, L: Ledger, G: Gate> {
     ghost lawful: { (1 ≤ tries) × (tries ≤ 1000) },
 }
 
-impl<L: Ledger, G: Gate> Shift<'_, L, G> {
+impl<L: Naming, G: Gate> Shift<'_, L, G> {
     /// Submits this job if it is the seat's turn, which it is when no job of another seat is to be passed over first. The reply is kept after the
     /// others. Answers how many jobs of other seats come before the seat's next one.
     #[tactic(auto, using(crate::proofs::Turns::goes_one, crate::proofs::Turns::goes_by, crate::proofs::Turns::follow_one, crate::proofs::Causes::follows))]
@@ -44,8 +44,8 @@ impl<L: Ledger, G: Gate> Shift<'_, L, G> {
         replies: &mut VecDeque<Reply>,
     ) -> Result<usize, AllocError>
         ensures goes { IfOk result (λ next. (all jobs : List Task)
-            → Goes (Answers (G.shuts self.now.gate.now) self.now.tries) all (every self.now.workers wait (arc_value job.now ∷ jobs)) replies.old.items
-            → Goes (Answers (G.shuts self.now.gate.now) self.now.tries) all (every self.now.workers next jobs) replies.new.items) }
+            → Goes (Answers (G.shuts self.now.gate.now) self.now.tries L.opening) all (every self.now.workers wait (arc_value job.now ∷ jobs)) replies.old.items
+            → Goes (Answers (G.shuts self.now.gate.now) self.now.tries L.opening) all (every self.now.workers next jobs) replies.new.items) }
         ensures counted { OnOk result (seat.new.accepted + sum_by receipts_in replies.old.items ≡ seat.old.accepted + sum_by receipts_in replies.new.items) }
         ensures in_order { OnOk result ((before : ℕ) → before + sum_by receipts_in replies.old.items ≡ seat.old.accepted
             → FollowInOrder L.parts before replies.old.items → FollowInOrder L.parts before replies.new.items) }
@@ -68,7 +68,7 @@ impl<L: Ledger, G: Gate> Shift<'_, L, G> {
         seat: &mut Seat<L>,
         first: usize,
     ) -> Result<VecDeque<Reply>, AllocError>
-        ensures answers { IfOk result (λ replies. AllAnswer (Answers (G.shuts self.now.gate.now) self.now.tries) (every self.now.workers first (map arc_value self.now.jobs.now)) replies.items) }
+        ensures answers { IfOk result (λ replies. AllAnswer (Answers (G.shuts self.now.gate.now) self.now.tries L.opening) (every self.now.workers first (map arc_value self.now.jobs.now)) replies.items) }
         ensures counted { IfOk result (λ replies. seat.new.accepted ≡ seat.old.accepted + sum_by receipts_in replies.items) }
         ensures in_order { IfOk result (λ replies. FollowInOrder L.parts seat.old.accepted replies.items) }
     {
@@ -82,7 +82,7 @@ impl<L: Ledger, G: Gate> Shift<'_, L, G> {
 
     /// Submits the jobs of one seat, which keeps the replies.
     fn work<R: Wait>(&self, rt: &R, alloc: Global, seat: &mut Seat<L>, first: usize)
-        ensures { HasWorked (Answers (G.shuts self.now.gate.now) self.now.tries) (every self.now.workers first (map arc_value self.now.jobs.now)) L.parts seat.old.accepted seat.new.accepted (option_map (λ q. q.items) seat.new.replies) }
+        ensures { HasWorked (Answers (G.shuts self.now.gate.now) self.now.tries L.opening) (every self.now.workers first (map arc_value self.now.jobs.now)) L.parts seat.old.accepted seat.new.accepted (option_map (λ q. q.items) seat.new.replies) }
     {
         seat.replies = match self.replies(rt, alloc, seat, first) {
             Ok(replies) => Some(replies),
@@ -98,7 +98,7 @@ fn may_cross<T: Send + Sync>()
 {}
 
 /// All seats at work, each with the jobs of its place.
-fn work_all<L: Ledger + Send + Sync, G: Gate + Sync, R: Threads + Wait + Sync>(
+fn work_all<L: Naming + Send + Sync, G: Gate + Sync, R: Threads + Wait + Sync>(
     rt: &R,
     alloc: Global,
     desk: &Desk<L>,
@@ -109,7 +109,7 @@ fn work_all<L: Ledger + Send + Sync, G: Gate + Sync, R: Threads + Wait + Sync>(
 )
     requires some { 1 ≤ length seats.old }
     requires lawful { (1 ≤ tries) × (tries ≤ 1000) }
-    ensures { (k : ℕ) (d : Seat L) → k < length seats.old → HasWorked (Answers (G.shuts gate.now) tries) (every (length seats.old) k (map arc_value jobs.now)) L.parts
+    ensures { (k : ℕ) (d : Seat L) → k < length seats.old → HasWorked (Answers (G.shuts gate.now) tries L.opening) (every (length seats.old) k (map arc_value jobs.now)) L.parts
         (slice_index_or seats.old k d).accepted (slice_index_or seats.new k d).accepted (option_map (λ q. q.items) (slice_index_or seats.new k d).replies) }
 {
     may_cross::<Book>();
@@ -118,7 +118,7 @@ fn work_all<L: Ledger + Send + Sync, G: Gate + Sync, R: Threads + Wait + Sync>(
     let workers = seats.len();
     let worker = |first: usize, seat: &mut Seat<L>|
         requires { (1 ≤ workers) × (1 ≤ tries) × (tries ≤ 1000) }
-        ensures { HasWorked (Answers (G.shuts gate.entry.now) tries) (every workers first (map arc_value jobs.entry.now)) L.parts seat.old.accepted seat.new.accepted (option_map (λ q. q.items) seat.new.replies) }
+        ensures { HasWorked (Answers (G.shuts gate.entry.now) tries L.opening) (every workers first (map arc_value jobs.entry.now)) L.parts seat.old.accepted seat.new.accepted (option_map (λ q. q.items) seat.new.replies) }
     {
         let shift = Shift {
             desk,
@@ -144,7 +144,7 @@ fn work_all<L: Ledger + Send + Sync, G: Gate + Sync, R: Threads + Wait + Sync>(
 ///
 /// Refused: `Memory`. Some jobs may have been accepted then and their replies lost; each share counts what was accepted through its seat, and
 /// the desk can still be used and closed.
-pub fn run_workers<L: Ledger + Send + Sync, G: Gate + Sync, R: Threads + Wait + Sync>(
+pub fn run_workers<L: Naming + Send + Sync, G: Gate + Sync, R: Threads + Wait + Sync>(
     rt: &R,
     alloc: Global,
     desk: &Desk<L>,
@@ -155,7 +155,7 @@ pub fn run_workers<L: Ledger + Send + Sync, G: Gate + Sync, R: Threads + Wait + 
 ) -> Result<Vec<Reply>, WorkersFault>
     requires few { (1 ≤ length seats.old) × (length seats.old ≤ 16) }
     requires lawful { (1 ≤ tries) × (tries ≤ 1000) }
-    ensures answers { IfOk result (λ replies. AllAnswer (Answers (G.shuts gate.now) tries) (map arc_value jobs.now) replies.items) }
+    ensures answers { IfOk result (λ replies. AllAnswer (Answers (G.shuts gate.now) tries L.opening) (map arc_value jobs.now) replies.items) }
     ensures total { IfOk result (λ replies. sum_by (λ s. s.accepted) seats.new ≡ sum_by (λ s. s.accepted) seats.old + sum_by receipts_in replies.items) }
     ensures in_order { IfOk result (λ replies. (k : ℕ) (d : Seat L) → k < length seats.old
         → FollowInOrder L.parts (slice_index_or seats.old k d).accepted (every (length seats.old) k replies.items)) }

@@ -1,5 +1,5 @@
 //! Operations on a table.
-ghost use Rattle.std.specs.Prelude.{◌≡◌, ◌++◌, ◌∷◌, [], ℕ, Some, IfSome, IfOk};
+ghost use Rattle.std.specs.Prelude.{◌≡◌, ◌<◌, ◌++◌, ◌∷◌, [], ℕ, Some, IfSome, IfOk, length};
 ghost use Rattle.sno_book.specs.Entries.{Entry as Published};
 ghost use Rattle.sno_book.specs.Journals.{HasStep, replay};
 ghost use Rattle.sno_book.specs.Openings.{start};
@@ -65,7 +65,7 @@ impl<L: Naming> Given<L> {
     }
 }
 
-/// An entry that is to be published, and after which entries. By its type it has a step from the texts that these leave.
+/// An entry that is to be published, and after which entries. By its type it has a step from the texts that these leave, and there is room for it.
 #[derive(Drop)]
 pub struct Operation<L: Naming> {
     entry: Entry,
@@ -75,7 +75,7 @@ pub struct Operation<L: Naming> {
 }
 
 impl<L: Naming> Model for Operation<L> {
-    ghost use Rattle.std.specs.Prelude.{◌≡◌, Some};
+    ghost use Rattle.std.specs.Prelude.{◌≡◌, ◌<◌, Some, length};
     ghost use Rattle.sno_book.specs.Journals.{HasStep, replay};
     ghost use Rattle.sno_book.specs.Openings.{start};
     ghost use Rattle.sno_published.specs.Changes.{Change, change_code, last_of};
@@ -86,7 +86,7 @@ impl<L: Naming> Model for Operation<L> {
 
     ghost view = { λ s. record { before = s.before.entries; entry = s.entry } };
 
-    ghost invariant = { λ s. (s.before.history ≡ L.book) × (s.tried.history ≡ L.tries) × (last_of s.tried.entries ≡ Some s.entry) × HasStep (replay (start L.opening) s.before.entries) s.entry };
+    ghost invariant = { λ s. (s.before.history ≡ L.book) × (s.tried.history ≡ L.tries) × (last_of s.tried.entries ≡ Some s.entry) × HasStep (replay (start L.opening) s.before.entries) s.entry × (length s.before.entries < L.opening.room) };
 }
 
 /// A share of the entry.
@@ -111,6 +111,7 @@ impl<L: Naming> Operation<L> {
         requires histories { (before.now.history ≡ L.book) × (tried.now.history ≡ L.tries) }
         requires entry { last_of tried.now.entries ≡ Some entry.now }
         requires step { HasStep (replay (start L.opening) before.now.entries) entry.now }
+        requires room { length before.now.entries < L.opening.room }
         ensures { IfOk result (λ operation. operation ≡ record { before = before.now.entries; entry = entry.now }) }
     {
         Ok(Operation {
@@ -132,6 +133,7 @@ impl<L: Naming> Operation<L> {
     pub(crate) fn before(&self) -> &Front
         ensures before { result.now ≡ record { history = L.book; entries = self.now.before } }
         ensures step { HasStep (replay (start L.opening) self.now.before) self.now.entry }
+        ensures room { length self.now.before < L.opening.room }
     {
         &self.before
     }

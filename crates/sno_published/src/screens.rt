@@ -88,6 +88,7 @@ fn append<L: Naming>(
     requires history { history.now.history ≡ L.book }
     requires attempts { attempts.old.history ≡ L.tries }
     requires step { HasStep (replay (start L.opening) history.now.entries) entry.now }
+    requires room { length history.now.entries < L.opening.room }
     ensures desk { writer.new.desk ≡ writer.old.desk }
     ensures attempts { attempts.new.history ≡ L.tries }
     ensures last { IfOk result (λ slot. last_of attempts.new.entries ≡ Some entry.now) }
@@ -191,7 +192,7 @@ impl<L: Naming> Screen<L> {
         entry: &Entry,
     ) -> Result<Screen<L>, Unpublished<L>>
         requires step { HasStep (replay (start L.opening) self) entry.now }
-        requires room { length self < 1000000 }
+        requires room { (length self < 1000000) × (length self < L.opening.room) }
         ensures published { IfOk result (λ screen. screen ≡ self ++ entry.now ∷ []) }
         ensures refused { IfErr result (λ refused. shown_by refused ≡ self) }
     {

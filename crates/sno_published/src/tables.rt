@@ -1,5 +1,5 @@
 //! Tables.
-ghost use Rattle.std.specs.Prelude.{◌≡◌, ◌++◌, ◌∷◌, [], IfOk, MatchResult};
+ghost use Rattle.std.specs.Prelude.{◌≡◌, ◌<◌, ◌≤◌, ◌++◌, ◌∷◌, [], length, IfOk, MatchResult};
 ghost use Rattle.std.specs.Arc.{arc_value};
 ghost use Rattle.std.specs.Option.{option_map};
 ghost use Rattle.sno_book.specs.Journals.{HasStep, Legal, replay};
@@ -9,13 +9,13 @@ ghost use Rattle.sno_published.specs.Tables.{text_after, text_at};
 use crate::stored_texts::{StoredText, first_texts, renew, stored_at};
 use crate::{Front, Naming, Operation};
 use left_right::Absorb;
-use sno_book::{Entry, Opening, Text};
+use sno_book::{Entry, Opening, Text, ViewSource};
 use std::alloc::{AllocError, Global};
 use std::marker::{Model, PhantomData};
 use std::sync::Arc;
 
 /// The texts after some entries, with their versions. By its type the entries are a beginning of the desk's history, they are legal from the desk's
-/// opening, and the texts and versions are what they leave. Contracts see the entries.
+/// opening, which has room for them, and the texts and versions are what they leave. Contracts see the entries.
 #[derive(Drop)]
 pub struct Table<L: Naming> {
     opening: Arc<Opening>,
@@ -25,7 +25,7 @@ pub struct Table<L: Naming> {
 }
 
 impl<L: Naming> Model for Table<L> {
-    ghost use Rattle.std.specs.Prelude.{◌≡◌, List};
+    ghost use Rattle.std.specs.Prelude.{◌≡◌, ◌≤◌, List, length};
     ghost use Rattle.std.specs.Coded.{coded_list};
     ghost use Rattle.std.specs.Arc.{arc_value};
     ghost use Rattle.sno_book.specs.Entries.{Entry, entry_code};
@@ -37,7 +37,7 @@ impl<L: Naming> Model for Table<L> {
 
     ghost view = { λ s. s.front.entries };
 
-    ghost invariant = { λ s. (arc_value s.opening ≡ L.opening) × (s.front.history ≡ L.book) × IsReplay L.opening s.front.entries s.stored.items };
+    ghost invariant = { λ s. (arc_value s.opening ≡ L.opening) × (s.front.history ≡ L.book) × IsReplay L.opening s.front.entries s.stored.items × (length s.front.entries ≤ L.opening.room) };
 }
 
 impl<L: Naming> Table<L> {
@@ -61,6 +61,7 @@ impl<L: Naming> Table<L> {
     pub fn front(&self) -> &Front
         ensures front { result.now ≡ record { history = L.book; entries = self.now } }
         ensures legal { Legal (start L.opening) self.now }
+        ensures within { length self.now ≤ L.opening.room }
     {
         &self.front
     }
@@ -78,6 +79,7 @@ impl<L: Naming> Table<L> {
     /// Takes in the next entry, with the front that has seen it.
     fn take_in(&mut self, entry: &Entry, front: Front) -> Result<(), AllocError>
         requires step { HasStep (replay (start L.opening) self.old) entry.now }
+        requires room { length self.old < L.opening.room }
         requires front { front ≡ record { history = L.book; entries = self.old ++ entry.now ∷ [] } }
         ensures { MatchResult result (λ _. self.new ≡ self.old ++ entry.now ∷ []) (λ _. self.new ≡ self.old) }
     {
@@ -112,4 +114,10 @@ impl<L: Naming> Absorb<Operation<L>> for Table<L> {
         self.front.learn(before);
         self.take_in(operation.entry(), front)
     }
+}
+
+impl<L: Naming> ViewSource for Table<L> {
+    ghost use Rattle.sno_book.specs.Views.{View};
+
+    ghost shown = { λ entries. record { opening = L.opening; journal = entries } };
 }

@@ -54,7 +54,8 @@ fn follow<L: Naming, R: Wait>(
     ensures opening { book.new.opening ≡ L.opening }
     ensures level { IfSome result (λ s. s ≡ book.new.journal) }
 {
-    if screen.count() > 9 {
+    let room = u64::from(book.opening().room());
+    if screen.count() > 9 || screen.count() >= room {
         screen.end(rt);
         return None;
     }

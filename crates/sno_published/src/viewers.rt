@@ -1,5 +1,5 @@
 //! Viewers.
-ghost use Rattle.std.specs.Prelude.{◌≡◌, ◌≢◌, ◌⊎◌, IfOk, IfErr, IfSome, OnOk, MatchBool, MatchResult, Decides, [], length};
+ghost use Rattle.std.specs.Prelude.{◌≡◌, ◌≢◌, ◌≤◌, ◌⊎◌, IfOk, IfErr, IfSome, OnOk, MatchBool, MatchResult, Decides, [], length};
 ghost use Rattle.std.specs.Arc.{arc_value};
 ghost use Rattle.std.specs.Option.{option_map, option_map_or};
 ghost use mathlib.Core.List.{IsPrefix};
@@ -13,12 +13,13 @@ ghost use Rattle.sno_published.specs.declared.faults.ViewFault.TheVariants.{Memo
 
 use crate::{Front, Kept, Naming, Screen, See, Seeing, Table, ViewFault};
 use left_right::reader::{Reader, Reading};
-use sno_book::Text;
+use sno_book::{Text, ViewSource};
 use std::alloc::AllocError;
 use std::marker::Model;
 use std::sync::Arc;
 
-/// A reader of what one screen shows, which never waits. By its type what it has seen is a legal beginning of the screen's history. Contracts see the
+/// A reader of what one screen shows, which never waits. By its type what it has seen is a legal beginning of the screen's history, for which the
+/// opening has room. Contracts see the
 /// entries that it has seen or was told of.
 #[derive(Drop)]
 pub struct Viewer<L: Naming> {
@@ -27,7 +28,7 @@ pub struct Viewer<L: Naming> {
 }
 
 impl<L: Naming> Model for Viewer<L> {
-    ghost use Rattle.std.specs.Prelude.{◌≡◌, [], IfSome};
+    ghost use Rattle.std.specs.Prelude.{◌≡◌, ◌≤◌, [], IfSome, length};
     ghost use Rattle.std.specs.Option.{option_map_or};
     ghost use mathlib.Core.List.{IsPrefix};
     ghost use Rattle.left_right.specs.Sides.{view as view_at};
@@ -41,7 +42,13 @@ impl<L: Naming> Model for Viewer<L> {
 
     ghost view = { λ s. record { shown = option_map_or (λ r. view_at r.place) s.reader []; seen = s.front.entries } };
 
-    ghost invariant = { λ s. (s.front.history ≡ L.book) × Legal (start L.opening) s.front.entries × IfSome s.reader (λ r. IsPrefix (view_at r.place) s.front.entries) };
+    ghost invariant = { λ s. (s.front.history ≡ L.book) × Legal (start L.opening) s.front.entries × (length s.front.entries ≤ L.opening.room) × IfSome s.reader (λ r. IsPrefix (view_at r.place) s.front.entries) };
+}
+
+impl<L: Naming> ViewSource for Viewer<L> {
+    ghost use Rattle.sno_book.specs.Views.{View};
+
+    ghost shown = { λ v. record { opening = L.opening; journal = v.seen } };
 }
 
 /// Goes on to the table's front, unless that is the shorter one, and says whether it did.
@@ -49,6 +56,7 @@ fn go_on<L: Naming>(front: &mut Front, table: &Table<L>) -> bool
     requires { front.old.history ≡ L.book }
     ensures history { front.new.history ≡ L.book }
     ensures legal { Legal (start L.opening) table.now }
+    ensures within { length table.now ≤ L.opening.room }
     ensures entries { MatchBool result ((front.new.entries ≡ table.now) × IsPrefix front.old.entries table.now) ((front.new ≡ front.old) × GoesOn table.now front.old.entries) }
 {
     let shown = table.front();
@@ -100,7 +108,7 @@ fn begin<L: Naming>(
     ensures history { front.new.history ≡ L.book }
     ensures begins { IsPrefix front.old.entries front.new.entries }
     ensures reader { IfSome reader.new (λ r. IsPrefix (view r.place) front.new.entries) }
-    ensures entered { MatchResult result (λ reading. (reading.part.value ≡ front.new.entries) × (view reading.place ≡ front.new.entries) × Legal (start L.opening) front.new.entries)
+    ensures entered { MatchResult result (λ reading. (reading.part.value ≡ front.new.entries) × (view reading.place ≡ front.new.entries) × Legal (start L.opening) front.new.entries × (length front.new.entries ≤ L.opening.room))
         (λ e. (e ≢ Memory) × IsCause e (record { shown = option_map_or (λ r. view r.place) reader.old []; seen = front.old.entries }) (record { shown = option_map_or (λ r. view r.place) reader.new []; seen = front.new.entries })) }
 {
     let Some(outside) = reader.take() else {
@@ -125,6 +133,7 @@ impl<L: Naming> Viewer<L> {
     pub fn seen(&self) -> u64
         ensures seen { result ≡ length self.now.seen }
         ensures legal { Legal (start L.opening) self.now.seen }
+        ensures within { length self.now.seen ≤ L.opening.room }
     {
         self.front.count()
     }

@@ -1,5 +1,5 @@
 -- A table with no entry.
-use Rattle.std.proofs.Common.{ap, ◌∙◌}
+use Rattle.std.proofs.Common.{ap, ◌∙◌, arith}
 use Rattle.sno_book.specs.Openings.{Opening}
 use Rattle.sno_published.specs.StoredTexts.{first_contents}
 use Rattle.sno_published.proofs.Replays.{first}
@@ -12,4 +12,5 @@ invariant_of-result g c =
       c.in_ok-try_clone.ensures ∙ c.requires.opening,
       ap (λ f. f.history) front,
       rw (ap (λ f. f.entries) front) (first g.L.Naming.opening c.in_ok-first_texts.field-0.items texts),
+      rw (ap (λ f. f.entries) front) (omega arith),
     )

@@ -1,0 +1,53 @@
+-- What a seat sees of its desk.
+use Rattle.std.specs.Prelude.{◌≡◌, ◌≢◌, ◌+◌, ℕ, List, [], ◌∷◌, ◌++◌, length, Option, Some, None, Result, Ok, Err, slice_get}
+use mathlib.Core.List.{IsPrefix as Begins}
+use Rattle.sno_pattern.specs.NameList.{place_of}
+use Rattle.sno_book.specs.Entries.{Entry}
+use Rattle.sno_book.specs.Journals.{Legal}
+use Rattle.sno_book.specs.Openings.{Opening, names_in, start}
+use Rattle.sno_book.specs.Proposals.{Received}
+use Rattle.sno_book.specs.Snapshots.{Snapshot}
+use Rattle.sno_book.specs.Views.{View}
+use Rattle.sno_published.specs.Tables.{text_after, text_at}
+use Rattle.sno_desk.specs.declared.faults.SnapshotFault.{SnapshotFault}
+use Rattle.sno_desk.specs.declared.faults.SnapshotFault.TheVariants as snapshot
+
+-- the opening with the entries that were seen
+abbrev pub view_after : Opening → List Entry → View
+view_after opening seen = record { opening = opening; journal = seen }
+
+-- the place of the text of this name in an opening
+abbrev pub place_in : Opening → List ℕ → Option ℕ
+place_in opening name = place_of (names_in opening.texts) name
+
+-- a snapshot of the text of this name after the entries that were seen: its place in the opening, and its characters and version after them
+pub record IsSeen (opening : Opening) (seen : List Entry) (name : List ℕ) (taken : Snapshot) : Type 0 where
+  pub origin : taken.origin ≡ view_after opening seen
+  pub place : place_in opening name ≡ Some taken.place
+  pub there : text_after opening seen taken.place ≡ Some (text_at opening taken.place taken.text taken.version)
+
+-- no text exactly where the opening has none of that name
+abbrev pub GivesSeen : Result Snapshot SnapshotFault → Opening → List Entry → List ℕ → Type 0
+GivesSeen (Ok taken) opening seen name = IsSeen opening seen name taken
+GivesSeen (Err snapshot.NoText) opening seen name = place_in opening name ≡ None
+GivesSeen (Err snapshot.Stopped) opening seen name = place_in opening name ≢ None
+GivesSeen (Err snapshot.Memory) opening seen name = place_in opening name ≢ None
+
+-- where nothing was entered nothing more is seen
+abbrev pub StaysBehind : SnapshotFault → List Entry → List Entry → Type 0
+StaysBehind snapshot.NoText before after = after ≡ before
+StaysBehind snapshot.Stopped before after = after ≡ before
+StaysBehind snapshot.Memory before after = Unit {0}
+
+-- the seat was told a legal list, of as many entries as stand before the receipt's and that one as the last: what it has seen begins with the list
+pub record IsTold (opening : Opening) (seen : List Entry) (receipt : Received) : Type 0 where
+  pub front : List Entry
+  pub legal : Legal (start opening) (front ++ receipt.entry ∷ [])
+  pub many : length front ≡ receipt.index
+  pub begins : Begins (front ++ receipt.entry ∷ []) seen
+
+-- the text at this place has this version after the entries that were seen
+pub record HasVersion (opening : Opening) (seen : List Entry) (place version : ℕ) : Type 0 where
+  pub text : List ℕ
+  pub name : List ℕ
+  pub there : text_after opening seen place ≡ Some (record { name = name; text = text; version = version })
