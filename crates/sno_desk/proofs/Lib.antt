@@ -4,3 +4,4 @@ pub mod Crossings
 pub mod Openings
 pub mod Standing
 pub mod Turns
+pub mod Viewings
