@@ -202,6 +202,12 @@ proposed opening seen s taken p h made =
       prefix = subst (λ (v : View). IsPrefix v (view_after opening seen)) origin whole;
     }
 
+-- the same from what the calls answer
+pub proposed_on : (opening : Opening) (seen : List Entry) (s its : Task) (name : List ℕ) (taken : Snapshot) (p : Proposed) → name ≡ s.text → its ≡ s → IsSeen opening seen name taken → Proposes p its taken
+    → IsProposed opening seen s p
+proposed_on opening seen s its name taken p called same h made =
+    proposed opening seen s taken p (subst (λ (n : List ℕ). IsSeen opening seen n taken) called h) (subst (λ (t : Task). Proposes p t taken) same made)
+
 pub committed_named : (e : CommitFault) (opening : Opening) (seen after : List Entry) (s : Task) (p : Proposed) → IsProposed opening seen s p → IsCause e opening after p → IsNamed opening s (Err (of_commit e))
 committed_named commit.NoText opening seen after s p h why = absurd (why (ap (λ (t : Task). place_in opening t.text) h.statement ∙ h.named))
 committed_named (commit.Changed was now) opening seen after s p h why = has_place opening s.text p.place h.named
