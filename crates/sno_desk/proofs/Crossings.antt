@@ -1,38 +1,70 @@
 -- Which of the crate's types may cross threads, from what is known of the types below.
 use denote.RattleType.{RattleType}
+use denote.Builtin.{Array}
 use mathlib.Core.List.{List, [], ◌∷◌}
 use mir.Syntax.{Sym}
 use denote.Struct.Field.{row_field}
 use denote.Struct.Tuple.{TupleAt, type_at, parts}
-use denote.Param.Send.{IsSend, IsSync, AllSync, sendable, view_send, view_sync}
+use denote.Param.Send.{IsSend, IsSync, AllSync, sendable, view_send}
 use denote.Param.SendFields.{FieldsHave, as_row_send, as_row_sync, declared_send, declared_sync}
-use Rattle.std.proofs.Crossing.{crosses, Arc-send, Arc-sync, Deque-send}
-use Rattle.std.proofs.sync.ledger.Share.TheSendSync as share
-use Rattle.std.proofs.sync.ledger.Book.TheSendSync as total
-use Rattle.std.specs.declared.sync.ledger.Ledger.{Ghosts}
-use Rattle.sno_book.proofs.openings.Opening.TheSendSync as opening
-use Rattle.sno_book.specs.contracts.books.Book as Book
-use Rattle.sno_book.specs.contracts.entries.Receipt as Receipt
-use Rattle.sno_published.specs.declared.naming.Naming.{Ghosts as NamingGhosts}
-use Rattle.sno_published.proofs.viewers.Viewer.TheSendSync as viewer
-use Rattle.sno_published.specs.contracts.viewers.Viewer as Viewer
-use Rattle.sno_published.specs.contracts.screens.Screen as Screen
-use Rattle.sno_book.specs.contracts.openings.Opening as Opening
+use Rattle.std.proofs.Crossing.{crosses, Arc-send, Arc-sync, Deque-send, send, sync, frees}
 use Rattle.std.proofs.option.Option.TheSendSync as option
 use Rattle.std.proofs.result.Result.TheSendSync as result
-use Rattle.std.specs.contracts.option.Option as Option
-use Rattle.std.specs.contracts.collections.VecDeque as VecDeque
-use Rattle.std.specs.contracts.result.Result as Result
+use Rattle.std.proofs.sync.ledger.Book.TheSendSync as total
+use Rattle.std.proofs.sync.ledger.Share.TheSendSync as share
+use Rattle.std.proofs.sync.Mutex.TheSendSync as mutex
+use Rattle.std.proofs.sync.OnceLock.TheSendSync as once
 use Rattle.std.specs.contracts.alloc.Global as Global
+use Rattle.std.specs.contracts.collections.VecDeque as VecDeque
 use Rattle.std.specs.contracts.impls.GlobalAllocator.TheImpl.{ghosts}
+use Rattle.std.specs.contracts.option.Option as Option
+use Rattle.std.specs.contracts.result.Result as Result
+use Rattle.std.specs.contracts.sync.OnceLock as OnceLock
+use Rattle.std.specs.declared.sync.ledger.Ledger.{Ghosts}
+use Rattle.left_right.proofs.writer.Writer.TheSendSync as writer
+use Rattle.left_right.specs.contracts.writer.Writer as Writer
+use Rattle.sno_book.proofs.openings.Opening.TheSendSync as opening
+use Rattle.sno_book.specs.contracts.books.Book as Book
+use Rattle.sno_book.specs.contracts.entries.Entry as Entry
+use Rattle.sno_book.specs.contracts.entries.Receipt as Receipt
+use Rattle.sno_book.specs.contracts.openings.Opening as Opening
+use Rattle.sno_published.proofs.fronts.Front.TheSendSync as front
+use Rattle.sno_published.proofs.histories.History.TheSendSync as history
+use Rattle.sno_published.proofs.operations.Given.TheSendSync as given
+use Rattle.sno_published.proofs.tables.Table.TheSendSync as table
+use Rattle.sno_published.proofs.viewers.Viewer.TheSendSync as viewer
+use Rattle.sno_published.specs.contracts.fronts.Front as Front
+use Rattle.sno_published.specs.contracts.histories.History as History
+use Rattle.sno_published.specs.contracts.keeping.Kept as Kept
+use Rattle.sno_published.specs.contracts.keeping.KeptProtocolTableSeeing.TheImpl as keeps
+use Rattle.sno_published.specs.contracts.operations.Given as Given
+use Rattle.sno_published.specs.contracts.operations.Operation as Operation
+use Rattle.sno_published.specs.contracts.operations.Operation.TheInside as OperationInside
+use Rattle.sno_published.specs.contracts.screens.Screen as Screen
+use Rattle.sno_published.specs.contracts.screens.Screen.TheInside as ScreenInside
+use Rattle.sno_published.specs.contracts.screens.Spent as Spent
+use Rattle.sno_published.specs.contracts.screens.Spent.TheInside as SpentInside
+use Rattle.sno_published.specs.contracts.tables.Table as Table
+use Rattle.sno_published.specs.contracts.tables.TableAbsorbOperation.TheImpl as absorbs
+use Rattle.sno_published.specs.contracts.viewers.Viewer as Viewer
+use Rattle.sno_published.specs.declared.naming.Naming.{Ghosts as NamingGhosts}
+use Rattle.sno_desk.specs.contracts.desk.Desk as Desk
 use Rattle.sno_desk.specs.contracts.faults.SubmitFault as SubmitFault
+use Rattle.sno_desk.specs.contracts.locked.Locked as Locked
+use Rattle.sno_desk.specs.contracts.locked.Locked.TheInside as LockedInside
+use Rattle.sno_desk.specs.contracts.seats.Seat as Seat
 use Rattle.sno_desk.specs.contracts.windows.Window as Window
 use Rattle.sno_desk.specs.contracts.windows.Window.TheInside as Inside
-use Rattle.sno_desk.specs.contracts.seats.Seat as Seat
-use Rattle.sno_desk.specs.contracts.locked.Locked as Locked
-use Rattle.sno_desk.specs.contracts.desk.Desk as Desk
 
--- the replies of a seat
+-- a book, from its entries
+pub book_send : IsSend Entry.the_row → IsSend Book.the_row
+book_send entry = search (sendable, crosses, opening.the_send) depth 40 fits 100000
+
+pub book_sync : IsSync Entry.the_row → IsSync Book.the_row
+book_sync entry = search (sendable, crosses, opening.the_sync) depth 40 fits 100000
+
+-- ---- seats
+
 abbrev Reply : RattleType
 Reply = Result.the_row Receipt.the_row SubmitFault.the_row
 
@@ -52,6 +84,42 @@ replies_send receipt =
 
 pub seat_send : (L : RattleType) (n : NamingGhosts L.Denot) (g : Ghosts L.Denot) → IsSend Receipt.the_row → IsSend (Seat.the_row L n g)
 seat_send L n g receipt = declared_send (Seat.the_type L n g) (search sendable, (share.the_send L g, (as_row_send (Window.the_field L n g) (window_send L n g), (replies_send receipt, tt))))
+
+-- ---- what lies under the lock
+
+module _ (L : RattleType) (n : NamingGhosts L.Denot) (g : Ghosts L.Denot) (entry : IsSend Entry.the_row) where
+  operation_send : IsSend (Operation.the_row L n g)
+  operation_send =
+      let slot = Arc-send (OnceLock.the_row (Given.the_row L n g)) (once.the_send (Given.the_row L n g) (given.the_send L n g)) (once.the_sync (Given.the_row L n g) (given.the_send L n g) (given.the_sync L n g)) in
+      view_send _ _ _ _ _ (declared_send (OperationInside.the_type L n g) (as_row_send Entry.the_field entry, (as_row_send Front.the_field front.the_send, (as_row_send Front.the_field front.the_send, (slot, tt)))))
+
+  -- what one reader has seen
+  abbrev Seeing : RattleType
+  Seeing = Array Entry.the_row (tt {0}) 0
+
+  writer_send : IsSend (Writer.the_row (Table.the_row L n g) (Operation.the_row L n g) Seeing (Kept.the_row L) Global.the_row Seeing (absorbs.ghosts L n absorbs.no_dict g absorbs.no_dict)
+      (keeps.ghosts L n keeps.no_dict g keeps.no_dict) ghosts)
+  writer_send = writer.the_send (Table.the_row L n g) (Operation.the_row L n g) Seeing (Kept.the_row L) Global.the_row Seeing (absorbs.ghosts L n absorbs.no_dict g absorbs.no_dict)
+      (keeps.ghosts L n keeps.no_dict g keeps.no_dict) ghosts (table.the_send L n g) operation_send send (table.the_sync L n g) sync frees
+
+  screen_send : IsSend (Screen.the_row L (absorbs.ghosts L n absorbs.no_dict g absorbs.no_dict) n g)
+  screen_send = view_send _ _ _ _ _ (declared_send (ScreenInside.the_type L (absorbs.ghosts L n absorbs.no_dict g absorbs.no_dict) n g) (writer_send, (as_row_send History.the_field history.the_send, (as_row_send History.the_field history.the_send, tt))))
+
+  spent_send : IsSend (Spent.the_row L (absorbs.ghosts L n absorbs.no_dict g absorbs.no_dict) n g)
+  spent_send = view_send _ _ _ _ _ (declared_send (SpentInside.the_type L (absorbs.ghosts L n absorbs.no_dict g absorbs.no_dict) n g) (writer_send, tt))
+
+  locked_send : IsSend Book.the_row → IsSend (Locked.the_row L n g)
+  locked_send book =
+      let shown = option.the_send (Screen.the_row L (absorbs.ghosts L n absorbs.no_dict g absorbs.no_dict) n g) screen_send in
+      let spent = option.the_send (Spent.the_row L (absorbs.ghosts L n absorbs.no_dict g absorbs.no_dict) n g) spent_send in
+      view_send _ _ _ _ _ (declared_send (LockedInside.the_type L n g) (as_row_send Book.the_field book, (shown, (spent, (total.the_send L g, (share.the_send L g, tt))))))
+
+  pub desk_sync : IsSend Book.the_row → IsSync (Desk.the_row L n g)
+  desk_sync book =
+      let lock = mutex.the_sync (Locked.the_row L n g) (locked_send book) in
+      declared_sync (Desk.the_type L n g) (Arc-sync Opening.the_row opening.the_send opening.the_sync, (sync, (lock, tt)))
+
+-- ---- closures
 
 parts_sync : (Ts : List RattleType) → AllSync Ts → FieldsHave IsSync (parts Ts)
 parts_sync [] s = tt
