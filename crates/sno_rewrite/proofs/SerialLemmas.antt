@@ -24,7 +24,7 @@ use Rattle.sno_book.specs.Proposals.{Proposed, Proposes, GivesProposal, Received
 use Rattle.sno_book.specs.Commits.{IsSnapshot, GivesSnapshot, IsAccepted, IsRefused, refusal}
 use Rattle.sno_book.specs.declared.faults.SnapshotFault.{SnapshotFault}
 use Rattle.sno_book.specs.declared.faults.SnapshotFault.TheVariants as snapshots
-use Rattle.sno_book.specs.declared.snapshots.Snapshot.{Snapshot}
+use Rattle.sno_book.specs.Snapshots.{Snapshot}
 use Rattle.sno_listing.specs.History.{History, history_of}
 use Rattle.sno_listing.specs.declared.refusals.Refusal.{Refusal}
 use Rattle.sno_book.specs.Openings.{start}
@@ -61,10 +61,10 @@ refused_none v s number old new same none grown =
     ∙ ap (λ (l : List Refusal). Some (history_of v l)) (sym grown)
 
 pub refused_for : (v : View) (s : Task) (number : ℕ) (snapshot : Snapshot) (old new : List Refusal) (e : StatementFault) (reason : Reason) → number ≡ s.number → IsSnapshot v s.text snapshot
-    → perform s (arc_value snapshot.text) ≡ Err e → reason_of e ≡ Some reason → new ≡ old ++ record { number = number; reason = reason } ∷ []
+    → perform s snapshot.text ≡ Err e → reason_of e ≡ Some reason → new ≡ old ++ record { number = number; reason = reason } ∷ []
     → advance (history_of v old) s ≡ Some (history_of v new)
 refused_for v s number snapshot old new e reason same taken performed is grown =
-    advance_refused (history_of v old) s (record { name = s.text; text = arc_value snapshot.text; version = snapshot.version }) e reason taken.found performed is
+    advance_refused (history_of v old) s (record { name = s.text; text = snapshot.text; version = snapshot.version }) e reason taken.found performed is
     ∙ ap (λ (n : ℕ). Some (history_of v (old ++ record { number = n; reason = reason } ∷ []))) (sym same)
     ∙ ap (λ (l : List Refusal). Some (history_of v l)) (sym grown)
 
@@ -75,7 +75,7 @@ committed v w s snapshot p r refused taken proposed accepted =
     let same : entry_of p ≡ entry = (λ i. record { statement = proposed.statement i; version = proposed.version i; done = p.done }) in
     let journal : w.journal ≡ v.journal ++ entry_of p ∷ [] = ap (λ (x : View). x.journal) accepted.appended in
     let stepped : history_of w refused ≡ accept (history_of v refused) (entry_of p) = (λ i. record { state = accepted.stepped i; journal = journal i; refused = refused }) in
-    advance_done (history_of v refused) s (record { name = s.text; text = arc_value snapshot.text; version = snapshot.version }) p.done taken.found proposed.done
+    advance_done (history_of v refused) s (record { name = s.text; text = snapshot.text; version = snapshot.version }) p.done taken.found proposed.done
     ∙ ap (λ (e : Entry). Some (accept (history_of v refused) e)) (sym same) ∙ ap (λ (h : History). Some h) (sym stepped)
 
 -- one statement more, and then those that are left
@@ -134,14 +134,14 @@ no_text v name other snapshots.NoText same is h = ap (λ (n : List ℕ). find n 
 no_text v name other snapshots.Memory same is h = cc
 
 pub too_long : (s other : Task) (snapshot : Snapshot) (e : StatementFault) → s ≡ other → e ≡ fault.TextTooLong → GivesProposal (Err e) s snapshot
-    → perform other (arc_value snapshot.text) ≡ Err fault.TextTooLong
-too_long s other snapshot fault.TextTooLong same is h = ap (λ (t : Task). perform t (arc_value snapshot.text)) (sym same) ∙ h
+    → perform other snapshot.text ≡ Err fault.TextTooLong
+too_long s other snapshot fault.TextTooLong same is h = ap (λ (t : Task). perform t snapshot.text) (sym same) ∙ h
 too_long s other snapshot fault.Memory same is h = cc
 too_long s other snapshot fault.TooManyTrials same is h = cc
 
 pub too_many : (s other : Task) (snapshot : Snapshot) (e : StatementFault) → s ≡ other → e ≡ fault.TooManyTrials → GivesProposal (Err e) s snapshot
-    → perform other (arc_value snapshot.text) ≡ Err fault.TooManyTrials
-too_many s other snapshot fault.TooManyTrials same is h = ap (λ (t : Task). perform t (arc_value snapshot.text)) (sym same) ∙ h
+    → perform other snapshot.text ≡ Err fault.TooManyTrials
+too_many s other snapshot fault.TooManyTrials same is h = ap (λ (t : Task). perform t snapshot.text) (sym same) ∙ h
 too_many s other snapshot fault.Memory same is h = cc
 too_many s other snapshot fault.TextTooLong same is h = cc
 
@@ -151,7 +151,6 @@ refused_memory : (v : View) (p : Proposed) (e : CommitFault) → refusal v p ≡
 refused_memory v p commits.Memory none cause = refl
 refused_memory v p commits.NoText none cause = let is = cause (λ q. cc) in cc
 refused_memory v p (commits.Changed seen now) none cause = let is = cause (λ q. cc) in cc
-refused_memory v p commits.Foreign none cause = let is = cause (λ q. cc) in cc
 refused_memory v p commits.Full none cause = let is = cause (λ q. cc) in cc
 
 -- is refused for memory alone, where there is room
