@@ -1,13 +1,13 @@
 -- What a book's refusal says of the proposal.
-use Rattle.std.proofs.Common.{◌≡◌, ◌≢◌, ◌≤◌, ◌<◌, ℕ, zero, suc, Bool, true, false, Some, None, Option, List, [], ◌∷◌, ◌++◌, length, refl, sym, ap, subst, ◌∙◌, inl, inr, arith, append_assoc}
+use Rattle.std.proofs.Common.{◌≡◌, ◌≢◌, ◌≤◌, ◌<◌, ℕ, zero, suc, Bool, true, false, Some, None, Option, List, [], ◌∷◌, ◌++◌, length, refl, sym, ap, subst, ◌∙◌, inl, arith, append_assoc}
 use Rattle.std.specs.Prelude.{nat_eq, slice_get, if◌then◌else◌, Ok, Err, IfOk, IfErr}
 use Rattle.std.proofs.lemmas.Bool.{eqb-true, eqb-false}
 use mathlib.Core.List.{IsPrefix as Begins}
 use Rattle.sno_pattern.specs.Identifiers.{same}
 use Rattle.sno_book.specs.Books.{Book, view_of}
 use Rattle.sno_book.specs.Entries.{Entry}
-use Rattle.sno_book.specs.Journals.{HasStep}
-use Rattle.sno_book.specs.Openings.{Opening}
+use Rattle.sno_book.specs.Journals.{HasStep, replay}
+use Rattle.sno_book.specs.Openings.{Opening, start}
 use Rattle.sno_book.specs.Origins.{IsPerformed}
 use Rattle.sno_book.specs.Views.{View, IsLawful, IsPrefix, Kin, state_of}
 use Rattle.sno_book.specs.States.{VersionedText, State, find}
@@ -16,13 +16,12 @@ use Rattle.sno_book.specs.Proposals.{Proposed, Received, entry_of}
 use Rattle.sno_book.specs.Laws.{KinAgree, VersionsCountEntries}
 use Rattle.sno_book.specs.declared.faults.CommitFault.{CommitFault as BookRefusal}
 use Rattle.sno_book.specs.declared.faults.CommitFault.TheVariants as fault
-use Rattle.sno_book.proofs.BookLaws.{IsFree, free}
+use Rattle.sno_book.proofs.BookLaws.{free}
 use Rattle.sno_statement.specs.Perform.{perform}
 use Rattle.sno_desk.specs.declared.faults.CommitFault.{CommitFault}
 use Rattle.sno_desk.specs.declared.faults.CommitFault.TheVariants as commit
-use Rattle.sno_desk.specs.declared.faults.SubmitFault.TheVariants as submit
 use Rattle.sno_desk.specs.Receipts.{IsCause, NamesVersion, StandsAfter}
-use Rattle.sno_desk.specs.Seen.{HasVersion, view_after}
+use Rattle.sno_desk.specs.Seen.{view_after}
 use Rattle.sno_desk.specs.Answers.{Answer, MayFollow, SpentAt}
 use Rattle.sno_desk.specs.Faults.{of_book, of_commit}
 use Rattle.sno_desk.proofs.Standing.{standing}
@@ -71,7 +70,7 @@ cause before after p back e opening seen refused opens is = subst (λ (o : Openi
   where
     by_rule : (d : BookRefusal) → refusal before p ≡ Some d → IsCause (of_book d) before.opening before.journal p
     by_rule d h = by_refusal before p (λ d. IsCause (of_book d) before.opening before.journal p) (λ q. q) (λ q. q)
-      (λ held there differ. (refl, (λ q. differ (sym q)), record { text = held.text; name = held.name; there = there })) d h
+        (λ held there differ. (refl, (λ q. differ (sym q)), record { text = held.text; name = held.name; there = there })) d h
 
     by_cause : (d : BookRefusal) → (d ≢ fault.Memory → refusal before p ≡ Some d) → IsCause (of_book d) before.opening before.journal p
     by_cause fault.NoText h = by_rule fault.NoText (h (λ q. cc))
@@ -102,13 +101,6 @@ spent seats accepted commit.Stopped h = tt
 
 -- ---- views
 
--- what begins the seat's view is kin to the book's view, which that one begins
-pub kin : (origin : View) (b : Book) (opening : Opening) (old new : List Entry) → IsPrefix origin (view_after opening old) → Begins old new → new ≡ b.journal
-    → b.opening ≡ opening → Kin origin (view_of b)
-kin origin b opening old new prefix begins level opens =
-    inl (record { opening = opens ∙ prefix.opening; more = prefix.more ++ begins.0;
-      journal = sym level ∙ (sym begins.1 ∙ (ap (λ (l : List Entry). l ++ begins.0) prefix.journal ∙ append_assoc origin.journal prefix.more begins.0)) })
-
 -- a proposal that nothing refuses has a step
 pub has_step : (v : View) (p : Proposed) → refusal v p ≡ None → IsPerformed p.origin p.place p.version p.statement p.done → Kin p.origin v → KinAgree → HasStep (state_of v) (entry_of p)
 has_step v p none performed kin law =
@@ -118,6 +110,14 @@ has_step v p none performed kin law =
     let version : stood.held.version ≡ p.version = ap (λ (x : VersionedText). x.version) (sym held) ∙ sym is_free.version in
     let text : performed.text ≡ stood.held.text = law p.origin v kin p.place _ stood.held performed.stands.there stood.there (sym version) in
     record { versioned = stood.held; found = stood.found; at_version = version; performed = subst (λ (l : List ℕ). perform p.statement l ≡ Ok p.done) text performed.performed }
+
+-- and so has its entry, from what is shown of the book
+pub next_step : (v : View) (p : Proposed) (opening : Opening) (shown : List Entry) (entry : Entry) → HasStep (state_of v) (entry_of p) → v.opening ≡ opening → shown ≡ v.journal
+    → entry ≡ entry_of p → HasStep (replay (start opening) shown) entry
+next_step v p opening shown entry step opens is same =
+    let there : HasStep (replay (start opening) v.journal) (entry_of p) = subst (λ (o : Opening). HasStep (replay (start o) v.journal) (entry_of p)) opens step in
+    let on_screen : HasStep (replay (start opening) shown) (entry_of p) = subst (λ (l : List Entry). HasStep (replay (start opening) l) (entry_of p)) (sym is) there in
+    subst (λ (e : Entry). HasStep (replay (start opening) shown) e) (sym same) on_screen
 
 -- ---- receipts
 
@@ -141,6 +141,15 @@ version_counts before after p given a law =
     let entry : given.entry.version ≡ p.version = ap (λ (r : Entry). r.version) a.entry in
     let index : given.index ≡ length before.journal = a.index in
     omega arith
+
+-- the receipt stands behind all that the seat had accepted
+pub stands : (before after : View) (p : Proposed) (given : Received) (seats accepted total : ℕ) → IsAccepted before after p given → VersionsCountEntries → accepted ≤ total
+    → (seats ≡ 1 → accepted ≡ total) → length before.journal ≡ total → length before.journal < before.opening.room → before.opening.room ≤ 1000000
+    → StandsAfter seats accepted given
+stands before after p given seats accepted total a law below alone counted room few =
+    let version = version_counts before after p given a law in
+    let index : given.index ≡ length before.journal = a.index in
+    record { after = omega arith; alone = λ one. let all : accepted ≡ total = alone one in omega arith; within = omega arith; version = version }
 
 -- an answer that stands as a receipt, or is refused at a version, may follow
 pub follows : (seats accepted : ℕ) (r : Answer) → IfOk r (λ receipt. StandsAfter seats accepted receipt) → IfErr r (λ e. SpentAt seats accepted e) → MayFollow seats accepted r

@@ -3,3 +3,4 @@ pub mod Crossings
 pub mod Openings
 pub mod Standing
 pub mod Turns
+pub mod Viewings

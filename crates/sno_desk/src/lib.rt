@@ -64,9 +64,7 @@ mod workers;
 pub use blanks::Blank;
 pub use closing::close;
 pub use desk::Desk;
-pub use faults::{
-    CloseFault, CommitFault, DeskFault, SnapshotFault, SubmitFault, WorkersFault,
-};
+pub use faults::{CloseFault, CommitFault, DeskFault, SnapshotFault, SubmitFault, WorkersFault};
 pub use gates::{Gate, OpenGate};
 pub use seats::{Reply, Seat};
 pub use sno_book::{Book, Entry, Opening, Proposal, Receipt, Snapshot, propose};

@@ -32,7 +32,11 @@ impl<L: Naming> Model for Locked<L> {
 }
 
 /// Puts a screen into its place; one that stood there is ended.
-pub(crate) fn put_screen<L: Naming, R: Wait>(rt: &R, place: &mut Option<Screen<L>>, screen: Screen<L>)
+pub(crate) fn put_screen<L: Naming, R: Wait>(
+    rt: &R,
+    place: &mut Option<Screen<L>>,
+    screen: Screen<L>,
+)
     ensures { place.new ≡ Some screen }
 {
     if let Some(other) = place.replace(screen) {

@@ -128,10 +128,7 @@ impl<L: Naming> Seat<L> {
         ensures parts { result.parts ≡ 1 }
         ensures amount { result.amount ≡ self.accepted }
     {
-        let Seat {
-            share,
-            ..
-        } = self;
+        let Seat { share, .. } = self;
         share
     }
 }

@@ -46,15 +46,12 @@ impl<L: Naming> Window<L> {
         let Some(place) = self.opening.place(name) else {
             return Err(SnapshotFault::NoText);
         };
-        match self.viewer.text(place) {
-            Ok(Some((text, version))) => {
-                let _ = self.viewer.seen();
-                let _ = self.opening.len();
-                Ok(Snapshot::new(Origin::of(&self.viewer), place, version, text))
-            }
-            Ok(None) => Err(SnapshotFault::NoText),
-            Err(fault) => Err(SnapshotFault::from(fault)),
-        }
+        let Some((text, version)) = self.viewer.text(place)? else {
+            return Err(SnapshotFault::NoText);
+        };
+        let _ = self.viewer.seen();
+        let _ = self.opening.len();
+        Ok(Snapshot::new(Origin::of(&self.viewer), place, version, text))
     }
 
     /// Sees all that a screen shows, which it is told first, and says whether it has seen just that.

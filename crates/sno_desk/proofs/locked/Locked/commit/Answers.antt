@@ -1,0 +1,25 @@
+-- What the book refuses.
+use Rattle.std.proofs.Common.{◌≡◌, Some, ap, sym, subst, ◌∙◌}
+use Rattle.sno_book.specs.Books.{view_of}
+use Rattle.sno_published.specs.Viewings.{Viewing}
+use Rattle.sno_desk.specs.declared.faults.CommitFault.{CommitFault}
+use Rattle.sno_desk.specs.Receipts.{IsCause, NamesVersion}
+use Rattle.sno_desk.proofs.Causes.{cause, named}
+use Rattle.sno_desk.proofs.locked.Locked.commit.Goals as goal
+
+pub returns-in-Err-clause-cause : goal.returns-in-Err-clause-cause
+returns-in-Err-clause-cause g c =
+    let book = c.self.inside.book in
+    let seen = c.audit.new.self.viewer.seen in
+    let screen : c.self.inside.screen ≡ Some c.in-Some.screen = sym c.take.ensures.value ∙ c.in-Some.is in
+    let shown : c.in-Some.screen ≡ book.journal = rw screen at c.self.invariant.1 in
+    let level : seen ≡ c.in-Some.screen = ap (λ (v : Viewing). v.seen) c.audit.ensures.viewer ∙ c.if-not-see_all.ensures.level in
+    subst (λ (e : CommitFault). IsCause e g.L.Naming.opening seen c.args.proposal) (sym c.from.ensures)
+    (cause (view_of book) (view_of c.prepare.new.self) c.args.proposal c.in-Err.proposal c.in-Err.fault g.L.Naming.opening seen c.in-Err.ensures.refused c.self.invariant.0 (sym (level ∙ shown)))
+
+pub returns-in-Err-clause-version : goal.returns-in-Err-clause-version
+returns-in-Err-clause-version g c =
+    let book = c.self.inside.book in
+    subst (λ (e : CommitFault). NamesVersion g.L.Ledger.parts c.args.seat.now.accepted e) (sym c.from.ensures)
+    (named (view_of book) (view_of c.prepare.new.self) c.args.proposal c.in-Err.proposal c.in-Err.fault g.L.Ledger.parts c.args.seat.now.accepted c.self.inside.total.total
+    c.in-Err.ensures.refused c.journal.ensures.lawful c.versions_count_entries.ensures (λ one. sym c.see_all.ensures.accepted ∙ c.audit.ensures.alone one) c.self.invariant.2)
