@@ -12,10 +12,18 @@ use Rattle.std.proofs.sync.ledger.Book.TheSendSync as total
 use Rattle.std.specs.declared.sync.ledger.Ledger.{Ghosts}
 use Rattle.sno_book.proofs.openings.Opening.TheSendSync as opening
 use Rattle.sno_book.specs.contracts.books.Book as Book
+use Rattle.sno_book.specs.contracts.entries.Entry as Entry
 use Rattle.sno_book.specs.contracts.entries.Receipt as Receipt
 use Rattle.sno_desk.specs.contracts.seats.Seat as Seat
 use Rattle.sno_desk.specs.contracts.locked.Locked as Locked
 use Rattle.sno_desk.specs.contracts.desk.Desk as Desk
+
+-- a book, from its entries
+pub book_send : IsSend Entry.the_row → IsSend Book.the_row
+book_send entry = search (sendable, crosses, opening.the_send) depth 40 fits 100000
+
+pub book_sync : IsSync Entry.the_row → IsSync Book.the_row
+book_sync entry = search (sendable, crosses, opening.the_sync) depth 40 fits 100000
 
 pub seat_send : (L : RattleType) (g : Ghosts L.Denot) → IsSend Receipt.the_row → IsSend (Seat.the_row L g)
 seat_send L g receipt = search (sendable, crosses, share.the_send) depth 40 fits 100000

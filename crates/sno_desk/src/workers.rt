@@ -9,7 +9,7 @@ ghost use Rattle.sno_desk.specs.Turns.{AllAnswer, FollowInOrder, Goes, HasWorked
 
 use crate::gathering::{collect, in_order};
 use crate::{Desk, Gate, Reply, Seat, WorkersFault};
-use sno_book::{Book, Receipt};
+use sno_book::{Book, Entry, Receipt};
 use sno_published::Naming;
 use sno_statement::Statement;
 use std::alloc::{AllocError, Global};
@@ -112,6 +112,7 @@ fn work_all<L: Naming + Send + Sync, G: Gate + Sync, R: Threads + Wait + Sync>(
     ensures { (k : ℕ) (d : Seat L) → k < length seats.old → HasWorked (Answers (G.shuts gate.now) tries L.opening) (every (length seats.old) k (map arc_value jobs.now)) L.parts
         (slice_index_or seats.old k d).accepted (slice_index_or seats.new k d).accepted (option_map (λ q. q.items) (slice_index_or seats.new k d).replies) }
 {
+    may_cross::<Entry>();
     may_cross::<Book>();
     may_cross::<Statement>();
     may_cross::<Receipt>();

@@ -1,15 +1,11 @@
 -- What a statement does to a book.
-use Rattle.std.proofs.Common.{◌≡◌, ◌≢◌, ℕ, Bool, true, false, cond, List, [], ◌∷◌, ◌++◌, length, nat_lt, Option, Some, None, Result, Ok, Err, refl, ap, sym, subst, ◌∙◌, arith}
+use Rattle.std.proofs.Common.{◌≡◌, ◌≢◌, ℕ, List, [], ◌∷◌, ◌++◌, length, Option, Some, None, Result, Ok, Err, refl, ap, sym, subst, ◌∙◌, arith}
 use Rattle.std.specs.Prelude.{option_and_then}
 use Rattle.std.specs.Option.{option_map}
 use Rattle.std.specs.Arc.{arc_value}
 use Rattle.sno_statement.specs.Task.{Task}
-use Rattle.sno_pattern.specs.Outcome.{outcome, trials}
-use Rattle.sno_pattern.specs.declared.found.Hit.{Hit}
-use Rattle.sno_read.specs.declared.objects.Part.{Part}
-use Rattle.sno_statement.specs.Bindings.{Bound, bindings_of}
-use Rattle.sno_statement.specs.Value.{new_text, value_of}
-use Rattle.sno_statement.specs.Perform.{Done, Failed, Matched, finish, perform}
+use Rattle.sno_statement.specs.Perform.{Done, perform}
+use Rattle.sno_statement.proofs.NotMemory.{IsNotMemory, of_perform}
 use Rattle.sno_statement.specs.declared.outcomes.StatementFault.{StatementFault}
 use Rattle.sno_statement.specs.declared.outcomes.StatementFault.TheVariants as fault
 use Rattle.sno_book.specs.States.{VersionedText, find}
@@ -82,30 +78,17 @@ committed v w s snapshot p r refused taken proposed accepted =
 pub run_more : (h g : History) (s : Task) (statements : List Task) → advance h s ≡ Some g → run h (s ∷ statements) ≡ run g statements
 run_more h g s statements advanced = ap (option_and_then (λ (x : History). run x statements)) advanced
 
+-- an answer that isn't want of memory is entered or refused
+answer_settled : (h : History) (s : Task) (version : ℕ) (answer : Result Done StatementFault) → IsNotMemory answer → (g : History) × (settle h s version answer ≡ Some g)
+answer_settled h s version (Ok done) answered = (accept h (record { statement = s; version = version; done = done }), refl)
+answer_settled h s version (Err fault.TextTooLong) answered = (refuse h s TextTooLong, refl)
+answer_settled h s version (Err fault.Memory) answered = absurd answered
+answer_settled h s version (Err fault.TooManyTrials) answered = (refuse h s TooManyTrials, refl)
+
 -- by its definition no statement is refused memory
-text_settled : (b : Bool) (h : History) (s : Task) (version : ℕ) (done : Done) → (g : History) × (settle h s version (cond b (Err fault.TextTooLong) (Ok done)) ≡ Some g)
-text_settled true h s version done = (refuse h s TextTooLong, refl)
-text_settled false h s version done = (accept h (record { statement = s; version = version; done = done }), refl)
-
-finish_settled : (h : History) (s : Task) (version : ℕ) (object : Option (List Part)) (t : List ℕ) (bound : Bound) (hit : Option Hit)
-    → (g : History) × (settle h s version (finish object t bound hit) ≡ Some g)
-finish_settled h s version object t bound None = (accept h (record { statement = s; version = version; done = Failed bound }), refl)
-finish_settled h s version None t bound (Some hit) = (accept h (record { statement = s; version = version; done = Matched hit.start hit.end bound None }), refl)
-finish_settled h s version (Some parts) t bound (Some hit) =
-    text_settled (nat_lt 65536 (length (new_text t hit.start hit.end (value_of bound parts)))) h s version
-    (Matched hit.start hit.end bound (Some (new_text t hit.start hit.end (value_of bound parts))))
-
-trials_settled : (b : Bool) (h : History) (s : Task) (version : ℕ) (rest : Result Done StatementFault) → (g : History) × (settle h s version rest ≡ Some g)
-    → (g : History) × (settle h s version (cond b (Err fault.TooManyTrials) rest) ≡ Some g)
-trials_settled true h s version rest settled = (refuse h s TooManyTrials, refl)
-trials_settled false h s version rest settled = settled
-
 perform_settled : (h : History) (s : Task) (held : Option VersionedText) → (g : History) × (perform_on h s held ≡ Some g)
 perform_settled h s None = (refuse h s NoText, refl)
-perform_settled h s (Some held) =
-    let found = outcome held.text s.rules.bodies s.pattern s.anchored in
-    trials_settled (nat_lt s.limit (trials held.text s.rules.bodies s.pattern s.anchored)) h s held.version (finish s.object held.text (bindings_of held.text found) found.end)
-    (finish_settled h s held.version s.object held.text (bindings_of held.text found) found.end)
+perform_settled h s (Some held) = answer_settled h s held.version (perform s held.text) (of_perform s held.text)
 
 advance_settled : (h : History) (s : Task) → (g : History) × (advance h s ≡ Some g)
 unfolding advance

@@ -5,32 +5,45 @@ use denote.Ref.{ShrRef}
 use denote.Slice.{ShrSlice}
 use denote.Exit.{yes}
 use denote.Param.{param}
-use denote.Param.Send.{IsSend, IsSync, param_send, arg_send, shr_sync, shr_slice_sync, sendable}
+use denote.Param.Send.{IsSend, IsSync, param_send, param_sync, arg_send, arg_sync, shr_sync, shr_slice_sync, sendable}
 use Rattle.std.proofs.Crossing.{sync, Arc-sync}
 use Rattle.std.specs.contracts.sync.Arc as Arc
 use Rattle.std.specs.contracts.alloc.Global as Global
 use Rattle.std.specs.contracts.impls.GlobalAllocator.TheImpl.{ghosts}
 use Rattle.sno_desk.specs.contracts.desk.Desk as Desk
 use Rattle.sno_book.specs.contracts.books.Book as Book
+use Rattle.sno_book.specs.contracts.entries.Entry as Entry
 use Rattle.sno_book.specs.contracts.entries.Receipt as Receipt
 use Rattle.sno_statement.specs.contracts.statements.Statement as Statement
-use Rattle.sno_desk.proofs.Crossings.{seat_send, desk_sync, closure_sync}
+use Rattle.sno_desk.proofs.Crossings.{book_send, book_sync, seat_send, desk_sync, closure_sync}
 use Rattle.sno_desk.proofs.workers.work_all.Lts as Lts
 use Rattle.sno_desk.proofs.workers.work_all.Goals as goal
 
+pub may_cross-requires-2-send-T : goal.may_cross-requires-2-send-T
+may_cross-requires-2-send-T g c κs =
+    let entry : IsSend Entry.the_row = record { owned = c.may_cross.ensures.sends.owned; leaving = λ k d w. tt } in
+    param_send 0 (Lts.arg-1-0 g.row.L g.row.G g.row.R g.L.laws g.G.laws g.R.laws g.L.Ledger g.L.Ledger-dict g.G.Gate g.G.Gate-dict g.R.Threads g.R.Threads-dict g.R.Wait g.R.Wait-dict κs)
+    (arg_send _ yes _ (book_send entry))
+
+pub may_cross-requires-2-sync-T : goal.may_cross-requires-2-sync-T
+may_cross-requires-2-sync-T g c κs =
+    let entry : IsSync Entry.the_row = record { shared = c.may_cross.ensures.shares.shared } in
+    param_sync 0 (Lts.arg-1-0 g.row.L g.row.G g.row.R g.L.laws g.G.laws g.R.laws g.L.Ledger g.L.Ledger-dict g.G.Gate g.G.Gate-dict g.R.Threads g.R.Threads-dict g.R.Wait g.R.Wait-dict κs)
+    (arg_sync _ yes _ (book_sync entry))
+
 pub for_each_mut-requires-send-T : goal.for_each_mut-requires-send-T
 for_each_mut-requires-send-T g c κs within =
-    let receipt : IsSend Receipt.the_row = record { owned = c.may_cross-3.ensures.sends.owned; leaving = λ k d w. tt } in
+    let receipt : IsSend Receipt.the_row = record { owned = c.may_cross-4.ensures.sends.owned; leaving = λ k d w. tt } in
     let seat = seat_send (param 0 g.row.L) g.L.Ledger receipt in
-    param_send 1 (Lts.arg-3-1 g.row.L g.row.G g.row.R g.L.laws g.G.laws g.R.laws g.L.Ledger g.L.Ledger-dict g.G.Gate g.G.Gate-dict g.R.Threads g.R.Threads-dict g.R.Wait g.R.Wait-dict κs)
+    param_send 1 (Lts.arg-4-1 g.row.L g.row.G g.row.R g.L.laws g.G.laws g.R.laws g.L.Ledger g.L.Ledger-dict g.G.Gate g.G.Gate-dict g.R.Threads g.R.Threads-dict g.R.Wait g.R.Wait-dict κs)
     (arg_send _ yes _ seat)
 
 pub for_each_mut-requires-sync-F : goal.for_each_mut-requires-sync-F
 for_each_mut-requires-sync-F g c κs within =
-    let book : IsSend Book.the_row = record { owned = c.may_cross.ensures.sends.owned; leaving = λ k d w. tt } in
+    let book : IsSend Book.the_row = record { owned = c.may_cross-2.ensures.sends.owned; leaving = λ k d w. tt } in
     let desk = desk_sync (param 0 g.row.L) g.L.Ledger book in
-    let sent : IsSend Statement.the_row = record { owned = c.may_cross-2.ensures.sends.owned; leaving = λ k d w. tt } in
-    let shared : IsSync Statement.the_row = record { shared = c.may_cross-2.ensures.shares.shared } in
+    let sent : IsSend Statement.the_row = record { owned = c.may_cross-3.ensures.sends.owned; leaving = λ k d w. tt } in
+    let shared : IsSync Statement.the_row = record { shared = c.may_cross-3.ensures.shares.shared } in
     let job = Arc-sync Statement.the_row sent shared in
     let closure = closure_sync [] (
     ShrRef (named 6) κs.1.1.1.1.1.1.0 (Desk.the_row (param 0 g.row.L) g.L.Ledger)
