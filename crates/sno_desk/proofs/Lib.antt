@@ -1,3 +1,4 @@
+pub mod Attempts
 pub mod Causes
 pub mod Crossings
 pub mod Openings

@@ -51,9 +51,9 @@ fn seats_of<L: Naming>(
     let mut made = Vec::new(alloc);
     for _seat in 0..seats {
         let seat = seat_of(opening, screen, rest)?;
-        if made.push(seat).is_err() {
+        let Ok(()) = made.push(seat) else {
             return Err(DeskFault::Memory);
-        }
+        };
     }
     Ok(made)
 }

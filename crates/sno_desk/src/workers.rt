@@ -92,6 +92,7 @@ impl<L: Naming, G: Gate> Shift<'_, L, G> {
 }
 
 /// That a value of this type may go to another thread, and be shared there. It does nothing: its contract is used more than once.
+#[tactic(auto, using(crate::proofs::Crossings::seat_send))]
 fn may_cross<T: Send + Sync>()
     ensures sends { IsSend T.row }
     ensures shares { IsSync T.row }

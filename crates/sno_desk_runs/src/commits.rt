@@ -1,22 +1,22 @@
 //! Two seats that commit by themselves: the one overtakes the other's proposal, or adds entries between two of its own.
-ghost use Rattle.std.specs.Prelude.{◌≡◌, []};
+ghost use Rattle.std.specs.Prelude.{◌≡◌, [], IfOk};
+ghost use Rattle.sno_book.specs.Views.{IsPrefix};
+ghost use Rattle.sno_desk.specs.Seen.{view_after};
 
 use crate::day::{check_entry, check_text};
 use crate::jobs::{book, rules, statement};
 use sno_book::Book;
-use sno_desk::{CommitFault, Desk, Proposal, Receipt, Seat, close, propose};
-use sno_pattern::TextName;
+use sno_desk::{Blank, CommitFault, Desk, Naming, Proposal, Receipt, Seat, close, propose};
 use sno_statement::Statement;
 use std::alloc::Global;
 use std::marker::Brand;
 use std::process::Abort;
-use std::sync::ledger::{Blank, Ledger};
 use std::sync::{Arc, Wait};
 use std::test::Fail;
 
 /// What two seats do at a desk, with these statements.
 trait Turns {
-    fn take<L: Ledger, R: Wait + Abort>(
+    fn take<L: Naming, R: Wait + Abort>(
         &self,
         rt: &R,
         alloc: Global,
@@ -26,27 +26,28 @@ trait Turns {
     ) -> Result<(), Fail>;
 }
 
-/// The statement proposed on its text as it stands.
-fn proposal<L: Ledger, R: Wait + Abort>(
-    rt: &R,
+/// The statement proposed on its text as the seat sees it.
+fn proposal<L: Naming>(
     alloc: Global,
-    desk: &Desk<L>,
     seat: &mut Seat<L>,
     job: &Arc<Statement>,
-) -> Result<Proposal, Fail> {
-    let snapshot = desk.snapshot(rt, seat, job.text())?;
-    Ok(propose(alloc, Arc::try_clone(job)?, snapshot)?)
+) -> Result<Proposal, Fail>
+    ensures { IfOk result (λ p. IsPrefix p.origin (view_after L.opening seat.new.viewer.seen)) }
+{
+    let snapshot = seat.snapshot(job.text())?;
+    let proposal = propose(alloc, Arc::try_clone(job)?, snapshot)?;
+    Ok(proposal)
 }
 
 /// The statement proposed and committed.
-fn commit<L: Ledger, R: Wait + Abort>(
+fn commit<L: Naming, R: Wait + Abort>(
     rt: &R,
     alloc: Global,
     desk: &Desk<L>,
     seat: &mut Seat<L>,
     job: &Arc<Statement>,
 ) -> Result<Receipt, Fail> {
-    let proposal = proposal(rt, alloc, desk, seat, job)?;
+    let proposal = proposal(alloc, seat, job)?;
     Ok(desk.commit(rt, seat, proposal).map_err(|(fault, _)| fault)?)
 }
 
@@ -55,7 +56,7 @@ fn commit<L: Ledger, R: Wait + Abort>(
 struct Overtakes(Arc<Statement>);
 
 impl Turns for Overtakes {
-    fn take<L: Ledger, R: Wait + Abort>(
+    fn take<L: Naming, R: Wait + Abort>(
         &self,
         rt: &R,
         alloc: Global,
@@ -63,16 +64,18 @@ impl Turns for Overtakes {
         first: &mut Seat<L>,
         second: &mut Seat<L>,
     ) -> Result<(), Fail> {
-        let late = proposal(rt, alloc, desk, second, &self.0)?;
+        let late = proposal(alloc, second, &self.0)?;
+        assert_eq!(rt; late.version(), 0);
         let receipt = commit(rt, alloc, desk, first, &self.0)?;
         assert_eq!(rt; receipt.index, 0);
+        assert_eq!(rt; second.seen(), 0);
         assert_eq!(rt; receipt.text.bytes(), b"x".as_slice());
         let refused = desk.commit(rt, second, late).err();
         let (fault, back) = refused.expect(rt, "it was overtaken");
         assert_eq!(rt; fault, CommitFault::Changed { seen: 0, now: 1 });
         assert_eq!(rt; back.version(), 0);
-        assert_eq!(rt; first.accepted(), 1);
-        assert_eq!(rt; second.accepted(), 0);
+        assert_eq!(rt; (first.accepted(), first.seen()), (1, 1));
+        assert_eq!(rt; (second.accepted(), second.seen()), (0, 1));
         Ok(())
     }
 }
@@ -87,7 +90,7 @@ struct Interleaves {
 }
 
 impl Turns for Interleaves {
-    fn take<L: Ledger, R: Wait + Abort>(
+    fn take<L: Naming, R: Wait + Abort>(
         &self,
         rt: &R,
         alloc: Global,
@@ -96,7 +99,7 @@ impl Turns for Interleaves {
         second: &mut Seat<L>,
     ) -> Result<(), Fail> {
         assert_eq!(rt; commit(rt, alloc, desk, first, &self.first)?.index, 0);
-        let late = proposal(rt, alloc, desk, first, &self.again)?;
+        let late = proposal(alloc, first, &self.again)?;
         assert_eq!(rt; late.version(), 1);
         assert_eq!(rt; commit(rt, alloc, desk, second, &self.elsewhere)?.index, 1);
         assert_eq!(rt; commit(rt, alloc, desk, second, &self.unmatched)?.index, 2);
@@ -105,28 +108,31 @@ impl Turns for Interleaves {
         assert_eq!(rt; receipt.entry.statement.number(), 4);
         assert_eq!(rt; receipt.entry.version, 1);
         assert_eq!(rt; receipt.text.bytes(), b"z".as_slice());
-        assert_eq!(rt; first.accepted(), 2);
-        assert_eq!(rt; second.accepted(), 2);
+        assert_eq!(rt; (first.accepted(), first.seen()), (2, 4));
+        assert_eq!(rt; (second.accepted(), second.seen()), (2, 3));
         Ok(())
     }
 }
 
-fn two_seats<L: Ledger, T: Turns, R: Wait + Abort>(
+fn two_seats<L: Naming, T: Turns, R: Wait + Abort>(
     rt: &R,
     alloc: Global,
     blank: Blank,
     book: Book,
     turns: &T,
 ) -> Result<Book, Fail>
-    requires name { blank.name ≡ L.name }
-    requires parts { blank.parts ≡ L.parts }
-    requires two { blank.parts ≡ 2 }
+    requires name { (blank.ledger.name ≡ L.name) × (blank.ledger.parts ≡ L.parts) }
+    requires histories { (blank.history ≡ record { history = L.book; entries = [] }) × (blank.attempts.history ≡ L.tries) }
+    requires opening { book.opening ≡ L.opening }
+    requires two { blank.ledger.parts ≡ 2 }
     requires empty { book.journal ≡ [] }
 {
-    let (desk, mut seats) = Desk::<L>::new(alloc, blank, book, 2).map_err(|(fault, _)| fault)?;
+    let (desk, mut seats) = Desk::<L>::new(rt, alloc, blank, book, 2).map_err(|(fault, _)| fault)?;
     let (first, second) = seats.as_mut_slice().split_at_mut(1);
-    turns.take(rt, alloc, &desk, &mut first[0], &mut second[0])?;
-    Ok(close(desk, seats).map_err(|(fault, _)| fault)?)
+    let taken = turns.take(rt, alloc, &desk, &mut first[0], &mut second[0]);
+    let book = close(rt, desk, seats).map_err(|(fault, _)| fault)?;
+    taken?;
+    Ok(book)
 }
 
 /// A desk of two seats, with a ledger of its own.

@@ -2,12 +2,11 @@
 ghost use Rattle.std.specs.Prelude.{◌≡◌, ◌≤◌, [], IfOk};
 
 use sno_book::Book;
-use sno_desk::{Desk, Gate, Reply, close, run_workers};
+use sno_desk::{Blank, Desk, Gate, Naming, Reply, Seat, close, run_workers};
 use sno_statement::Statement;
-use std::alloc::Global;
+use std::alloc::{AllocError, Global};
 use std::marker::Brand;
 use std::process::Abort;
-use std::sync::ledger::{Blank, Ledger};
 use std::sync::{Arc, Wait};
 use std::test::Fail;
 use std::thread::Threads;
@@ -20,7 +19,16 @@ pub(crate) struct Day {
     pub shares: Vec<u64>,
 }
 
-fn spend<L: Ledger + Send + Sync, G: Gate + Sync, R: Threads + Wait + Sync>(
+/// How many each seat has accepted.
+fn accepted<L: Naming>(alloc: Global, seats: &[Seat<L>]) -> Result<Vec<u64>, AllocError> {
+    let mut shares = Vec::with_capacity(alloc, seats.len())?;
+    for seat in seats {
+        shares.push(seat.accepted()).map_err(|_| AllocError)?;
+    }
+    Ok(shares)
+}
+
+fn spend<L: Naming + Send + Sync, G: Gate + Sync, R: Threads + Wait + Sync>(
     rt: &R,
     alloc: Global,
     blank: Blank,
@@ -30,24 +38,22 @@ fn spend<L: Ledger + Send + Sync, G: Gate + Sync, R: Threads + Wait + Sync>(
     tries: u32,
     gate: &G,
 ) -> Result<Day, Fail>
-    requires name { blank.name ≡ L.name }
-    requires parts { blank.parts ≡ L.parts }
-    requires one_each { blank.parts ≡ seats }
+    requires name { (blank.ledger.name ≡ L.name) × (blank.ledger.parts ≡ L.parts) }
+    requires histories { (blank.history ≡ record { history = L.book; entries = [] }) × (blank.attempts.history ≡ L.tries) }
+    requires opening { book.opening ≡ L.opening }
+    requires one_each { blank.ledger.parts ≡ seats }
     requires few { (1 ≤ seats) × (seats ≤ 16) }
     requires empty { book.journal ≡ [] }
     requires lawful { (1 ≤ tries) × (tries ≤ 1000) }
 {
-    let (desk, mut seats) = Desk::<L>::new(alloc, blank, book, seats).map_err(|(fault, _)| fault)?;
-    let replies = run_workers(rt, alloc, &desk, seats.as_mut_slice(), jobs, tries, gate)?;
-    let mut shares = Vec::new(alloc);
-    for seat in seats.iter() {
-        shares.push(seat.accepted())?;
-    }
-    let book = close(desk, seats).map_err(|(fault, _)| fault)?;
+    let (desk, mut seats) = Desk::<L>::new(rt, alloc, blank, book, seats).map_err(|(fault, _)| fault)?;
+    let replies = run_workers(rt, alloc, &desk, seats.as_mut_slice(), jobs, tries, gate);
+    let shares = accepted(alloc, seats.as_slice());
+    let book = close(rt, desk, seats).map_err(|(fault, _)| fault)?;
     Ok(Day {
         book,
-        replies,
-        shares,
+        replies: replies?,
+        shares: shares?,
     })
 }
 

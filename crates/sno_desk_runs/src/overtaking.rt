@@ -4,25 +4,24 @@ ghost use Rattle.std.specs.Prelude.{◌≡◌, ◌≤◌, []};
 use crate::day::{check_entry, check_text};
 use crate::jobs::{book, rules, statement};
 use sno_book::Book;
-use sno_desk::{Desk, Gate, OpenGate, Seat, SubmitFault, close};
+use sno_desk::{Blank, Desk, Gate, Naming, OpenGate, Seat, SubmitFault, close};
 use sno_statement::Statement;
 use std::alloc::Global;
 use std::marker::Brand;
 use std::process::Abort;
-use std::sync::ledger::{Blank, Ledger};
 use std::sync::{Arc, Mutex, Wait};
 use std::test::Fail;
 
 /// A gate that submits a job of its own at each attempt, and is shut where that is refused.
 #[derive(Drop)]
-struct Overtaking<'a, L: Ledger> {
+struct Overtaking<'a, L: Naming> {
     alloc: Global,
     desk: &'a Desk<L>,
     seat: Mutex<Seat<L>>,
     job: &'a Arc<Statement>,
 }
 
-impl<L: Ledger> Gate for Overtaking<'_, L> {
+impl<L: Naming> Gate for Overtaking<'_, L> {
     ghost shuts = { λ _ _ _. Unit {0} };
 
     fn pass<R: Wait>(&self, rt: &R, _number: u32, _attempt: u32) -> bool {
@@ -39,7 +38,7 @@ impl<L: Ledger> Gate for Overtaking<'_, L> {
 }
 
 /// The first job submitted with so many tries, each of which the second job overtakes.
-fn overtake<L: Ledger, R: Wait + Abort>(
+fn overtake<L: Naming, R: Wait + Abort>(
     rt: &R,
     alloc: Global,
     blank: Blank,
@@ -47,13 +46,16 @@ fn overtake<L: Ledger, R: Wait + Abort>(
     jobs: &[Arc<Statement>; 2],
     tries: u32,
 ) -> Result<(SubmitFault, Book), Fail>
-    requires name { blank.name ≡ L.name }
-    requires parts { blank.parts ≡ L.parts }
-    requires two { blank.parts ≡ 2 }
+    requires name { (blank.ledger.name ≡ L.name) × (blank.ledger.parts ≡ L.parts) }
+    requires histories { (blank.history ≡ record { history = L.book; entries = [] }) × (blank.attempts.history ≡ L.tries) }
+    requires opening { book.opening ≡ L.opening }
+    requires two { blank.ledger.parts ≡ 2 }
     requires empty { book.journal ≡ [] }
     requires lawful { (1 ≤ tries) × (tries ≤ 1000) }
 {
-    let (desk, mut seats) = Desk::<L>::new(alloc, blank, book, 2).map_err(|(fault, _)| fault)?;
+    let job = Arc::try_clone(&jobs[0])?;
+    let mut all = Vec::with_capacity(alloc, 2)?;
+    let (desk, mut seats) = Desk::<L>::new(rt, alloc, blank, book, 2).map_err(|(fault, _)| fault)?;
     let other = seats.pop().unwrap();
     let mut seat = seats.pop().unwrap();
     let gate = Overtaking {
@@ -62,16 +64,14 @@ fn overtake<L: Ledger, R: Wait + Abort>(
         seat: Mutex::new(other),
         job: &jobs[1],
     };
-    let job = Arc::try_clone(&jobs[0])?;
     let refused = desk.submit(rt, alloc, &mut seat, job, tries, &gate).err();
     let fault = refused.expect(rt, "it was overtaken");
     assert_eq!(rt; seat.accepted(), 0);
     let other = gate.seat.into_inner();
     assert_eq!(rt; other.accepted(), u64::from(tries));
-    let mut all = Vec::new(alloc);
-    all.push(seat)?;
-    all.push(other)?;
-    let book = close(desk, all).map_err(|(fault, _)| fault)?;
+    all.push_reserved(seat);
+    all.push_reserved(other);
+    let book = close(rt, desk, all).map_err(|(fault, _)| fault)?;
     Ok((fault, book))
 }
 

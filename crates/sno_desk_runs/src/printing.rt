@@ -17,7 +17,7 @@ fn faults_of_commits(rt: HostRuntime) -> Result<(), Fail> {
     let changed = CommitFault::Changed { seen: 3, now: 12 };
     check(&rt, alloc, &CommitFault::NoText, "no text")?;
     check(&rt, alloc, &changed, "changed from version 3 to 12")?;
-    check(&rt, alloc, &CommitFault::Foreign, "of another book")?;
+    check(&rt, alloc, &CommitFault::Stopped, "stopped")?;
     check(&rt, alloc, &CommitFault::Full, "full")?;
     check(&rt, alloc, &CommitFault::Memory, "out of memory")
 }
@@ -30,7 +30,7 @@ fn faults_of_submits(rt: HostRuntime) -> Result<(), Fail> {
     check(&rt, alloc, &SubmitFault::GateShut, "gate shut")?;
     check(&rt, alloc, &SubmitFault::TextTooLong, "text too long")?;
     check(&rt, alloc, &SubmitFault::TooManyTrials, "too many trials")?;
-    check(&rt, alloc, &SubmitFault::Foreign, "of another book")?;
+    check(&rt, alloc, &SubmitFault::Stopped, "stopped")?;
     check(&rt, alloc, &SubmitFault::Full, "full")?;
     check(&rt, alloc, &SubmitFault::Memory, "out of memory")?;
     check(&rt, alloc, &spent, "tries spent at version 12, seen 3")
@@ -40,7 +40,9 @@ fn faults_of_submits(rt: HostRuntime) -> Result<(), Fail> {
 fn faults_of_desks(rt: HostRuntime) -> Result<(), Fail> {
     let alloc = rt.alloc();
     check(&rt, alloc, &SnapshotFault::NoText, "no text")?;
+    check(&rt, alloc, &SnapshotFault::Stopped, "stopped")?;
     check(&rt, alloc, &SnapshotFault::Memory, "out of memory")?;
+    check(&rt, alloc, &DeskFault::NoReader, "no place for a reader")?;
     check(&rt, alloc, &DeskFault::Memory, "out of memory")?;
     check(&rt, alloc, &WorkersFault::Memory, "out of memory")?;
     check(&rt, alloc, &CloseFault::Opening, "another opening")

@@ -5,12 +5,11 @@ use crate::day::{check_entry, check_text};
 use crate::gates::ShutFor;
 use crate::jobs::{book, rules, statement};
 use sno_book::Book;
-use sno_desk::{Desk, Gate, OpenGate, Reply, Seat, SubmitFault, close};
+use sno_desk::{Blank, Desk, Gate, Naming, OpenGate, Reply, Seat, SubmitFault, close};
 use sno_statement::Statement;
 use std::alloc::Global;
 use std::marker::Brand;
 use std::process::Abort;
-use std::sync::ledger::{Blank, Ledger};
 use std::sync::{Arc, Wait};
 use std::test::Fail;
 
@@ -23,7 +22,7 @@ struct Rest {
 }
 
 /// The jobs submitted through a seat, and what it had accepted after each.
-fn submit_through<L: Ledger, G: Gate, R: Wait + Abort>(
+fn submit_through<L: Naming, G: Gate, R: Wait + Abort>(
     rt: &R,
     alloc: Global,
     desk: &Desk<L>,
@@ -44,7 +43,7 @@ fn submit_through<L: Ledger, G: Gate, R: Wait + Abort>(
     Ok((replies, counts))
 }
 
-fn submit_each<L: Ledger, G: Gate, R: Wait + Abort>(
+fn submit_each<L: Naming, G: Gate, R: Wait + Abort>(
     rt: &R,
     alloc: Global,
     blank: Blank,
@@ -53,16 +52,18 @@ fn submit_each<L: Ledger, G: Gate, R: Wait + Abort>(
     tries: u32,
     gate: &G,
 ) -> Result<Rest, Fail>
-    requires name { blank.name ≡ L.name }
-    requires parts { blank.parts ≡ L.parts }
-    requires one { blank.parts ≡ 1 }
+    requires name { (blank.ledger.name ≡ L.name) × (blank.ledger.parts ≡ L.parts) }
+    requires histories { (blank.history ≡ record { history = L.book; entries = [] }) × (blank.attempts.history ≡ L.tries) }
+    requires opening { book.opening ≡ L.opening }
+    requires one { blank.ledger.parts ≡ 1 }
     requires empty { book.journal ≡ [] }
     requires lawful { (1 ≤ tries) × (tries ≤ 1000) }
 {
-    let (desk, mut seats) = Desk::<L>::new(alloc, blank, book, 1).map_err(|(fault, _)| fault)?;
+    let (desk, mut seats) = Desk::<L>::new(rt, alloc, blank, book, 1).map_err(|(fault, _)| fault)?;
     let (first, _) = seats.as_mut_slice().split_at_mut(1);
-    let (replies, counts) = submit_through(rt, alloc, &desk, &mut first[0], jobs, tries, gate)?;
-    let book = close(desk, seats).map_err(|(fault, _)| fault)?;
+    let submitted = submit_through(rt, alloc, &desk, &mut first[0], jobs, tries, gate);
+    let book = close(rt, desk, seats).map_err(|(fault, _)| fault)?;
+    let (replies, counts) = submitted?;
     Ok(Rest {
         book,
         replies,

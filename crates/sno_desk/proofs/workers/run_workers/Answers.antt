@@ -8,7 +8,7 @@ use Rattle.sno_desk.proofs.Turns.{Settles, settled_answers, settled_order, settl
 use Rattle.sno_desk.proofs.workers.run_workers.Goals as goal
 use Rattle.sno_desk.proofs.workers.run_workers.Goals.{After-drop-queues-2}
 
-settles : (g : _) (c : After-drop-queues-2 g) → Settles (λ s. s.accepted) (λ s. option_map (λ q. q.items) s.replies) (λ q. q.items) g.L.Ledger.parts (Answers (g.G.Gate.shuts c.args.gate.now) c.args.tries)
+settles : (g : _) (c : After-drop-queues-2 g) → Settles (λ s. s.accepted) (λ s. option_map (λ q. q.items) s.replies) (λ q. q.items) g.L.Ledger.parts (Answers (g.G.Gate.shuts c.args.gate.now) c.args.tries g.L.Naming.opening)
     (map arc_value c.args.jobs.now) c.args.seats.now c.work_all.new.seats c.collect.new.seats c.in_ok-queues.queues.items c.in_ok-replies.replies.items
 settles g c =
     let kept = c.in_ok-queues.ensures in
@@ -32,7 +32,7 @@ in_order-requires-clause-turns g c =
     let many : length c.in_ok-queues.queues.items ≡ length c.args.seats.now = omega (arith, kept.as_many) in
     let P : ℕ → Type 0 = λ n. HasTurns n 0 (map (λ q. q.items) c.in_ok-queues.queues.items) (map arc_value c.args.jobs.now) in
     subst P (sym many)
-    (taken_turns (λ s. s.accepted) (λ s. option_map (λ q. q.items) s.replies) (λ q. q.items) g.L.Ledger.parts (Answers (g.G.Gate.shuts c.args.gate.now) c.args.tries)
+    (taken_turns (λ s. s.accepted) (λ s. option_map (λ q. q.items) s.replies) (λ q. q.items) g.L.Ledger.parts (Answers (g.G.Gate.shuts c.args.gate.now) c.args.tries g.L.Naming.opening)
     (map arc_value c.args.jobs.now) c.args.seats.now c.work_all.new.seats c.in_ok-queues.queues.items many c.work_all.ensures (λ k d e h. kept.taken k d e (omega arith)))
 
 pub returns-clause-answers : goal.returns-clause-answers

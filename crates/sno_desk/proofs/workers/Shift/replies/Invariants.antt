@@ -8,7 +8,7 @@ use Rattle.sno_desk.proofs.workers.Shift.replies.Given as goal
 -- the replies so far, with those to the jobs that are left, answer the seat's jobs
 abbrev pub invariant-loop-job : goal.invariant-loop-job
 invariant-loop-job g l = record {
-  goes : Goes (Answers (g.G.Gate.shuts l.self.gate.now) l.self.tries) (every l.self.workers l.first (map arc_value l.self.jobs.now))
+  goes : Goes (Answers (g.G.Gate.shuts l.self.gate.now) l.self.tries g.L.Naming.opening) (every l.self.workers l.first (map arc_value l.self.jobs.now))
       (every l.self.workers l.wait (map arc_value (drop l.job-index l.self.jobs.now))) l.replies.items;
   in_order : FollowInOrder g.L.Ledger.parts l.fn.seat.accepted l.replies.items;
   counted : l.seat.accepted ≡ l.fn.seat.accepted + sum_by receipts_in l.replies.items;

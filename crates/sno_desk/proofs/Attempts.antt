@@ -1,0 +1,256 @@
+-- From one attempt to the next: what a seat has seen only grows, and with each lost try the text's version is one higher at least.
+use Rattle.std.proofs.Common.{◌≡◌, ◌≢◌, ◌≤◌, ◌<◌, ℕ, ◌+◌, Bool, true, false, List, [], length, Option, Some, None, refl, sym, ap, subst, ◌∙◌, arith}
+use Rattle.std.specs.Prelude.{Ok, Err, IsTrue}
+use Rattle.std.specs.List.{list_all}
+use Rattle.std.specs.Char.{is_ascii}
+use Rattle.std.proofs.lemmas.List.{append-nil}
+use mathlib.Core.List.{IsPrefix as Begins}
+use Rattle.sno_statement.specs.Task.{Task}
+use Rattle.sno_statement.specs.declared.outcomes.StatementFault.{StatementFault}
+use Rattle.sno_statement.specs.declared.outcomes.StatementFault.TheVariants as statement
+use Rattle.sno_book.specs.Entries.{Entry}
+use Rattle.sno_book.specs.Openings.{Opening}
+use Rattle.sno_book.specs.Proposals.{Proposed, Received, Proposes, GivesProposal}
+use Rattle.sno_book.specs.Snapshots.{Snapshot}
+use Rattle.sno_book.specs.States.{VersionedText}
+use Rattle.sno_book.specs.Views.{View, IsPrefix}
+use Rattle.sno_book.proofs.Rising.{versions_only_rise_in_place}
+use Rattle.sno_published.specs.Tables.{text_after, text_at}
+use Rattle.sno_published.proofs.Prefixes.{prefix_self, prefix_trans, prefix_length}
+use Rattle.sno_desk.specs.declared.faults.CommitFault.{CommitFault}
+use Rattle.sno_desk.specs.declared.faults.CommitFault.TheVariants as commit
+use Rattle.sno_desk.specs.declared.faults.SnapshotFault.{SnapshotFault}
+use Rattle.sno_desk.specs.declared.faults.SnapshotFault.TheVariants as snapshot
+use Rattle.sno_desk.specs.declared.faults.SubmitFault.TheVariants as submit
+use Rattle.sno_desk.specs.Answers.{Answer, AnswersAt, HasRisen, IsNamed, IsRefusedOn, Says, is_lost}
+use Rattle.sno_desk.specs.Faults.{of_commit, of_snapshot, of_statement}
+use Rattle.sno_desk.specs.Receipts.{IsCause, IsFor}
+use Rattle.sno_desk.specs.Seen.{GivesSeen, HasVersion, IsSeen, IsTold, place_in, view_after}
+use Rattle.sno_desk.proofs.Standing.{standing}
+
+-- ---- versions
+
+abbrev held : List ℕ → List ℕ → ℕ → VersionedText
+held name text version = record { name = name; text = text; version = version }
+
+one_version : (opening : Opening) (seen : List Entry) (place a b : ℕ) → HasVersion opening seen place a → HasVersion opening seen place b → a ≡ b
+one_version opening seen place a b h k =
+    let both : Some (held h.name h.text a) ≡ Some (held k.name k.text b) = sym h.there ∙ k.there in
+    let same : held h.name h.text a ≡ held k.name k.text b = cc in
+    ap (λ (x : VersionedText). x.version) same
+
+rises : (opening : Opening) (before after : List Entry) (place a b : ℕ) → Begins before after → HasVersion opening before place a → HasVersion opening after place b → a ≤ b
+rises opening before after place a b begins h k =
+    let prefix : IsPrefix (view_after opening before) (view_after opening after) = record { opening = refl; more = begins.0; journal = sym begins.1 } in
+    (versions_only_rise_in_place (view_after opening before) (view_after opening after) prefix place (held h.name h.text a) (held k.name k.text b) h.there k.there).version
+
+-- the text of a name has a version after any entries
+versioned : (opening : Opening) (seen : List Entry) (name : List ℕ) (place : ℕ) → place_in opening name ≡ Some place → (version : ℕ) × HasVersion opening seen place version
+versioned opening seen name place h =
+    let stood = standing opening seen name place h in
+    (stood.held.version, record { text = stood.held.text; name = stood.held.name; there = stood.there })
+
+one_place : (opening : Opening) (name : List ℕ) (a b : ℕ) → place_in opening name ≡ Some a → place_in opening name ≡ Some b → a ≡ b
+one_place opening name a b h k = let both : Some a ≡ Some b = sym h ∙ k in cc
+
+-- ---- the attempts so far
+
+-- where this attempt begins, which count from 1, what the seat has seen begins with what it had seen, and the version of the statement's text has risen
+-- by one at least with each attempt before
+pub record HasCome (opening : Opening) (earlier seen : List Entry) (s : Task) (attempt : ℕ) : Type 0 where
+  pub begins : Begins earlier seen
+  pub risen : (place was is : ℕ) → place_in opening s.text ≡ Some place → HasVersion opening earlier place was → HasVersion opening seen place is → was + attempt ≤ is + 1
+
+pub come_first : (opening : Opening) (seen : List Entry) (s : Task) → HasCome opening seen seen s 1
+come_first opening seen s = record {
+  begins = prefix_self seen;
+  risen = λ place was is named h k. let same = one_version opening seen place was is h k in omega (arith, same);
+}
+
+-- with a lost try the version that the text had, and the one that it has now
+lost_more : (opening : Opening) (earlier seen after : List Entry) (s : Task) (attempt now : ℕ) → HasCome opening earlier seen s attempt → HasRisen opening seen after s 1 now
+    → (place was : ℕ) → place_in opening s.text ≡ Some place → HasVersion opening earlier place was → was + attempt ≤ now
+lost_more opening earlier seen after s attempt now come last place was named h =
+    let mid = versioned opening seen s.text place named in
+    let same : place ≡ last.place = one_place opening s.text place last.place named last.named in
+    let there : HasVersion opening seen last.place mid.0 = subst (λ (k : ℕ). HasVersion opening seen k mid.0) same mid.1 in
+    let before : was + attempt ≤ mid.0 + 1 = come.risen place was mid.0 named h mid.1 in
+    let more : mid.0 + 1 ≤ now = last.risen mid.0 there in
+    omega (arith, before, more)
+
+pub come_next : (opening : Opening) (earlier seen after : List Entry) (s : Task) (attempt : ℕ) (answer : Answer) → is_lost answer ≡ true → HasCome opening earlier seen s attempt
+    → Begins seen after → AnswersAt 1 opening seen after s answer → HasCome opening earlier after s (attempt + 1)
+come_next opening earlier seen after s attempt (Err (submit.TriesSpent was_seen now)) lost come begins last = record {
+  begins = prefix_trans earlier seen after come.begins begins;
+  risen = λ place was is named h k.
+  let more = lost_more opening earlier seen after s attempt now come last place was named h in
+  let same : place ≡ last.place = one_place opening s.text place last.place named last.named in
+  let there : HasVersion opening after last.place is = subst (λ (p : ℕ). HasVersion opening after p is) same k in
+  let level = one_version opening after last.place is now there last.versioned in
+  omega (arith, more, level);
+}
+come_next opening earlier seen after s attempt (Ok receipt) lost come begins last = absurd cc
+come_next opening earlier seen after s attempt (Err submit.NoText) lost come begins last = absurd cc
+come_next opening earlier seen after s attempt (Err submit.GateShut) lost come begins last = absurd cc
+come_next opening earlier seen after s attempt (Err submit.TextTooLong) lost come begins last = absurd cc
+come_next opening earlier seen after s attempt (Err submit.Stopped) lost come begins last = absurd cc
+come_next opening earlier seen after s attempt (Err submit.Full) lost come begins last = absurd cc
+come_next opening earlier seen after s attempt (Err submit.Memory) lost come begins last = absurd cc
+come_next opening earlier seen after s attempt (Err submit.TooManyTrials) lost come begins last = absurd cc
+
+-- ---- the answer of the last attempt is that of all
+
+pub last_at : (tries : ℕ) (opening : Opening) (earlier seen after : List Entry) (s : Task) (attempt : ℕ) (answer : Answer) → (is_lost answer ≡ true → attempt ≡ tries)
+    → HasCome opening earlier seen s attempt → AnswersAt 1 opening seen after s answer → AnswersAt tries opening earlier after s answer
+last_at tries opening earlier seen after s attempt (Err (submit.TriesSpent was_seen now)) all come last =
+    let level : attempt ≡ tries = all refl in
+    record {
+      place = last.place;
+      named = last.named;
+      versioned = last.versioned;
+      risen = λ version h.
+      let more = lost_more opening earlier seen after s attempt now come last last.place version last.named h in omega (arith, more, level);
+    }
+last_at tries opening earlier seen after s attempt (Ok receipt) all come last =
+    let more = prefix_length earlier seen come.begins in
+    let many = last.0 in
+    (omega (arith, more, many), last.1)
+last_at tries opening earlier seen after s attempt (Err submit.NoText) all come last = tt
+last_at tries opening earlier seen after s attempt (Err submit.GateShut) all come last = tt
+last_at tries opening earlier seen after s attempt (Err submit.TextTooLong) all come last = last
+last_at tries opening earlier seen after s attempt (Err submit.Stopped) all come last = tt
+last_at tries opening earlier seen after s attempt (Err submit.Full) all come last = last
+last_at tries opening earlier seen after s attempt (Err submit.Memory) all come last = tt
+last_at tries opening earlier seen after s attempt (Err submit.TooManyTrials) all come last = last
+
+pub last_says : (shuts : ℕ → ℕ → Type 0) (tries : ℕ) (opening : Opening) (earlier seen after : List Entry) (s : Task) (attempt : ℕ) (answer : Answer)
+    → (is_lost answer ≡ true → attempt ≡ tries) → HasCome opening earlier seen s attempt → AnswersAt 1 opening seen after s answer → Says shuts tries 1 s answer → Says shuts tries tries s answer
+last_says shuts tries opening earlier seen after s attempt (Err (submit.TriesSpent was_seen now)) all come last says =
+    let level : attempt ≡ tries = all refl in
+    let was = versioned opening earlier s.text last.place last.named in
+    let more = lost_more opening earlier seen after s attempt now come last last.place was.0 last.named was.1 in
+    (says.0, omega (arith, more, level))
+last_says shuts tries opening earlier seen after s attempt (Ok receipt) all come last says = says
+last_says shuts tries opening earlier seen after s attempt (Err submit.NoText) all come last says = tt
+last_says shuts tries opening earlier seen after s attempt (Err submit.GateShut) all come last says = says
+last_says shuts tries opening earlier seen after s attempt (Err submit.TextTooLong) all come last says = says
+last_says shuts tries opening earlier seen after s attempt (Err submit.Stopped) all come last says = tt
+last_says shuts tries opening earlier seen after s attempt (Err submit.Full) all come last says = tt
+last_says shuts tries opening earlier seen after s attempt (Err submit.Memory) all come last says = tt
+last_says shuts tries opening earlier seen after s attempt (Err submit.TooManyTrials) all come last says = says
+
+-- ---- one attempt: the snapshot
+
+pub seen_named : (e : SnapshotFault) (opening : Opening) (seen : List Entry) (s : Task) → GivesSeen (Err e) opening seen s.text → IsNamed opening s (Err (of_snapshot e))
+seen_named snapshot.NoText opening seen s h = h
+seen_named snapshot.Stopped opening seen s h = h
+seen_named snapshot.Memory opening seen s h = h
+
+pub seen_says : (e : SnapshotFault) (shuts : ℕ → ℕ → Type 0) (tries : ℕ) (s : Task) → Says shuts tries 1 s (Err (of_snapshot e))
+seen_says snapshot.NoText shuts tries s = tt
+seen_says snapshot.Stopped shuts tries s = tt
+seen_says snapshot.Memory shuts tries s = tt
+
+pub seen_at : (e : SnapshotFault) (opening : Opening) (before after : List Entry) (s : Task) → AnswersAt 1 opening before after s (Err (of_snapshot e))
+seen_at snapshot.NoText opening before after s = tt
+seen_at snapshot.Stopped opening before after s = tt
+seen_at snapshot.Memory opening before after s = tt
+
+-- where the name has a place there is a text of it
+pub has_place : (opening : Opening) (name : List ℕ) (place : ℕ) → place_in opening name ≡ Some place → place_in opening name ≢ None
+has_place opening name place h = λ q. cc
+
+-- ---- one attempt: the statement on the snapshot
+
+pub performed_named : (e : StatementFault) (opening : Opening) (s : Task) → place_in opening s.text ≢ None → IsNamed opening s (Err (of_statement e))
+performed_named statement.TextTooLong opening s h = h
+performed_named statement.Memory opening s h = h
+performed_named statement.TooManyTrials opening s h = h
+
+pub performed_says : (e : StatementFault) (shuts : ℕ → ℕ → Type 0) (tries : ℕ) (s : Task) (taken : Snapshot) → length taken.text ≤ 65536 → IsTrue (list_all is_ascii taken.text)
+    → GivesProposal (Err e) s taken → Says shuts tries 1 s (Err (of_statement e))
+performed_says statement.TextTooLong shuts tries s taken short ascii h = record { text = taken.text; short = short; ascii = ascii; performed = h }
+performed_says statement.Memory shuts tries s taken short ascii h = tt
+performed_says statement.TooManyTrials shuts tries s taken short ascii h = record { text = taken.text; short = short; ascii = ascii; performed = h }
+
+pub performed_at : (e : StatementFault) (opening : Opening) (before seen : List Entry) (s : Task) (taken : Snapshot) → IsSeen opening seen s.text taken → GivesProposal (Err e) s taken
+    → AnswersAt 1 opening before seen s (Err (of_statement e))
+performed_at statement.TextTooLong opening before seen s taken h given =
+    record { place = taken.place; named = h.place; held = text_at opening taken.place taken.text taken.version; there = h.there; performed = given }
+performed_at statement.Memory opening before seen s taken h given = tt
+performed_at statement.TooManyTrials opening before seen s taken h given =
+    record { place = taken.place; named = h.place; held = text_at opening taken.place taken.text taken.version; there = h.there; performed = given }
+
+-- ---- one attempt: the commit
+
+-- a proposal of the statement on what the seat has seen
+pub record IsProposed (opening : Opening) (seen : List Entry) (s : Task) (p : Proposed) : Type 0 where
+  pub statement : p.statement ≡ s
+  pub named : place_in opening s.text ≡ Some p.place
+  pub versioned : HasVersion opening seen p.place p.version
+  pub prefix : IsPrefix p.origin (view_after opening seen)
+
+pub proposed : (opening : Opening) (seen : List Entry) (s : Task) (taken : Snapshot) (p : Proposed) → IsSeen opening seen s.text taken → Proposes p s taken → IsProposed opening seen s p
+proposed opening seen s taken p h made =
+    let origin : view_after opening seen ≡ p.origin = sym (made.origin ∙ h.origin) in
+    let whole : IsPrefix (view_after opening seen) (view_after opening seen) = record { opening = refl; more = []; journal = sym (append-nil seen) } in
+    let at : HasVersion opening seen taken.place taken.version = record { text = taken.text; name = (text_at opening taken.place taken.text taken.version).name; there = h.there } in
+    record {
+      statement = made.statement;
+      named = h.place ∙ ap (λ (k : ℕ). Some k) (sym made.place);
+      versioned = subst (λ (k : ℕ). HasVersion opening seen k p.version) (sym made.place) (subst (λ (v : ℕ). HasVersion opening seen taken.place v) (sym made.version) at);
+      prefix = subst (λ (v : View). IsPrefix v (view_after opening seen)) origin whole;
+    }
+
+-- the same from what the calls answer
+pub proposed_on : (opening : Opening) (seen : List Entry) (s its : Task) (name : List ℕ) (taken : Snapshot) (p : Proposed) → name ≡ s.text → its ≡ s → IsSeen opening seen name taken → Proposes p its taken
+    → IsProposed opening seen s p
+proposed_on opening seen s its name taken p called same h made =
+    proposed opening seen s taken p (subst (λ (n : List ℕ). IsSeen opening seen n taken) called h) (subst (λ (t : Task). Proposes p t taken) same made)
+
+pub committed_named : (e : CommitFault) (opening : Opening) (seen after : List Entry) (s : Task) (p : Proposed) → IsProposed opening seen s p → IsCause e opening after p → IsNamed opening s (Err (of_commit e))
+committed_named commit.NoText opening seen after s p h why = absurd (why (ap (λ (t : Task). place_in opening t.text) h.statement ∙ h.named))
+committed_named (commit.Changed was now) opening seen after s p h why = has_place opening s.text p.place h.named
+committed_named commit.Full opening seen after s p h why = has_place opening s.text p.place h.named
+committed_named commit.Memory opening seen after s p h why = has_place opening s.text p.place h.named
+committed_named commit.Stopped opening seen after s p h why = has_place opening s.text p.place h.named
+
+-- a text that changed has risen past the proposal's version
+changed : (opening : Opening) (seen after : List Entry) (s : Task) (p : Proposed) (was now : ℕ) → IsProposed opening seen s p → Begins seen after → IsCause (commit.Changed was now) opening after p → was < now
+changed opening seen after s p was now h begins why =
+    let up = rises opening seen after p.place p.version now begins h.versioned why.2 in
+    let is : was ≡ p.version = why.0 in
+    let apart : now ≢ was = why.1 in
+    omega (arith, up, is, apart)
+
+pub committed_says : (e : CommitFault) (shuts : ℕ → ℕ → Type 0) (tries : ℕ) (opening : Opening) (seen after : List Entry) (s : Task) (p : Proposed) → IsProposed opening seen s p → Begins seen after
+    → IsCause e opening after p → Says shuts tries 1 s (Err (of_commit e))
+committed_says (commit.Changed was now) shuts tries opening seen after s p h begins why = let up = changed opening seen after s p was now h begins why in (up, omega (arith, up))
+committed_says commit.NoText shuts tries opening seen after s p h begins why = tt
+committed_says commit.Full shuts tries opening seen after s p h begins why = tt
+committed_says commit.Memory shuts tries opening seen after s p h begins why = tt
+committed_says commit.Stopped shuts tries opening seen after s p h begins why = tt
+
+pub committed_at : (e : CommitFault) (opening : Opening) (before seen after : List Entry) (s : Task) (p : Proposed) → IsProposed opening seen s p → Begins before seen → Begins seen after
+    → IsCause e opening after p → AnswersAt 1 opening before after s (Err (of_commit e))
+committed_at (commit.Changed was now) opening before seen after s p h first then_on why =
+    let up = changed opening seen after s p was now h then_on why in
+    let is : was ≡ p.version = why.0 in
+    record {
+      place = p.place;
+      named = h.named;
+      versioned = why.2;
+      risen = λ version k. let below = rises opening before seen p.place version p.version first k h.versioned in omega (arith, below, up, is);
+    }
+committed_at commit.NoText opening before seen after s p h first then_on why = tt
+committed_at commit.Full opening before seen after s p h first then_on why = why
+committed_at commit.Memory opening before seen after s p h first then_on why = tt
+committed_at commit.Stopped opening before seen after s p h first then_on why = tt
+
+pub received_at : (opening : Opening) (before seen after : List Entry) (s : Task) (receipt : Received) → Begins before seen → length seen ≤ receipt.index → IsTold opening after receipt
+    → AnswersAt 1 opening before after s (Ok receipt)
+received_at opening before seen after s receipt begins later told = let more = prefix_length before seen begins in (omega (arith, more, later), told)
+
+pub received_says : (shuts : ℕ → ℕ → Type 0) (tries : ℕ) (opening : Opening) (seen : List Entry) (s : Task) (p : Proposed) (receipt : Received) → IsProposed opening seen s p → IsFor receipt p
+    → Says shuts tries 1 s (Ok receipt)
+received_says shuts tries opening seen s p receipt h is = ap (λ (e : Entry). e.statement) is.entry ∙ h.statement
