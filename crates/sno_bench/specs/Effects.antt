@@ -3,7 +3,7 @@ use Rattle.std.specs.Prelude.{ℕ, List, Bool, Option, Some, None, Result, Ok, E
 use Rattle.sno_pattern.specs.Outcome.{outcome, trials}
 use Rattle.sno_pattern.specs.declared.found.Hit.{Hit}
 use Rattle.sno_machine.specs.Sources.{Source}
-use Rattle.sno_statement.specs.Perform.{Done, Matched, Failed}
+use Rattle.sno_statement.specs.Perform.{Done, Matched, Failed, Repeated}
 use Rattle.sno_statement.specs.declared.outcomes.StatementFault.{StatementFault}
 use Rattle.sno_statement.specs.declared.outcomes.StatementFault.TheVariants as fault
 use Rattle.sno_bench.specs.declared.effects.Effect.{Effect}
@@ -13,6 +13,7 @@ use Rattle.sno_bench.specs.declared.effects.Effect.TheVariants as effects
 abbrev pub effect_of_performing : Result Done StatementFault → Effect
 effect_of_performing (Ok (Matched s e bound after)) = effects.Matched s e
 effect_of_performing (Ok (Failed bound)) = effects.Failed
+effect_of_performing (Ok (Repeated n bound after)) = effects.Repeated n
 effect_of_performing (Err why) = effects.Refused why
 
 -- the cursors of a success, or a failure

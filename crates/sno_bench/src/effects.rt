@@ -16,6 +16,8 @@ pub enum Effect {
     Matched { start: usize, end: usize },
     /// The pattern did not match.
     Failed,
+    /// A repeated statement matched so often.
+    Repeated { matches: u32 },
     /// The statement is refused.
     Refused(StatementFault),
 }
@@ -25,6 +27,7 @@ impl fmt::Display for Effect {
         match self {
             Effect::Matched { start, end } => write!(f, "matched {start} to {end}"),
             Effect::Failed => write!(f, "failed"),
+            Effect::Repeated { matches } => write!(f, "repeated {matches}"),
             Effect::Refused(fault) => write!(f, "{fault}"),
         }
     }
@@ -41,6 +44,7 @@ pub fn effect_of_performing(
     match perform(alloc, statement, text) {
         Ok(Outcome::Matched { start, end, .. }) => Ok(Effect::Matched { start, end }),
         Ok(Outcome::Failed { .. }) => Ok(Effect::Failed),
+        Ok(Outcome::Repeated { matches, .. }) => Ok(Effect::Repeated { matches }),
         Err(StatementFault::Memory) => Err(AllocError),
         Err(fault) => Ok(Effect::Refused(fault)),
     }

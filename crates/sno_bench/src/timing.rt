@@ -116,7 +116,8 @@ fn perform_once(
 }
 
 /// How long it takes to compile the statement's pattern, to match it with the text, and to perform the statement on the text, each done
-/// `times` times in a run. The matches and the statement have to do what is expected, which is no refusal.
+/// `times` times in a run. Of a statement that is repeated the match is that of its first round. The statement has to do what is expected,
+/// which is no refusal, and the matches what the first of them did.
 ///
 /// Refused with the first fault of the runs: `Run` with `Memory`, `Clock`, and `Differs` where something else was done.
 pub fn time<C: Clock>(
@@ -131,10 +132,11 @@ pub fn time<C: Clock>(
 {
     let code = compile(alloc, statement.rules(), statement.pattern())?;
     let compile = least_time(clock, times, || compile_once(alloc, statement))?;
+    let first = effect_of_matching(alloc, &code, statement, text)?;
     let matching = least_time(
         clock,
         times,
-        || match_once(alloc, &code, statement, text, expected),
+        || match_once(alloc, &code, statement, text, first),
     )?;
     let perform = least_time(
         clock,

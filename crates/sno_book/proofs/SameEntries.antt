@@ -13,7 +13,7 @@ use Rattle.sno_read.specs.declared.objects.Part.{Part}
 use Rattle.sno_read.specs.declared.objects.Part.TheVariants.{Quoted, Var}
 use Rattle.sno_statement.specs.Task.{Task}
 use Rattle.sno_statement.specs.Bindings.{Bound}
-use Rattle.sno_statement.specs.Perform.{Done, Matched, Failed}
+use Rattle.sno_statement.specs.Perform.{Done, Matched, Failed, Repeated}
 use Rattle.sno_statement.specs.declared.binding.Datum.{Datum}
 use Rattle.sno_statement.specs.declared.binding.Datum.TheVariants.{Str, Int}
 use Rattle.sno_book.specs.Entries.{Entry}
@@ -50,28 +50,31 @@ task_decides : (s t : Task) → Decides (same_task s t) (s ≡ t)
 task_decides s t =
     let number = nat_eq s.number t.number in
     let limit = nat_eq s.limit t.limit in
+    let repeat = option_eq nat_eq s.repeat t.repeat in
     let anchored = beq s.anchored t.anchored in
     let text = same s.text t.text in
     let object = same_object s.object t.object in
     let pattern = same_tree s.pattern t.pattern in
     let rules = same_definitions s.rules t.rules in
-    Decides-like (number && (limit && (anchored && (text && (object && (pattern && rules))))))
-    (λ (h : (s.number ≡ t.number) × ((s.limit ≡ t.limit) × ((s.anchored ≡ t.anchored) × ((s.text ≡ t.text) × ((s.object ≡ t.object) × ((s.pattern ≡ t.pattern) × (s.rules ≡ t.rules))))))). (λ i. record {
+    Decides-like (number && (limit && (repeat && (anchored && (text && (object && (pattern && rules)))))))
+    (λ (h : (s.number ≡ t.number) × ((s.limit ≡ t.limit) × ((s.repeat ≡ t.repeat) × ((s.anchored ≡ t.anchored) × ((s.text ≡ t.text) × ((s.object ≡ t.object) × ((s.pattern ≡ t.pattern) × (s.rules ≡ t.rules)))))))). (λ i. record {
       number = h.0 i;
       limit = h.1.0 i;
-      anchored = h.1.1.0 i;
-      text = h.1.1.1.0 i;
-      object = h.1.1.1.1.0 i;
-      pattern = h.1.1.1.1.1.0 i;
-      rules = h.1.1.1.1.1.1 i;
+      repeat = h.1.1.0 i;
+      anchored = h.1.1.1.0 i;
+      text = h.1.1.1.1.0 i;
+      object = h.1.1.1.1.1.0 i;
+      pattern = h.1.1.1.1.1.1.0 i;
+      rules = h.1.1.1.1.1.1.1 i;
     }))
-    (λ (h : s ≡ t). (ap (λ (x : Task). x.number) h, (ap (λ (x : Task). x.limit) h, (ap (λ (x : Task). x.anchored) h, (ap (λ (x : Task). x.text) h, (ap (λ (x : Task). x.object) h, (ap (λ (x : Task). x.pattern) h, ap (λ (x : Task). x.rules) h)))))))
-    (Decides-and number (limit && (anchored && (text && (object && (pattern && rules))))) (unsigned_Decides s.number t.number)
-    (Decides-and limit (anchored && (text && (object && (pattern && rules)))) (unsigned_Decides s.limit t.limit)
+    (λ (h : s ≡ t). (ap (λ (x : Task). x.number) h, (ap (λ (x : Task). x.limit) h, (ap (λ (x : Task). x.repeat) h, (ap (λ (x : Task). x.anchored) h, (ap (λ (x : Task). x.text) h, (ap (λ (x : Task). x.object) h, (ap (λ (x : Task). x.pattern) h, ap (λ (x : Task). x.rules) h))))))))
+    (Decides-and number (limit && (repeat && (anchored && (text && (object && (pattern && rules)))))) (unsigned_Decides s.number t.number)
+    (Decides-and limit (repeat && (anchored && (text && (object && (pattern && rules))))) (unsigned_Decides s.limit t.limit)
+    (Decides-and repeat (anchored && (text && (object && (pattern && rules)))) (options nat_eq unsigned_Decides s.repeat t.repeat)
     (Decides-and anchored (text && (object && (pattern && rules))) (booleans_Decides s.anchored t.anchored)
     (Decides-and text (object && (pattern && rules)) (bytes_eq-Decides s.text t.text)
     (Decides-and object (pattern && rules) (options (pointwise same_part) (lists same_part part_decides) s.object t.object)
-    (Decides-and pattern rules (tree_decides s.pattern t.pattern) (definitions_decide s.rules t.rules)))))))
+    (Decides-and pattern rules (tree_decides s.pattern t.pattern) (definitions_decide s.rules t.rules))))))))
 
 -- outcomes
 datum_decides : (d e : Datum) → Decides (same_datum d e) (d ≡ e)
@@ -104,7 +107,18 @@ done_decides (Matched s e b after) (Matched t f c more) =
     (Decides-and to (bound && text) (unsigned_Decides e f)
     (Decides-and bound text (bound_decides b c) (options same bytes_eq-Decides after more))))
 done_decides (Matched s e b after) (Failed c) = (λ h. cc, λ e. cc)
+done_decides (Matched s e b after) (Repeated n c u) = (λ h. cc, λ e. cc)
 done_decides (Failed b) (Matched t f c more) = (λ h. cc, λ e. cc)
+done_decides (Failed b) (Repeated n c u) = (λ h. cc, λ e. cc)
+done_decides (Repeated m b t) (Matched s f c more) = (λ h. cc, λ e. cc)
+done_decides (Repeated m b t) (Failed c) = (λ h. cc, λ e. cc)
+done_decides (Repeated m b t) (Repeated n c u) =
+    let matches = nat_eq m n in
+    let bound = same_bound b c in
+    let text = same t u in
+    Decides-like (matches && (bound && text)) (λ (h : (m ≡ n) × ((b ≡ c) × (t ≡ u))). (λ i. Repeated (h.0 i) (h.1.0 i) (h.1.1 i)))
+    (λ (h : Repeated m b t ≡ Repeated n c u). (cc, (cc, cc)))
+    (Decides-and matches (bound && text) (unsigned_Decides m n) (Decides-and bound text (bound_decides b c) (bytes_eq-Decides t u)))
 done_decides (Failed b) (Failed c) = Decides-like (same_bound b c) (λ (e : b ≡ c). ap Failed e) (λ (e : Failed b ≡ Failed c). cc) (bound_decides b c)
 
 entry_decides : (e f : Entry) → Decides (same_entry e f) (e ≡ f)

@@ -9,7 +9,7 @@ use Rattle.sno_read.specs.declared.objects.Part.{Part}
 use Rattle.sno_read.specs.declared.objects.Part.TheVariants.{Quoted, Var}
 use Rattle.sno_statement.specs.Task.{Task}
 use Rattle.sno_statement.specs.Bindings.{Bound}
-use Rattle.sno_statement.specs.Perform.{Done, Matched, Failed}
+use Rattle.sno_statement.specs.Perform.{Done, Matched, Failed, Repeated}
 use Rattle.sno_statement.specs.declared.binding.Datum.{Datum}
 use Rattle.sno_statement.specs.declared.binding.Datum.TheVariants.{Str, Int}
 use Rattle.sno_book.specs.Entries.{Entry}
@@ -32,8 +32,9 @@ abbrev pub same_task : Task → Task → Bool
 same_task s t =
     nat_eq s.number t.number
     && (nat_eq s.limit t.limit
+    && (option_eq nat_eq s.repeat t.repeat
     && (beq s.anchored t.anchored
-    && (same s.text t.text && (same_object s.object t.object && (same_tree s.pattern t.pattern && same_definitions s.rules t.rules)))))
+    && (same s.text t.text && (same_object s.object t.object && (same_tree s.pattern t.pattern && same_definitions s.rules t.rules))))))
 
 -- values of variables
 abbrev pub same_datum : Datum → Datum → Bool
@@ -51,6 +52,7 @@ same_bound = pointwise same_binding
 abbrev pub same_done : Done → Done → Bool
 same_done (Matched s e b after) (Matched t f c more) = nat_eq s t && (nat_eq e f && (same_bound b c && option_eq same after more))
 same_done (Failed b) (Failed c) = same_bound b c
+same_done (Repeated m b t) (Repeated n c u) = nat_eq m n && (same_bound b c && same t u)
 same_done _ _ = false
 
 abbrev pub same_entry : Entry → Entry → Bool

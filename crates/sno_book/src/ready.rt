@@ -42,12 +42,9 @@ impl Model for Ready {
 fn after(outcome: &Outcome) -> Result<Option<Arc<Text>>, AllocError>
     ensures { IfOk result (λ o. option_map arc_value o ≡ after_of (done_of outcome.now)) }
 {
-    match outcome {
-        Outcome::Matched {
-            after: Some(text),
-            ..
-        } => Ok(Some(Arc::try_clone(text)?)),
-        Outcome::Matched { after: None, .. } | Outcome::Failed { .. } => Ok(None),
+    match outcome.after() {
+        Some(text) => Ok(Some(Arc::try_clone(text)?)),
+        None => Ok(None),
     }
 }
 

@@ -59,7 +59,8 @@ fn same_after(one: &Option<Arc<Text>>, other: &Option<Arc<Text>>) -> bool
     }
 }
 
-/// Whether two outcomes are the same: the cursors, the bindings and the new text, or the failure with its bindings.
+/// Whether two outcomes are the same: the cursors, the bindings and the new text, the failure with its bindings, or the number of
+/// matches with the bindings and the new text.
 pub(crate) fn same_outcome(one: &Outcome, other: &Outcome) -> bool
     ensures { result ≡ same_done (done_of one.now) (done_of other.now) }
 {
@@ -89,6 +90,22 @@ pub(crate) fn same_outcome(one: &Outcome, other: &Outcome) -> bool
                 bindings: other_kept,
             },
         ) => { same_bindings(kept, other_kept) }
+        (
+            Outcome::Repeated {
+                matches,
+                bindings: left,
+                after: text,
+            },
+            Outcome::Repeated {
+                matches: other_matches,
+                bindings: other_left,
+                after: other_text,
+            },
+        ) => {
+            matches == other_matches
+                && same_bindings(left, other_left)
+                && text.bytes() == other_text.bytes()
+        }
         _ => false,
     }
 }

@@ -92,12 +92,14 @@ fn same_rules(one: &Rules, other: &Rules) -> bool
     same_names(one.names(), other.names()) && same_patterns(one.bodies(), other.bodies())
 }
 
-/// Whether two statements are the same: number, definitions, pattern, object, text, whether they are anchored, and the limit of trials.
+/// Whether two statements are the same: number, definitions, pattern, object, text, whether they are anchored, the limit of trials, and
+/// how often they are repeated at most.
 pub(crate) fn same_statement(one: &Statement, other: &Statement) -> bool
     ensures { result ≡ same_task one.now other.now }
 {
     one.number() == other.number()
         && one.limit() == other.limit()
+        && one.repeat() == other.repeat()
         && one.anchored() == other.anchored()
         && one.text() == other.text()
         && same_object(one.object(), other.object())

@@ -7,3 +7,4 @@ pub mod CycleLemmas
 pub mod BookLemmas
 pub mod DocumentLaw
 pub mod LengthLemmas
+pub mod RoundLemmas

@@ -1,7 +1,7 @@
 -- Documents: what JSON stands for, and the first fault of what stands for none. `IsDocument`, at the end, says in which order the
 -- checks come; numbers in faults count from 1.
-use Rattle.std.specs.Prelude.{◌≡◌, ℕ, ◌+◌, Bool, List, [], ◌∷◌, ◌++◌, length, map, nat_lt, Option, Some, None, Result, Ok, Err, unwrap_or, slice_get, if◌then◌else◌}
-use Rattle.serde_json.specs.Data.{Data}
+use Rattle.std.specs.Prelude.{◌≡◌, ℕ, ◌+◌, ◌&&◌, nat_le, Bool, List, [], ◌∷◌, ◌++◌, length, map, nat_lt, Option, Some, None, Result, Ok, Err, unwrap_or, slice_get, if◌then◌else◌}
+use Rattle.serde_json.specs.Data.{Num, unsigned, negative, float, Data}
 use Rattle.sno_pattern.specs.Tree.{Tree}
 use Rattle.sno_pattern.specs.Identifiers.{name_of}
 use Rattle.sno_pattern.specs.NameList.{names_of, first_repeat}
@@ -18,7 +18,7 @@ use Rattle.sno_read.specs.Reading.{pattern_of}
 use Rattle.sno_read.specs.Objects.{object_of}
 use Rattle.sno_read.specs.declared.faults.ReadFault.{ReadFault}
 use Rattle.sno_read.specs.declared.objects.Part.{Part}
-use Rattle.sno_statement.specs.Task.{Task, usual_limit, with_limit}
+use Rattle.sno_statement.specs.Task.{Task, usual_limit, with_limit, with_repeat}
 use Rattle.sno_document.specs.Json.{json_of}
 use Rattle.sno_document.specs.Shape.{Rows, StatementRow, rows_of}
 use Rattle.sno_document.specs.Faults.{◌>>=◌}
@@ -115,17 +115,36 @@ object_row defined s (Some text) = reading (fault.StatementObject s) (object_of 
 abbrev pub text_name_row : ℕ → List ℕ → Result (List ℕ) RunFault
 text_name_row s name = if is_text_name name then Ok name else Err (fault.StatementName s)
 
--- statement number s, with the usual limit of trials: the name of its text, then its pattern, in which plain names may name all
+-- statement number s, performed once, with the usual limit of trials: the name of its text, then its pattern, in which plain names may name all
 -- definitions, then its object; `anchor` is for those that don't say whether they are anchored
 unfoldable pub usual_row : Definitions → Bool → ℕ → StatementRow → Result Task RunFault
 usual_row rules anchor s row =
     text_name_row s row.text >>= λ text. reading (fault.StatementPattern s) (pattern_of rules.names (length rules.names) row.pattern) >>= λ pattern.
     object_row rules.names s row.object >>= λ object.
-    Ok (record { number = s; rules = rules; pattern = pattern; object = object; text = text; anchored = unwrap_or row.anchored anchor; limit = usual_limit })
+    Ok (record { number = s; rules = rules; pattern = pattern; object = object; text = text; anchored = unwrap_or row.anchored anchor; limit = usual_limit; repeat = None })
 
--- the same with what the mode says: for those that don't say whether they are anchored, and how many trials each may take
+-- how many rounds a number says: one of 1 to 1,000 that is written without sign, fraction and exponent
+abbrev pub rounds_in : Num → Option ℕ
+rounds_in (unsigned n) = if nat_le 1 n && nat_le n 1000 then Some n else None
+rounds_in (negative z) = None
+rounds_in (float x) = None
+
+-- how often statement number s is repeated at most, where it says so; it has to have an object
+abbrev pub repeat_row : ℕ → Option (List Part) → Option Num → Result (Option ℕ) RunFault
+repeat_row s object None = Ok None
+repeat_row s None (Some n) = Err (fault.StatementRepeat s)
+repeat_row s (Some parts) (Some n) = or_fault (fault.StatementRepeat s) (rounds_in n) >>= λ rounds. Ok (Some rounds)
+
+-- the statement with its limit of trials, and repeated where it is
+abbrev pub bounded : Task → ℕ → Option ℕ → Task
+bounded statement limit None = with_limit statement limit
+bounded statement limit (Some rounds) = with_repeat (with_limit statement limit) rounds
+
+-- the same with what the mode says: for those that don't say whether they are anchored, and how many trials each may take; and with how
+-- often it is repeated, which is looked at after its object
 unfoldable pub statement_row : Definitions → Mode → ℕ → StatementRow → Result Task RunFault
-statement_row rules mode s row = usual_row rules mode.anchor s row >>= λ statement. Ok (with_limit statement mode.trials)
+statement_row rules mode s row =
+    usual_row rules mode.anchor s row >>= λ statement. repeat_row s statement.object row.repeat >>= λ repeat. Ok (bounded statement mode.trials repeat)
 
 -- the statements from number s on, after those before
 abbrev pub statements_from : Definitions → Mode → ℕ → List Task → List StatementRow → Result (List Task) RunFault

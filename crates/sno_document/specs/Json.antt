@@ -2,9 +2,9 @@
 use Rattle.std.specs.Prelude.{ℕ, Bool, List, [], ◌∷◌, Option, Some, None, option_and_then, if◌then◌else◌}
 use Rattle.std.specs.Option.{option_map}
 use Rattle.std.specs.Str.{is_utf8}
-use Rattle.serde_json.specs.Data.{Data, null, Items, no_items, item}
+use Rattle.serde_json.specs.Data.{Num, Data, null, Items, no_items, item}
 use Rattle.serde_json.specs.Read.{read}
-use Rattle.serde_json.specs.Find.{get, as_str, as_bool, as_array}
+use Rattle.serde_json.specs.Find.{get, as_str, as_bool, as_number, as_array}
 
 -- the value that bytes stand for, where they are JSON in UTF-8
 abbrev pub json_of : List ℕ → Option Data
@@ -43,3 +43,12 @@ bool_or_none (Some d) = option_map (λ b. Some b) (as_bool d)
 
 abbrev pub optional_bool_at : List ℕ → Data → Option (Option Bool)
 optional_bool_at key d = bool_or_none (get key d)
+
+-- a number; none where the member is missing or null
+abbrev pub number_or_none : Option Data → Option (Option Num)
+number_or_none None = Some None
+number_or_none (Some null) = Some None
+number_or_none (Some d) = option_map (λ n. Some n) (as_number d)
+
+abbrev pub optional_number_at : List ℕ → Data → Option (Option Num)
+optional_number_at key d = number_or_none (get key d)

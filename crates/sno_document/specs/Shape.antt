@@ -1,8 +1,8 @@
 -- The shape of a document: an object with three arrays. Other members are ignored.
 use Rattle.std.specs.Prelude.{ℕ, Bool, List, [], ◌∷◌, ◌++◌, Option, Some, None, Result, Ok, Err, codes}
-use Rattle.serde_json.specs.Data.{Data}
+use Rattle.serde_json.specs.Data.{Num, Data}
 use Rattle.serde_json.specs.Find.{as_object}
-use Rattle.sno_document.specs.Json.{array_at, string_at, optional_string_at, optional_bool_at}
+use Rattle.sno_document.specs.Json.{array_at, string_at, optional_string_at, optional_bool_at, optional_number_at}
 use Rattle.sno_document.specs.Faults.{◌>>=◌}
 use Rattle.sno_document.specs.declared.faults.RunFault.{RunFault}
 use Rattle.sno_document.specs.declared.faults.RunFault.TheVariants.{Shape}
@@ -13,6 +13,7 @@ pub record StatementRow : Type 0 where
   pub pattern : List ℕ
   pub object : Option (List ℕ)
   pub anchored : Option Bool
+  pub repeat : Option Num
 
 -- a document as it is written: names with expressions, names with texts, and statements
 pub record Rows : Type 0 where
@@ -38,7 +39,8 @@ abbrev pub statement_row : Data → Result StatementRow RunFault
 statement_row d =
     or_shape (string_at (codes "text") d) >>= λ text. or_shape (string_at (codes "pattern") d) >>= λ pattern.
     or_shape (optional_string_at (codes "object") d) >>= λ object. or_shape (optional_bool_at (codes "anchored") d) >>= λ anchored.
-    Ok (record { text = text; pattern = pattern; object = object; anchored = anchored })
+    or_shape (optional_number_at (codes "repeat") d) >>= λ repeat.
+    Ok (record { text = text; pattern = pattern; object = object; anchored = anchored; repeat = repeat })
 
 -- the array of pairs with this key
 unfoldable pub pairs_at : List ℕ → List ℕ → List ℕ → Data → Result (List (List ℕ × List ℕ)) RunFault

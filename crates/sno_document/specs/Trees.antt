@@ -5,7 +5,7 @@ use Rattle.json.specs.Json as json
 use Rattle.json.specs.Lex.{tokens}
 use Rattle.json.specs.Value.{value_view}
 use Rattle.json.specs.declared.value.Value.{Value}
-use Rattle.serde_json.specs.Data.{Data, null, boolean, number, string, array, object, Items, no_items, item, Members, no_members, put, unsigned}
+use Rattle.serde_json.specs.Data.{Num, Data, null, boolean, number, string, array, object, Items, no_items, item, Members, no_members, put, unsigned}
 use Rattle.serde_json.specs.Read.{number_of, max_depth}
 
 -- the tree that a text is, if it is one
@@ -30,12 +30,16 @@ abbrev mutual
   are_members_in_range json.no_members = true
   are_members_in_range (json.member k j ms) = is_in_range j && are_members_in_range ms
 
+-- the number that its text stands for, 0 where it is out of range
+abbrev pub number_seen : List ℕ → Num
+number_seen s = unwrap_or (number_of s) (unsigned 0)
+
 -- The value of a tree, with 0 for a number out of range. The members go in one after another, so the last value of a key stays.
 abbrev mutual
   pub data_of : json.Json → Data
   data_of json.null = null
   data_of (json.boolean b) = boolean b
-  data_of (json.number s) = number (unwrap_or (number_of s) (unsigned 0))
+  data_of (json.number s) = number (number_seen s)
   data_of (json.string s) = string s
   data_of (json.array js) = array (data_items js)
   data_of (json.object ms) = object (data_members ms no_members)

@@ -7,7 +7,8 @@ ghost use Rattle.sno_document.specs.DocumentRows.{pair_seen, statement_seen, row
 
 use crate::RunFault;
 use crate::members::{
-    elements, is_object, member, optional_bool_at, optional_string_at, string_at,
+    elements, is_object, member, optional_bool_at, optional_number_at, optional_string_at,
+    string_at,
 };
 use json::Value;
 use std::alloc::Global;
@@ -22,6 +23,7 @@ pub(crate) struct StatementRow<'t> {
     pub(crate) pattern: &'t str,
     pub(crate) object: Option<&'t str>,
     pub(crate) anchored: Option<bool>,
+    pub(crate) repeat: Option<&'t str>,
 }
 
 /// A document as it is written.
@@ -63,11 +65,13 @@ fn statement_row<'t>(value: &Value<'t>) -> Result<StatementRow<'t>, RunFault>
     let pattern = string_at(value, "pattern").ok_or(RunFault::Shape)?;
     let object = optional_string_at(value, "object").ok_or(RunFault::Shape)?;
     let anchored = optional_bool_at(value, "anchored").ok_or(RunFault::Shape)?;
+    let repeat = optional_number_at(value, "repeat").ok_or(RunFault::Shape)?;
     Ok(StatementRow {
         text,
         pattern,
         object,
         anchored,
+        repeat,
     })
 }
 

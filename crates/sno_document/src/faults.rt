@@ -64,6 +64,9 @@ pub enum RunFault {
     /// The object of this statement is not read.
     #[error("statement {0}: object: {1}")]
     StatementObject(usize, ReadFault),
+    /// This statement is to be repeated a number of times that is none of 1 to 1,000, or without an object.
+    #[error("statement {0}: bad repeat")]
+    StatementRepeat(usize),
     /// Memory was refused.
     #[error("out of memory")]
     Memory,

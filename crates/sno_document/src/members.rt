@@ -2,8 +2,8 @@
 ghost use Rattle.std.specs.Prelude.{◌≡◌, map, Some, is_some};
 ghost use Rattle.std.specs.Option.{option_map};
 ghost use Rattle.serde_json.specs.Find.{get, as_array, as_bool, as_object, as_str};
-ghost use Rattle.sno_document.specs.Json.{elements, string_at, string_or_none, optional_string_at, optional_bool_at};
-ghost use Rattle.sno_document.specs.Trees.{tree_seen};
+ghost use Rattle.sno_document.specs.Json.{elements, string_at, string_or_none, optional_string_at, optional_bool_at, number_or_none, optional_number_at};
+ghost use Rattle.sno_document.specs.Trees.{tree_seen, number_seen};
 
 use json::Value;
 
@@ -86,5 +86,26 @@ pub(crate) fn optional_bool_at(value: &Value<'_>, key: &str) -> Option<Option<bo
     match member(value, key) {
         None => Some(None),
         Some(member) => bool_of(member).map(Some),
+    }
+}
+
+/// The text of a number, or none where it is null; nothing where it is of another kind.
+fn number_or_none<'t>(value: &Value<'t>) -> Option<Option<&'t str>>
+    ensures { option_map (λ o. option_map (λ s. number_seen s.now) o) result ≡ number_or_none (Some (tree_seen value.now)) }
+{
+    match value {
+        Value::Null => Some(None),
+        Value::Number(text) => Some(Some(*text)),
+        _ => None,
+    }
+}
+
+/// The text of a number, or none where the member is missing or null; nothing where it is of another kind.
+pub(crate) fn optional_number_at<'t>(value: &Value<'t>, key: &str) -> Option<Option<&'t str>>
+    ensures { option_map (λ o. option_map (λ s. number_seen s.now) o) result ≡ optional_number_at key.now (tree_seen value.now) }
+{
+    match member(value, key) {
+        None => Some(None),
+        Some(member) => number_or_none(member),
     }
 }

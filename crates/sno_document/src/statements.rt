@@ -1,16 +1,18 @@
 //! The statements of a document.
-ghost use Rattle.std.specs.Prelude.{◌≡◌, ◌≤◌, ◌+◌, [], map, length, IfOk, IsTrue};
-ghost use Rattle.std.specs.Option.{option_map};
+ghost use Rattle.std.specs.Prelude.{◌≡◌, ◌≤◌, ◌+◌, [], map, length, IfOk, IfSome, IsTrue};
+ghost use Rattle.std.specs.Option.{option_copied, option_map};
 ghost use Rattle.std.specs.Arc.{arc_value};
 ghost use Rattle.sno_pattern.specs.Tree.{tree_of, refs_below};
 ghost use Rattle.sno_read.specs.Reading.{pattern_of};
-ghost use Rattle.sno_statement.specs.Task.{IsLimit};
+ghost use Rattle.sno_statement.specs.Task.{IsLimit, IsRepeat};
 ghost use Rattle.sno_document.specs.Faults.{Gives};
 ghost use Rattle.sno_document.specs.DocumentRows.{statement_seen};
-ghost use Rattle.sno_document.specs.Document.{reading, object_row, text_name_row, statement_row, statements_from, statements_of, usual_row};
+ghost use Rattle.sno_document.specs.Document.{reading, object_row, text_name_row, statement_row, statements_from, statements_of, usual_row, repeat_row};
+ghost use Rattle.sno_document.specs.Trees.{number_seen};
 ghost use Rattle.sno_document.specs.declared.faults.RunFault.TheVariants.{StatementPattern};
 
 use crate::document_rows::StatementRow;
+use crate::trees::rounds_in;
 use crate::{Mode, RunFault};
 use sno_pattern::{NameFault, Names, Pattern, Rules, TextName};
 use sno_read::{Object, ReadFault, read_object, read_pattern};
@@ -63,7 +65,25 @@ fn text_name(alloc: Global, number: usize, name: &str) -> Result<TextName, RunFa
     }
 }
 
-/// Statement number `number`, with the usual limit of trials.
+/// How often statement number `number` is repeated at most, where it says so. It has to have an object.
+fn repeat(
+    number: usize,
+    object: Option<&Object>,
+    written: Option<&str>,
+) -> Result<Option<u32>, RunFault>
+    ensures repeat { Gives (λ r. r) result (repeat_row number (option_copied object.entry) (option_map (λ s. number_seen s.now) written.entry)) }
+    ensures within { IfOk result (λ r. IfSome r (λ rounds. IsRepeat (option_copied object.entry) rounds)) }
+{
+    let Some(written) = written else {
+        return Ok(None);
+    };
+    match (object, rounds_in(written)) {
+        (Some(_), Some(rounds)) => Ok(Some(rounds)),
+        _ => Err(RunFault::StatementRepeat(number)),
+    }
+}
+
+/// Statement number `number`, performed once, with the usual limit of trials.
 #[tactic(auto, unfolding(crate::specs::Document::usual_row))]
 fn usual_statement(
     alloc: Global,
@@ -89,7 +109,7 @@ fn usual_statement(
     ))
 }
 
-/// Statement number `number`, by the mode.
+/// Statement number `number`, by the mode, and repeated where it says so.
 #[tactic(auto, unfolding(crate::specs::Document::statement_row))]
 fn statement(
     alloc: Global,
@@ -103,7 +123,12 @@ fn statement(
     ensures { Gives (λ s. s) result (statement_row (arc_value rules.now) mode number (statement_seen row.now)) }
 {
     let usual = usual_statement(alloc, rules, mode.anchor, number, row)?;
-    Ok(usual.limited(mode.trials))
+    let repeat = repeat(number, usual.object(), row.repeat)?;
+    let limited = usual.limited(mode.trials);
+    match repeat {
+        None => Ok(limited),
+        Some(rounds) => Ok(limited.repeated(rounds)),
+    }
 }
 
 /// The statements of the document.

@@ -1,12 +1,13 @@
 //! Trees of JSON, whose strings are borrowed from the text. They stand for the value of the text where their numbers are in range.
-ghost use Rattle.std.specs.Prelude.{◌≡◌, ◌≢◌, ◌==◌, ◌<◌, length, slice_index, is_some, true, false, None, Some, IsTrue, MatchResult};
+ghost use Rattle.std.specs.Prelude.{unwrap_or, ◌≡◌, ◌≢◌, ◌==◌, ◌<◌, length, slice_index, is_some, true, false, None, Some, IsTrue, MatchResult};
 ghost use Rattle.std.specs.Float.{float_is_finite};
 ghost use Rattle.json.specs.Value.{value_view, items_view, members_view};
 ghost use Rattle.serde_json.specs.Read.{number_of, number_from, float_of};
 ghost use Rattle.sno_document.specs.Faults.{Gives};
 ghost use Rattle.sno_document.specs.Json.{json_of};
-ghost use Rattle.sno_document.specs.Document.{value_or, value_in};
-ghost use Rattle.sno_document.specs.Trees.{tree_of_text, is_in_range, are_items_in_range, are_members_in_range, tree_seen};
+ghost use Rattle.sno_document.specs.Document.{value_or, value_in, rounds_in};
+ghost use Rattle.sno_document.specs.Trees.{tree_of_text, is_in_range, are_items_in_range, are_members_in_range, tree_seen, number_seen};
+ghost use Rattle.serde_json.specs.Data.{unsigned};
 ghost use Rattle.sno_document.specs.declared.faults.RunFault.TheVariants.{Memory, NotJson};
 
 use crate::{MAX_DOCUMENT, RunFault};
@@ -16,6 +17,9 @@ use std::alloc::Global;
 
 /// How deep arrays and objects may nest.
 const MAX_DEPTH: usize = 127;
+
+/// How often a statement may be repeated.
+const MAX_ROUNDS: u64 = 1_000;
 
 /// The tree that a text is.
 fn tree_of<'t>(
@@ -79,6 +83,28 @@ fn is_number_in_range(text: &str) -> bool
         is_negative_in_range(&Numeral::scan(&bytes[1..]))
     } else {
         is_unsigned_in_range(&Numeral::scan(bytes))
+    }
+}
+
+/// How many rounds a number without sign says.
+fn unsigned_rounds(numeral: &Numeral<'_>) -> Option<u32>
+    ensures { result ≡ rounds_in (unwrap_or (number_from false numeral.now) (unsigned 0)) }
+{
+    match numeral.to_u64() {
+        Some(rounds) if 1 <= rounds && rounds <= MAX_ROUNDS => Some(rounds as u32),
+        _ => None,
+    }
+}
+
+/// How many rounds a number says, if it is one of 1 to 1,000 that is written without sign, fraction and exponent.
+pub(crate) fn rounds_in(text: &str) -> Option<u32>
+    ensures { result ≡ rounds_in (number_seen text.now) }
+{
+    let bytes = text.as_bytes();
+    if has_minus(bytes) {
+        None
+    } else {
+        unsigned_rounds(&Numeral::scan(bytes))
     }
 }
 

@@ -16,14 +16,14 @@ use Rattle.serde_json.specs.Written.{has_float, items_have_float}
 use Rattle.sno_pattern.specs.Identifiers.{is_letter, is_name_char, is_name}
 use Rattle.sno_pattern.specs.TextNames.{is_text_name}
 use Rattle.sno_statement.specs.Bindings.{Bound}
-use Rattle.sno_statement.specs.Perform.{Done, Matched, Failed}
+use Rattle.sno_statement.specs.Perform.{Done, Matched, Failed, Repeated}
 use Rattle.sno_statement.specs.declared.binding.Datum.{Datum}
 use Rattle.sno_statement.specs.declared.binding.Datum.TheVariants.{Str, Int}
 use Rattle.sno_book.specs.States.{VersionedText}
 use Rattle.sno_book.specs.Entries.{Entry}
 use Rattle.sno_listing.specs.History.{History}
 use Rattle.sno_listing.specs.declared.refusals.Refusal.{Refusal}
-use Rattle.sno_listing.specs.JsonListing.{text_data, value_data, binding_data, subject_members, matched_members, failed_members, done_members, entries_data, refused_data, json_listing_data}
+use Rattle.sno_listing.specs.JsonListing.{text_data, value_data, binding_data, subject_members, matched_members, failed_members, repeated_members, done_members, entries_data, refused_data, json_listing_data}
 
 neither : (a b : Bool) → a ≡ false → b ≡ false → (a || b) ≡ false
 neither a b h g = λ i. h i || g i
@@ -84,10 +84,11 @@ unfolding refused_data
 refused_float r = refl
 
 entry_float : (index : ℕ) (e : Entry) (done : Done) → has_float (Data.object (done_members index e done)) ≡ false
-unfolding matched_members failed_members subject_members
+unfolding matched_members failed_members repeated_members subject_members
 entry_float index e (Matched s t bound None) = neither _ false (items_float binding_data binding_float bound) refl
 entry_float index e (Matched s t bound (Some after)) = neither _ false (items_float binding_data binding_float bound) refl
 entry_float index e (Failed bound) = neither _ false (items_float binding_data binding_float bound) refl
+entry_float index e (Repeated n bound after) = neither _ false (items_float binding_data binding_float bound) refl
 
 entries_float : (index : ℕ) (entries : List Entry) → items_have_float (items_of (entries_data index entries)) ≡ false
 entries_float index [] = refl

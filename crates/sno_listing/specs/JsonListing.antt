@@ -5,7 +5,7 @@ use Rattle.serde_json.specs.Data.{Data, boolean, number, string, array, object, 
 use Rattle.serde_json.specs.View.{items_of}
 use Rattle.serde_json.specs.Written.{compact_text}
 use Rattle.sno_statement.specs.Bindings.{Bound}
-use Rattle.sno_statement.specs.Perform.{Done, Matched, Failed}
+use Rattle.sno_statement.specs.Perform.{Done, Matched, Failed, Repeated}
 use Rattle.sno_statement.specs.declared.binding.Datum.{Datum}
 use Rattle.sno_statement.specs.declared.binding.Datum.TheVariants.{Str, Int}
 use Rattle.sno_book.specs.States.{VersionedText}
@@ -60,9 +60,16 @@ unfoldable pub failed_members : ℕ → Entry → Bound → Members
 failed_members index e bound =
     member (codes "bindings") (bindings_data bound) (member (codes "entry") (count index) (member (codes "matched") (boolean false) (subject_members e)))
 
+-- a repeated statement that matched: what the last match bound, the entry's index, and how many matches there were
+unfoldable pub repeated_members : ℕ → Entry → ℕ → Bound → Members
+repeated_members index e matches bound =
+    member (codes "bindings") (bindings_data bound) (member (codes "entry") (count index)
+    (member (codes "matched") (boolean true) (member (codes "repeated") (count matches) (subject_members e))))
+
 abbrev pub done_members : ℕ → Entry → Done → Members
 done_members index e (Matched start end bound after) = with_after after (matched_members index e start end bound)
 done_members index e (Failed bound) = failed_members index e bound
+done_members index e (Repeated n bound after) = with_after (Some after) (repeated_members index e n bound)
 
 -- an entry of the journal, at its index
 abbrev pub entry_data : ℕ → Entry → Data

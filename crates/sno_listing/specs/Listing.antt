@@ -2,7 +2,7 @@
 use Rattle.std.specs.Prelude.{ℕ, ◌+◌, ◌/◌, ◌%◌, Bool, not, ◌&&◌, List, [], ◌∷◌, ◌++◌, length, nat_eq, nat_lt, nat_le, Option, Some, None, if◌then◌else◌, codes}
 use Rattle.std.specs.List.{flat_map}
 use Rattle.std.specs.Fmt.{decimal}
-use Rattle.sno_statement.specs.Perform.{Done, Matched, Failed}
+use Rattle.sno_statement.specs.Perform.{Done, Matched, Failed, Repeated}
 use Rattle.sno_statement.specs.declared.binding.Datum.{Datum}
 use Rattle.sno_statement.specs.declared.binding.Datum.TheVariants.{Str, Int}
 use Rattle.sno_book.specs.States.{VersionedText}
@@ -45,11 +45,13 @@ abbrev pub after_line : Option (List ℕ) → List ℕ
 after_line None = []
 after_line (Some t) = codes "  -> |" ++ (escaped_text t ++ (124 ∷ 10 ∷ []))
 
--- what came of a statement: the cursors of the match or the failure, a line for each binding, and the new text
+-- what came of a statement: the cursors of the match, the failure, or how many matches a repeated one had; a line for each binding, and
+-- the new text
 unfoldable pub done_lines : Done → List ℕ
 done_lines (Matched s e bound after) =
     codes " matched " ++ (decimal s ++ (32 ∷ [] ++ (decimal e ++ (10 ∷ [] ++ (flat_map binding_line bound ++ after_line after)))))
 done_lines (Failed bound) = codes " failed" ++ (10 ∷ [] ++ flat_map binding_line bound)
+done_lines (Repeated n bound after) = codes " repeated " ++ (decimal n ++ (10 ∷ [] ++ (flat_map binding_line bound ++ after_line (Some after))))
 
 -- the index of an entry and the statement's number
 unfoldable pub entry_label : ℕ → ℕ → List ℕ

@@ -10,7 +10,7 @@ ghost use Rattle.serde_json.specs.Written.{compact_text};
 ghost use Rattle.sno_statement.specs.Perform.{done_of};
 ghost use Rattle.sno_listing.specs.Listing.{reason_words};
 ghost use Rattle.sno_listing.specs.VersionedTexts.{text_seen};
-ghost use Rattle.sno_listing.specs.JsonListing.{array_of, text_data, value_data, binding_data, bindings_data, subject_members, matched_members, failed_members, done_members, entry_data, entries_data, refused_data, json_listing_data, json_listing};
+ghost use Rattle.sno_listing.specs.JsonListing.{array_of, text_data, value_data, binding_data, bindings_data, subject_members, matched_members, failed_members, repeated_members, done_members, entry_data, entries_data, refused_data, json_listing_data, json_listing};
 
 use crate::listing::put_reason;
 use crate::versioned_texts::VersionedText;
@@ -150,7 +150,26 @@ fn failed_members(
     Ok(members)
 }
 
-#[tactic(auto, unfolding(crate::specs::JsonListing::matched_members))]
+#[tactic(auto, unfolding(crate::specs::JsonListing::repeated_members, crate::specs::JsonListing::subject_members))]
+fn repeated_members(
+    alloc: Global,
+    index: usize,
+    entry: &Entry,
+    matches: u32,
+    bindings: &Bindings,
+) -> Result<Map<String, Value>, AllocError>
+    ensures { IfOk result (λ m. members_view m.entries ≡ repeated_members index entry.now matches bindings.now) }
+{
+    let bound = bindings_value(alloc, bindings)?;
+    let mut members = subject_members(alloc, entry)?;
+    put(&mut members, alloc, "repeated", Value::from(matches))?;
+    put(&mut members, alloc, "matched", Value::from(true))?;
+    put(&mut members, alloc, "entry", Value::from(index))?;
+    put(&mut members, alloc, "bindings", bound)?;
+    Ok(members)
+}
+
+#[tactic(auto, unfolding(crate::specs::JsonListing::matched_members, crate::specs::JsonListing::repeated_members))]
 fn done_members(
     alloc: Global,
     index: usize,
@@ -177,6 +196,16 @@ fn done_members(
             Ok(members)
         }
         Outcome::Failed { bindings } => failed_members(alloc, index, entry, bindings),
+        Outcome::Repeated {
+            matches,
+            bindings,
+            after,
+        } => {
+            let text = ascii_value(alloc, after.bytes())?;
+            let mut members = repeated_members(alloc, index, entry, *matches, bindings)?;
+            put(&mut members, alloc, "after", text)?;
+            Ok(members)
+        }
     }
 }
 

@@ -221,6 +221,15 @@ fn put_match(out: &mut Vec<u8>, start: usize, end: usize) -> Result<(), AllocErr
 }
 
 #[tactic(auto, unfolding(crate::specs::Listing::done_lines))]
+fn put_matches(out: &mut Vec<u8>, matches: u32) -> Result<(), AllocError>
+    ensures { OnOk result (out.new.items ≡ out.old.items ++ (codes " repeated " ++ (decimal matches ++ (10 ∷ [])))) }
+{
+    put(out, b" repeated ")?;
+    put_number(out, u64::from(matches))?;
+    put(out, b"\n")
+}
+
+#[tactic(auto, unfolding(crate::specs::Listing::done_lines))]
 fn put_done(out: &mut Vec<u8>, outcome: &Outcome) -> Result<(), AllocError>
     ensures { OnOk result (out.new.items ≡ out.old.items ++ done_lines (done_of outcome.now)) }
 {
@@ -238,6 +247,15 @@ fn put_done(out: &mut Vec<u8>, outcome: &Outcome) -> Result<(), AllocError>
         Outcome::Failed { bindings } => {
             put(out, b" failed\n")?;
             put_bindings(out, bindings)
+        }
+        Outcome::Repeated {
+            matches,
+            bindings,
+            after,
+        } => {
+            put_matches(out, *matches)?;
+            put_bindings(out, bindings)?;
+            put_after(out, Some(after))
         }
     }
 }

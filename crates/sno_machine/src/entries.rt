@@ -1,5 +1,5 @@
 //! What the history of a match is made of.
-ghost use Rattle.std.specs.Prelude.{◌<◌, ◌≤◌, ◌^◌, length};
+ghost use Rattle.std.specs.Prelude.{◌<◌, ◌≤◌, ◌^◌, vec_capacity, vec_len};
 
 use sno_pattern::Name;
 
@@ -46,12 +46,12 @@ pub enum Entry<'a> {
     },
 }
 
-/// What can still be taken back: the first `count` entries of a buffer, the oldest first. Entries that are dropped leave the buffer as it is,
-/// so it takes memory only where there are more of them than ever before.
+/// What can still be taken back: entries, the oldest first. It takes memory only where there are more of them than ever before.
 #[derive(Drop)]
 pub struct History<'a> {
-    pub buffer: Vec<Entry<'a>>,
-    pub count: u32,
-    ghost inside: { count ≤ length buffer.items },
-    ghost few: { length buffer.items < 2 ^ 32 },
+    pub entries: Vec<Entry<'a>>,
+    pub room: u32,
+    ghost few: { vec_len entries ≤ room },
+    ghost roomy: { room ≤ vec_capacity entries },
+    ghost fits: { room < 2 ^ 32 },
 }

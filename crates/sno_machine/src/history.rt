@@ -1,5 +1,5 @@
 //! What is put down in the history of a match, and taken up.
-ghost use Rattle.std.specs.Prelude.{◌≡◌, ◌<◌, ◌≤◌, ◌+◌, ◌-◌, ◌^◌, ◌++◌, ◌∷◌, [], length, OnOk, IfOk, IfErr, MatchOption};
+ghost use Rattle.std.specs.Prelude.{◌≡◌, ◌<◌, ◌≤◌, ◌+◌, ◌-◌, ◌^◌, ◌++◌, ◌∷◌, [], length, vec_len, OnOk, IfOk, IfErr, MatchOption};
 ghost use Rattle.sno_machine.specs.History.{entries_of, Setting, Begins, IsEmpty, IsHistory, TakenUp, context_at, left};
 ghost use Rattle.sno_machine.specs.declared.faults.MatchFault.TheVariants.{Memory};
 
@@ -12,8 +12,8 @@ impl<'a> History<'a> {
         ensures { (entries_of result) ≡ [] }
     {
         History {
-            buffer: Vec::new(alloc),
-            count: 0,
+            entries: Vec::new(alloc),
+            room: 0,
         }
     }
 
@@ -24,37 +24,38 @@ impl<'a> History<'a> {
         ensures number { IfOk result (λ n. n ≡ length (entries_of self.old) + 1) }
         ensures refused { IfErr result (λ e. e ≡ Memory) }
     {
-        if self.count as usize == self.buffer.len() {
-            self.grow()?;
-        }
-        self.buffer[self.count as usize] = entry;
-        self.count += 1;
-        Ok(self.count)
+        self.make_room()?;
+        self.entries.push_reserved(entry);
+        Ok(self.entries.len() as u32)
     }
 
-    /// Makes the buffer twice as long and longer, 8 entries at first: most matches need few. What fills it is never looked at.
+    /// Makes room for an entry, where there is none.
+    #[inline(always)]
+    fn make_room(&mut self) -> Result<(), MatchFault>
+        ensures entries { (entries_of self.new) ≡ (entries_of self.old) }
+        ensures longer { OnOk result (vec_len self.new.entries < self.new.room) }
+        ensures refused { IfErr result (λ e. e ≡ Memory) }
+    {
+        if self.entries.len() == self.room as usize {
+            self.grow()?;
+        }
+        Ok(())
+    }
+
+    /// Makes room for twice as many entries, and for 8 at first: most matches need few.
     #[cold]
     #[inline(never)]
     fn grow(&mut self) -> Result<(), MatchFault>
-        requires { self.old.count ≡ length self.old.buffer.items }
         ensures entries { (entries_of self.new) ≡ (entries_of self.old) }
-        ensures count { self.new.count ≡ self.old.count }
-        ensures longer { OnOk result (self.old.count < length self.new.buffer.items) }
+        ensures longer { OnOk result (vec_len self.new.entries < self.new.room) }
         ensures refused { IfErr result (λ e. e ≡ Memory) }
     {
-        if self.count == u32::MAX {
+        let room = self.room.saturating_mul(2).max(8);
+        if self.entries.len() == room as usize {
             return Err(MatchFault::Memory);
         }
-        let room = (u32::MAX - self.count) as usize;
-        let more = (self.count as usize + 8).min(room);
-        for _ in 0..more {
-            self.buffer.push(Entry::Choice(Place {
-                node: 0,
-                cursor: 0,
-                frame: 0,
-                pending: 0,
-            }))?;
-        }
+        self.entries.reserve(room as usize - self.entries.len())?;
+        self.room = room;
         Ok(())
     }
 
@@ -62,7 +63,7 @@ impl<'a> History<'a> {
     pub fn clear(&mut self)
         ensures { (entries_of self.new) ≡ [] }
     {
-        self.count = 0;
+        self.entries.clear();
     }
 
     /// The entry that the list with this number begins with; none where the list is empty.
@@ -73,10 +74,11 @@ impl<'a> History<'a> {
         if number == 0 {
             return None;
         }
-        if self.count < number {
+        let entries = self.entries.as_slice();
+        if entries.len() < number as usize {
             return None;
         }
-        Some(self.buffer[(number - 1) as usize])
+        Some(entries[(number - 1) as usize])
     }
 
     /// How many references deep the frame goes; `most` outside all.
@@ -95,9 +97,8 @@ impl<'a> History<'a> {
     pub fn back_up(&mut self) -> Option<Place>
         ensures { (s : Setting) → IsHistory s (entries_of self.old) → MatchOption result (left s (entries_of self.old) ≡ []) (TakenUp s (entries_of self.old) (entries_of self.new)) }
     {
-        while self.count != 0 {
-            self.count -= 1;
-            if let Entry::Choice(place) = self.buffer[self.count as usize] {
+        while let Some(entry) = self.entries.pop() {
+            if let Entry::Choice(place) = entry {
                 return Some(place);
             }
         }

@@ -1,5 +1,5 @@
 //! What a match has done so far.
-ghost use Rattle.std.specs.Prelude.{◌≡◌, ◌+◌, ◌<◌, ◌≤◌, true, false, [], OnOk, IfOk};
+ghost use Rattle.std.specs.Prelude.{◌≡◌, ◌+◌, ◌<◌, ◌≤◌, true, false, [], OnOk, IfOk, vec_len, vec_capacity};
 ghost use Rattle.sno_machine.specs.Progress.{assign, spend};
 
 use sno_pattern::{Assign, Name, What};
@@ -50,7 +50,10 @@ impl<'a> Progress<'a> {
     pub fn assign(&mut self, name: &'a Name, what: What) -> Result<(), AllocError>
         ensures { OnOk result (self.new ≡ assign (record { name = name.now; what = what }) self.old) }
     {
-        self.sets.push(Told { name, what })?;
+        if self.sets.len() == self.sets.capacity() {
+            make_room(&mut self.sets)?;
+        }
+        self.sets.push_reserved(Told { name, what });
         Ok(())
     }
 
@@ -73,13 +76,25 @@ impl<'a> Progress<'a> {
         ensures sets { IfOk result (λ sets. sets.items ≡ self.now.sets) }
         ensures within { self.now.trials ≤ self.now.limit }
     {
-        let mut sets = Vec::new(alloc);
+        let mut sets = Vec::with_capacity(alloc, self.sets.len())?;
         for told in &self.sets {
-            sets.push(Assign {
+            sets.push_reserved(Assign {
                 name: *told.name,
                 what: told.what,
-            })?;
+            });
         }
         Ok(sets)
     }
+}
+
+/// Makes room for as many assignments more as were done, and for 8 at first.
+#[cold]
+#[inline(never)]
+fn make_room(sets: &mut Vec<Told>) -> Result<(), AllocError>
+    ensures same { sets.new.items ≡ sets.old.items }
+    ensures room { OnOk result (vec_len sets.new < vec_capacity sets.new) }
+{
+    let more = sets.len().max(8);
+    sets.reserve(more)?;
+    Ok(())
 }

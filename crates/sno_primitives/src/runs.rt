@@ -8,12 +8,23 @@ ghost use Rattle.memchr.specs.Find.{IsFirstByte};
 use memchr::{memchr, memchr2, memchr3};
 use sno_pattern::Class;
 
+// How many members of a set are sought as bytes at most.
+const MOST_BYTES: usize = 3;
+
 // How many characters in a row are in the set.
 #[inline(always)]
 fn run_in(rest: &[u8], set: &Class) -> usize
     ensures { result ≡ length (take_while (has set.now) rest.now) }
 {
     rest.iter().take_while(|x| set.has(**x)).count()
+}
+
+// How many characters in a row are not in the set.
+#[inline(always)]
+fn run_outside(rest: &[u8], set: &Class) -> usize
+    ensures { result ≡ length (take_while (λ x. not (has set.now x)) rest.now) }
+{
+    rest.iter().take_while(|x| !set.has(**x)).count()
 }
 
 // The index of the first character that is in the set, by the set's table.
@@ -44,7 +55,7 @@ fn first_by_bytes(rest: &[u8], set: &Class) -> Option<usize>
 pub fn first_in(rest: &[u8], set: &Class) -> Option<usize>
     ensures { IsFirstByte (has set.now) rest.now result }
 {
-    if set.members().len() <= 3 {
+    if set.members().len() <= MOST_BYTES {
         first_by_bytes(rest, set)
     } else {
         first_by_table(rest, set)
@@ -75,7 +86,15 @@ pub fn break_end(text: &[u8], set: &Class, c: usize) -> Option<usize>
     ensures behind { IfSome result (λ e. (c ≤ e) × (e ≤ length text.now)) }
 {
     let (_, rest) = text.split_at(c);
-    match first_in(rest, set) {
+    if set.members().len() > MOST_BYTES {
+        // To count is quicker here than to seek.
+        let run = run_outside(rest, set);
+        if run < rest.len() {
+            return Some(c + run);
+        }
+        return None;
+    }
+    match first_by_bytes(rest, set) {
         Some(passed) => Some(c + passed),
         None => None,
     }

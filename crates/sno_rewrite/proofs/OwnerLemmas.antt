@@ -10,6 +10,7 @@ use Rattle.std.proofs.lemmas.Bool.{cases_eq}
 use Rattle.std.proofs.lemmas.Option.{slice_get-get_or, slice_get_within, slice_get-map}
 use Rattle.sno_statement.specs.Task.{Task}
 use Rattle.sno_book.specs.Entries.{Entry}
+use Rattle.sno_book.specs.Openings.{Opening}
 use Rattle.sno_book.specs.Proposals.{Received}
 use Rattle.sno_desk.specs.Answers.{Answers}
 use Rattle.sno_desk.specs.Turns.{AllAnswer}
@@ -107,16 +108,16 @@ fill (None ∷ owners) h = let e : false ≡ true = All-head (λ (o : Option ℕ
 fill (Some p ∷ owners) h = let more = fill owners (All-tail (λ (o : Option ℕ). IsSome o) (Some p) owners h) in record { order = p ∷ more.order; filled = ap (λ (l : List (Option ℕ)). Some p ∷ l) more.filled }
 
 -- a reply that is a receipt is one for the statement at its place
-pub receipt_for : (shuts : ℕ → ℕ → Type 0) (tries : ℕ) (statements : List Task) (replies : List (Result Received SubmitFault))
-    → AllAnswer (Answers shuts tries) statements replies → (p : ℕ) (r : Received) → slice_get replies p ≡ Some (Ok r)
+pub receipt_for : (shuts : ℕ → ℕ → Type 0) (tries : ℕ) (opening : Opening) (statements : List Task) (replies : List (Result Received SubmitFault))
+    → AllAnswer (Answers shuts tries opening) statements replies → (p : ℕ) (r : Received) → slice_get replies p ≡ Some (Ok r)
     → slice_get statements p ≡ Some r.entry.statement
-receipt_for shuts tries [] [] h p r there = cc
-receipt_for shuts tries [] (x ∷ replies) h p r there = absurd h
-receipt_for shuts tries (s ∷ statements) [] h p r there = absurd h
-receipt_for shuts tries (s ∷ statements) (Ok x ∷ replies) h zero r there =
-    let e : x ≡ r = cc in ap Some (sym h.0) ∙ ap (λ (t : Received). Some t.entry.statement) e
-receipt_for shuts tries (s ∷ statements) (Err x ∷ replies) h zero r there = cc
-receipt_for shuts tries (s ∷ statements) (x ∷ replies) h (suc p) r there = receipt_for shuts tries statements replies h.1 p r there
+receipt_for shuts tries opening [] [] h p r there = cc
+receipt_for shuts tries opening [] (x ∷ replies) h p r there = absurd h
+receipt_for shuts tries opening (s ∷ statements) [] h p r there = absurd h
+receipt_for shuts tries opening (s ∷ statements) (Ok x ∷ replies) h zero r there =
+    let e : x ≡ r = cc in ap Some (sym h.1) ∙ ap (λ (t : Received). Some t.entry.statement) e
+receipt_for shuts tries opening (s ∷ statements) (Err x ∷ replies) h zero r there = cc
+receipt_for shuts tries opening (s ∷ statements) (x ∷ replies) h (suc p) r there = receipt_for shuts tries opening statements replies h.1 p r there
 
 -- a refusal is no acceptance
 refused_in : (o : Option Reason) → option_map Some o ≡ Some None → ⊥
@@ -149,8 +150,8 @@ order_at (x ∷ order) zero p h = let e : x ≡ p = cc in ap Some e
 order_at (x ∷ order) (suc k) p h = order_at order k p h
 
 -- where each entry is owned, the owners are the order of the statements
-module _ (shuts : ℕ → ℕ → Type 0) (tries : ℕ) (statements : List Task) (replies : List (Result Received SubmitFault)) (journal : List Entry)
-    (owners : List (Option ℕ)) (answered : AllAnswer (Answers shuts tries) statements replies) (owns : Owns journal replies (length replies) owners)
+module _ (shuts : ℕ → ℕ → Type 0) (tries : ℕ) (opening : Opening) (statements : List Task) (replies : List (Result Received SubmitFault)) (journal : List Entry)
+    (owners : List (Option ℕ)) (answered : AllAnswer (Answers shuts tries opening) statements replies) (owns : Owns journal replies (length replies) owners)
     (filled : Filled owners) (answers : List (Option Reason)) (given : map answer_in replies ≡ map Some answers) where
   owned : (k p : ℕ) → slice_get filled.order k ≡ Some p → slice_get owners k ≡ Some (Some p)
   owned k p h = ap (λ (l : List (Option ℕ)). slice_get l k) filled.filled ∙ filled_at filled.order k p h
@@ -171,7 +172,7 @@ module _ (shuts : ℕ → ℕ → Type 0) (tries : ℕ) (statements : List Task)
         sym one.indexed ∙ ap (λ (r : Received). r.index) same ∙ other.indexed;
     statement = λ k p h.
         let one = its k p h in
-        ap (option_map (λ (e : Entry). e.statement)) one.entry ∙ sym (receipt_for shuts tries statements replies answered p one.receipt one.there);
+        ap (option_map (λ (e : Entry). e.statement)) one.entry ∙ sym (receipt_for shuts tries opening statements replies answered p one.receipt one.there);
     accepted = λ k p h.
         let one = its k p h in
         inner (slice_get answers p) (sym (said p) ∙ slice_get-map answer_in replies p ∙ ap (option_map answer_in) one.there);

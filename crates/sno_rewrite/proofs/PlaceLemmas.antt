@@ -1,5 +1,5 @@
 -- A text of a book, found by its name, is the one at the place of that name in the opening.
-use Rattle.std.proofs.Common.{◌≡◌, ℕ, zero, suc, ◌+◌, Bool, true, false, cond, List, [], ◌∷◌, map, Option, Some, None, slice_get, refl, ap, sym, subst, ◌∙◌}
+use Rattle.std.proofs.Common.{◌≡◌, ◌≢◌, ℕ, zero, suc, ◌+◌, Bool, true, false, cond, List, [], ◌∷◌, map, Option, Some, None, slice_get, refl, ap, sym, subst, ◌∙◌}
 use Rattle.std.specs.List.{position_from}
 use Rattle.sno_pattern.specs.Identifiers.{same}
 use Rattle.sno_pattern.specs.NameList.{place_of}
@@ -10,6 +10,8 @@ use Rattle.sno_book.specs.States.{VersionedText, State, find, raise, renew, rene
 use Rattle.sno_book.specs.Views.{View, state_of}
 use Rattle.sno_book.specs.Books.{Book, view_of}
 use Rattle.sno_book.proofs.Places.{StandsAt, stands_at}
+use Rattle.sno_desk.specs.Seen.{place_in}
+use Rattle.sno_desk.proofs.Standing.{standing}
 
 names : State → List (List ℕ)
 names state = map (λ (held : VersionedText). held.name) state
@@ -68,3 +70,14 @@ found_by_place book name k placed =
 -- what has no place is not found
 pub found_nowhere : (book : Book) (name : List ℕ) → place_of (names_in book.opening.texts) name ≡ None → find name (state_of (view_of book)) ≡ None
 found_nowhere book name nowhere = found_none name 0 (state_of (view_of book)) (ap (λ (l : List (List ℕ)). place_of l name) (names_kept (view_of book)) ∙ nowhere)
+
+-- the same of a name that the opening has, and of one that it has not
+pub is_named : (book : Book) (name : List ℕ) → place_in book.opening name ≢ None → find name (state_of (view_of book)) ≢ None
+is_named book name there none = by_place (place_in book.opening name) refl
+  where
+    by_place : (o : Option ℕ) → place_in book.opening name ≡ o → ⊥
+    by_place None is = there is
+    by_place (Some k) is = let found = (standing book.opening book.journal name k is).found in cc (found, none)
+
+pub is_nowhere : (book : Book) (name : List ℕ) → place_in book.opening name ≡ None → find name (state_of (view_of book)) ≡ None
+is_nowhere book name nowhere = found_nowhere book name nowhere

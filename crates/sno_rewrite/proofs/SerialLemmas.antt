@@ -1,15 +1,11 @@
 -- What a statement does to a book.
-use Rattle.std.proofs.Common.{◌≡◌, ◌≢◌, ℕ, Bool, true, false, cond, List, [], ◌∷◌, ◌++◌, length, nat_lt, Option, Some, None, Result, Ok, Err, refl, ap, sym, subst, ◌∙◌, arith}
+use Rattle.std.proofs.Common.{◌≡◌, ◌≢◌, ℕ, List, [], ◌∷◌, ◌++◌, length, Option, Some, None, Result, Ok, Err, refl, ap, sym, subst, ◌∙◌, arith}
 use Rattle.std.specs.Prelude.{option_and_then}
 use Rattle.std.specs.Option.{option_map}
 use Rattle.std.specs.Arc.{arc_value}
 use Rattle.sno_statement.specs.Task.{Task}
-use Rattle.sno_pattern.specs.Outcome.{outcome, trials}
-use Rattle.sno_pattern.specs.declared.found.Hit.{Hit}
-use Rattle.sno_read.specs.declared.objects.Part.{Part}
-use Rattle.sno_statement.specs.Bindings.{Bound, bindings_of}
-use Rattle.sno_statement.specs.Value.{new_text, value_of}
-use Rattle.sno_statement.specs.Perform.{Done, Failed, Matched, finish, perform}
+use Rattle.sno_statement.specs.Perform.{Done, perform}
+use Rattle.sno_statement.proofs.NotMemory.{IsNotMemory, of_perform}
 use Rattle.sno_statement.specs.declared.outcomes.StatementFault.{StatementFault}
 use Rattle.sno_statement.specs.declared.outcomes.StatementFault.TheVariants as fault
 use Rattle.sno_book.specs.States.{VersionedText, find}
@@ -24,7 +20,7 @@ use Rattle.sno_book.specs.Proposals.{Proposed, Proposes, GivesProposal, Received
 use Rattle.sno_book.specs.Commits.{IsSnapshot, GivesSnapshot, IsAccepted, IsRefused, refusal}
 use Rattle.sno_book.specs.declared.faults.SnapshotFault.{SnapshotFault}
 use Rattle.sno_book.specs.declared.faults.SnapshotFault.TheVariants as snapshots
-use Rattle.sno_book.specs.declared.snapshots.Snapshot.{Snapshot}
+use Rattle.sno_book.specs.Snapshots.{Snapshot}
 use Rattle.sno_listing.specs.History.{History, history_of}
 use Rattle.sno_listing.specs.declared.refusals.Refusal.{Refusal}
 use Rattle.sno_book.specs.Openings.{start}
@@ -61,10 +57,10 @@ refused_none v s number old new same none grown =
     ∙ ap (λ (l : List Refusal). Some (history_of v l)) (sym grown)
 
 pub refused_for : (v : View) (s : Task) (number : ℕ) (snapshot : Snapshot) (old new : List Refusal) (e : StatementFault) (reason : Reason) → number ≡ s.number → IsSnapshot v s.text snapshot
-    → perform s (arc_value snapshot.text) ≡ Err e → reason_of e ≡ Some reason → new ≡ old ++ record { number = number; reason = reason } ∷ []
+    → perform s snapshot.text ≡ Err e → reason_of e ≡ Some reason → new ≡ old ++ record { number = number; reason = reason } ∷ []
     → advance (history_of v old) s ≡ Some (history_of v new)
 refused_for v s number snapshot old new e reason same taken performed is grown =
-    advance_refused (history_of v old) s (record { name = s.text; text = arc_value snapshot.text; version = snapshot.version }) e reason taken.found performed is
+    advance_refused (history_of v old) s (record { name = s.text; text = snapshot.text; version = snapshot.version }) e reason taken.found performed is
     ∙ ap (λ (n : ℕ). Some (history_of v (old ++ record { number = n; reason = reason } ∷ []))) (sym same)
     ∙ ap (λ (l : List Refusal). Some (history_of v l)) (sym grown)
 
@@ -75,37 +71,24 @@ committed v w s snapshot p r refused taken proposed accepted =
     let same : entry_of p ≡ entry = (λ i. record { statement = proposed.statement i; version = proposed.version i; done = p.done }) in
     let journal : w.journal ≡ v.journal ++ entry_of p ∷ [] = ap (λ (x : View). x.journal) accepted.appended in
     let stepped : history_of w refused ≡ accept (history_of v refused) (entry_of p) = (λ i. record { state = accepted.stepped i; journal = journal i; refused = refused }) in
-    advance_done (history_of v refused) s (record { name = s.text; text = arc_value snapshot.text; version = snapshot.version }) p.done taken.found proposed.done
+    advance_done (history_of v refused) s (record { name = s.text; text = snapshot.text; version = snapshot.version }) p.done taken.found proposed.done
     ∙ ap (λ (e : Entry). Some (accept (history_of v refused) e)) (sym same) ∙ ap (λ (h : History). Some h) (sym stepped)
 
 -- one statement more, and then those that are left
 pub run_more : (h g : History) (s : Task) (statements : List Task) → advance h s ≡ Some g → run h (s ∷ statements) ≡ run g statements
 run_more h g s statements advanced = ap (option_and_then (λ (x : History). run x statements)) advanced
 
+-- an answer that isn't want of memory is entered or refused
+answer_settled : (h : History) (s : Task) (version : ℕ) (answer : Result Done StatementFault) → IsNotMemory answer → (g : History) × (settle h s version answer ≡ Some g)
+answer_settled h s version (Ok done) answered = (accept h (record { statement = s; version = version; done = done }), refl)
+answer_settled h s version (Err fault.TextTooLong) answered = (refuse h s TextTooLong, refl)
+answer_settled h s version (Err fault.Memory) answered = absurd answered
+answer_settled h s version (Err fault.TooManyTrials) answered = (refuse h s TooManyTrials, refl)
+
 -- by its definition no statement is refused memory
-text_settled : (b : Bool) (h : History) (s : Task) (version : ℕ) (done : Done) → (g : History) × (settle h s version (cond b (Err fault.TextTooLong) (Ok done)) ≡ Some g)
-text_settled true h s version done = (refuse h s TextTooLong, refl)
-text_settled false h s version done = (accept h (record { statement = s; version = version; done = done }), refl)
-
-finish_settled : (h : History) (s : Task) (version : ℕ) (object : Option (List Part)) (t : List ℕ) (bound : Bound) (hit : Option Hit)
-    → (g : History) × (settle h s version (finish object t bound hit) ≡ Some g)
-finish_settled h s version object t bound None = (accept h (record { statement = s; version = version; done = Failed bound }), refl)
-finish_settled h s version None t bound (Some hit) = (accept h (record { statement = s; version = version; done = Matched hit.start hit.end bound None }), refl)
-finish_settled h s version (Some parts) t bound (Some hit) =
-    text_settled (nat_lt 65536 (length (new_text t hit.start hit.end (value_of bound parts)))) h s version
-    (Matched hit.start hit.end bound (Some (new_text t hit.start hit.end (value_of bound parts))))
-
-trials_settled : (b : Bool) (h : History) (s : Task) (version : ℕ) (rest : Result Done StatementFault) → (g : History) × (settle h s version rest ≡ Some g)
-    → (g : History) × (settle h s version (cond b (Err fault.TooManyTrials) rest) ≡ Some g)
-trials_settled true h s version rest settled = (refuse h s TooManyTrials, refl)
-trials_settled false h s version rest settled = settled
-
 perform_settled : (h : History) (s : Task) (held : Option VersionedText) → (g : History) × (perform_on h s held ≡ Some g)
 perform_settled h s None = (refuse h s NoText, refl)
-perform_settled h s (Some held) =
-    let found = outcome held.text s.rules.bodies s.pattern s.anchored in
-    trials_settled (nat_lt s.limit (trials held.text s.rules.bodies s.pattern s.anchored)) h s held.version (finish s.object held.text (bindings_of held.text found) found.end)
-    (finish_settled h s held.version s.object held.text (bindings_of held.text found) found.end)
+perform_settled h s (Some held) = answer_settled h s held.version (perform s held.text) (of_perform s held.text)
 
 advance_settled : (h : History) (s : Task) → (g : History) × (advance h s ≡ Some g)
 unfolding advance
@@ -134,14 +117,14 @@ no_text v name other snapshots.NoText same is h = ap (λ (n : List ℕ). find n 
 no_text v name other snapshots.Memory same is h = cc
 
 pub too_long : (s other : Task) (snapshot : Snapshot) (e : StatementFault) → s ≡ other → e ≡ fault.TextTooLong → GivesProposal (Err e) s snapshot
-    → perform other (arc_value snapshot.text) ≡ Err fault.TextTooLong
-too_long s other snapshot fault.TextTooLong same is h = ap (λ (t : Task). perform t (arc_value snapshot.text)) (sym same) ∙ h
+    → perform other snapshot.text ≡ Err fault.TextTooLong
+too_long s other snapshot fault.TextTooLong same is h = ap (λ (t : Task). perform t snapshot.text) (sym same) ∙ h
 too_long s other snapshot fault.Memory same is h = cc
 too_long s other snapshot fault.TooManyTrials same is h = cc
 
 pub too_many : (s other : Task) (snapshot : Snapshot) (e : StatementFault) → s ≡ other → e ≡ fault.TooManyTrials → GivesProposal (Err e) s snapshot
-    → perform other (arc_value snapshot.text) ≡ Err fault.TooManyTrials
-too_many s other snapshot fault.TooManyTrials same is h = ap (λ (t : Task). perform t (arc_value snapshot.text)) (sym same) ∙ h
+    → perform other snapshot.text ≡ Err fault.TooManyTrials
+too_many s other snapshot fault.TooManyTrials same is h = ap (λ (t : Task). perform t snapshot.text) (sym same) ∙ h
 too_many s other snapshot fault.Memory same is h = cc
 too_many s other snapshot fault.TextTooLong same is h = cc
 
@@ -151,7 +134,6 @@ refused_memory : (v : View) (p : Proposed) (e : CommitFault) → refusal v p ≡
 refused_memory v p commits.Memory none cause = refl
 refused_memory v p commits.NoText none cause = let is = cause (λ q. cc) in cc
 refused_memory v p (commits.Changed seen now) none cause = let is = cause (λ q. cc) in cc
-refused_memory v p commits.Foreign none cause = let is = cause (λ q. cc) in cc
 refused_memory v p commits.Full none cause = let is = cause (λ q. cc) in cc
 
 -- is refused for memory alone, where there is room

@@ -107,7 +107,7 @@ module _ (tries : ℕ) (state : State) where
 
 -- what is listed beside a book whose entries are all owned
 pub settles : (shuts : ℕ → ℕ → Type 0) (tries : ℕ) (book : Book) (statements : List Task) (replies : List (Result Received SubmitFault))
-    (owners : List (Option ℕ)) (refused : List Refusal) → AllAnswer (Answers shuts tries) statements replies
+    (owners : List (Option ℕ)) (refused : List Refusal) → AllAnswer (Answers shuts tries book.opening) statements replies
     → Owns book.journal replies (length replies) owners → All (λ o. IsSome o) owners → Lists tries (state_of (view_of book)) statements replies refused
     → Settles tries statements (history_of (view_of book) refused)
 settles shuts tries book statements replies owners refused answered owns all lists =
@@ -117,7 +117,7 @@ settles shuts tries book statements replies owners refused answered owns all lis
       answered = lists.may;
       refused = lists.listed;
       order = filled.order;
-      ordered = in_order shuts tries statements replies book.journal owners answered owns filled lists.answers lists.given;
+      ordered = in_order shuts tries book.opening statements replies book.journal owners answered owns filled lists.answers lists.given;
     }
 
 -- what is settled beside a lawful book that began with the document's texts

@@ -8,7 +8,7 @@ use Rattle.sno_pattern.specs.Results.{results_of, definition_results}
 use Rattle.sno_pattern.specs.Outcome.{outcome_at, trials_at}
 use Rattle.sno_read.specs.declared.objects.Part.{Part}
 use Rattle.sno_read.specs.declared.objects.Part.TheVariants.{Quoted, Var}
-use Rattle.sno_statement.specs.Task.{Task}
+use Rattle.sno_statement.specs.Task.{Task, with_repeat}
 use Rattle.sno_document.specs.Document.{Document}
 use Rattle.sno_listing.specs.Listing.{listing, text_line, binding_line, done_lines, entry_label, entry_subject, refused_line}
 use Rattle.sno_rewrite.specs.Serial.{serial, advance}
@@ -21,10 +21,10 @@ abbrev no_rules : Definitions
 no_rules = record { names = []; bodies = [] }
 
 abbrev with_object : List Part → ℕ → List ℕ → Tree → Task
-with_object parts number text pattern = record { number = number; rules = no_rules; pattern = pattern; object = Some parts; text = text; anchored = false; limit = 1000000 }
+with_object parts number text pattern = record { number = number; rules = no_rules; pattern = pattern; object = Some parts; text = text; anchored = false; limit = 1000000; repeat = None }
 
 abbrev without_object : ℕ → List ℕ → Tree → Task
-without_object number text pattern = record { number = number; rules = no_rules; pattern = pattern; object = None; text = text; anchored = false; limit = 1000000 }
+without_object number text pattern = record { number = number; rules = no_rules; pattern = pattern; object = None; text = text; anchored = false; limit = 1000000; repeat = None }
 
 -- T is abc, and its b is replaced by X
 abbrev one_replacement : Document
@@ -64,3 +64,16 @@ two_versions_listed : option_map listing (serial two_versions)
     ++ (line (codes "  -> |bb|") ++ (line (codes "1 statement 2 T 1 matched 0 2") ++ (line (codes "  -> |bb|") ++ line (codes "refused 0"))))))))
 unfolding listing text_line binding_line done_lines entry_label entry_subject refused_line advance outcome_at trials_at results_of definition_results digits
 two_versions_listed = refl
+
+-- T is aXbXc, and each of its X is replaced by a stroke: one entry, and one version
+abbrev all_replaced : Document
+all_replaced = record {
+  rules = no_rules;
+  texts = (codes "T", codes "aXbXc") ∷ [];
+  statements = with_repeat (with_object (Quoted (codes "-") ∷ []) 1 (codes "T") (Lit (codes "X"))) 1000 ∷ [];
+}
+
+all_replaced_listed : option_map listing (serial all_replaced)
+    ≡ Some (line (codes "texts 1") ++ (line (codes "T 1 |a-b-c|") ++ (line (codes "entries 1") ++ (line (codes "0 statement 1 T 0 repeated 2") ++ (line (codes "  -> |a-b-c|") ++ line (codes "refused 0"))))))
+unfolding listing text_line binding_line done_lines entry_label entry_subject refused_line advance outcome_at trials_at results_of definition_results digits
+all_replaced_listed = refl

@@ -34,7 +34,7 @@ reason_in submit.TextTooLong = Some TextTooLong
 reason_in (submit.TriesSpent seen now) = Some (TriesSpent seen now)
 reason_in submit.TooManyTrials = Some TooManyTrials
 reason_in submit.GateShut = None
-reason_in submit.Foreign = None
+reason_in submit.Stopped = None
 reason_in submit.Full = None
 reason_in submit.Memory = None
 
@@ -46,6 +46,10 @@ answer_in (Err fault) = option_map Some (reason_in fault)
 -- replies and journal do not agree, or memory was refused
 abbrev pub IsAuditOrMemory : RunFault → Type 0
 IsAuditOrMemory e = (e ≡ fault.Audit) ⊎ (e ≡ fault.Memory)
+
+-- .. or nothing more was shown to a seat
+abbrev pub IsUnsettled : RunFault → Type 0
+IsUnsettled e = (e ≡ fault.Stopped) ⊎ IsAuditOrMemory e
 
 -- the replies to these statements are answers, each one that may be, and what is refused among them is listed
 pub record Lists (tries : ℕ) (state : State) (statements : List Task) (replies : List (Result Received SubmitFault)) (refused : List Refusal) : Type 0 where
@@ -68,7 +72,19 @@ is_short (Err submit.Memory) = true
 is_short (Err submit.NoText) = false
 is_short (Err submit.GateShut) = false
 is_short (Err submit.TextTooLong) = false
-is_short (Err submit.Foreign) = false
+is_short (Err submit.Stopped) = false
 is_short (Err submit.Full) = false
 is_short (Err (submit.TriesSpent seen now)) = false
 is_short (Err submit.TooManyTrials) = false
+
+-- whether nothing more was shown to a statement's seat
+abbrev pub is_stopped : Result Received SubmitFault → Bool
+is_stopped (Ok receipt) = false
+is_stopped (Err submit.Stopped) = true
+is_stopped (Err submit.Memory) = false
+is_stopped (Err submit.NoText) = false
+is_stopped (Err submit.GateShut) = false
+is_stopped (Err submit.TextTooLong) = false
+is_stopped (Err submit.Full) = false
+is_stopped (Err (submit.TriesSpent seen now)) = false
+is_stopped (Err submit.TooManyTrials) = false

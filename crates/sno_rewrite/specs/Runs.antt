@@ -10,7 +10,7 @@ use Rattle.sno_rewrite.specs.Reports.{IsReport, status_of_run}
 use Rattle.sno_rewrite.specs.Shared.{IsSharedReport}
 use Rattle.sno_rewrite.specs.declared.options.Options.{Options}
 use Rattle.sno_document.specs.declared.faults.RunFault.{RunFault}
-use Rattle.sno_document.specs.declared.faults.RunFault.TheVariants.{Memory, Audit, Closing}
+use Rattle.sno_document.specs.declared.faults.RunFault.TheVariants.{Memory, Stopped, NoReader, Audit, Closing}
 
 -- workers are 1 to 16, where there are any, tries 1 to 1,000, and trials 1 to 1,000,000,000
 pub record AreInLimits (options : Options) : Type 0 where
@@ -23,9 +23,10 @@ abbrev pub Reports : Option ℕ → Options → List ℕ → List ℕ → ℕ �
 Reports None options bytes lines refused = IsReport (mode_of options) options.json bytes lines refused
 Reports (Some n) options bytes lines refused = IsSharedReport (mode_of options) options.json options.tries bytes lines refused
 
--- memory was refused, receipts and journal don't agree, or the desk did not close: no fault of a document
+-- memory was refused, nothing more was shown to a seat, there was no place for a reader, receipts and journal don't agree, or the desk did not close: no fault
+-- of a document
 abbrev pub IsOwn : RunFault → Type 0
-IsOwn e = (e ≡ Memory) ⊎ ((e ≡ Audit) ⊎ (e ≡ Closing))
+IsOwn e = (e ≡ Memory) ⊎ ((e ≡ Stopped) ⊎ ((e ≡ NoReader) ⊎ ((e ≡ Audit) ⊎ (e ≡ Closing))))
 
 -- a fault is that of the bytes, unless memory was refused, and with workers unless it is one of the run's own
 abbrev pub FailsBy : Option ℕ → Mode → List ℕ → RunFault → Type 0

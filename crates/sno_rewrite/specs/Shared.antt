@@ -1,5 +1,5 @@
 -- Shared runs: workers perform the statements of a document on its texts, in an order that nobody fixed.
-use Rattle.std.specs.Prelude.{◌≡◌, ◌<◌, ◌≤◌, ℕ, Bool, List, [], ◌∷◌, ◌++◌, length, slice_get, Option, Some, None, Ok}
+use Rattle.std.specs.Prelude.{◌≡◌, ◌≢◌, ◌<◌, ◌≤◌, ℕ, Bool, List, [], ◌∷◌, ◌++◌, length, slice_get, Option, Some, None, Ok}
 use Rattle.std.specs.Option.{option_map}
 use Rattle.sno_statement.specs.Task.{Task}
 use Rattle.sno_statement.specs.declared.outcomes.StatementFault.TheVariants as statement
@@ -22,19 +22,29 @@ pub record HasReached (state : State) (name : List ℕ) (version : ℕ) : Type 0
   pub found : find name state ≡ Some held
   pub reached : version ≤ held.version
 
--- why a statement may be refused, on the texts as they are left: there is none of its name; there is a text on which
--- performing it is refused so; or its text changed under each of its tries, the last time after the version that the last try began with, and so had been replaced as many
--- times at least
+-- that there is no text of the statement's name is the reason exactly where there is none
+abbrev pub IsNamed : State → Task → Option Reason → Type 0
+IsNamed state s None = find s.text state ≢ None
+IsNamed state s (Some NoText) = find s.text state ≡ None
+IsNamed state s (Some TextTooLong) = find s.text state ≢ None
+IsNamed state s (Some TooManyTrials) = find s.text state ≢ None
+IsNamed state s (Some (TriesSpent seen now)) = find s.text state ≢ None
+
+-- for which other reasons a statement may be refused, on the texts as they are left: there is a text on which performing it is refused so; or its text changed
+-- under each of its tries, the last time after the version that the last try began with, and so had been replaced as many times at least
 abbrev pub MayRefuse : ℕ → State → Task → Reason → Type 0
-MayRefuse tries state s NoText = find s.text state ≡ None
+MayRefuse tries state s NoText = Unit {0}
 MayRefuse tries state s TextTooLong = IsRefusedOnSome s statement.TextTooLong
 MayRefuse tries state s TooManyTrials = IsRefusedOnSome s statement.TooManyTrials
 MayRefuse tries state s (TriesSpent seen now) = (seen < now) × (tries ≤ now) × HasReached state s.text now
 
 -- a statement without a reason is accepted
+abbrev pub MayBe : ℕ → State → Task → Option Reason → Type 0
+MayBe tries state s None = Unit {0}
+MayBe tries state s (Some reason) = MayRefuse tries state s reason
+
 abbrev pub MayAnswer : ℕ → State → Task → Option Reason → Type 0
-MayAnswer tries state s None = Unit {0}
-MayAnswer tries state s (Some reason) = MayRefuse tries state s reason
+MayAnswer tries state s answer = IsNamed state s answer × MayBe tries state s answer
 
 -- each statement is accepted, or refused for a reason that may be
 abbrev pub AreAnswers : ℕ → State → List Task → List (Option Reason) → Type 0

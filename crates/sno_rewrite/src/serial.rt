@@ -8,7 +8,7 @@ ghost use Rattle.sno_listing.specs.History.{history_of};
 ghost use Rattle.sno_document.specs.Document.{room};
 ghost use Rattle.sno_rewrite.specs.Histories.{history_seen, HasRoom};
 
-use sno_book::{Book, CommitFault, SnapshotFault, fresh_is_free, propose};
+use sno_book::{Book, CommitFault, SnapshotFault, fresh_is_free, fresh_is_kin, propose};
 use sno_document::{Document, RunFault};
 use sno_listing::{Reason, Refusal};
 use sno_statement::{Statement, StatementFault};
@@ -69,6 +69,7 @@ fn advance(
         Err(StatementFault::Memory) => return Err(RunFault::Memory),
     };
     fresh_is_free();
+    fresh_is_kin();
     match performed.book.commit(proposal) {
         Ok(_) => Ok(()),
         Err((CommitFault::Memory, _)) => Err(RunFault::Memory),

@@ -1,5 +1,5 @@
 //! What the replies to the statements of a document come to.
-ghost use Rattle.std.specs.Prelude.{◌≡◌, ◌≤◌, ◌<◌, ◌+◌, length, map, take, IfOk, IfErr, OnOk, Some, None, Err, true};
+ghost use Rattle.std.specs.Prelude.{◌≡◌, ◌≤◌, ◌<◌, ◌+◌, length, map, take, IfOk, IfErr, OnOk, Some, Err, true, false};
 ghost use Rattle.std.specs.List.{list_any};
 ghost use Rattle.std.specs.Option.{option_map};
 ghost use Rattle.std.specs.Arc.{arc_value};
@@ -9,10 +9,10 @@ ghost use Rattle.sno_book.specs.Books.{view_of};
 ghost use Rattle.sno_desk.specs.Answers.{Answers};
 ghost use Rattle.sno_desk.specs.Turns.{AllAnswer};
 ghost use Rattle.sno_rewrite.specs.Histories.{history_seen};
-ghost use Rattle.sno_rewrite.specs.Owners.{IsAuditOrMemory, IsListed, Lists, is_short, reason_in};
-ghost use Rattle.sno_rewrite.specs.Shared.{HasReached, MayRefuse, Settles};
-ghost use Rattle.sno_document.specs.declared.faults.RunFault.TheVariants.{Audit as AuditFailed, Memory as MemoryRefused};
-ghost use Rattle.sno_listing.specs.declared.refusals.Reason.TheVariants.{NoText as WithoutText, TriesSpent as Spent};
+ghost use Rattle.sno_rewrite.specs.Owners.{IsListed, IsUnsettled, Lists, is_short, is_stopped, reason_in};
+ghost use Rattle.sno_rewrite.specs.Shared.{HasReached, IsNamed, MayRefuse, Settles};
+ghost use Rattle.sno_document.specs.declared.faults.RunFault.TheVariants.{Audit as AuditFailed, Memory as MemoryRefused, Stopped as StoppedThere};
+ghost use Rattle.sno_listing.specs.declared.refusals.Reason.TheVariants.{TriesSpent as Spent};
 
 use crate::owners::owners;
 use crate::serial::{BookWithRefusals, refuse};
@@ -34,37 +34,21 @@ fn version_in(book: &Book, statement: &Statement) -> Option<u64>
     Some(version)
 }
 
-/// That the book has no text of the statement's name; `Audit` where it has one.
-fn without_text(book: &Book, statement: &Statement) -> Result<Reason, RunFault>
-    ensures reason { IfOk result (λ reason. reason ≡ WithoutText) }
-    ensures none { IfOk result (λ _. find statement.now.text (state_of (view_of book.now)) ≡ None) }
-    ensures fault { IfErr result (λ e. e ≡ AuditFailed) }
-{
-    match version_in(book, statement) {
-        None => Ok(Reason::NoText),
-        Some(_) => Err(RunFault::Audit),
-    }
-}
-
-/// That the last try found a later version than it began with, that the statement's text was replaced at least as often as the statement was
-/// tried, and that it is no older than the last try found it; `Audit` where that is not so.
+/// That the statement's text is no older than the last try found it; `Audit` where it is.
 fn with_tries_spent(
     book: &Book,
     statement: &Statement,
-    tries: u32,
     seen: u64,
     now: u64,
 ) -> Result<Reason, RunFault>
     ensures reason { IfOk result (λ reason. reason ≡ Spent seen now) }
-    ensures later { IfOk result (λ _. seen < now) }
-    ensures many { IfOk result (λ _. tries ≤ now) }
     ensures reached { IfOk result (λ _. HasReached (state_of (view_of book.now)) statement.now.text now) }
     ensures fault { IfErr result (λ e. e ≡ AuditFailed) }
 {
     let Some(version) = version_in(book, statement) else {
         return Err(RunFault::Audit);
     };
-    if seen < now && u64::from(tries) <= now && now <= version {
+    if now <= version {
         Ok(Reason::TriesSpent { seen, now })
     } else {
         Err(RunFault::Audit)
@@ -72,30 +56,30 @@ fn with_tries_spent(
 }
 
 /// The reason for which the statement is listed as refused.
+#[tactic(auto, using(crate::proofs::PlaceLemmas::is_named, crate::proofs::PlaceLemmas::is_nowhere))]
 fn reason(
     book: &Book,
     statement: &Statement,
     fault: &SubmitFault,
     tries: u32,
 ) -> Result<Reason, RunFault>
-    requires { Answers (λ _ _. ⊥) tries statement.now (Err fault.now) }
+    requires { Answers (λ _ _. ⊥) tries book.now.opening statement.now (Err fault.now) }
     ensures reason { IfOk result (λ reason. reason_in fault.now ≡ Some reason) }
+    ensures named { IfOk result (λ reason. IsNamed (state_of (view_of book.now)) statement.now (Some reason)) }
     ensures may { IfOk result (λ reason. MayRefuse tries (state_of (view_of book.now)) statement.now reason) }
-    ensures fault { IfErr result IsAuditOrMemory }
+    ensures fault { IfErr result IsUnsettled }
 {
     match *fault {
-        SubmitFault::NoText => {
-            let reason = without_text(book, statement)?;
-            Ok(reason)
-        }
+        SubmitFault::NoText => Ok(Reason::NoText),
         SubmitFault::TextTooLong => Ok(Reason::TextTooLong),
         SubmitFault::TooManyTrials => Ok(Reason::TooManyTrials),
         SubmitFault::TriesSpent { seen, now } => {
-            let reason = with_tries_spent(book, statement, tries, seen, now)?;
+            let reason = with_tries_spent(book, statement, seen, now)?;
             Ok(reason)
         }
         SubmitFault::Memory => Err(RunFault::Memory),
-        SubmitFault::GateShut | SubmitFault::Foreign | SubmitFault::Full => Err(RunFault::Audit),
+        SubmitFault::Stopped => Err(RunFault::Stopped),
+        SubmitFault::GateShut | SubmitFault::Full => Err(RunFault::Audit),
     }
 }
 
@@ -107,9 +91,9 @@ fn list(
     tries: u32,
     refused: &mut Vec<Refusal>,
 ) -> Result<(), RunFault>
-    requires { Answers (λ _ _. ⊥) tries statement.now reply.now }
+    requires { Answers (λ _ _. ⊥) tries book.now.opening statement.now reply.now }
     ensures listed { OnOk result (IsListed tries (state_of (view_of book.now)) statement.now reply.now refused.old.items refused.new.items) }
-    ensures fault { IfErr result IsAuditOrMemory }
+    ensures fault { IfErr result IsUnsettled }
 {
     match reply {
         Ok(_) => Ok(()),
@@ -132,10 +116,10 @@ fn list_at(
 ) -> Result<(), RunFault>
     requires inside { place < length statements.now }
     requires replied { place < length replies.now }
-    requires answers { AllAnswer (Answers (λ _ _. ⊥) tries) (map arc_value statements.now) replies.now }
+    requires answers { AllAnswer (Answers (λ _ _. ⊥) tries book.now.opening) (map arc_value statements.now) replies.now }
     requires before { Lists tries (state_of (view_of book.now)) (take place (map arc_value statements.now)) (take place replies.now) refused.old.items }
     ensures lists { OnOk result (Lists tries (state_of (view_of book.now)) (take (place + 1) (map arc_value statements.now)) (take (place + 1) replies.now) refused.new.items) }
-    ensures fault { IfErr result IsAuditOrMemory }
+    ensures fault { IfErr result IsUnsettled }
 {
     let statement = &statements[place];
     let reply = &replies[place];
@@ -152,9 +136,9 @@ fn refusals_of(
     replies: &[Reply],
     tries: u32,
 ) -> Result<Vec<Refusal>, RunFault>
-    requires { AllAnswer (Answers (λ _ _. ⊥) tries) (map arc_value statements.now) replies.now }
+    requires { AllAnswer (Answers (λ _ _. ⊥) tries book.now.opening) (map arc_value statements.now) replies.now }
     ensures lists { IfOk result (λ v. Lists tries (state_of (view_of book.now)) (map arc_value statements.now) replies.now v.items) }
-    ensures fault { IfErr result IsAuditOrMemory }
+    ensures fault { IfErr result IsUnsettled }
 {
     let mut refused = Vec::new(alloc);
     for place in 0..statements.len() {
@@ -176,10 +160,23 @@ fn is_any_short(replies: &[Reply]) -> bool
     replies.iter().any(|reply| is_short(reply))
 }
 
+fn is_stopped(reply: &Reply) -> bool
+    ensures { result ≡ is_stopped reply.now }
+{
+    matches!(reply, Err(SubmitFault::Stopped))
+}
+
+/// Whether nothing more was shown to the seat of one of the statements.
+fn is_any_stopped(replies: &[Reply]) -> bool
+    ensures { result ≡ list_any is_stopped replies.now }
+{
+    replies.iter().any(|reply| is_stopped(reply))
+}
+
 /// The book that the statements left, with those that were refused. Each entry of its journal is checked against the receipts.
 ///
-/// Refused: `Memory` where a reply is `Memory`; then `Audit` where a reply can't be that of a lawful run, or a receipt and the journal
-/// don't agree; `Memory`. The book is dropped then.
+/// Refused: `Memory` where a reply is `Memory`; then `Stopped` where one is `Stopped`; then `Audit` where a reply can't be that of a lawful run, or a receipt
+/// and the journal don't agree; `Memory`. The book is dropped then.
 #[tactic(auto, using(crate::proofs::SettlingLemmas::settles))]
 pub(crate) fn settle_replies(
     alloc: Global,
@@ -188,14 +185,18 @@ pub(crate) fn settle_replies(
     replies: &[Reply],
     tries: u32,
 ) -> Result<BookWithRefusals, RunFault>
-    requires { AllAnswer (Answers (λ _ _. ⊥) tries) (map arc_value statements.now) replies.now }
+    requires { AllAnswer (Answers (λ _ _. ⊥) tries book.opening) (map arc_value statements.now) replies.now }
     ensures book { IfOk result (λ p. p.book ≡ book) }
     ensures settles { IfOk result (λ p. Settles tries (map arc_value statements.now) (history_seen p)) }
     ensures memory { list_any is_short replies.now ≡ true → IfErr result (λ e. e ≡ MemoryRefused) }
-    ensures fault { IfErr result IsAuditOrMemory }
+    ensures stopped { list_any is_short replies.now ≡ false → list_any is_stopped replies.now ≡ true → IfErr result (λ e. e ≡ StoppedThere) }
+    ensures fault { IfErr result IsUnsettled }
 {
     if is_any_short(replies) {
         return Err(RunFault::Memory);
+    }
+    if is_any_stopped(replies) {
+        return Err(RunFault::Stopped);
     }
     let refused = refusals_of(alloc, &book, statements, replies, tries)?;
     let _owners = owners(alloc, &book, replies)?;

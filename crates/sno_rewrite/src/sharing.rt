@@ -13,39 +13,41 @@ ghost use Rattle.sno_rewrite.specs.Shared.{IsShared};
 use crate::serial::BookWithRefusals;
 use crate::settling::settle_replies;
 use sno_book::Book;
-use sno_desk::{Desk, DeskFault, OpenGate, Reply, Seat, WorkersFault, close, run_workers};
+use sno_desk::{Blank, Desk, DeskFault, Naming, OpenGate, Reply, Seat, WorkersFault, close, run_workers};
 use sno_document::{Document, RunFault};
 use sno_statement::Statement;
 use std::alloc::Global;
 use std::marker::Brand;
-use std::sync::ledger::{Blank, Ledger};
 use std::sync::{Arc, Wait};
 use std::thread::Threads;
 
 /// The book of a document on a desk with that many seats.
-fn open_desk<L: Ledger>(
+fn open_desk<L: Naming, R: Wait>(
+    rt: &R,
     alloc: Global,
     blank: Blank,
     book: Book,
     workers: usize,
 ) -> Result<(Desk<L>, Vec<Seat<L>>), RunFault>
-    requires name { blank.name ≡ L.name }
-    requires parts { blank.parts ≡ L.parts }
-    requires one_each { blank.parts ≡ workers }
+    requires name { (blank.ledger.name ≡ L.name) × (blank.ledger.parts ≡ L.parts) }
+    requires histories { (blank.history ≡ record { history = L.book; entries = [] }) × (blank.attempts.history ≡ L.tries) }
+    requires opening { book.opening ≡ L.opening }
+    requires one_each { blank.ledger.parts ≡ workers }
     requires few { (1 ≤ workers) × (workers ≤ 16) }
     requires empty { book.journal ≡ [] }
     ensures opening { IfOk result (λ d. arc_value d.0.opening ≡ book.opening) }
     ensures count { IfOk result (λ d. length d.1.items ≡ workers) }
     ensures fault { IfErr result IsOwn }
 {
-    match Desk::new(alloc, blank, book, workers) {
+    match Desk::new(rt, alloc, blank, book, workers) {
         Ok(made) => Ok(made),
         Err((DeskFault::Memory, _)) => Err(RunFault::Memory),
+        Err((DeskFault::NoReader, _)) => Err(RunFault::NoReader),
     }
 }
 
 /// All seats at work on the statements, and then the desk closed.
-fn work<L: Ledger + Send + Sync, R: Threads + Wait + Sync>(
+fn work<L: Naming + Send + Sync, R: Threads + Wait + Sync>(
     rt: &R,
     alloc: Global,
     desk: Desk<L>,
@@ -53,20 +55,24 @@ fn work<L: Ledger + Send + Sync, R: Threads + Wait + Sync>(
     statements: &[Arc<Statement>],
     tries: u32,
 ) -> Result<(Book, Vec<Reply>), RunFault>
+    requires opening { arc_value desk.opening ≡ L.opening }
     requires all { length seats.items ≡ L.parts }
     requires few { (1 ≤ length seats.items) × (length seats.items ≤ 16) }
     requires lawful { (1 ≤ tries) × (tries ≤ 1000) }
     ensures opening { IfOk result (λ r. r.0.opening ≡ arc_value desk.opening) }
     ensures lawful { IfOk result (λ r. IsLawful (view_of r.0)) }
-    ensures answers { IfOk result (λ r. AllAnswer (Answers (λ _ _. ⊥) tries) (map arc_value statements.now) r.1.items) }
+    ensures answers { IfOk result (λ r. AllAnswer (Answers (λ _ _. ⊥) tries r.0.opening) (map arc_value statements.now) r.1.items) }
     ensures fault { IfErr result IsOwn }
 {
     let mut seats = seats;
     let replies = match run_workers(rt, alloc, &desk, &mut seats, statements, tries, &OpenGate) {
         Ok(replies) => replies,
-        Err(WorkersFault::Memory) => return Err(RunFault::Memory),
+        Err(WorkersFault::Memory) => {
+            desk.end(rt);
+            return Err(RunFault::Memory);
+        }
     };
-    match close(desk, seats) {
+    match close(rt, desk, seats) {
         Ok(book) => Ok((book, replies)),
         Err(_) => Err(RunFault::Closing),
     }
@@ -74,7 +80,7 @@ fn work<L: Ledger + Send + Sync, R: Threads + Wait + Sync>(
 
 /// The statements of the document performed on its texts by so many workers.
 #[tactic(auto, using(crate::proofs::SettlingLemmas::shares))]
-fn perform_at_desk<L: Ledger + Send + Sync, R: Threads + Wait + Sync>(
+fn perform_at_desk<L: Naming + Send + Sync, R: Threads + Wait + Sync>(
     rt: &R,
     alloc: Global,
     blank: Blank,
@@ -82,9 +88,10 @@ fn perform_at_desk<L: Ledger + Send + Sync, R: Threads + Wait + Sync>(
     workers: usize,
     tries: u32,
 ) -> Result<BookWithRefusals, RunFault>
-    requires name { blank.name ≡ L.name }
-    requires parts { blank.parts ≡ L.parts }
-    requires one_each { blank.parts ≡ workers }
+    requires name { (blank.ledger.name ≡ L.name) × (blank.ledger.parts ≡ L.parts) }
+    requires histories { (blank.history ≡ record { history = L.book; entries = [] }) × (blank.attempts.history ≡ L.tries) }
+    requires opening { document.book.opening ≡ L.opening }
+    requires one_each { blank.ledger.parts ≡ workers }
     requires few { (1 ≤ workers) × (workers ≤ 16) }
     requires lawful { (1 ≤ tries) × (tries ≤ 1000) }
     requires ready { IsReady document }
@@ -96,7 +103,7 @@ fn perform_at_desk<L: Ledger + Send + Sync, R: Threads + Wait + Sync>(
         statements,
         ..
     } = document;
-    let (desk, seats) = open_desk::<L>(alloc, blank, book, workers)?;
+    let (desk, seats) = open_desk::<L, R>(rt, alloc, blank, book, workers)?;
     let (book, replies) = work(rt, alloc, desk, seats, &statements, tries)?;
     let performed = settle_replies(alloc, book, &statements, &replies, tries)?;
     Ok(performed)
@@ -104,8 +111,8 @@ fn perform_at_desk<L: Ledger + Send + Sync, R: Threads + Wait + Sync>(
 
 /// What the statements of the document, performed on its texts by 1 to 16 workers with 1 to 1,000 tries each, do.
 ///
-/// Refused: `Memory`; `Audit` where the replies and the journal don't agree, `Closing` where the desk does not close. No lawful run meets
-/// the last two.
+/// Refused: `NoReader` where there was no place for a seat's reader; `Memory`; `Stopped` where nothing more was shown to a seat; `Audit` where the replies
+/// and the journal don't agree, `Closing` where the desk does not close. No lawful run meets the last three.
 pub(crate) fn perform_shared<R: Threads + Wait + Sync>(
     rt: &R,
     alloc: Global,

@@ -1,7 +1,11 @@
 //! Rows on the book: what is accepted and what is refused, and what stands after each.
+ghost use Rattle.std.specs.Prelude.{◌≡◌, IfOk, OnOk};
+ghost use Rattle.sno_book.specs.Books.{view_of};
+ghost use Rattle.sno_book.specs.Views.{IsPrefix, View};
+
 use crate::row;
 use crate::row::Task;
-use crate::row::Task::{Match, Replace};
+use crate::row::Task::{Match, Repeat, Replace};
 use sno_book::{
     Book, BookFault, CommitFault, Entry, Opening, Proposal, Receipt, Snapshot, SnapshotFault,
     propose,
@@ -55,36 +59,50 @@ fn long_book(alloc: Global, length: usize) -> Result<Book, Fail> {
     Ok(Book::new(alloc, rows, 1_000_000)?)
 }
 
+#[tactic(auto, using(crate::proofs::Kinship::of_snapshot))]
 fn snapshot(
     alloc: Global,
     book: &Book,
     name: &str,
-) -> Result<Result<Snapshot, SnapshotFault>, Fail> {
+) -> Result<Result<Snapshot, SnapshotFault>, Fail>
+    ensures { IfOk result (λ given. IfOk given (λ s. s.origin ≡ view_of book.now)) }
+{
     Ok(book.snapshot(&TextName::new(alloc, name.as_bytes())?))
 }
 
 // What comes of proposing the statement on the text of this name, as it stands.
+#[tactic(auto, using(crate::proofs::Kinship::of_proposal))]
 fn attempt(
     rt: &(impl Abort + AllocGlobal),
     book: &Book,
     name: &str,
     written: Written,
-) -> Result<Result<Proposal, StatementFault>, Fail> {
+) -> Result<Result<Proposal, StatementFault>, Fail>
+    ensures { IfOk result (λ given. IfOk given (λ p. p.origin ≡ view_of book.now)) }
+{
     let taken = snapshot(rt.alloc(), book, name)??;
     Ok(propose(rt.alloc(), statement(rt, written)?, taken))
 }
 
 // The statement proposed on the text of this name, as it stands.
+#[tactic(auto, using(crate::proofs::Kinship::begins_itself))]
 fn proposal(
     rt: &(impl Abort + AllocGlobal),
     book: &Book,
     name: &str,
     written: Written,
-) -> Result<Proposal, Fail> {
+) -> Result<Proposal, Fail>
+    ensures { IfOk result (λ p. IsPrefix p.origin (view_of book.now)) }
+{
     Ok(attempt(rt, book, name, written)??)
 }
 
-fn accept(book: &mut Book, proposal: Proposal) -> Result<Receipt, Fail> {
+// What began the book's view begins it still.
+#[tactic(auto, using(crate::proofs::Kinship::is_kin, crate::proofs::Kinship::grows))]
+fn accept(book: &mut Book, proposal: Proposal) -> Result<Receipt, Fail>
+    requires { IsPrefix proposal.origin (view_of book.old) }
+    ensures { (v : View) → IsPrefix v (view_of book.old) → OnOk result (IsPrefix v (view_of book.new)) }
+{
     match book.commit(proposal) {
         Ok(receipt) => Ok(receipt),
         Err(_) => Err("refused".into()),
@@ -92,7 +110,10 @@ fn accept(book: &mut Book, proposal: Proposal) -> Result<Receipt, Fail> {
 }
 
 // Why the proposal is refused, and the proposal that came back.
-fn refuse(book: &mut Book, proposal: Proposal) -> Result<(CommitFault, Proposal), Fail> {
+#[tactic(auto, using(crate::proofs::Kinship::is_kin))]
+fn refuse(book: &mut Book, proposal: Proposal) -> Result<(CommitFault, Proposal), Fail>
+    requires { IsPrefix proposal.origin (view_of book.old) }
+{
     match book.commit(proposal) {
         Ok(_) => Err("accepted".into()),
         Err(refusal) => Ok(refusal),
@@ -100,7 +121,10 @@ fn refuse(book: &mut Book, proposal: Proposal) -> Result<(CommitFault, Proposal)
 }
 
 // Why the proposal can't be prepared, and the proposal that came back.
-fn refuse_to_prepare(book: &mut Book, proposal: Proposal) -> Result<(CommitFault, Proposal), Fail> {
+#[tactic(auto, using(crate::proofs::Kinship::is_kin))]
+fn refuse_to_prepare(book: &mut Book, proposal: Proposal) -> Result<(CommitFault, Proposal), Fail>
+    requires { IsPrefix proposal.origin (view_of book.old) }
+{
     match book.prepare(proposal) {
         Ok(_) => Err("prepared".into()),
         Err(refusal) => Ok(refusal),
@@ -108,7 +132,10 @@ fn refuse_to_prepare(book: &mut Book, proposal: Proposal) -> Result<(CommitFault
 }
 
 // The proposal prepared, and taken back again.
-fn prepare_and_take_back(book: &mut Book, proposal: Proposal) -> Result<Proposal, Fail> {
+#[tactic(auto, using(crate::proofs::Kinship::is_kin))]
+fn prepare_and_take_back(book: &mut Book, proposal: Proposal) -> Result<Proposal, Fail>
+    requires { IsPrefix proposal.origin (view_of book.old) }
+{
     match book.prepare(proposal) {
         Ok(ready) => Ok(ready.back()),
         Err(_) => Err("refused".into()),
@@ -116,7 +143,10 @@ fn prepare_and_take_back(book: &mut Book, proposal: Proposal) -> Result<Proposal
 }
 
 // The proposal prepared and then accepted, with a share of the entry that it makes.
-fn prepare_and_finish(book: &mut Book, proposal: Proposal) -> Result<(Entry, Receipt), Fail> {
+#[tactic(auto, using(crate::proofs::Kinship::is_kin))]
+fn prepare_and_finish(book: &mut Book, proposal: Proposal) -> Result<(Entry, Receipt), Fail>
+    requires { IsPrefix proposal.origin (view_of book.old) }
+{
     match book.prepare(proposal) {
         Ok(ready) => {
             let shared = ready.entry().share()?;
@@ -131,7 +161,9 @@ fn perform(
     rt: &(impl Abort + AllocGlobal),
     book: &mut Book,
     written: Written,
-) -> Result<Receipt, Fail> {
+) -> Result<Receipt, Fail>
+    ensures { (v : View) → IsPrefix v (view_of book.old) → OnOk result (IsPrefix v (view_of book.new)) }
+{
     let proposed = proposal(rt, book, written.1, written)?;
     accept(book, proposed)
 }
@@ -144,7 +176,9 @@ fn check_refused(
     wanted: CommitFault,
     number: u32,
     version: u64,
-) -> Result<(), Fail> {
+) -> Result<(), Fail>
+    requires { IsPrefix proposal.origin (view_of book.old) }
+{
     let (fault, back) = refuse(book, proposal)?;
     assert_eq!(rt; fault, wanted);
     assert_eq!(rt; back.statement().number(), number);
@@ -158,7 +192,10 @@ fn check_accepted(
     book: &mut Book,
     proposal: Proposal,
     index: usize,
-) -> Result<(), Fail> {
+) -> Result<(), Fail>
+    requires { IsPrefix proposal.origin (view_of book.old) }
+    ensures { (v : View) → IsPrefix v (view_of book.old) → OnOk result (IsPrefix v (view_of book.new)) }
+{
     let receipt = accept(book, proposal)?;
     assert_eq!(rt; receipt.index, index);
     Ok(())
@@ -191,7 +228,7 @@ fn check_line(rt: &(impl Abort + AllocGlobal), book: &Book, wanted: &str) -> Res
 // Where the match begins and ends, if there is one.
 fn extent(receipt: &Receipt) -> Option<(usize, usize)> {
     match &*receipt.entry.outcome {
-        Outcome::Failed { .. } => None,
+        Outcome::Failed { .. } | Outcome::Repeated { .. } => None,
         Outcome::Matched { start, end, .. } => Some((*start, *end)),
     }
 }
@@ -212,15 +249,6 @@ fn a_text_that_changed_twice_refuses_an_older_match(rt: HostRuntime) -> Result<(
 }
 
 #[test]
-fn a_snapshot_of_another_book_is_foreign(rt: HostRuntime) -> Result<(), Fail> {
-    let first = new_book(rt.alloc(), &[("T", "a")])?;
-    let mut second = new_book(rt.alloc(), &[("T", "b")])?;
-    let proposed = proposal(&rt, &first, "T", A_TO_B)?;
-    check_refused(&rt, &mut second, proposed, CommitFault::Foreign, 1, 0)?;
-    check_line(&rt, &second, "T b 0, 0")
-}
-
-#[test]
 fn a_full_journal_takes_no_entry(rt: HostRuntime) -> Result<(), Fail> {
     let mut book = book(rt.alloc(), &[("T", "a")], 1)??;
     let first = proposal(&rt, &book, "T", Written(1, "T", Match("'b'")))?;
@@ -229,14 +257,6 @@ fn a_full_journal_takes_no_entry(rt: HostRuntime) -> Result<(), Fail> {
     check_line(&rt, &book, "T a 0, 1")?;
     check_refused(&rt, &mut book, second, CommitFault::Full, 2, 0)?;
     check_line(&rt, &book, "T a 0, 1")
-}
-
-#[test]
-fn a_text_at_another_place_is_no_text(rt: HostRuntime) -> Result<(), Fail> {
-    let first = new_book(rt.alloc(), &[("A", "x"), ("T", "a")])?;
-    let mut second = new_book(rt.alloc(), &[("T", "a")])?;
-    let proposed = proposal(&rt, &first, "T", A_TO_B)?;
-    check_refused(&rt, &mut second, proposed, CommitFault::NoText, 1, 0)
 }
 
 #[test]
@@ -334,6 +354,45 @@ fn a_text_grown_too_long_proposes_nothing(rt: HostRuntime) -> Result<(), Fail> {
     assert_eq!(rt; text.bytes().len(), 65_536);
     assert_eq!(rt; version, 1);
     Ok(())
+}
+
+#[test]
+fn a_repetition_is_one_entry_and_one_version(rt: HostRuntime) -> Result<(), Fail> {
+    let mut book = new_book(rt.alloc(), &[("T", "aXbXc")])?;
+    let receipt = perform(&rt, &mut book, Written(1, "T", Repeat("'X'", "'-'", 1_000)))?;
+    assert_eq!(rt; receipt.index, 0);
+    assert_eq!(rt; receipt.text.bytes(), b"aXbXc".as_slice());
+    check_line(&rt, &book, "T a-b-c 1, 1")
+}
+
+#[test]
+fn a_repetition_that_never_matched_raises_no_version(rt: HostRuntime) -> Result<(), Fail> {
+    let mut book = new_book(rt.alloc(), &[("T", "b")])?;
+    perform(&rt, &mut book, Written(1, "T", Repeat("'a'", "'c'", 2)))?;
+    check_line(&rt, &book, "T b 0, 1")
+}
+
+#[test]
+fn a_refused_repetition_keeps_none_of_its_matches(rt: HostRuntime) -> Result<(), Fail> {
+    let book = long_book(rt.alloc(), 65_000)?;
+    let grown = Written(1, "T", Repeat("'a'", "'aa'", 537));
+    let fault = attempt(&rt, &book, "T", grown)?.err();
+    assert_eq!(rt; fault, Some(StatementFault::TextTooLong));
+    let (_, text, version) = book.text(0).ok_or("no text")?;
+    assert_eq!(rt; text.bytes().len(), 65_000);
+    assert_eq!(rt; version, 0);
+    assert_eq!(rt; book.journal().len(), 0);
+    Ok(())
+}
+
+#[test]
+fn receipts_of_repetitions_differ_by_their_rounds(rt: HostRuntime) -> Result<(), Fail> {
+    let mut first = new_book(rt.alloc(), &[("T", "aa")])?;
+    let mut second = new_book(rt.alloc(), &[("T", "aa")])?;
+    let receipt = perform(&rt, &mut first, Written(1, "T", Repeat("'a'", "'b'", 2)))?;
+    let other = perform(&rt, &mut second, Written(1, "T", Repeat("'a'", "'b'", 3)))?;
+    check_audit(&rt, &second, &[receipt], Err(0))?;
+    check_audit(&rt, &second, &[other], Ok(()))
 }
 
 #[test]

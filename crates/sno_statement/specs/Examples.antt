@@ -2,7 +2,7 @@
 -- that a reader can compare them with the manual.
 use Rattle.std.specs.Prelude.{◌≡◌, ℕ, false, List, [], ◌∷◌, Option, Some, None, Ok, Err, replicate, codes, refl}
 use Rattle.std.specs.Fmt.{digits}
-use Rattle.sno_pattern.specs.Tree.{Tree, Lit, Len, Tab, Rtab, Break, Rem, Fence, At, Seq, Cond, Imm}
+use Rattle.sno_pattern.specs.Tree.{Tree, Lit, Len, Tab, Rtab, AnyOf, Break, Rem, Fence, At, Seq, Cond, Imm}
 use Rattle.sno_pattern.specs.Results.{results_of}
 use Rattle.sno_pattern.specs.Outcome.{outcome_at, trials_at}
 use Rattle.sno_pattern.specs.declared.events.What.TheVariants as what
@@ -11,10 +11,10 @@ use Rattle.sno_read.specs.declared.objects.Part.{Part}
 use Rattle.sno_read.specs.declared.objects.Part.TheVariants.{Quoted, Var}
 use Rattle.sno_statement.specs.declared.binding.Datum.TheVariants.{Str, Int}
 use Rattle.sno_statement.specs.declared.outcomes.StatementFault.TheVariants as fault
-use Rattle.sno_statement.specs.Task.{Task, with_limit}
+use Rattle.sno_statement.specs.Task.{Task, with_limit, with_repeat}
 use Rattle.sno_statement.specs.Bindings.{Bound, bind, lookup, bindings_of}
 use Rattle.sno_statement.specs.Value.{value_of}
-use Rattle.sno_statement.specs.Perform.{Matched, Failed, with_text, perform}
+use Rattle.sno_statement.specs.Perform.{Matched, Failed, Repeated, with_text, perform}
 
 -- ---- Bindings
 -- a variable that is assigned again keeps its place and has the later value
@@ -105,6 +105,7 @@ floating pattern object = record {
   text = codes "T";
   anchored = false;
   limit = 1000000;
+  repeat = None;
 }
 
 -- BREAK('=') . K '=' REM . V, object V '=' K, on k=v
@@ -206,3 +207,41 @@ trials_enough = refl
 trials_too_many : perform (three_trials 2) (codes "aab") ≡ Err fault.TooManyTrials
 unfolding outcome_at trials_at results_of
 trials_too_many = refl
+
+-- ---- Repeated statements
+-- a pattern and an object, at most r times
+abbrev replacing : Tree → List Part → ℕ → Task
+replacing pattern object r = with_repeat (floating pattern (Some object)) r
+
+-- 'X', object '-', 1,000 times, on aXbXc
+all_replaced : perform (replacing (Lit (codes "X")) (Quoted (codes "-") ∷ []) 1000) (codes "aXbXc") ≡ Ok (Repeated 2 [] (codes "a-b-c"))
+unfolding outcome_at trials_at results_of
+all_replaced = refl
+
+-- 'a', object 'aa', 3 times, on a: each round finds what the one before put there
+three_rounds : perform (replacing (Lit (codes "a")) (Quoted (codes "aa") ∷ []) 3) (codes "a") ≡ Ok (Repeated 3 [] (codes "aaaa"))
+unfolding outcome_at trials_at results_of
+three_rounds = refl
+
+-- ANY('12') . D, object of no characters, 10 times, on a1b2: D has its value of the last match
+last_bindings : perform (replacing (Cond (AnyOf (codes "12")) (codes "D")) [] 10) (codes "a1b2") ≡ Ok (Repeated 2 ((codes "D", Str (codes "2")) ∷ []) (codes "ab"))
+unfolding outcome_at trials_at results_of
+last_bindings = refl
+
+-- 'a', object 'b', 5 times, on aab: the third round fails after four trials ..
+abbrev limited_rounds : ℕ → Task
+limited_rounds n = with_limit (replacing (Lit (codes "a")) (Quoted (codes "b") ∷ []) 5) n
+
+last_round_within : perform (limited_rounds 4) (codes "aab") ≡ Ok (Repeated 2 [] (codes "bbb"))
+unfolding outcome_at trials_at results_of
+last_round_within = refl
+
+-- .. and where it may not have them the statement is refused, though two rounds matched
+last_round_refused : perform (limited_rounds 3) (codes "aab") ≡ Err fault.TooManyTrials
+unfolding outcome_at trials_at results_of
+last_round_refused = refl
+
+-- 'a', object 'c', twice, on b: the first round fails
+no_round_matches : perform (replacing (Lit (codes "a")) (Quoted (codes "c") ∷ []) 2) (codes "b") ≡ Ok (Failed [])
+unfolding outcome_at trials_at results_of
+no_round_matches = refl

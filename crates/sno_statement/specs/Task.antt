@@ -1,5 +1,5 @@
 -- Statements by value.
-use Rattle.std.specs.Prelude.{◌≤◌, ℕ, Bool, List, Option, refl}
+use Rattle.std.specs.Prelude.{◌≤◌, ℕ, Bool, List, Option, Some, IsSome, refl}
 use Rattle.std.specs.Coded.{Coded, code_by, coded×, coded_list, coded_ℕ, coded_bool, coded_option}
 use Rattle.sno_pattern.specs.Tree.{Tree}
 use Rattle.sno_pattern.specs.Definitions.{Definitions, definitions_code, tree_code}
@@ -7,7 +7,7 @@ use Rattle.sno_read.specs.declared.objects.Part.{Part}
 use Rattle.sno_read.specs.contracts.objects.Part as stored
 
 -- a statement: the caller's number, the definitions, the pattern, the object's parts where it replaces, the text's name, whether a
--- match begins at cursor 0 alone, and how many trials a match may have
+-- match begins at cursor 0 alone, how many trials a match may have, and how often it is repeated at most, where it is repeated
 pub record Task : Type 0 where
   pub number : ℕ
   pub rules : Definitions
@@ -16,6 +16,7 @@ pub record Task : Type 0 where
   pub text : List ℕ
   pub anchored : Bool
   pub limit : ℕ
+  pub repeat : Option ℕ
 
 -- the limit of a statement that names none
 abbrev pub usual_limit : ℕ
@@ -27,7 +28,15 @@ IsLimit n = (1 ≤ n) × (n ≤ 1000000000)
 
 -- the same statement, with this limit
 abbrev pub with_limit : Task → ℕ → Task
-with_limit s n = record { number = s.number; rules = s.rules; pattern = s.pattern; object = s.object; text = s.text; anchored = s.anchored; limit = n }
+with_limit s n = record { number = s.number; rules = s.rules; pattern = s.pattern; object = s.object; text = s.text; anchored = s.anchored; limit = n; repeat = s.repeat }
+
+-- a statement that replaces may be repeated, 1 to 1,000 times
+abbrev pub IsRepeat : Option (List Part) → ℕ → Type 0
+IsRepeat object r = IsSome object × (1 ≤ r) × (r ≤ 1000)
+
+-- the same statement, repeated so often at most
+abbrev pub with_repeat : Task → ℕ → Task
+with_repeat s r = record { number = s.number; rules = s.rules; pattern = s.pattern; object = s.object; text = s.text; anchored = s.anchored; limit = s.limit; repeat = Some r }
 
 -- the code of an object's part
 abbrev pub part_code : Coded Part
@@ -36,7 +45,7 @@ part_code = stored.the_row.coded
 -- a statement is stored as the tuple of its fields
 abbrev pub task_code : Coded Task
 task_code =
-    code_by (ℕ × (Definitions × (Tree × (Option (List Part) × (List ℕ × (Bool × ℕ))))))
-    (coded× coded_ℕ (coded× definitions_code (coded× tree_code (coded× (coded_option (coded_list part_code)) (coded× (coded_list coded_ℕ) (coded× coded_bool coded_ℕ))))))
-    (λ s. (s.number, (s.rules, (s.pattern, (s.object, (s.text, (s.anchored, s.limit)))))))
-    (λ p. record { number = p.0; rules = p.1.0; pattern = p.1.1.0; object = p.1.1.1.0; text = p.1.1.1.1.0; anchored = p.1.1.1.1.1.0; limit = p.1.1.1.1.1.1 }) (λ _. refl)
+    code_by (ℕ × (Definitions × (Tree × (Option (List Part) × (List ℕ × (Bool × (ℕ × Option ℕ)))))))
+    (coded× coded_ℕ (coded× definitions_code (coded× tree_code (coded× (coded_option (coded_list part_code)) (coded× (coded_list coded_ℕ) (coded× coded_bool (coded× coded_ℕ (coded_option coded_ℕ))))))))
+    (λ s. (s.number, (s.rules, (s.pattern, (s.object, (s.text, (s.anchored, (s.limit, s.repeat))))))))
+    (λ p. record { number = p.0; rules = p.1.0; pattern = p.1.1.0; object = p.1.1.1.0; text = p.1.1.1.1.0; anchored = p.1.1.1.1.1.0; limit = p.1.1.1.1.1.1.0; repeat = p.1.1.1.1.1.1.1 }) (λ _. refl)

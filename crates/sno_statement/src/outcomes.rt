@@ -1,4 +1,9 @@
 //! What comes of a statement.
+ghost use Rattle.std.specs.Prelude.{◌≡◌};
+ghost use Rattle.std.specs.Option.{option_map};
+ghost use Rattle.std.specs.Arc.{arc_value};
+ghost use Rattle.sno_statement.specs.Perform.{after_of, done_of};
+
 use crate::Bindings;
 use sno_machine::MatchFault;
 use sno_pattern::Text;
@@ -20,11 +25,33 @@ pub enum Outcome {
         /// The new text, exactly where the statement has an object; also where it is the same as the old one.
         after: Option<Arc<Text>>,
     },
-    /// The pattern did not match. Nothing is replaced.
+    /// The pattern did not match, or not in the first round of a repeated statement. Nothing is replaced.
     Failed {
         /// The variables that were assigned at once on the way.
         bindings: Bindings,
     },
+    /// A repeated statement matched at least once.
+    Repeated {
+        /// How many rounds matched: 1 to 1,000, and no more than the statement's number of rounds.
+        matches: u32,
+        /// The variables that the last match assigned. A round that failed after it leaves none.
+        bindings: Bindings,
+        /// The new text of the last match.
+        after: Arc<Text>,
+    },
+}
+
+impl Outcome {
+    /// The new text, where there is one: of a match with an object, and of a repeated statement. It takes no memory.
+    pub fn after(&self) -> Option<&Arc<Text>>
+        ensures { option_map (λ text. arc_value text.now) result ≡ after_of (done_of self.now) }
+    {
+        match self {
+            Outcome::Matched { after, .. } => after.as_ref(),
+            Outcome::Failed { .. } => None,
+            Outcome::Repeated { after, .. } => Some(after),
+        }
+    }
 }
 
 /// Why a statement is refused on a text. Statement and text are as they were.

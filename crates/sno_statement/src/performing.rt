@@ -1,15 +1,17 @@
 //! What a statement does to a text.
-ghost use Rattle.std.specs.Prelude.{◌≡◌, IfOk, OnOk, [], Some};
+ghost use Rattle.std.specs.Prelude.{◌≡◌, ◌≤◌, ◌-◌, ℕ, List, Result, IfOk, IfErr, OnOk, Ok, [], Some, None};
 ghost use Rattle.std.specs.Option.{option_copied};
+ghost use Rattle.std.specs.Arc.{arc_value};
 ghost use Rattle.sno_pattern.specs.CursorLaws.{CursorLies, SetsLie};
-ghost use Rattle.sno_statement.specs.Bindings.{datum_of, bind_sets, bind_conds};
+ghost use Rattle.sno_statement.specs.declared.outcomes.StatementFault.{StatementFault};
+ghost use Rattle.sno_statement.specs.Bindings.{Bound, datum_of, bind_sets, bind_conds};
 ghost use Rattle.sno_statement.specs.Value.{value_of, new_text};
-ghost use Rattle.sno_statement.specs.Perform.{Gives, GivesText, finish, finish_found, perform};
+ghost use Rattle.sno_statement.specs.Perform.{Done, Failed, Repeated, Gives, GivesText, IsCodeOf, done_of, finish, finish_found, follow, left_by, perform, perform_once, rounds};
 
 use crate::lengths::new_length;
 use crate::values::{part, replace};
 use crate::{Bindings, Datum, Outcome, Statement, StatementFault};
-use sno_machine::compile;
+use sno_machine::{Code, compile};
 use sno_pattern::{Assign, Found, Hit, Name, Text, What, cursors_lie_within_the_text};
 use sno_read::{Object, Part};
 use std::alloc::{AllocError, Global};
@@ -130,6 +132,91 @@ fn finish(
     }
 }
 
+/// Performs one round of a statement, whose pattern this is.
+fn perform_once(
+    alloc: Global,
+    code: &Code<'_>,
+    statement: &Statement,
+    subject: &Text,
+) -> Result<Outcome, StatementFault>
+    requires { IsCodeOf code.now statement.now }
+    ensures { Gives result (perform_once statement.now subject.now) }
+{
+    cursors_lie_within_the_text();
+    let found = code.first(alloc, subject, statement.anchored(), statement.limit())?;
+    let outcome = finish(alloc, statement.object(), subject, &found)?;
+    Ok(outcome)
+}
+
+/// What a round that matched leaves to the next one: its bindings and its new text. Any other outcome comes back.
+fn left_by(round: Outcome) -> Result<(Bindings, Arc<Text>), Outcome>
+    ensures left { IfOk result (λ left. left_by (done_of round) ≡ Some (left.0, arc_value left.1)) }
+    ensures none { IfErr result (λ other. (other ≡ round) × (left_by (done_of round) ≡ None)) }
+{
+    match round {
+        Outcome::Matched {
+            start,
+            end,
+            bindings,
+            after,
+        } => match after {
+            Some(text) => Ok((bindings, text)),
+            None => Err(Outcome::Matched {
+                start,
+                end,
+                bindings,
+                after: None,
+            }),
+        },
+        other => Err(other),
+    }
+}
+
+/// The answer of rounds that end with one that left nothing. Where it failed they come to so many matches, with what the last one left;
+/// any other outcome is the answer itself.
+fn end_with(round: Outcome, matches: u32, last: (Bindings, Arc<Text>)) -> Outcome
+    requires { left_by (done_of round) ≡ None }
+    ensures { (go_on : Bound → List ℕ → Result Done StatementFault) → follow (Ok (done_of round)) (λ _. Repeated matches last.0 (arc_value last.1)) go_on ≡ Ok (done_of result) }
+{
+    match round {
+        Outcome::Failed { .. } => Outcome::Repeated {
+            matches,
+            bindings: last.0,
+            after: last.1,
+        },
+        other => other,
+    }
+}
+
+/// Performs the rounds that follow the first one, up to so many in all. One text and its new text are held at a time.
+fn follow(
+    alloc: Global,
+    code: &Code<'_>,
+    statement: &Statement,
+    first: Outcome,
+    times: u32,
+) -> Result<Outcome, StatementFault>
+    requires code { IsCodeOf code.now statement.now }
+    requires some { 1 ≤ times }
+    ensures { Gives result (follow (Ok (done_of first)) Failed (rounds statement.now (times - 1) 1)) }
+{
+    let mut last = match left_by(first) {
+        Ok(left) => left,
+        Err(ended) => return Ok(ended),
+    };
+    for matches in 1..times {
+        match left_by(perform_once(alloc, code, statement, &last.1)?) {
+            Ok(left) => last = left,
+            Err(other) => return Ok(end_with(other, matches, last)),
+        }
+    }
+    Ok(Outcome::Repeated {
+        matches: times,
+        bindings: last.0,
+        after: last.1,
+    })
+}
+
 /// Performs a statement on a text: matches the pattern, binds the variables and, where the statement has an object and the match
 /// succeeds, makes the new text. Statement and text stay as they are, whatever is answered.
 ///
@@ -137,9 +224,14 @@ fn finish(
 /// conditional ones, and the new text exactly where there is an object. `Failed` has what was assigned immediately; nothing is replaced
 /// then, and the object is not evaluated.
 ///
-/// Refused with `TooManyTrials` exactly where the match takes more trials than the statement's limit; then with `TextTooLong` exactly
-/// where the new text would have more than 65,536 characters; and with `Memory` where memory is, at the growth that was refused and
-/// so in place of any refusal that would have come later.
+/// A repeated statement is performed in rounds, each after the first on the new text of the one before. Every variable is the null
+/// string again at the start of each. The rounds end after as many matches as the statement allows, or with the first round that
+/// fails. `Repeated` has how many matches there were, at least 1, and the bindings and the new text of the last one; where the first round
+/// fails the answer is its `Failed`. A round that is refused refuses the statement, also after rounds that matched.
+///
+/// Refused, in each round, with `TooManyTrials` exactly where the match takes more trials than the statement's limit; then with
+/// `TextTooLong` exactly where the new text would have more than 65,536 characters; and with `Memory` where memory is, at the growth
+/// that was refused and so in place of any refusal that would have come later.
 pub fn perform(
     alloc: Global,
     statement: &Statement,
@@ -147,9 +239,13 @@ pub fn perform(
 ) -> Result<Outcome, StatementFault>
     ensures { Gives result (perform statement.now subject.now) }
 {
-    cursors_lie_within_the_text();
     let code = compile(alloc, statement.rules(), statement.pattern())?;
-    let found = code.first(alloc, subject, statement.anchored(), statement.limit())?;
-    let outcome = finish(alloc, statement.object(), subject, &found)?;
-    Ok(outcome)
+    let first = perform_once(alloc, &code, statement, subject)?;
+    match statement.repeat() {
+        None => Ok(first),
+        Some(times) => {
+            let outcome = follow(alloc, &code, statement, first, times)?;
+            Ok(outcome)
+        }
+    }
 }

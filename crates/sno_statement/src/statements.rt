@@ -1,9 +1,9 @@
 //! Statements.
-ghost use Rattle.std.specs.Prelude.{◌≡◌, length, IsTrue};
+ghost use Rattle.std.specs.Prelude.{◌≡◌, length, IsTrue, IfSome, None};
 ghost use Rattle.std.specs.Option.{option_map};
 ghost use Rattle.std.specs.Arc.{arc_value};
 ghost use Rattle.sno_pattern.specs.Tree.{tree_of, refs_below};
-ghost use Rattle.sno_statement.specs.Task.{IsLimit, usual_limit, with_limit};
+ghost use Rattle.sno_statement.specs.Task.{IsLimit, IsRepeat, usual_limit, with_limit, with_repeat};
 
 use sno_pattern::{Pattern, Rules, TextName};
 use sno_read::Object;
@@ -24,13 +24,14 @@ pub struct Statement {
     text: TextName,
     anchored: bool,
     limit: u32,
+    repeat: Option<u32>,
 }
 
 impl Model for Statement {
-    ghost use Rattle.std.specs.Prelude.{length, IsTrue};
+    ghost use Rattle.std.specs.Prelude.{length, IsTrue, IfSome};
     ghost use Rattle.std.specs.Arc.{arc_value};
     ghost use Rattle.sno_pattern.specs.Tree.{tree_of, refs_below};
-    ghost use Rattle.sno_statement.specs.Task.{Task, task_code, IsLimit};
+    ghost use Rattle.sno_statement.specs.Task.{Task, task_code, IsLimit, IsRepeat};
 
     ghost Value = { Task };
 
@@ -44,16 +45,17 @@ impl Model for Statement {
       text = s.text;
       anchored = s.anchored;
       limit = s.limit;
+      repeat = s.repeat;
     } };
 
-    ghost invariant = { λ s. IsTrue (refs_below (length (arc_value s.rules).bodies) (tree_of s.pattern)) × IsLimit s.limit };
+    ghost invariant = { λ s. IsTrue (refs_below (length (arc_value s.rules).bodies) (tree_of s.pattern)) × IsLimit s.limit × IfSome s.repeat (λ r. IsRepeat s.object r) };
 }
 
 impl Statement {
     /// A statement on the text with this name, of exactly these parts. The rules have to cover the pattern (`Rules::covers`), as they
     /// do where the pattern was read with their names. With no object it only matches; anchored, a match begins at cursor 0 alone.
     /// The number is the caller's own: nothing here depends on it. A match may have 1,000,000 trials; [`Statement::limited`] says
-    /// otherwise. It takes no memory and is never refused.
+    /// otherwise. It is performed once; [`Statement::repeated`] says otherwise. It takes no memory and is never refused.
     pub fn new(
         number: u32,
         rules: Arc<Rules>,
@@ -71,6 +73,7 @@ impl Statement {
           text = text;
           anchored = anchored;
           limit = usual_limit;
+          repeat = None;
         } }
     {
         Statement {
@@ -81,6 +84,7 @@ impl Statement {
             text,
             anchored,
             limit: USUAL_LIMIT,
+            repeat: None,
         }
     }
 
@@ -92,6 +96,17 @@ impl Statement {
         let mut limited = self;
         limited.limit = limit;
         limited
+    }
+
+    /// The same statement in at most so many rounds, 1 to 1,000. It has to have an object. Each round after the first is performed on
+    /// the new text of the one before. It takes no memory and is never refused.
+    pub fn repeated(self, rounds: u32) -> Statement
+        requires { IsRepeat self.object rounds }
+        ensures { result ≡ with_repeat self rounds }
+    {
+        let mut repeated = self;
+        repeated.repeat = Some(rounds);
+        repeated
     }
 
     /// The caller's number, as it was given.
@@ -137,11 +152,19 @@ impl Statement {
         self.anchored
     }
 
-    /// How many trials a match may have, 1 to 1,000,000,000.
+    /// How many trials a match may have, 1 to 1,000,000,000; in a repeated statement the match of each round.
     pub fn limit(&self) -> u32
         ensures value { result ≡ self.now.limit }
         ensures within { IsLimit self.now.limit }
     {
         self.limit
+    }
+
+    /// How many rounds there may be, 1 to 1,000, where the statement is repeated; it has an object then. None where it is performed once.
+    pub fn repeat(&self) -> Option<u32>
+        ensures value { result ≡ self.now.repeat }
+        ensures within { IfSome self.now.repeat (λ r. IsRepeat self.now.object r) }
+    {
+        self.repeat
     }
 }

@@ -9,5 +9,5 @@ returns-in_ok-refuse-in-Err-clause-listed c = record {
   answer = Some c.in_ok-reason-in-Err.reason;
   given = ap answer_in c.in-Err.is ∙ ap (option_map Some) c.in_ok-reason-in-Err.ensures.reason;
   listed = c.in_ok-refuse-in-Err.ensures.refused;
-  may = c.in_ok-reason-in-Err.ensures.may;
+  may = (c.in_ok-reason-in-Err.ensures.named, c.in_ok-reason-in-Err.ensures.may);
 }

@@ -9,7 +9,7 @@ use Rattle.sno_rewrite.proofs.settling.list_at.Goals as goal
 
 pub list-requires : goal.list-requires
 list-requires c =
-    answer_at (Answers (λ _ _. ⊥) c.args.tries) (map arc_value c.args.statements.now) c.args.replies.now c.requires.answers c.args.place c.deref.result.now
+    answer_at (Answers (λ _ _. ⊥) c.args.tries c.args.book.now.opening) (map arc_value c.args.statements.now) c.args.replies.now c.requires.answers c.args.place c.deref.result.now
     c.index-replies-place.result
     (seen_at arc_value c.args.statements.now c.args.place c.index-statements-place.result c.deref.result.now c.requires.inside c.index-statements-place.is c.deref.ensures)
     (slice_get_read c.args.replies.now (length c.args.replies.now) c.args.place c.index-replies-place.result refl c.requires.replied c.index-replies-place.is)
