@@ -1,7 +1,7 @@
 //! Rows on the book: what is accepted and what is refused, and what stands after each.
 use crate::row;
 use crate::row::Task;
-use crate::row::Task::{Match, Replace};
+use crate::row::Task::{Match, Repeat, Replace};
 use sno_book::{
     Book, BookFault, CommitFault, Entry, Opening, Proposal, Receipt, Snapshot, SnapshotFault,
     propose,
@@ -191,7 +191,7 @@ fn check_line(rt: &(impl Abort + AllocGlobal), book: &Book, wanted: &str) -> Res
 // Where the match begins and ends, if there is one.
 fn extent(receipt: &Receipt) -> Option<(usize, usize)> {
     match &*receipt.entry.outcome {
-        Outcome::Failed { .. } => None,
+        Outcome::Failed { .. } | Outcome::Repeated { .. } => None,
         Outcome::Matched { start, end, .. } => Some((*start, *end)),
     }
 }
@@ -334,6 +334,45 @@ fn a_text_grown_too_long_proposes_nothing(rt: HostRuntime) -> Result<(), Fail> {
     assert_eq!(rt; text.bytes().len(), 65_536);
     assert_eq!(rt; version, 1);
     Ok(())
+}
+
+#[test]
+fn a_repetition_is_one_entry_and_one_version(rt: HostRuntime) -> Result<(), Fail> {
+    let mut book = new_book(rt.alloc(), &[("T", "aXbXc")])?;
+    let receipt = perform(&rt, &mut book, Written(1, "T", Repeat("'X'", "'-'", 1_000)))?;
+    assert_eq!(rt; receipt.index, 0);
+    assert_eq!(rt; receipt.text.bytes(), b"aXbXc".as_slice());
+    check_line(&rt, &book, "T a-b-c 1, 1")
+}
+
+#[test]
+fn a_repetition_that_never_matched_raises_no_version(rt: HostRuntime) -> Result<(), Fail> {
+    let mut book = new_book(rt.alloc(), &[("T", "b")])?;
+    perform(&rt, &mut book, Written(1, "T", Repeat("'a'", "'c'", 2)))?;
+    check_line(&rt, &book, "T b 0, 1")
+}
+
+#[test]
+fn a_refused_repetition_keeps_none_of_its_matches(rt: HostRuntime) -> Result<(), Fail> {
+    let book = long_book(rt.alloc(), 65_000)?;
+    let grown = Written(1, "T", Repeat("'a'", "'aa'", 537));
+    let fault = attempt(&rt, &book, "T", grown)?.err();
+    assert_eq!(rt; fault, Some(StatementFault::TextTooLong));
+    let (_, text, version) = book.text(0).ok_or("no text")?;
+    assert_eq!(rt; text.bytes().len(), 65_000);
+    assert_eq!(rt; version, 0);
+    assert_eq!(rt; book.journal().len(), 0);
+    Ok(())
+}
+
+#[test]
+fn receipts_of_repetitions_differ_by_their_rounds(rt: HostRuntime) -> Result<(), Fail> {
+    let mut first = new_book(rt.alloc(), &[("T", "aa")])?;
+    let mut second = new_book(rt.alloc(), &[("T", "aa")])?;
+    let receipt = perform(&rt, &mut first, Written(1, "T", Repeat("'a'", "'b'", 2)))?;
+    let other = perform(&rt, &mut second, Written(1, "T", Repeat("'a'", "'b'", 3)))?;
+    check_audit(&rt, &second, &[receipt], Err(0))?;
+    check_audit(&rt, &second, &[other], Ok(()))
 }
 
 #[test]

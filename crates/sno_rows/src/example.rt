@@ -1,10 +1,10 @@
 //! How an example of `docs/LANGUAGE.md` is read and checked.
 //!
 //! An example is a line: `- `, then definitions where it has them, the text, the pattern, the object where it has one, and what comes of it,
-//! each between two backquotes, as in ``- `banana` with `'nan'`: `matched 2 5` ``. Before the colon it may say that the match is anchored, or
-//! within how many trials it has to be.
-use crate::row::Task::{Match, MatchAnchored, MatchWithin, Replace};
-use crate::row::{Row, check};
+//! each between two backquotes, as in ``- `banana` with `'nan'`: `matched 2 5` ``. Before the colon it may say that the match is anchored,
+//! within how many trials it has to be, or how often it is replaced at most.
+use crate::row::Task::{Match, MatchAnchored, MatchWithin, Repeat, Replace};
+use crate::row::{Row, Task, check};
 use std::process::Abort;
 use std::test::Fail;
 
@@ -43,6 +43,23 @@ fn limit(words: &str) -> Result<u32, Fail> {
     Ok(digits.parse::<u32>()?)
 }
 
+/// How often the words say.
+fn rounds(words: &str) -> Result<u32, Fail> {
+    let words = words.strip_prefix(", at most ").ok_or("no example")?;
+    let digits = words.strip_suffix(" times: ").ok_or("no example")?;
+    Ok(digits.parse::<u32>()?)
+}
+
+/// The replacement by this object, and what comes of it.
+fn replacement(pattern: &'static str, object: Quoted) -> Result<(Task, Quoted), Fail> {
+    let told = cut(object.after)?;
+    let task = match told.before {
+        ": " => Replace(pattern, object.inside),
+        words => Repeat(pattern, object.inside, rounds(words)?),
+    };
+    Ok((task, told))
+}
+
 /// The row of this text, in the words after it.
 fn row(line: &'static str, text: Quoted) -> Result<Row, Fail> {
     let pattern = cut(text.after)?;
@@ -50,7 +67,7 @@ fn row(line: &'static str, text: Quoted) -> Result<Row, Fail> {
     let (task, told) = match next.before {
         ": " => (Match(pattern.inside), next),
         ", anchored: " => (MatchAnchored(pattern.inside), next),
-        ", replaced by " => (Replace(pattern.inside, next.inside), cut(next.after)?),
+        ", replaced by " => replacement(pattern.inside, next)?,
         words => (MatchWithin(pattern.inside, limit(words)?), next),
     };
     Ok(Row(line, text.inside, task, told.inside))

@@ -165,6 +165,17 @@ fn objects(rt: HostRuntime) -> Result<(), Fail> {
     check_all(&rt, OBJECTS, 7)
 }
 
+const STATEMENTS_THAT_ARE_REPEATED: &str =
+    "- `aXbXc` with `'X'`, replaced by `'-'`, at most 1000 times: `repeated 2 -> |a-b-c|`
+- `a` with `'a'`, replaced by `'aa'`, at most 3 times: `repeated 3 -> |aaaa|`
+- `a1b2` with `ANY('12') . D`, replaced by `''`, at most 10 times: `repeated 2 D=|2| -> |ab|`
+- `b` with `'a'`, replaced by `'c'`, at most 2 times: `failed`";
+
+#[test]
+fn statements_that_are_repeated(rt: HostRuntime) -> Result<(), Fail> {
+    check_all(&rt, STATEMENTS_THAT_ARE_REPEATED, 4)
+}
+
 const DEFINITIONS: &str =
     "- where `DIGITS` is `SPAN('0123456789')` and `NUMBER` is `DIGITS '.' DIGITS`: `pi is 3.14` with `NUMBER`: `matched 6 10`
 - where `NEST` is `'(' *NEST ')' | 'x'`: `f((x))` with `*NEST`: `matched 1 6`

@@ -11,6 +11,7 @@
 //! - `src/books.rt`: what a book accepts and refuses, and what stands after each.
 //! - `src/machine.rt`: the matcher beside the plain evaluator, and the longest rounds and recursions.
 //! - `src/limits.rt`: the longest text, the most definitions, the longest names.
+//! - `src/repeats.rt`: repeated statements, round by round.
 //! - `src/trials.rt`: how many trials a match takes, and what is refused within fewer.
 //! - `src/language.rt`: the examples of `docs/LANGUAGE.md`, as they stand there; `src/example.rt`: how one is read.
 //! - `src/row.rt`: how a row is written, performed and told.
@@ -32,6 +33,8 @@ mod machine;
 mod matching;
 #[cfg(test)]
 mod recursion;
+#[cfg(test)]
+mod repeats;
 #[cfg(test)]
 mod row;
 #[cfg(test)]

@@ -29,7 +29,7 @@ fn is_too_long(answer: &Result<Outcome, StatementFault>) -> bool {
 // The cursors of a match and the length of the new text.
 fn extent(outcome: &Outcome) -> Option<(usize, usize, usize)> {
     match outcome {
-        Outcome::Failed { .. } => None,
+        Outcome::Failed { .. } | Outcome::Repeated { .. } => None,
         Outcome::Matched { after: None, .. } => None,
         Outcome::Matched {
             start,

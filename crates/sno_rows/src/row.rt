@@ -21,6 +21,8 @@ pub(crate) enum Task {
     MatchWithin(&'static str, u32),
     /// A match that floats, and a replacement.
     Replace(&'static str, &'static str),
+    /// A match that floats, and a replacement, at most so often, 1 to 1,000 times.
+    Repeat(&'static str, &'static str, u32),
 }
 
 /// What the row shows, its text, what is done to it, and what comes of that, as `line_of` writes it.
@@ -38,14 +40,15 @@ impl Task {
             Task::Match(pattern)
             | Task::MatchAnchored(pattern)
             | Task::MatchWithin(pattern, _)
-            | Task::Replace(pattern, _) => pattern,
+            | Task::Replace(pattern, _)
+            | Task::Repeat(pattern, _, _) => pattern,
         }
     }
 
     fn object(self) -> Option<&'static str> {
         match self {
             Task::Match(_) | Task::MatchAnchored(_) | Task::MatchWithin(_, _) => None,
-            Task::Replace(_, object) => Some(object),
+            Task::Replace(_, object) | Task::Repeat(_, object, _) => Some(object),
         }
     }
 
@@ -53,7 +56,19 @@ impl Task {
     fn limit(self) -> Option<u32> {
         match self {
             Task::MatchWithin(_, limit) => Some(limit),
-            Task::Match(_) | Task::MatchAnchored(_) | Task::Replace(_, _) => None,
+            Task::Match(_) | Task::MatchAnchored(_) | Task::Replace(_, _) | Task::Repeat(_, _, _) =>
+                None,
+        }
+    }
+
+    // How often it is to be done, if the task names that.
+    fn rounds(self) -> Option<u32> {
+        match self {
+            Task::Repeat(_, _, rounds) => Some(rounds),
+            Task::Match(_)
+            | Task::MatchAnchored(_)
+            | Task::MatchWithin(_, _)
+            | Task::Replace(_, _) => None,
         }
     }
 
@@ -118,10 +133,21 @@ pub(crate) fn statement(
     let rules = Arc::new(rt.alloc(), rules)?;
     let text = TextName::new(rt.alloc(), text.as_bytes())?;
     let statement = Statement::new(number, rules, pattern, object, text, task.is_anchored());
-    match task.limit() {
+    let statement = match task.limit() {
+        None => statement,
+        Some(limit) => limited(rt, statement, limit),
+    };
+    match task.rounds() {
         None => Ok(Ok(statement)),
-        Some(limit) => Ok(Ok(limited(rt, statement, limit))),
+        Some(rounds) => Ok(Ok(repeated(rt, statement, rounds))),
     }
+}
+
+/// The statement in at most so many rounds, 1 to 1,000. It has to have an object.
+pub(crate) fn repeated(rt: &impl Abort, statement: Statement, rounds: u32) -> Statement {
+    assert!(rt; statement.object().is_some());
+    assert!(rt; 1 <= rounds && rounds <= 1_000);
+    statement.repeated(rounds)
 }
 
 /// The statement with this limit, which has to be 1 to 1,000,000,000.
@@ -213,6 +239,17 @@ fn outcome_line(alloc: Global, outcome: &Outcome) -> Result<String, Fail> {
                 line.push_str(" -> ")?;
                 tell_text(text, &mut line)?;
             }
+            Ok(line)
+        }
+        Outcome::Repeated {
+            matches,
+            bindings,
+            after,
+        } => {
+            let mut line = format!(in alloc; "repeated {matches}")?;
+            tell_bindings(alloc, bindings, &mut line)?;
+            line.push_str(" -> ")?;
+            tell_text(after, &mut line)?;
             Ok(line)
         }
     }
