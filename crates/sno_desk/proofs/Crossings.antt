@@ -63,6 +63,13 @@ book_send entry = search (sendable, crosses, opening.the_send) depth 40 fits 100
 pub book_sync : IsSync Entry.the_row → IsSync Book.the_row
 book_sync entry = search (sendable, crosses, opening.the_sync) depth 40 fits 100000
 
+-- a receipt, from its entry
+pub receipt_send : IsSend Entry.the_row → IsSend Receipt.the_row
+receipt_send entry = search (sendable, crosses) depth 40 fits 100000
+
+pub receipt_sync : IsSync Entry.the_row → IsSync Receipt.the_row
+receipt_sync entry = search (sendable, crosses) depth 40 fits 100000
+
 -- ---- seats
 
 abbrev Reply : RattleType
