@@ -115,7 +115,7 @@ receipt_for shuts tries opening [] [] h p r there = cc
 receipt_for shuts tries opening [] (x ∷ replies) h p r there = absurd h
 receipt_for shuts tries opening (s ∷ statements) [] h p r there = absurd h
 receipt_for shuts tries opening (s ∷ statements) (Ok x ∷ replies) h zero r there =
-    let e : x ≡ r = cc in ap Some (sym h.1) ∙ ap (λ (t : Received). Some t.entry.statement) e
+    let e : x ≡ r = cc in ap Some (sym h.0.1) ∙ ap (λ (t : Received). Some t.entry.statement) e
 receipt_for shuts tries opening (s ∷ statements) (Err x ∷ replies) h zero r there = cc
 receipt_for shuts tries opening (s ∷ statements) (x ∷ replies) h (suc p) r there = receipt_for shuts tries opening statements replies h.1 p r there
 
