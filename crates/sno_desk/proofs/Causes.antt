@@ -1,15 +1,13 @@
 -- What a book's refusal says of the proposal.
-use Rattle.std.proofs.Common.{◌≡◌, ◌≢◌, ◌≤◌, ◌<◌, ℕ, zero, suc, Bool, true, false, Some, None, Option, List, [], ◌∷◌, ◌++◌, length, refl, sym, ap, subst, ◌∙◌, inl, arith, append_assoc}
+use Rattle.std.proofs.Common.{◌≡◌, ◌≢◌, ◌≤◌, ◌<◌, ℕ, zero, suc, Bool, true, false, Some, None, Option, List, [], ◌∷◌, length, refl, sym, ap, subst, ◌∙◌, arith}
 use Rattle.std.specs.Prelude.{nat_eq, slice_get, if◌then◌else◌, Ok, Err, IfOk, IfErr}
 use Rattle.std.proofs.lemmas.Bool.{eqb-true, eqb-false}
-use mathlib.Core.List.{IsPrefix as Begins}
 use Rattle.sno_pattern.specs.Identifiers.{same}
-use Rattle.sno_book.specs.Books.{Book, view_of}
 use Rattle.sno_book.specs.Entries.{Entry}
 use Rattle.sno_book.specs.Journals.{HasStep, replay}
 use Rattle.sno_book.specs.Openings.{Opening, start}
 use Rattle.sno_book.specs.Origins.{IsPerformed}
-use Rattle.sno_book.specs.Views.{View, IsLawful, IsPrefix, Kin, state_of}
+use Rattle.sno_book.specs.Views.{View, IsLawful, Kin, state_of}
 use Rattle.sno_book.specs.States.{VersionedText, State, find}
 use Rattle.sno_book.specs.Commits.{IsAccepted, IsRefused, refusal, at_place, beside, full, place_in}
 use Rattle.sno_book.specs.Proposals.{Proposed, Received, entry_of}
@@ -21,7 +19,6 @@ use Rattle.sno_statement.specs.Perform.{perform}
 use Rattle.sno_desk.specs.declared.faults.CommitFault.{CommitFault}
 use Rattle.sno_desk.specs.declared.faults.CommitFault.TheVariants as commit
 use Rattle.sno_desk.specs.Receipts.{IsCause, NamesVersion, StandsAfter}
-use Rattle.sno_desk.specs.Seen.{view_after}
 use Rattle.sno_desk.specs.Answers.{Answer, MayFollow, SpentAt}
 use Rattle.sno_desk.specs.Faults.{of_book, of_commit}
 use Rattle.sno_desk.proofs.Standing.{standing}
