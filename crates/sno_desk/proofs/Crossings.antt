@@ -23,7 +23,6 @@ use Rattle.std.specs.contracts.sync.OnceLock as OnceLock
 use Rattle.std.specs.declared.sync.ledger.Ledger.{Ghosts}
 use Rattle.left_right.proofs.writer.Writer.TheSendSync as writer
 use Rattle.left_right.specs.contracts.writer.Writer as Writer
-use Rattle.sno_pattern.proofs.texts.Text.TheSendSync as text
 use Rattle.sno_book.proofs.openings.Opening.TheSendSync as opening
 use Rattle.sno_book.specs.contracts.books.Book as Book
 use Rattle.sno_book.specs.contracts.entries.Entry as Entry
@@ -66,7 +65,10 @@ book_sync entry = search (sendable, crosses, opening.the_sync) depth 40 fits 100
 
 -- a receipt, from its entry
 pub receipt_send : IsSend Entry.the_row → IsSend Receipt.the_row
-receipt_send entry = search (sendable, crosses, text.the_send, text.the_sync) depth 40 fits 100000
+receipt_send entry = search (sendable, crosses) depth 40 fits 100000
+
+pub receipt_sync : IsSync Entry.the_row → IsSync Receipt.the_row
+receipt_sync entry = search (sendable, crosses) depth 40 fits 100000
 
 -- ---- seats
 

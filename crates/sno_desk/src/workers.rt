@@ -9,7 +9,7 @@ ghost use Rattle.sno_desk.specs.Turns.{AllAnswer, FollowInOrder, Goes, HasWorked
 
 use crate::gathering::{collect, in_order};
 use crate::{Desk, Gate, Reply, Seat, WorkersFault};
-use sno_book::{Book, Entry};
+use sno_book::{Book, Entry, Receipt};
 use sno_published::Naming;
 use sno_statement::Statement;
 use std::alloc::{AllocError, Global};
@@ -115,6 +115,7 @@ fn work_all<L: Naming + Send + Sync, G: Gate + Sync, R: Threads + Wait + Sync>(
     may_cross::<Entry>();
     may_cross::<Book>();
     may_cross::<Statement>();
+    may_cross::<Receipt>();
     let workers = seats.len();
     let worker = |first: usize, seat: &mut Seat<L>|
         requires { (1 ≤ workers) × (1 ≤ tries) × (tries ≤ 1000) }

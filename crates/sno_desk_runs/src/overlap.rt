@@ -133,6 +133,7 @@ fn a_text_that_changed_is_matched_again(rt: HostRuntime) -> Result<(), Fail> {
             check_bound(&rt, bindings.get(0).map(|b| b.1), "z");
         }
         Outcome::Failed { .. } => assert!(rt; false, "it failed"),
+        Outcome::Repeated { .. } => assert!(rt; false, "it was repeated"),
     }
     Ok(())
 }

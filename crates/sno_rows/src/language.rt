@@ -165,7 +165,8 @@ fn objects(rt: HostRuntime) -> Result<(), Fail> {
     check_all(&rt, OBJECTS, 7)
 }
 
-const STATEMENTS_THAT_ARE_REPEATED: &str = "- `aXbXc` with `'X'`, replaced by `'-'`, at most 1000 times: `repeated 2 -> |a-b-c|`
+const STATEMENTS_THAT_ARE_REPEATED: &str =
+    "- `aXbXc` with `'X'`, replaced by `'-'`, at most 1000 times: `repeated 2 -> |a-b-c|`
 - `a` with `'a'`, replaced by `'aa'`, at most 3 times: `repeated 3 -> |aaaa|`
 - `a1b2` with `ANY('12') . D`, replaced by `''`, at most 10 times: `repeated 2 D=|2| -> |ab|`
 - `b` with `'a'`, replaced by `'c'`, at most 2 times: `failed`";

@@ -9,7 +9,7 @@ use std::test::Fail;
 #[derive(Clone, Copy)]
 struct Listed(&'static str, bool, &'static str, usize);
 
-static LISTED: [Listed; 9] = [
+static LISTED: [Listed; 15] = [
     Listed(
         r#"{"texts":[{"name":"T","text":""}],"statements":[{"text":"T","pattern":"''","object":"'z'"}]}"#,
         false,
@@ -59,6 +59,42 @@ static LISTED: [Listed; 9] = [
         "texts 1\nT 0 |v1.25|\nentries 1\n0 statement 1 T 0 matched 1 5\nrefused 0\n",
         0,
     ),
+    Listed(
+        r#"{"texts":[{"name":"T","text":"aXbXc"}],"statements":[{"text":"T","pattern":"'X'","object":"'-'","repeat":1000}]}"#,
+        false,
+        "texts 1\nT 1 |a-b-c|\nentries 1\n0 statement 1 T 0 repeated 2\n  -> |a-b-c|\nrefused 0\n",
+        0,
+    ),
+    Listed(
+        r#"{"texts":[{"name":"T","text":"a1b2"}],"statements":[{"text":"T","pattern":"ANY('12') . D","object":"","repeat":10}]}"#,
+        false,
+        "texts 1\nT 1 |ab|\nentries 1\n0 statement 1 T 0 repeated 2\n  D = |2|\n  -> |ab|\nrefused 0\n",
+        0,
+    ),
+    Listed(
+        r#"{"texts":[{"name":"T","text":"b"}],"statements":[{"text":"T","pattern":"'a'","object":"'c'","repeat":2}]}"#,
+        false,
+        "texts 1\nT 0 |b|\nentries 1\n0 statement 1 T 0 failed\nrefused 0\n",
+        0,
+    ),
+    Listed(
+        r#"{"texts":[{"name":"T","text":"aa"}],"statements":[{"text":"T","pattern":"'a'","object":"'b'","repeat":null},{"text":"T","pattern":"'a'","object":"'b'","repeat":1}]}"#,
+        false,
+        "texts 1\nT 2 |bb|\nentries 2\n0 statement 1 T 0 matched 0 1\n  -> |ba|\n1 statement 2 T 1 repeated 1\n  -> |bb|\nrefused 0\n",
+        0,
+    ),
+    Listed(
+        r#"{"texts":[{"name":"T","text":"a"}],"statements":[{"text":"T","pattern":"'a'","repeat":null}]}"#,
+        false,
+        "texts 1\nT 0 |a|\nentries 1\n0 statement 1 T 0 matched 0 1\nrefused 0\n",
+        0,
+    ),
+    Listed(
+        r#"{"texts":[{"name":"T","text":"aaa"}],"statements":[{"text":"T","pattern":"'a'","object":"","repeat":5}]}"#,
+        true,
+        "texts 1\nT 1 ||\nentries 1\n0 statement 1 T 0 repeated 3\n  -> ||\nrefused 0\n",
+        0,
+    ),
 ];
 
 fn check_listed(rt: &(impl Abort + AllocGlobal), row: &Listed) -> Result<(), Fail> {
@@ -83,7 +119,7 @@ fn documents_are_listed(rt: HostRuntime) -> Result<(), Fail> {
 }
 
 // Documents, each with the line of its first fault.
-static FAULTS: [(&'static str, &'static str); 16] = [
+static FAULTS: [(&'static str, &'static str); 28] = [
     (
         r#"{"texts":[{"name":"T","text":"abc"}],"statements":[{"text":"T","pattern":"'b'","object":"'X'"}]"#,
         "input: not JSON",
@@ -137,6 +173,54 @@ static FAULTS: [(&'static str, &'static str); 16] = [
     ),
     (
         r#"{"statements":[{"text":"T","pattern":"'a'","object":"ARB"}]}"#,
+        "statement 1: object: reserved name at 0",
+    ),
+    (
+        r#"{"statements":[{"text":"T","pattern":"'a'","object":"'b'","repeat":"3"}]}"#,
+        "input: wrong shape",
+    ),
+    (
+        r#"{"statements":[{"text":"T","pattern":"'a'","object":"'b'","repeat":true}]}"#,
+        "input: wrong shape",
+    ),
+    (
+        r#"{"statements":[{"text":"T","pattern":"'a'","object":"'b'","repeat":[2]}]}"#,
+        "input: wrong shape",
+    ),
+    (
+        r#"{"statements":[{"text":"T","pattern":"'a'","object":"'b'","repeat":0}]}"#,
+        "statement 1: bad repeat",
+    ),
+    (
+        r#"{"statements":[{"text":"T","pattern":"'a'"},{"text":"T","pattern":"'a'","object":"'b'","repeat":1001}]}"#,
+        "statement 2: bad repeat",
+    ),
+    (
+        r#"{"statements":[{"text":"T","pattern":"'a'","object":"'b'","repeat":-2}]}"#,
+        "statement 1: bad repeat",
+    ),
+    (
+        r#"{"statements":[{"text":"T","pattern":"'a'","object":"'b'","repeat":2.0}]}"#,
+        "statement 1: bad repeat",
+    ),
+    (
+        r#"{"statements":[{"text":"T","pattern":"'a'","object":"'b'","repeat":1e1}]}"#,
+        "statement 1: bad repeat",
+    ),
+    (
+        r#"{"statements":[{"text":"T","pattern":"'a'","object":"'b'","repeat":18446744073709551617}]}"#,
+        "statement 1: bad repeat",
+    ),
+    (
+        r#"{"statements":[{"text":"T","pattern":"'a'","repeat":2}]}"#,
+        "statement 1: bad repeat",
+    ),
+    (
+        r#"{"statements":[{"text":"T","pattern":"'a'","object":null,"repeat":2}]}"#,
+        "statement 1: bad repeat",
+    ),
+    (
+        r#"{"statements":[{"text":"T","pattern":"'a'","object":"ARB","repeat":0}]}"#,
         "statement 1: object: reserved name at 0",
     ),
 ];
@@ -235,6 +319,7 @@ fn each_fault_of_statements_has_its_line(rt: HostRuntime) -> Result<(), Fail> {
             RunFault::StatementObject(3, ReadFault::TooLong(4096)),
             "statement 3: object: too long at 4096",
         ),
+        (RunFault::StatementRepeat(4), "statement 4: bad repeat"),
     ];
     check_lines(&rt, 2, &rows)
 }

@@ -224,30 +224,18 @@ const RENAME: &str = r#"{
     {"name": "code", "text": "count = count + counter;\nreturn discount * count"}
   ],
   "statements": [
-    {"text": "code", "pattern": "LEFT . L 'count' RIGHT . R", "object": "L 'total' R"},
-    {"text": "code", "pattern": "LEFT . L 'count' RIGHT . R", "object": "L 'total' R"},
-    {"text": "code", "pattern": "LEFT . L 'count' RIGHT . R", "object": "L 'total' R"},
-    {"text": "code", "pattern": "LEFT . L 'count' RIGHT . R", "object": "L 'total' R"}
+    {"text": "code", "pattern": "LEFT . L 'count' RIGHT . R", "object": "L 'total' R", "repeat": 1000}
   ]
 }
 "#;
 
 const RENAME_LISTING: &str = r#"texts 1
-code 3 |total = total + counter;\x0areturn discount * total|
-entries 4
-0 statement 1 code 0 matched 0 6
-  L = ||
-  R = | |
-  -> |total = count + counter;\x0areturn discount * count|
-1 statement 2 code 1 matched 7 14
-  L = | |
-  R = | |
-  -> |total = total + counter;\x0areturn discount * count|
-2 statement 3 code 2 matched 42 48
+code 1 |total = total + counter;\x0areturn discount * total|
+entries 1
+0 statement 1 code 0 repeated 3
   L = | |
   R = ||
   -> |total = total + counter;\x0areturn discount * total|
-3 statement 4 code 3 failed
 refused 0
 "#;
 
@@ -261,8 +249,7 @@ const TEMPLATE: &str = r#"{
      "text": "Dear {{name}},\nthank you for ordering {{ title }}.\nIt comes by {{carrier}}. Have a good day, {{name}}!\n"}
   ],
   "statements": [
-    {"text": "letter", "pattern": "OPEN 'name' CLOSE", "object": "'Ada'"},
-    {"text": "letter", "pattern": "OPEN 'name' CLOSE", "object": "'Ada'"},
+    {"text": "letter", "pattern": "OPEN 'name' CLOSE", "object": "'Ada'", "repeat": 1000},
     {"text": "letter", "pattern": "OPEN 'title' CLOSE", "object": "'The Moonstone'"},
     {"text": "letter", "pattern": "OPEN BREAK(' }') . HOLE"}
   ]
@@ -270,15 +257,13 @@ const TEMPLATE: &str = r#"{
 "#;
 
 const TEMPLATE_LISTING: &str = r#"texts 1
-letter 3 |Dear Ada,\x0athank you for ordering The Moonstone.\x0aIt comes by {{carrier}}. Have a good day, Ada!\x0a|
-entries 4
-0 statement 1 letter 0 matched 5 13
-  -> |Dear Ada,\x0athank you for ordering {{ title }}.\x0aIt comes by {{carrier}}. Have a good day, {{name}}!\x0a|
-1 statement 2 letter 1 matched 88 96
+letter 2 |Dear Ada,\x0athank you for ordering The Moonstone.\x0aIt comes by {{carrier}}. Have a good day, Ada!\x0a|
+entries 3
+0 statement 1 letter 0 repeated 2
   -> |Dear Ada,\x0athank you for ordering {{ title }}.\x0aIt comes by {{carrier}}. Have a good day, Ada!\x0a|
-2 statement 3 letter 2 matched 33 44
+1 statement 2 letter 1 matched 33 44
   -> |Dear Ada,\x0athank you for ordering The Moonstone.\x0aIt comes by {{carrier}}. Have a good day, Ada!\x0a|
-3 statement 4 letter 3 matched 60 69
+2 statement 3 letter 2 matched 60 69
   HOLE = |carrier|
 refused 0
 "#;

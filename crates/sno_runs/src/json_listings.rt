@@ -11,7 +11,7 @@ const JSON: Options = Options {
 };
 
 // Documents, each with its listing, without the end of the line, and the number of statements that are refused.
-static LISTED: [(&'static str, &'static str, usize); 4] = [
+static LISTED: [(&'static str, &'static str, usize); 6] = [
     (
         FIRST,
         r#"{"entries":[{"after":"aXc","bindings":[],"end":2,"entry":0,"matched":true,"start":1,"statement":1,"text":"T","version":0}],"refused":[],"texts":[{"name":"T","text":"aXc","version":1}]}"#,
@@ -26,6 +26,16 @@ static LISTED: [(&'static str, &'static str, usize); 4] = [
     (
         r#"{"texts":[{"name":"T","text":"a\tb\"\\"}],"statements":[{"text":"T","pattern":"@P 'b'"}]}"#,
         r#"{"entries":[{"bindings":[["P",2]],"end":3,"entry":0,"matched":true,"start":2,"statement":1,"text":"T","version":0}],"refused":[],"texts":[{"name":"T","text":"a\tb\"\\","version":0}]}"#,
+        0,
+    ),
+    (
+        r#"{"texts":[{"name":"T","text":"aXbXc"}],"statements":[{"text":"T","pattern":"'X'","object":"'-'","repeat":1000}]}"#,
+        r#"{"entries":[{"after":"a-b-c","bindings":[],"entry":0,"matched":true,"repeated":2,"statement":1,"text":"T","version":0}],"refused":[],"texts":[{"name":"T","text":"a-b-c","version":1}]}"#,
+        0,
+    ),
+    (
+        r#"{"texts":[{"name":"T","text":"a1b2"}],"statements":[{"text":"T","pattern":"ANY('12') . D","object":"","repeat":10},{"text":"T","pattern":"'z'","object":"","repeat":2}]}"#,
+        r#"{"entries":[{"after":"ab","bindings":[["D","2"]],"entry":0,"matched":true,"repeated":2,"statement":1,"text":"T","version":0},{"bindings":[],"entry":1,"matched":false,"statement":2,"text":"T","version":1}],"refused":[],"texts":[{"name":"T","text":"ab","version":1}]}"#,
         0,
     ),
 ];

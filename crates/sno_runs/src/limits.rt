@@ -14,9 +14,9 @@ use std::thread::Threads;
 #[derive(Clone, Copy)]
 struct Limited(&'static str, u32, &'static str, u8);
 
-// 'b' takes three trials on aab, one at each start; a part that repeats within a part that repeats, before what isn't there, takes more than
+// 'b' takes three trials on aab, one at each start; of 'a' to 'b' on aab the third round takes four and fails; a part that repeats within a part that repeats, before what isn't there, takes more than
 // a million on 30 a.
-static LIMITED: [Limited; 4] = [
+static LIMITED: [Limited; 6] = [
     Limited(
         r#"{"texts":[{"name":"T","text":"aab"}],"statements":[{"text":"T","pattern":"'b'"}]}"#,
         2,
@@ -39,6 +39,18 @@ static LIMITED: [Limited; 4] = [
         r#"{"texts":[{"name":"T","text":"aaaaaaaaaaaaaaaaaaaaaaaaaaaaaa"}],"statements":[{"text":"T","pattern":"ARBNO(ARBNO('a')) 'b'","anchored":true}]}"#,
         1_000_000,
         "texts 1\nT 0 |aaaaaaaaaaaaaaaaaaaaaaaaaaaaaa|\nentries 0\nrefused 1\nstatement 1 too many trials\n",
+        1,
+    ),
+    Limited(
+        r#"{"texts":[{"name":"T","text":"aab"}],"statements":[{"text":"T","pattern":"'a'","object":"'b'","repeat":5}]}"#,
+        4,
+        "texts 1\nT 1 |bbb|\nentries 1\n0 statement 1 T 0 repeated 2\n  -> |bbb|\nrefused 0\n",
+        0,
+    ),
+    Limited(
+        r#"{"texts":[{"name":"T","text":"aab"}],"statements":[{"text":"T","pattern":"'a'","object":"'b'","repeat":5}]}"#,
+        3,
+        "texts 1\nT 0 |aab|\nentries 0\nrefused 1\nstatement 1 too many trials\n",
         1,
     ),
 ];

@@ -13,8 +13,9 @@ use Rattle.std.specs.contracts.impls.GlobalAllocator.TheImpl.{ghosts}
 use Rattle.sno_desk.specs.contracts.desk.Desk as Desk
 use Rattle.sno_book.specs.contracts.books.Book as Book
 use Rattle.sno_book.specs.contracts.entries.Entry as Entry
+use Rattle.sno_book.specs.contracts.entries.Receipt as Receipt
 use Rattle.sno_statement.specs.contracts.statements.Statement as Statement
-use Rattle.sno_desk.proofs.Crossings.{book_send, book_sync, receipt_send, seat_send, desk_sync, closure_sync}
+use Rattle.sno_desk.proofs.Crossings.{book_send, book_sync, receipt_send, receipt_sync, seat_send, desk_sync, closure_sync}
 use Rattle.sno_desk.proofs.workers.work_all.Lts as Lts
 use Rattle.sno_desk.proofs.workers.work_all.Goals as goal
 
@@ -30,11 +31,23 @@ may_cross-requires-2-sync-T g c κs =
     param_sync 0 (Lts.arg-1-0 g.row.L g.row.G g.row.R g.L.laws g.G.laws g.R.laws g.L.Naming g.L.Naming-dict g.L.Ledger g.L.Ledger-dict g.G.Gate g.G.Gate-dict g.R.Threads g.R.Threads-dict g.R.Wait g.R.Wait-dict κs)
     (arg_sync _ yes _ (book_sync entry))
 
+pub may_cross-requires-4-send-T : goal.may_cross-requires-4-send-T
+may_cross-requires-4-send-T g c κs =
+    let entry : IsSend Entry.the_row = record { owned = c.may_cross.ensures.sends.owned; leaving = λ k d w. tt } in
+    param_send 0 (Lts.arg-3-0 g.row.L g.row.G g.row.R g.L.laws g.G.laws g.R.laws g.L.Naming g.L.Naming-dict g.L.Ledger g.L.Ledger-dict g.G.Gate g.G.Gate-dict g.R.Threads g.R.Threads-dict g.R.Wait g.R.Wait-dict κs)
+    (arg_send _ yes _ (receipt_send entry))
+
+pub may_cross-requires-4-sync-T : goal.may_cross-requires-4-sync-T
+may_cross-requires-4-sync-T g c κs =
+    let entry : IsSync Entry.the_row = record { shared = c.may_cross.ensures.shares.shared } in
+    param_sync 0 (Lts.arg-3-0 g.row.L g.row.G g.row.R g.L.laws g.G.laws g.R.laws g.L.Naming g.L.Naming-dict g.L.Ledger g.L.Ledger-dict g.G.Gate g.G.Gate-dict g.R.Threads g.R.Threads-dict g.R.Wait g.R.Wait-dict κs)
+    (arg_sync _ yes _ (receipt_sync entry))
+
 pub for_each_mut-requires-send-T : goal.for_each_mut-requires-send-T
 for_each_mut-requires-send-T g c κs within =
-    let entry : IsSend Entry.the_row = record { owned = c.may_cross.ensures.sends.owned; leaving = λ k d w. tt } in
-    let seat = seat_send (param 0 g.row.L) g.L.Naming g.L.Ledger (receipt_send entry) in
-    param_send 1 (Lts.arg-3-1 g.row.L g.row.G g.row.R g.L.laws g.G.laws g.R.laws g.L.Naming g.L.Naming-dict g.L.Ledger g.L.Ledger-dict g.G.Gate g.G.Gate-dict g.R.Threads g.R.Threads-dict g.R.Wait g.R.Wait-dict κs)
+    let receipt : IsSend Receipt.the_row = record { owned = c.may_cross-4.ensures.sends.owned; leaving = λ k d w. tt } in
+    let seat = seat_send (param 0 g.row.L) g.L.Naming g.L.Ledger receipt in
+    param_send 1 (Lts.arg-4-1 g.row.L g.row.G g.row.R g.L.laws g.G.laws g.R.laws g.L.Naming g.L.Naming-dict g.L.Ledger g.L.Ledger-dict g.G.Gate g.G.Gate-dict g.R.Threads g.R.Threads-dict g.R.Wait g.R.Wait-dict κs)
     (arg_send _ yes _ seat)
 
 pub for_each_mut-requires-sync-F : goal.for_each_mut-requires-sync-F
