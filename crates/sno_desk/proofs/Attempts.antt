@@ -1,5 +1,5 @@
 -- From one attempt to the next: what a seat has seen only grows, and with each lost try the text's version is one higher at least.
-use Rattle.std.proofs.Common.{◌≡◌, ◌≢◌, ◌≤◌, ◌<◌, ℕ, ◌+◌, Bool, true, false, List, [], length, Option, Some, None, refl, sym, ap, subst, ◌∙◌, arith}
+use Rattle.std.proofs.Common.{◌≡◌, ◌≢◌, ◌≤◌, ◌<◌, ℕ, ◌+◌, true, List, [], length, Some, None, refl, sym, ap, subst, ◌∙◌, arith}
 use Rattle.std.specs.Prelude.{Ok, Err, IsTrue}
 use Rattle.std.specs.List.{list_all}
 use Rattle.std.specs.Char.{is_ascii}
@@ -15,14 +15,14 @@ use Rattle.sno_book.specs.Snapshots.{Snapshot}
 use Rattle.sno_book.specs.States.{VersionedText}
 use Rattle.sno_book.specs.Views.{View, IsPrefix}
 use Rattle.sno_book.proofs.Rising.{versions_only_rise_in_place}
-use Rattle.sno_published.specs.Tables.{text_after, text_at}
+use Rattle.sno_published.specs.Tables.{text_at}
 use Rattle.sno_published.proofs.Prefixes.{prefix_self, prefix_trans, prefix_length}
 use Rattle.sno_desk.specs.declared.faults.CommitFault.{CommitFault}
 use Rattle.sno_desk.specs.declared.faults.CommitFault.TheVariants as commit
 use Rattle.sno_desk.specs.declared.faults.SnapshotFault.{SnapshotFault}
 use Rattle.sno_desk.specs.declared.faults.SnapshotFault.TheVariants as snapshot
 use Rattle.sno_desk.specs.declared.faults.SubmitFault.TheVariants as submit
-use Rattle.sno_desk.specs.Answers.{Answer, AnswersAt, HasRisen, IsNamed, IsRefusedOn, Says, is_lost}
+use Rattle.sno_desk.specs.Answers.{Answer, AnswersAt, HasRisen, IsNamed, Says, is_lost}
 use Rattle.sno_desk.specs.Faults.{of_commit, of_snapshot, of_statement}
 use Rattle.sno_desk.specs.Receipts.{IsCause, IsFor}
 use Rattle.sno_desk.specs.Seen.{GivesSeen, HasVersion, IsSeen, IsTold, place_in, view_after}
@@ -83,11 +83,11 @@ pub come_next : (opening : Opening) (earlier seen after : List Entry) (s : Task)
 come_next opening earlier seen after s attempt (Err (submit.TriesSpent was_seen now)) lost come begins last = record {
   begins = prefix_trans earlier seen after come.begins begins;
   risen = λ place was is named h k.
-  let more = lost_more opening earlier seen after s attempt now come last place was named h in
-  let same : place ≡ last.place = one_place opening s.text place last.place named last.named in
-  let there : HasVersion opening after last.place is = subst (λ (p : ℕ). HasVersion opening after p is) same k in
-  let level = one_version opening after last.place is now there last.versioned in
-  omega (arith, more, level);
+      let more = lost_more opening earlier seen after s attempt now come last place was named h in
+      let same : place ≡ last.place = one_place opening s.text place last.place named last.named in
+      let there : HasVersion opening after last.place is = subst (λ (p : ℕ). HasVersion opening after p is) same k in
+      let level = one_version opening after last.place is now there last.versioned in
+      omega (arith, more, level);
 }
 come_next opening earlier seen after s attempt (Ok receipt) lost come begins last = absurd cc
 come_next opening earlier seen after s attempt (Err submit.NoText) lost come begins last = absurd cc
@@ -109,7 +109,7 @@ last_at tries opening earlier seen after s attempt (Err (submit.TriesSpent was_s
       named = last.named;
       versioned = last.versioned;
       risen = λ version h.
-      let more = lost_more opening earlier seen after s attempt now come last last.place version last.named h in omega (arith, more, level);
+          let more = lost_more opening earlier seen after s attempt now come last last.place version last.named h in omega (arith, more, level);
     }
 last_at tries opening earlier seen after s attempt (Ok receipt) all come last =
     let more = prefix_length earlier seen come.begins in

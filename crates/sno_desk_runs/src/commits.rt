@@ -130,9 +130,9 @@ fn two_seats<L: Naming, T: Turns, R: Wait + Abort>(
     let (desk, mut seats) = Desk::<L>::new(rt, alloc, blank, book, 2).map_err(|(fault, _)| fault)?;
     let (first, second) = seats.as_mut_slice().split_at_mut(1);
     let taken = turns.take(rt, alloc, &desk, &mut first[0], &mut second[0]);
-    let book = close(rt, desk, seats).map_err(|(fault, _)| fault)?;
+    let closed = close(rt, desk, seats).map_err(|(fault, _)| fault);
     taken?;
-    Ok(book)
+    Ok(closed?)
 }
 
 /// A desk of two seats, with a ledger of its own.

@@ -62,10 +62,10 @@ fn submit_each<L: Naming, G: Gate, R: Wait + Abort>(
     let (desk, mut seats) = Desk::<L>::new(rt, alloc, blank, book, 1).map_err(|(fault, _)| fault)?;
     let (first, _) = seats.as_mut_slice().split_at_mut(1);
     let submitted = submit_through(rt, alloc, &desk, &mut first[0], jobs, tries, gate);
-    let book = close(rt, desk, seats).map_err(|(fault, _)| fault)?;
+    let closed = close(rt, desk, seats).map_err(|(fault, _)| fault);
     let (replies, counts) = submitted?;
     Ok(Rest {
-        book,
+        book: closed?,
         replies,
         counts,
     })

@@ -1,11 +1,8 @@
 -- What the calls of one attempt tell of its answer.
-use Rattle.std.proofs.Common.{◌≡◌, ◌∙◌, List, ℕ, ap, sym, subst, Err}
+use Rattle.std.proofs.Common.{◌∙◌, ap}
 use Rattle.std.specs.Arc.{arc_value}
 use Rattle.sno_statement.specs.Task.{Task}
-use Rattle.sno_desk.specs.Answers.{AnswersAt, Says}
-use Rattle.sno_desk.specs.Faults.{of_commit}
-use Rattle.sno_desk.specs.declared.faults.SubmitFault.{SubmitFault}
-use Rattle.sno_desk.proofs.Attempts.{IsProposed, proposed_on, committed_says, committed_at, received_at}
+use Rattle.sno_desk.proofs.Attempts.{proposed_on, committed_says, committed_at, received_at}
 use Rattle.sno_desk.proofs.desk.Desk.attempt.Goals as goal
 
 pub commit-requires : goal.commit-requires
