@@ -70,10 +70,14 @@ impl Text {
     }
 }
 
-/// The place of the first byte above 127, if there is one.
+/// The place of the first byte above 127, if there is one. That there is none is seen a word at a time.
+#[tactic(auto, using(crate::proofs::TextLemmas::ascii_none))]
 pub fn first_non_ascii(characters: &[u8]) -> Option<usize>
     ensures { result ≡ first_non_ascii characters.now }
 {
+    if characters.is_ascii() {
+        return None;
+    }
     characters.iter().position(|c| !c.is_ascii())
 }
 
