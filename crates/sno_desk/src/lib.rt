@@ -1,4 +1,4 @@
-//! The desk: a book behind one lock, at which many threads work at once.
+//! The desk: a book behind one lock, at which many threads work at once; its texts are seen without the lock.
 //!
 //! A [`Desk`] holds a [`Book`], its texts and its journal, under a lock. Whoever wants to change a text has a [`Seat`] and does three things:
 //! take a snapshot of the text, perform a statement on that snapshot, and commit the result. No lock is held while the statement is performed. A
@@ -15,34 +15,35 @@
 //!   leave them, and its texts are the replay of the journal. [`close`] gives it back with the opening that the desk began with.
 //! - **A receipt is for what was handed in.** [`Desk::commit`] (`src/committing.rt`, `specs/Receipts.antt`) answers the proposal's entry and the
 //!   text that the proposal was made for. Its index is no lower than the number of entries that the seat had accepted, and its version no higher
-//!   than its index. A refused proposal comes back as it was, and `Changed` names its version and another one that the text can have.
+//!   than its index. The seat has seen the receipt's entry then, behind a legal list of as many as its index. A refused proposal comes back as it
+//!   was, and each refusal but `Memory` and `Stopped` has its cause in what the seat has seen then: `Changed` names the text's version there.
+//! - **A snapshot is what is shown.** [`Seat::snapshot`] (`src/seats.rt`, `src/windows.rt`, `specs/Seen.antt`) takes no lock. It answers the text of
+//!   its name as the entries leave it that the seat has seen, and these only grow.
 //! - **[`Desk::submit`]** (`src/submitting.rt`, `specs/Answers.antt`): a receipt's entry has the statement, and by the receipt's type its outcome
-//!   is what the statement does to the receipt's text. `TriesSpent` names two versions, the second higher than the first and one that the text
-//!   can have. `TextTooLong` and `TooManyTrials` come only if there is a text on which performing the statement is refused so. `GateShut` comes only if the gate may be shut for
-//!   the statement's number at one of its attempts; a [`Gate`] (`src/gates.rt`) says by its ghost member when that is, and for [`OpenGate`] it
-//!   never is.
+//!   is what the statement does to the receipt's text. `TriesSpent` names two versions, the second higher than the first: the text has it, and it is
+//!   higher by at least the number of tries than the version that the seat had seen at the start. `TextTooLong` and `TooManyTrials` come only if
+//!   performing the statement on the text, as the seat has seen it now, is refused so. `GateShut` comes only if the gate may be shut for the
+//!   statement's number at one of its attempts; a [`Gate`] (`src/gates.rt`) says by its ghost member when that is, and for [`OpenGate`] it never is.
 //! - **[`run_workers`]** (`src/workers.rt`, `src/gathering.rt`, `specs/Turns.antt`): there are as many replies as jobs, in the order of the jobs,
 //!   and each is an answer of `submit` to its job. The j-th receipt of a seat, from 0, has an index of at least the number of entries that the
 //!   seat had accepted before, plus j. Each share rises by the number of receipts among its seat's replies, and all together by all receipts.
 //!
-//! The lemmas: `proofs/Turns.antt` is about dealing out jobs and putting replies in order; `proofs/Causes.antt` about what a book's answer says of
-//! the proposal; `proofs/Openings.antt` compares openings; `proofs/Crossings.antt` shows which types may go to another thread.
+//! The lemmas: `proofs/Attempts.antt` goes from one attempt of a submit to the next; `proofs/Turns.antt` is about dealing out jobs and putting replies
+//! in order; `proofs/Causes.antt` about what a book's answer says of the proposal; `proofs/Standing.antt` about which texts stand after some entries;
+//! `proofs/Openings.antt` compares openings; `proofs/Crossings.antt` shows which types may go to another thread.
 //!
 //! # How to begin
 //!
-//! A desk bears the name of its ledger, `L`. Make a `Blank` of as many parts as there are to be seats. Do all the work in a function that is
-//! generic over `L: Ledger`, takes the blank, requires that `L` is what the blank stands for, and doesn't have `L` in its result. Call it with
-//! `Brand` for `L`. The crate `sno_desk_runs` has such functions.
+//! A desk bears the names of its blank, `L`. Make a [`Blank`] of as many parts as there are to be seats. Do all the work in a function that is
+//! generic over `L: Naming`, takes the blank and the book, requires that `L` is what these stand for, and doesn't have `L` in its result. Call it
+//! with `Brand` for `L`. A desk is not `Drop`: close or end it on each way out. The crate `sno_desk_runs` has such functions.
 //!
 //! # What is not promised
 //!
 //! - That a call with `rt` returns: it may wait for the lock for ever. No lock is held at a gate or while a statement is performed, and no call
 //!   takes a second lock while it holds one. Tests show that two statements overlap.
-//! - What the book was while the lock was held: a caller can't name it. So no clause of [`Desk::snapshot`] says which text it answers, and none
-//!   of [`Desk::submit`] why it answered `NoText`, `Foreign` or `Full`. Inside the lock all of this is exact, by the contracts of
-//!   `Book::snapshot` and `Book::commit`.
-//! - That all tries are used before `TriesSpent`, that its first version is the one that the last try saw, and what the gate is told. Tests show
-//!   these.
+//! - That the desk isn't stopped: no clause ties `Stopped` to a publish that was refused, and none says that a new desk shows anything.
+//! - That the first version of `TriesSpent` is the one that the last try saw, and what the gate is told. Tests show these.
 //! - Which seat made an entry: that isn't kept.
 //! - That memory is there.
 #![tactic(auto)]
