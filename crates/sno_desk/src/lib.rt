@@ -1,4 +1,4 @@
-//! The desk: a book behind one lock, at which many threads work at once.
+//! The desk: a book behind one lock, at which many threads work at once; its texts are seen without the lock.
 //!
 //! A [`Desk`] holds a [`Book`], its texts and its journal, under a lock, and publishes each accepted entry, so that texts are read without the lock.
 //! Whoever wants to change a text has a [`Seat`] and does three things: take a snapshot of the text, perform a statement on that snapshot, and commit the
