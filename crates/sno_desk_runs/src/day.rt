@@ -46,7 +46,10 @@ fn spend<L: Naming + Send + Sync, G: Gate + Sync, R: Threads + Wait + Sync>(
     requires empty { book.journal ≡ [] }
     requires lawful { (1 ≤ tries) × (tries ≤ 1000) }
 {
-    let (desk, mut seats) = Desk::<L>::new(rt, alloc, blank, book, seats).map_err(|(fault, _)| fault)?;
+    let (desk, mut seats) = Desk::<L>::new(rt, alloc, blank, book, seats).map_err(|(
+        fault,
+        _,
+    )| fault)?;
     let replies = run_workers(rt, alloc, &desk, seats.as_mut_slice(), jobs, tries, gate);
     let shares = accepted(alloc, seats.as_slice());
     let book = close(rt, desk, seats).map_err(|(fault, _)| fault)?;

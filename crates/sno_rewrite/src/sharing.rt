@@ -13,7 +13,9 @@ ghost use Rattle.sno_rewrite.specs.Shared.{IsShared};
 use crate::serial::BookWithRefusals;
 use crate::settling::settle_replies;
 use sno_book::Book;
-use sno_desk::{Blank, Desk, DeskFault, Naming, OpenGate, Reply, Seat, WorkersFault, close, run_workers};
+use sno_desk::{
+    Blank, Desk, DeskFault, Naming, OpenGate, Reply, Seat, WorkersFault, close, run_workers,
+};
 use sno_document::{Document, RunFault};
 use sno_statement::Statement;
 use std::alloc::Global;

@@ -60,11 +60,7 @@ fn long_book(alloc: Global, length: usize) -> Result<Book, Fail> {
 }
 
 #[tactic(auto, using(crate::proofs::Kinship::of_snapshot))]
-fn snapshot(
-    alloc: Global,
-    book: &Book,
-    name: &str,
-) -> Result<Result<Snapshot, SnapshotFault>, Fail>
+fn snapshot(alloc: Global, book: &Book, name: &str) -> Result<Result<Snapshot, SnapshotFault>, Fail>
     ensures { IfOk result (λ given. IfOk given (λ s. s.origin ≡ view_of book.now)) }
 {
     Ok(book.snapshot(&TextName::new(alloc, name.as_bytes())?))
