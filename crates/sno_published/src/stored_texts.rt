@@ -11,7 +11,6 @@ ghost use Rattle.sno_book.specs.Entries.{after_of};
 ghost use Rattle.sno_published.specs.StoredTexts.{IsReplay, contents, first_contents, named};
 
 use sno_book::{Entry, Opening, Text};
-use sno_statement::Outcome;
 use std::alloc::{AllocError, Global};
 use std::sync::Arc;
 
@@ -49,12 +48,9 @@ pub(crate) fn first_texts(alloc: Global, opening: &Opening) -> Result<Vec<Stored
 fn text_of(entry: &Entry) -> Result<Option<Arc<Text>>, AllocError>
     ensures { IfOk result (λ o. option_map arc_value o ≡ after_of entry.now.done) }
 {
-    match &*entry.outcome {
-        Outcome::Matched {
-            after: Some(text),
-            ..
-        } => Ok(Some(Arc::try_clone(text)?)),
-        Outcome::Matched { after: None, .. } | Outcome::Failed { .. } => Ok(None),
+    match entry.outcome.after() {
+        Some(text) => Ok(Some(Arc::try_clone(text)?)),
+        None => Ok(None),
     }
 }
 
