@@ -1,3 +1,4 @@
+pub mod Kinship
 pub mod Prefixes
 pub mod Adding
 pub mod LastEntries

@@ -1,4 +1,6 @@
 ghost use Rattle.std.specs.Prelude.{◌≡◌, [], IfOk, IfSome};
+ghost use Rattle.sno_book.specs.Books.{view_of};
+ghost use Rattle.sno_book.specs.Views.{IsPrefix};
 
 use crate::{History, Naming, Screen, Unpublished, ViewFault, Viewer};
 use sno_book::{Book, Proposal, Statement, Text, TextName, propose};
@@ -36,12 +38,16 @@ fn statement(rt: &impl Abort, alloc: Global) -> Result<Arc<Statement>, Fail> {
 }
 
 /// The statement on the text as it stands.
-fn proposal(alloc: Global, book: &Book, job: &Arc<Statement>) -> Result<Proposal, Fail> {
+fn proposal(alloc: Global, book: &Book, job: &Arc<Statement>) -> Result<Proposal, Fail>
+    ensures { IfOk result (λ p. IsPrefix p.origin (view_of book.now)) }
+{
     let snapshot = book.snapshot(job.text())?;
-    Ok(propose(alloc, Arc::try_clone(job)?, snapshot)?)
+    let proposal = propose(alloc, Arc::try_clone(job)?, snapshot)?;
+    Ok(proposal)
 }
 
 /// Commits the proposal to the book, and publishes the entry. Where something is refused the screen is ended.
+#[tactic(auto, using(crate::proofs::Kinship::is_kin))]
 fn follow<L: Naming, R: Wait>(
     rt: &R,
     alloc: Global,
@@ -51,6 +57,7 @@ fn follow<L: Naming, R: Wait>(
 ) -> Option<Screen<L>>
     requires level { screen ≡ book.old.journal }
     requires opening { book.old.opening ≡ L.opening }
+    requires view { IsPrefix proposal.origin (view_of book.old) }
     ensures opening { book.new.opening ≡ L.opening }
     ensures level { IfSome result (λ s. s ≡ book.new.journal) }
 {
@@ -77,6 +84,7 @@ fn follow<L: Naming, R: Wait>(
 }
 
 #[test]
+#[tactic(auto, using(crate::proofs::Kinship::is_kin))]
 fn a_history_grows(rt: HostRuntime) -> Result<(), Fail> {
     let alloc = rt.alloc();
     let mut book = book(alloc)?;
