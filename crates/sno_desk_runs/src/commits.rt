@@ -1,12 +1,15 @@
-//! Two seats that commit by themselves: the one overtakes the other's proposal, or adds entries between two of its own.
+//! Two seats that commit by themselves: the one overtakes the other's proposal, adds entries between two of its own, or sees what nobody told it.
 ghost use Rattle.std.specs.Prelude.{◌≡◌, [], IfOk};
 ghost use Rattle.sno_book.specs.Views.{IsPrefix};
 ghost use Rattle.sno_desk.specs.Seen.{view_after};
 
 use crate::day::{check_entry, check_text};
-use crate::jobs::{book, rules, statement};
+use crate::jobs::{book, matching, rules, statement};
 use sno_book::Book;
-use sno_desk::{Blank, CommitFault, Desk, Naming, Proposal, Receipt, Seat, close, propose};
+use sno_desk::{
+    Blank, CommitFault, Desk, Naming, Proposal, Receipt, Seat, SnapshotFault, TextName, close,
+    propose,
+};
 use sno_statement::Statement;
 use std::alloc::Global;
 use std::marker::Brand;
@@ -114,6 +117,51 @@ impl Turns for Interleaves {
     }
 }
 
+/// Compares the text of this name, as the seat sees it, and its version.
+fn check_seen<L: Naming>(
+    rt: &impl Abort,
+    seat: &mut Seat<L>,
+    name: &TextName,
+    text: &str,
+    version: u64,
+) -> Result<(), Fail> {
+    let snapshot = seat.snapshot(name)?;
+    assert_eq!(rt; snapshot.version, version);
+    assert_eq!(rt; snapshot.text.bytes(), text.as_bytes());
+    Ok(())
+}
+
+/// The second seat, which commits nothing, sees what the first seat's entries leave; a text that isn't there it doesn't see.
+#[derive(Drop)]
+struct Sees {
+    job: Arc<Statement>,
+    unmatched: Arc<Statement>,
+    elsewhere: TextName,
+}
+
+impl Turns for Sees {
+    fn take<L: Naming, R: Wait + Abort>(
+        &self,
+        rt: &R,
+        alloc: Global,
+        desk: &Desk<L>,
+        first: &mut Seat<L>,
+        second: &mut Seat<L>,
+    ) -> Result<(), Fail> {
+        check_seen(rt, second, self.job.text(), "x", 0)?;
+        assert_eq!(rt; commit(rt, alloc, desk, first, &self.job)?.index, 0);
+        assert_eq!(rt; (first.seen(), second.seen()), (1, 0));
+        check_seen(rt, second, self.job.text(), "z", 1)?;
+        assert_eq!(rt; commit(rt, alloc, desk, first, &self.unmatched)?.index, 1);
+        check_seen(rt, first, self.job.text(), "z", 1)?;
+        assert_eq!(rt; (first.seen(), second.seen()), (2, 1));
+        let missing = second.snapshot(&self.elsewhere).err();
+        assert_eq!(rt; missing, Some(SnapshotFault::NoText));
+        assert_eq!(rt; (second.accepted(), second.seen()), (0, 1));
+        Ok(())
+    }
+}
+
 fn two_seats<L: Naming, T: Turns, R: Wait + Abort>(
     rt: &R,
     alloc: Global,
@@ -177,5 +225,22 @@ fn a_seat_commits_at_a_later_version(rt: HostRuntime) -> Result<(), Fail> {
     check_entry(&rt, &book, 3, 4, 1);
     check_text(&rt, &book, 0, "zz", 2);
     check_text(&rt, &book, 1, "v", 1);
+    Ok(())
+}
+
+#[test]
+fn a_seat_that_was_told_nothing_sees_what_is_shown(rt: HostRuntime) -> Result<(), Fail> {
+    let alloc = rt.alloc();
+    let rules = rules(&rt, alloc)?;
+    let turns = Sees {
+        job: statement(&rt, alloc, &rules, 1, "T", "'x'", "'z'")?,
+        unmatched: matching(&rt, alloc, &rules, 2, "T", "'q'")?,
+        elsewhere: TextName::new(alloc, b"U".as_slice())?,
+    };
+    let book = book(alloc, &[("T", b"x")], 1_000_000)?;
+    let book = share(&rt, alloc, book, &turns)?;
+    assert_eq!(rt; book.journal().len(), 2);
+    check_entry(&rt, &book, 1, 2, 1);
+    check_text(&rt, &book, 0, "z", 1);
     Ok(())
 }
