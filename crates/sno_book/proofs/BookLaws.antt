@@ -9,11 +9,11 @@ use Rattle.sno_statement.specs.Perform.{perform}
 use Rattle.sno_book.specs.States.{VersionedText, State, find, renew_by}
 use Rattle.sno_book.specs.Entries.{after_of}
 use Rattle.sno_book.specs.Journals.{HasStep}
-use Rattle.sno_book.specs.Openings.{Opening, IsOpening, names_in, start}
+use Rattle.sno_book.specs.Openings.{Opening, IsOpening, names_in, start, place_in}
 use Rattle.sno_book.specs.Views.{View, state_of, and_then}
 use Rattle.sno_book.specs.Books.{Book, view_of}
 use Rattle.sno_book.specs.Proposals.{Proposed, entry_of}
-use Rattle.sno_book.specs.Commits.{place_in, full, beside, at_place, refusal}
+use Rattle.sno_book.specs.Commits.{full, beside, at_place, refusal}
 use Rattle.sno_book.specs.VersionedTexts.{Keeps, with_names}
 use Rattle.sno_book.specs.Starts.{contents, first_contents}
 use Rattle.sno_book.specs.declared.faults.CommitFault.{CommitFault}
@@ -25,7 +25,7 @@ use Rattle.sno_book.proofs.Steps.{replay_snoc, legal_snoc, below_replayed, below
 -- what holds where nothing refuses the proposal
 pub record IsFree (v : View) (p : Proposed) : Type 0 where
   pub versioned : VersionedText
-  pub placed : place_in v p.statement.text ≡ Some p.place
+  pub placed : place_in v.opening p.statement.text ≡ Some p.place
   pub there : slice_get (state_of v) p.place ≡ Some versioned
   pub version : p.version ≡ versioned.version
   pub room : length v.journal ≢ v.opening.room
@@ -41,7 +41,7 @@ beside_if : (v : View) (a : Bool) (g : CommitFault) → cond a (full v) (Some g)
 beside_if v true g h = (refl, h)
 beside_if v false g h = cc
 
-beside_free : (v : View) (p : Proposed) (o : Option VersionedText) → place_in v p.statement.text ≡ Some p.place → slice_get (state_of v) p.place ≡ o → beside v p o ≡ None → IsFree v p
+beside_free : (v : View) (p : Proposed) (o : Option VersionedText) → place_in v.opening p.statement.text ≡ Some p.place → slice_get (state_of v) p.place ≡ o → beside v p o ≡ None → IsFree v p
 beside_free v p None placed there h = cc
 beside_free v p (Some versioned) placed there h =
     let bs = beside_if v (nat_eq p.version versioned.version) _ h in
@@ -53,7 +53,7 @@ beside_free v p (Some versioned) placed there h =
       room = room_free v bs.1;
     }
 
-place_if : (v : View) (p : Proposed) (place : ℕ) (b : Bool) → nat_eq place p.place ≡ b → place_in v p.statement.text ≡ Some place
+place_if : (v : View) (p : Proposed) (place : ℕ) (b : Bool) → nat_eq place p.place ≡ b → place_in v.opening p.statement.text ≡ Some place
     → cond b (beside v p (slice_get (state_of v) place)) (Some NoText) ≡ None → IsFree v p
 place_if v p place true is placed h =
     let same : place ≡ p.place = eqb-true place p.place is in
@@ -61,12 +61,12 @@ place_if v p place true is placed h =
     (subst (λ x. beside v p (slice_get (state_of v) x) ≡ None) same h)
 place_if v p place false is placed h = cc
 
-place_free : (v : View) (p : Proposed) (o : Option ℕ) → place_in v p.statement.text ≡ o → at_place v p o ≡ None → IsFree v p
+place_free : (v : View) (p : Proposed) (o : Option ℕ) → place_in v.opening p.statement.text ≡ o → at_place v p o ≡ None → IsFree v p
 place_free v p None placed h = cc
 place_free v p (Some place) placed h = place_if v p place (nat_eq place p.place) refl placed h
 
 pub free : (v : View) (p : Proposed) → refusal v p ≡ None → IsFree v p
-free v p h = place_free v p (place_in v p.statement.text) refl h
+free v p h = place_free v p (place_in v.opening p.statement.text) refl h
 
 -- the entry has a step from the book's texts
 pub free_step : (v : View) (p : Proposed) (stored : List StoredText) → Keeps v stored → (is_free : IsFree v p) → perform p.statement is_free.versioned.text ≡ Ok p.done
@@ -100,19 +100,19 @@ keeps_more v p old new keeps f performed put as_many =
     }
 
 -- the place of a name lies among the texts
-pub place_inside : (b : Book) (stored : List StoredText) (name : List ℕ) (k : ℕ) → Keeps (view_of b) stored → place_in (view_of b) name ≡ Some k → k < length stored
+pub place_inside : (b : Book) (stored : List StoredText) (name : List ℕ) (k : ℕ) → Keeps (view_of b) stored → place_in b.opening name ≡ Some k → k < length stored
 place_inside b stored name k keeps placed =
     let inside = stands_inside name k (names_in b.opening.texts) (stands_at name k (names_in b.opening.texts) placed) in
     omega (arith, inside, keeps.as_many, length-map b.opening.texts (λ (t : List ℕ × List ℕ). t.0))
 
 -- what stands there is the text of that name
-pub stands_there : (b : Book) (stored : List StoredText) (name : List ℕ) (k : ℕ) (s : StoredText) → Keeps (view_of b) stored → place_in (view_of b) name ≡ Some k
+pub stands_there : (b : Book) (stored : List StoredText) (name : List ℕ) (k : ℕ) (s : StoredText) → Keeps (view_of b) stored → place_in b.opening name ≡ Some k
     → slice_get stored k ≡ Some s → slice_get (state_of (view_of b)) k ≡ Some (record { name = name; text = arc_value s.text; version = s.version })
 stands_there b stored name k s keeps placed there =
     ap (λ (l : State). slice_get l k) (sym keeps.texts) ∙ get_at name k (names_in b.opening.texts) stored s (stands_at name k (names_in b.opening.texts) placed) there
 
 -- and it is what is found by the name
-pub found_there : (b : Book) (stored : List StoredText) (name : List ℕ) (k : ℕ) (s : StoredText) → Keeps (view_of b) stored → place_in (view_of b) name ≡ Some k
+pub found_there : (b : Book) (stored : List StoredText) (name : List ℕ) (k : ℕ) (s : StoredText) → Keeps (view_of b) stored → place_in b.opening name ≡ Some k
     → slice_get stored k ≡ Some s → find name (state_of (view_of b)) ≡ Some (record { name = name; text = arc_value s.text; version = s.version })
 found_there b stored name k s keeps placed there =
     let names = names_in b.opening.texts in
@@ -120,7 +120,7 @@ found_there b stored name k s keeps placed there =
     ap (λ (l : State). find name l) (sym keeps.texts) ∙ find_held name k names stored _ at (get_at name k names stored s at there)
 
 -- where no text has the name, none is found by it
-pub found_none : (b : Book) (stored : List StoredText) (name : List ℕ) → Keeps (view_of b) stored → place_in (view_of b) name ≡ None → find name (state_of (view_of b)) ≡ None
+pub found_none : (b : Book) (stored : List StoredText) (name : List ℕ) → Keeps (view_of b) stored → place_in b.opening name ≡ None → find name (state_of (view_of b)) ≡ None
 found_none b stored name keeps none =
     ap (λ (l : State). find name l) (sym keeps.texts) ∙ find_none name 0 (names_in b.opening.texts) stored none
 
@@ -143,7 +143,7 @@ place_is v p place true h = refl
 place_is v p place false h = cc
 
 -- why a proposal is refused whose text stands at its place
-pub refusal_there : (v : View) (p : Proposed) (place : ℕ) (versioned : VersionedText) → place_in v p.statement.text ≡ Some place → place ≡ p.place
+pub refusal_there : (v : View) (p : Proposed) (place : ℕ) (versioned : VersionedText) → place_in v.opening p.statement.text ≡ Some place → place ≡ p.place
     → slice_get (state_of v) place ≡ Some versioned → refusal v p ≡ beside v p (Some versioned)
 refusal_there v p place versioned placed same there =
     ap (λ (o : Option ℕ). at_place v p o) placed ∙ place_is v p place (nat_eq place p.place) (eq-eqb place p.place same) ∙ ap (λ (o : Option VersionedText). beside v p o) there

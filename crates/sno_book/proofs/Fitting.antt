@@ -9,12 +9,12 @@ use Rattle.sno_pattern.proofs.Repeats.{repeats_are_found}
 use Rattle.sno_statement.specs.Perform.{perform}
 use Rattle.sno_book.specs.States.{VersionedText, State}
 use Rattle.sno_book.specs.Entries.{Entry}
-use Rattle.sno_book.specs.Openings.{names_in, start}
+use Rattle.sno_book.specs.Openings.{names_in, start, place_in}
 use Rattle.sno_book.specs.Views.{View, IsLawful, Kin, state_of, and_then}
 use Rattle.sno_book.specs.Books.{Book, view_of}
 use Rattle.sno_book.specs.Origins.{Stands, IsPerformed}
 use Rattle.sno_book.specs.Proposals.{Proposed, Received, entry_of}
-use Rattle.sno_book.specs.Commits.{place_in, full, refusal, Fits, IsAccepted}
+use Rattle.sno_book.specs.Commits.{full, refusal, Fits, IsAccepted}
 use Rattle.sno_book.specs.VersionedTexts.{Keeps, with_names}
 use Rattle.sno_book.specs.declared.faults.CommitFault.TheVariants.{Changed}
 use Rattle.sno_book.specs.declared.versioned_texts.VersionedText.{VersionedText as StoredText}
@@ -82,7 +82,7 @@ fits_free v p stored keeps h =
     let versioned : VersionedText = record { name = p.statement.text; text = h.text; version = p.version } in
     let there : slice_get (with_names names stored) p.place ≡ Some versioned = ap (λ (s : State). slice_get s p.place) keeps.texts ∙ h.there in
     let apart = (repeats_are_found names).0 keeps.lawful.opening.apart in
-    let placed : place_in v p.statement.text ≡ Some p.place = placed_at p.place p.statement.text names apart (name_there p.place names stored versioned there) in
+    let placed : place_in v.opening p.statement.text ≡ Some p.place = placed_at p.place p.statement.text names apart (name_there p.place names stored versioned there) in
     refusal_there v p p.place versioned placed refl h.there
     ∙ chosen (nat_eq p.version p.version) (full v) (Changed p.version p.version) (eq-eqb p.version p.version refl)
     ∙ not_full (length v.journal) v.opening.room (nat_eq (length v.journal) v.opening.room) refl (λ same. omega (arith, h.room, same))

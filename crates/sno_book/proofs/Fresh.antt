@@ -3,8 +3,9 @@ use Rattle.std.proofs.Common.{◌≡◌, ◌≢◌, ℕ, Bool, true, false, cond
 use Rattle.std.proofs.lemmas.Bool.{eq-eqb, eqb-true, and_from}
 use Rattle.sno_pattern.specs.Identifiers.{same}
 use Rattle.sno_statement.specs.Task.{Task}
+use Rattle.sno_book.specs.Openings.{place_in}
 use Rattle.sno_book.specs.States.{VersionedText}
-use Rattle.sno_book.specs.Commits.{place_in, full}
+use Rattle.sno_book.specs.Commits.{full}
 use Rattle.sno_book.specs.Views.{View, Kin}
 use Rattle.sno_book.specs.Laws.{FreshIsFree, FreshIsKin}
 use Rattle.sno_book.specs.declared.faults.CommitFault.{CommitFault}
@@ -29,7 +30,7 @@ chosen false x g h = cc
 pub fresh_is_free : FreshIsFree
 fresh_is_free v snapshot s p taken proposed room =
     let versioned : VersionedText = record { name = s.text; text = snapshot.text; version = snapshot.version } in
-    let placed : place_in v p.statement.text ≡ Some snapshot.place = ap (λ (t : Task). place_in v t.text) proposed.statement ∙ taken.place in
+    let placed : place_in v.opening p.statement.text ≡ Some snapshot.place = ap (λ (t : Task). place_in v.opening t.text) proposed.statement ∙ taken.place in
     refusal_there v p snapshot.place versioned placed (sym proposed.place) taken.there
     ∙ chosen (nat_eq p.version versioned.version) (full v) (Changed p.version versioned.version) (eq-eqb p.version versioned.version proposed.version)
     ∙ not_full (length v.journal) v.opening.room (nat_eq (length v.journal) v.opening.room) refl room

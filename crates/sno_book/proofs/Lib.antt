@@ -8,3 +8,5 @@ pub mod Fitting
 pub mod Pairs
 pub mod SameTrees
 pub mod SameEntries
+pub mod Kinship
+pub mod Standing

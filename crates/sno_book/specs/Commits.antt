@@ -1,9 +1,8 @@
 -- What becomes of a proposal at a book.
 use Rattle.std.specs.Prelude.{◌≡◌, ◌≢◌, ◌<◌, ◌+◌, ◌^◌, ℕ, List, length, nat_eq, Option, Some, None, Result, Ok, Err, slice_get, if◌then◌else◌}
-use Rattle.sno_pattern.specs.NameList.{place_of}
 use Rattle.sno_book.specs.States.{VersionedText, find}
 use Rattle.sno_book.specs.Journals.{HasStep, step}
-use Rattle.sno_book.specs.Openings.{names_in}
+use Rattle.sno_book.specs.Openings.{place_in}
 use Rattle.sno_book.specs.Views.{View, state_of, and_then}
 use Rattle.sno_book.specs.Books.{Book, view_of}
 use Rattle.sno_book.specs.Origins.{Stands}
@@ -13,10 +12,6 @@ use Rattle.sno_book.specs.declared.faults.CommitFault.TheVariants as fault
 use Rattle.sno_book.specs.declared.faults.SnapshotFault.{SnapshotFault}
 use Rattle.sno_book.specs.declared.faults.SnapshotFault.TheVariants as snapshots
 use Rattle.sno_book.specs.Snapshots.{Snapshot}
-
--- the place of the text of this name
-abbrev pub place_in : View → List ℕ → Option ℕ
-place_in v name = place_of (names_in v.opening.texts) name
 
 -- the journal has as many entries as it may hold
 abbrev pub full : View → Option CommitFault
@@ -34,7 +29,7 @@ at_place v p (Some place) = if nat_eq place p.place then beside v p (slice_get (
 
 -- the first refusal that holds, unless memory is refused: no text of that name at that place, another version, a full journal
 abbrev pub refusal : View → Proposed → Option CommitFault
-refusal v p = at_place v p (place_in v p.statement.text)
+refusal v p = at_place v p (place_in v.opening p.statement.text)
 
 -- no refusal holds; the entry is appended, at the index that the receipt names, and it is one step: it has a step from the texts
 -- as they were, and they are now what the step makes of them. The receipt's text is the book's, and the one after the proposal's view
@@ -73,12 +68,12 @@ pub record IsReady (before after : Book) (p ready : Proposed) : Type 0 where
 -- a snapshot of the text of this name: the view, the text's place in it, and its characters and version as they stand
 pub record IsSnapshot (v : View) (name : List ℕ) (snapshot : Snapshot) : Type 0 where
   pub origin : snapshot.origin ≡ v
-  pub place : place_in v name ≡ Some snapshot.place
+  pub place : place_in v.opening name ≡ Some snapshot.place
   pub there : slice_get (state_of v) snapshot.place ≡ Some (record { name = name; text = snapshot.text; version = snapshot.version })
   pub found : find name (state_of v) ≡ Some (record { name = name; text = snapshot.text; version = snapshot.version })
 
 -- a snapshot exactly where there is a text of that name, unless memory is refused
 abbrev pub GivesSnapshot : Result Snapshot SnapshotFault → View → List ℕ → Type 0
 GivesSnapshot (Ok snapshot) v name = IsSnapshot v name snapshot
-GivesSnapshot (Err snapshots.NoText) v name = (place_in v name ≡ None) × (find name (state_of v) ≡ None)
-GivesSnapshot (Err snapshots.Memory) v name = place_in v name ≢ None
+GivesSnapshot (Err snapshots.NoText) v name = (place_in v.opening name ≡ None) × (find name (state_of v) ≡ None)
+GivesSnapshot (Err snapshots.Memory) v name = place_in v.opening name ≢ None

@@ -1,7 +1,7 @@
 -- Openings: the texts as they were given, and how many entries the journal may hold.
 use Rattle.std.specs.Prelude.{◌≡◌, ◌≤◌, ℕ, List, map, length, nat_lt, Option, Some, None, Result, Ok, Err, refl, if◌then◌else◌}
 use Rattle.std.specs.Coded.{Coded, code_by, coded×, coded_list, coded_ℕ}
-use Rattle.sno_pattern.specs.NameList.{first_repeat}
+use Rattle.sno_pattern.specs.NameList.{first_repeat, place_of}
 use Rattle.std.specs.Arc.{arc_value}
 use Rattle.std.specs.declared.sync.Arc.{Arc}
 use Rattle.std.proofs.Common.{Global}
@@ -22,6 +22,10 @@ opening_code =
 
 abbrev pub names_in : List (List ℕ × List ℕ) → List (List ℕ)
 names_in texts = map (λ t. t.0) texts
+
+-- the place of the text of this name
+abbrev pub place_in : Opening → List ℕ → Option ℕ
+place_in opening name = place_of (names_in opening.texts) name
 
 -- all texts begin with version 0
 abbrev pub start : Opening → State

@@ -2,10 +2,11 @@
 ghost use Rattle.std.specs.Prelude.{◌≡◌, ◌≤◌, ◌<◌, ◌+◌, ◌↔◌, IsTrue, IfOk, IfErr, OnErr, IfSome, IfNone, None, Some, [], length, nat_eq, slice_get};
 ghost use Rattle.std.specs.Option.{option_map};
 ghost use Rattle.std.specs.Arc.{arc_value};
+ghost use Rattle.sno_book.specs.Openings.{place_in};
 ghost use Rattle.sno_book.specs.States.{find};
 ghost use Rattle.sno_book.specs.Views.{IsLawful, Kin, state_of};
 ghost use Rattle.sno_book.specs.Books.{OpensBook, view_of};
-ghost use Rattle.sno_book.specs.Commits.{place_in, GivesSnapshot, IsAccepted, IsRefused, IsReady, Fits, beside, refusal};
+ghost use Rattle.sno_book.specs.Commits.{GivesSnapshot, IsAccepted, IsRefused, IsReady, Fits, beside, refusal};
 
 use crate::ready::Ready;
 use crate::start::{Start, start_of};
@@ -108,10 +109,10 @@ impl Book {
     /// The place of this name, and the text there.
     #[tactic(auto, using(crate::proofs::BookLaws::place_inside, crate::proofs::BookLaws::stands_there, crate::proofs::BookLaws::found_there, crate::proofs::BookLaws::found_none))]
     fn versioned_text(&self, name: &TextName) -> Option<(usize, &VersionedText)>
-        ensures found { IfSome result (λ r. (place_in (view_of self.now) name.now ≡ Some r.0) × (slice_get (state_of (view_of self.now)) r.0
+        ensures found { IfSome result (λ r. (place_in self.now.opening name.now ≡ Some r.0) × (slice_get (state_of (view_of self.now)) r.0
             ≡ Some (record { name = name.now; text = arc_value r.1.now.text; version = r.1.now.version }))
             × (find name.now (state_of (view_of self.now)) ≡ Some (record { name = name.now; text = arc_value r.1.now.text; version = r.1.now.version }))) }
-        ensures none { IfNone result ((place_in (view_of self.now) name.now ≡ None) × (find name.now (state_of (view_of self.now)) ≡ None)) }
+        ensures none { IfNone result ((place_in self.now.opening name.now ≡ None) × (find name.now (state_of (view_of self.now)) ≡ None)) }
     {
         let place = self.opening.place(name)?;
         Some((place, text_at(&self.versioned_texts, place)))

@@ -9,7 +9,7 @@ use Rattle.sno_statement.specs.Task.{Task}
 use Rattle.sno_statement.specs.declared.outcomes.StatementFault.{StatementFault}
 use Rattle.sno_statement.specs.declared.outcomes.StatementFault.TheVariants as statement
 use Rattle.sno_book.specs.Entries.{Entry}
-use Rattle.sno_book.specs.Openings.{Opening}
+use Rattle.sno_book.specs.Openings.{Opening, place_in}
 use Rattle.sno_book.specs.Proposals.{Proposed, Received, Proposes, GivesProposal}
 use Rattle.sno_book.specs.Snapshots.{Snapshot}
 use Rattle.sno_book.specs.States.{VersionedText}
@@ -25,8 +25,8 @@ use Rattle.sno_desk.specs.declared.faults.SubmitFault.TheVariants as submit
 use Rattle.sno_desk.specs.Answers.{Answer, AnswersAt, HasRisen, IsNamed, Says, is_lost}
 use Rattle.sno_desk.specs.Faults.{of_commit, of_snapshot, of_statement}
 use Rattle.sno_desk.specs.Receipts.{IsCause, IsFor}
-use Rattle.sno_desk.specs.Seen.{GivesSeen, HasVersion, IsSeen, IsTold, place_in, view_after}
-use Rattle.sno_desk.proofs.Standing.{standing}
+use Rattle.sno_desk.specs.Seen.{GivesSeen, HasVersion, IsSeen, IsTold, view_after}
+use Rattle.sno_book.proofs.Standing.{standing}
 
 -- ---- versions
 
@@ -67,15 +67,15 @@ come_first opening seen s = record {
   risen = λ place was is named h k. let same = one_version opening seen place was is h k in omega (arith, same);
 }
 
--- with a lost try the version that the text had, and the one that it has now
-lost_more : (opening : Opening) (earlier seen after : List Entry) (s : Task) (attempt now : ℕ) → HasCome opening earlier seen s attempt → HasRisen opening seen after s 1 now
-    → (place was : ℕ) → place_in opening s.text ≡ Some place → HasVersion opening earlier place was → was + attempt ≤ now
-lost_more opening earlier seen after s attempt now come last place was named h =
+-- with a lost try the version that the text had, and the one that this try saw
+lost_more : (opening : Opening) (earlier seen after : List Entry) (s : Task) (attempt saw now : ℕ) → HasCome opening earlier seen s attempt → HasRisen opening seen after s 1 saw now
+    → (place was : ℕ) → place_in opening s.text ≡ Some place → HasVersion opening earlier place was → was + attempt ≤ saw + 1
+lost_more opening earlier seen after s attempt saw now come last place was named h =
     let mid = versioned opening seen s.text place named in
     let same : place ≡ last.place = one_place opening s.text place last.place named last.named in
     let there : HasVersion opening seen last.place mid.0 = subst (λ (k : ℕ). HasVersion opening seen k mid.0) same mid.1 in
     let before : was + attempt ≤ mid.0 + 1 = come.risen place was mid.0 named h mid.1 in
-    let more : mid.0 + 1 ≤ now = last.risen mid.0 there in
+    let more : mid.0 + 1 ≤ saw + 1 = last.risen mid.0 there in
     omega (arith, before, more)
 
 pub come_next : (opening : Opening) (earlier seen after : List Entry) (s : Task) (attempt : ℕ) (answer : Answer) → is_lost answer ≡ true → HasCome opening earlier seen s attempt
@@ -83,11 +83,12 @@ pub come_next : (opening : Opening) (earlier seen after : List Entry) (s : Task)
 come_next opening earlier seen after s attempt (Err (submit.TriesSpent was_seen now)) lost come begins last = record {
   begins = prefix_trans earlier seen after come.begins begins;
   risen = λ place was is named h k.
-      let more = lost_more opening earlier seen after s attempt now come last place was named h in
+      let more = lost_more opening earlier seen after s attempt was_seen now come last place was named h in
+      let higher : was_seen < now = last.higher in
       let same : place ≡ last.place = one_place opening s.text place last.place named last.named in
       let there : HasVersion opening after last.place is = subst (λ (p : ℕ). HasVersion opening after p is) same k in
       let level = one_version opening after last.place is now there last.versioned in
-      omega (arith, more, level);
+      omega (arith, more, higher, level);
 }
 come_next opening earlier seen after s attempt (Ok receipt) lost come begins last = absurd cc
 come_next opening earlier seen after s attempt (Err submit.NoText) lost come begins last = absurd cc
@@ -107,9 +108,14 @@ last_at tries opening earlier seen after s attempt (Err (submit.TriesSpent was_s
     record {
       place = last.place;
       named = last.named;
+      between = last.between;
+      since = prefix_trans earlier seen last.between come.begins last.since;
+      until = last.until;
+      saw = last.saw;
       versioned = last.versioned;
+      higher = last.higher;
       risen = λ version h.
-          let more = lost_more opening earlier seen after s attempt now come last last.place version last.named h in omega (arith, more, level);
+          let more = lost_more opening earlier seen after s attempt was_seen now come last last.place version last.named h in omega (arith, more, level);
     }
 last_at tries opening earlier seen after s attempt (Ok receipt) all come last =
     let more = prefix_length earlier seen come.begins in
@@ -128,8 +134,9 @@ pub last_says : (shuts : ℕ → ℕ → Type 0) (tries : ℕ) (opening : Openin
 last_says shuts tries opening earlier seen after s attempt (Err (submit.TriesSpent was_seen now)) all come last says =
     let level : attempt ≡ tries = all refl in
     let was = versioned opening earlier s.text last.place last.named in
-    let more = lost_more opening earlier seen after s attempt now come last last.place was.0 last.named was.1 in
-    (says.0, omega (arith, more, level))
+    let more = lost_more opening earlier seen after s attempt was_seen now come last last.place was.0 last.named was.1 in
+    let higher : was_seen < now = says.0 in
+    (says.0, omega (arith, more, higher, level))
 last_says shuts tries opening earlier seen after s attempt (Ok receipt) all come last says = says
 last_says shuts tries opening earlier seen after s attempt (Err submit.NoText) all come last says = tt
 last_says shuts tries opening earlier seen after s attempt (Err submit.GateShut) all come last says = says
@@ -239,8 +246,13 @@ committed_at (commit.Changed was now) opening before seen after s p h first then
     record {
       place = p.place;
       named = h.named;
+      between = seen;
+      since = first;
+      until = then_on;
+      saw = subst (λ (v : ℕ). HasVersion opening seen p.place v) (sym is) h.versioned;
       versioned = why.2;
-      risen = λ version k. let below = rises opening before seen p.place version p.version first k h.versioned in omega (arith, below, up, is);
+      higher = up;
+      risen = λ version k. let below = rises opening before seen p.place version p.version first k h.versioned in omega (arith, below, is);
     }
 committed_at commit.NoText opening before seen after s p h first then_on why = tt
 committed_at commit.Full opening before seen after s p h first then_on why = why

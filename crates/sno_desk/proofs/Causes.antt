@@ -5,11 +5,11 @@ use Rattle.std.proofs.lemmas.Bool.{eqb-true, eqb-false}
 use Rattle.sno_pattern.specs.Identifiers.{same}
 use Rattle.sno_book.specs.Entries.{Entry}
 use Rattle.sno_book.specs.Journals.{HasStep, replay}
-use Rattle.sno_book.specs.Openings.{Opening, start}
+use Rattle.sno_book.specs.Openings.{Opening, start, place_in}
 use Rattle.sno_book.specs.Origins.{IsPerformed}
 use Rattle.sno_book.specs.Views.{View, IsLawful, Kin, state_of}
 use Rattle.sno_book.specs.States.{VersionedText, State, find}
-use Rattle.sno_book.specs.Commits.{IsAccepted, IsRefused, refusal, at_place, beside, full, place_in}
+use Rattle.sno_book.specs.Commits.{IsAccepted, IsRefused, refusal, at_place, beside, full}
 use Rattle.sno_book.specs.Proposals.{Proposed, Received, entry_of}
 use Rattle.sno_book.specs.Laws.{KinAgree, VersionsCountEntries}
 use Rattle.sno_book.specs.declared.faults.CommitFault.{CommitFault as BookRefusal}
@@ -21,10 +21,10 @@ use Rattle.sno_desk.specs.declared.faults.CommitFault.TheVariants as commit
 use Rattle.sno_desk.specs.Receipts.{IsCause, NamesVersion, StandsAfter}
 use Rattle.sno_desk.specs.Answers.{Answer, MayFollow, SpentAt}
 use Rattle.sno_desk.specs.Faults.{of_book, of_commit}
-use Rattle.sno_desk.proofs.Standing.{standing}
+use Rattle.sno_book.proofs.Standing.{standing}
 
 -- what holds of each refusal that may come holds of the one that comes
-module _ (v : View) (p : Proposed) (P : BookRefusal → Type 0) (no_text : place_in v p.statement.text ≢ Some p.place → P fault.NoText)
+module _ (v : View) (p : Proposed) (P : BookRefusal → Type 0) (no_text : place_in v.opening p.statement.text ≢ Some p.place → P fault.NoText)
     (at_end : length v.journal ≡ v.opening.room → P fault.Full)
     (another : (held : VersionedText) → slice_get (state_of v) p.place ≡ Some held → p.version ≢ held.version → P (fault.Changed p.version held.version)) where
   carried : (e d : BookRefusal) → P e → Some e ≡ Some d → P d
@@ -42,7 +42,7 @@ module _ (v : View) (p : Proposed) (P : BookRefusal → Type 0) (no_text : place
   of_there : (e : BookRefusal) (held : VersionedText) → slice_get (state_of v) p.place ≡ Some held → beside v p (Some held) ≡ Some e → P e
   of_there e held there h = of_version e held (nat_eq p.version held.version) there refl h
 
-  of_place : (e : BookRefusal) (place : ℕ) (b : Bool) → nat_eq place p.place ≡ b → place_in v p.statement.text ≡ Some place
+  of_place : (e : BookRefusal) (place : ℕ) (b : Bool) → nat_eq place p.place ≡ b → place_in v.opening p.statement.text ≡ Some place
       → (if b then beside v p (slice_get (state_of v) place) else Some fault.NoText) ≡ Some e → P e
   of_place e place true was at h =
       let same : place ≡ p.place = eqb-true place p.place was in
@@ -53,12 +53,12 @@ module _ (v : View) (p : Proposed) (P : BookRefusal → Type 0) (no_text : place
       let apart : place ≢ p.place = eqb-false place p.place was in
       carried fault.NoText e (no_text (λ q. let same : place ≡ p.place = cc (at, q) in apart same)) h
 
-  of_at : (e : BookRefusal) (o : Option ℕ) → place_in v p.statement.text ≡ o → at_place v p o ≡ Some e → P e
+  of_at : (e : BookRefusal) (o : Option ℕ) → place_in v.opening p.statement.text ≡ o → at_place v p o ≡ Some e → P e
   of_at e None at h = carried fault.NoText e (no_text (λ q. absurd (cc (at, q)))) h
   of_at e (Some place) at h = of_place e place (nat_eq place p.place) refl at h
 
   by_refusal : (e : BookRefusal) → refusal v p ≡ Some e → P e
-  by_refusal e h = of_at e (place_in v p.statement.text) refl h
+  by_refusal e h = of_at e (place_in v.opening p.statement.text) refl h
 
 -- the desk's refusal has its cause in the view that the seat has seen, which is the book's
 pub cause : (before after : View) (p back : Proposed) (e : BookRefusal) (opening : Opening) (seen : List Entry) → IsRefused before after p back e

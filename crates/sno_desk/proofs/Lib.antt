@@ -2,6 +2,5 @@ pub mod Attempts
 pub mod Causes
 pub mod Crossings
 pub mod Openings
-pub mod Standing
 pub mod Turns
 pub mod Viewings

@@ -7,7 +7,7 @@ use Rattle.std.proofs.lemmas.List.Sums.{sum-map, sum_by-cons}
 use Rattle.std.proofs.lemmas.List.{append-nil, get_or-map, length-map, map-append}
 use Rattle.sno_statement.specs.Task.{Task}
 use Rattle.sno_desk.specs.Answers.{Answer, MayFollow, receipts_in}
-use Rattle.sno_desk.specs.Turns.{AllAnswer, Begins, Deals, FollowInOrder, Goes, HasTurns, HasWorked, every, shares_after}
+use Rattle.sno_desk.specs.Turns.{AllAnswer, BeginsWith, Deals, FollowInOrder, Goes, HasTurns, HasWorked, every, shares_after}
 
 pub goes_none : (A : Task → Answer → Type 0) (all : List Task) → Goes A all all []
 goes_none A all = record { on = λ more h. h }
@@ -67,7 +67,7 @@ none_left : {X : Type 0} (xs : List X) → length xs ≡ 0 → xs ≡ []
 none_left [] e = refl
 none_left (x ∷ xs) e = absurd (omega arith)
 
-begins_whole : {X : Type 0} (xs front : List X) → Begins xs front → length front ≡ length xs → xs ≡ front
+begins_whole : {X : Type 0} (xs front : List X) → BeginsWith xs front → length front ≡ length xs → xs ≡ front
 begins_whole {X} xs front b e =
     let joined = b.joined in
     let sizes = ap length joined in
@@ -77,11 +77,11 @@ begins_whole {X} xs front b e =
     whole ∙ append-nil front
 
 deals_at : {X : Type 0} (count first : ℕ) (queues : List (List X)) (replies : List X) → Deals count first queues replies
-    → (k place : ℕ) → place ≡ first + k → k < length queues → Begins (get_or queues k []) (every count place replies)
+    → (k place : ℕ) → place ≡ first + k → k < length queues → BeginsWith (get_or queues k []) (every count place replies)
 deals_at count first [] replies d k place e h = absurd (omega arith)
 deals_at {X} count first (queue ∷ queues) replies d zero place e h =
     let same : first ≡ place = omega arith in
-    let P : ℕ → Type 0 = λ p. Begins queue (every count p replies) in subst P same d.0
+    let P : ℕ → Type 0 = λ p. BeginsWith queue (every count p replies) in subst P same d.0
 deals_at count first (queue ∷ queues) replies d (suc k) place e h = deals_at count (suc first) queues replies d.1 k place (omega arith) (omega arith)
 
 -- the replies in the order of the jobs answer them, where those of each seat do
@@ -122,7 +122,7 @@ first_of (x ∷ xs) k h = x
 -- what one seat's replies are, by what it kept
 replies_of_seat : (A : Task → Answer → Type 0) (jobs : List Task) (mine : List Answer) (seats before after : ℕ)
     (kept : Option (List Answer)) (queue : List Answer)
-    → HasWorked A jobs seats before after kept → kept ≡ Some queue → Begins queue mine → length mine ≡ length jobs
+    → HasWorked A jobs seats before after kept → kept ≡ Some queue → BeginsWith queue mine → length mine ≡ length jobs
     → AllAnswer A jobs mine × (after ≡ before + sum_by receipts_in mine) × FollowInOrder seats before mine
 replies_of_seat A jobs mine seats before after None queue worked kept b e = absurd cc
 replies_of_seat A jobs mine seats before after (Some replies) queue worked kept b e =
@@ -171,7 +171,7 @@ module _ {X Q : Type 0} (share : X → ℕ) (kept : X → Option (List Answer)) 
       let inside : k < length (map items queues) = rw length-map (rw s.queues_as_many h) in
       let begins = deals_at (length before) 0 (map items queues) replies s.dealt k k (omega arith) inside in
       let there = get_or-map items queues k e [] (rw s.queues_as_many h) in
-      let P : List Answer → Type 0 = λ q. Begins q (every (length before) k replies) in
+      let P : List Answer → Type 0 = λ q. BeginsWith q (every (length before) k replies) in
       let mine = replies_of_seat A (every (length before) k jobs) (every (length before) k replies) seats (share (get_or before k d)) (share (get_or worked k d)) (kept (get_or worked k d))
       (items (get_or queues k e)) (s.at_work k d h) (s.taken k d e h) (subst P there begins) (turns_alike (length before) k replies jobs s.in_all) in
       (mine.0, s.same k d h ∙ mine.1, mine.2)
@@ -227,17 +227,17 @@ deals_front count first [] last replies d = tt
 deals_front count first (queue ∷ queues) last replies d = (d.0, deals_front count (suc first) queues last replies d.1)
 
 deals_last : {X : Type 0} (count first place : ℕ) (queues : List (List X)) (last : List X) (replies : List X) → place ≡ first + length queues
-    → Deals count first (queues ++ last ∷ []) replies → Begins last (every count place replies)
+    → Deals count first (queues ++ last ∷ []) replies → BeginsWith last (every count place replies)
 deals_last count first place [] last replies e d =
     let same : first ≡ place = omega arith in
-    let P : ℕ → Type 0 = λ p. Begins last (every count p replies) in subst P same d.0
+    let P : ℕ → Type 0 = λ p. BeginsWith last (every count p replies) in subst P same d.0
 deals_last count first place (queue ∷ queues) last replies e d = deals_last count (suc first) place queues last replies (omega arith) d.1
 
 deals_later : {X : Type 0} (count first : ℕ) (queues : List (List X)) (r : X) (replies : List X) → Deals count first queues replies → Deals count (suc first) queues (r ∷ replies)
 deals_later count first [] r replies d = tt
 deals_later count first (queue ∷ queues) r replies d = (d.0, deals_later count (suc first) queues r replies d.1)
 
-begins_one : {X : Type 0} (queue rest front : List X) (r : X) → queue ≡ r ∷ rest → Begins rest front → Begins queue (r ∷ front)
+begins_one : {X : Type 0} (queue rest front : List X) (r : X) → queue ≡ r ∷ rest → BeginsWith rest front → BeginsWith queue (r ∷ front)
 begins_one queue rest front r e b = record { left = b.left; joined = e ∙ ap (λ l. r ∷ l) b.joined }
 
 turned : {X : Type 0} (count : ℕ) (queue rest : List X) (queues : List (List X)) (r : X) (replies : List X) → count ≡ suc (length queues) → queue ≡ r ∷ rest

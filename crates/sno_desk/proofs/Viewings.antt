@@ -3,12 +3,12 @@ use Rattle.std.proofs.Common.{◌≡◌, ◌≢◌, ◌≤◌, ℕ, List, [], le
 use Rattle.std.specs.Prelude.{slice_index_or}
 use Rattle.sno_book.specs.Entries.{Entry}
 use Rattle.sno_book.specs.Journals.{Legal}
-use Rattle.sno_book.specs.Openings.{Opening, IsOpening, names_in, start}
+use Rattle.sno_book.specs.Openings.{Opening, IsOpening, names_in, start, place_in}
 use Rattle.sno_book.specs.Origins.{Stands}
 use Rattle.sno_book.specs.Views.{View}
 use Rattle.sno_published.specs.Tables.{text_after, text_at}
-use Rattle.sno_desk.specs.Seen.{place_in, view_after}
-use Rattle.sno_desk.proofs.Standing.{standing}
+use Rattle.sno_desk.specs.Seen.{view_after}
+use Rattle.sno_book.proofs.Standing.{standing}
 
 -- at the place of a name a text stands after any entries
 pub stays_there : (opening : Opening) (entries : List Entry) (name : List ℕ) (place : ℕ) → place_in opening name ≡ Some place → text_after opening entries place ≢ None

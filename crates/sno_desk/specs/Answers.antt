@@ -2,16 +2,17 @@
 use Rattle.std.specs.Prelude.{◌≡◌, ◌≢◌, ◌<◌, ◌≤◌, ◌+◌, ℕ, Bool, true, false, List, length, Some, None, Result, Ok, Err, IsTrue}
 use Rattle.std.specs.List.{list_all}
 use Rattle.std.specs.Char.{is_ascii}
+use mathlib.Core.List.{IsPrefix as Begins}
 use Rattle.sno_statement.specs.Task.{Task}
 use Rattle.sno_statement.specs.Perform.{perform}
 use Rattle.sno_statement.specs.declared.outcomes.StatementFault.{StatementFault}
 use Rattle.sno_statement.specs.declared.outcomes.StatementFault.TheVariants as statement
 use Rattle.sno_book.specs.Entries.{Entry}
-use Rattle.sno_book.specs.Openings.{Opening}
+use Rattle.sno_book.specs.Openings.{Opening, place_in}
 use Rattle.sno_book.specs.Proposals.{Received}
 use Rattle.sno_book.specs.States.{VersionedText}
 use Rattle.sno_published.specs.Tables.{text_after}
-use Rattle.sno_desk.specs.Seen.{HasVersion, IsTold, place_in}
+use Rattle.sno_desk.specs.Seen.{HasVersion, IsTold}
 use Rattle.sno_desk.specs.Receipts.{CanStandAt, StandsAfter}
 use Rattle.sno_desk.specs.declared.faults.SubmitFault.{SubmitFault}
 use Rattle.sno_desk.specs.declared.faults.SubmitFault.TheVariants as submit
@@ -71,12 +72,18 @@ pub record IsRefusedOn (opening : Opening) (entries : List Entry) (s : Task) (re
   pub there : text_after opening entries place ≡ Some held
   pub performed : perform s held.text ≡ Err refused
 
--- the text of the statement's name has this version after the later entries, and one lower by at least the number of lost tries after the earlier ones
-pub record HasRisen (opening : Opening) (earlier later : List Entry) (s : Task) (lost now : ℕ) : Type 0 where
+-- the last try saw the text of the statement's name, at this version, at some point between the earlier entries and the later ones; after the later ones
+-- the text has a higher version; and with each lost try before the last its version had risen by one at least
+pub record HasRisen (opening : Opening) (earlier later : List Entry) (s : Task) (lost seen now : ℕ) : Type 0 where
   pub place : ℕ
   pub named : place_in opening s.text ≡ Some place
+  pub between : List Entry
+  pub since : Begins earlier between
+  pub until : Begins between later
+  pub saw : HasVersion opening between place seen
   pub versioned : HasVersion opening later place now
-  pub risen : (version : ℕ) → HasVersion opening earlier place version → version + lost ≤ now
+  pub higher : seen < now
+  pub risen : (version : ℕ) → HasVersion opening earlier place version → version + lost ≤ seen + 1
 
 -- what the answer says of what the seat had seen before and has seen now
 abbrev pub AnswersAt : ℕ → Opening → List Entry → List Entry → Task → Answer → Type 0
@@ -87,7 +94,7 @@ AnswersAt tries opening before after s (Err submit.TextTooLong) = IsRefusedOn op
 AnswersAt tries opening before after s (Err submit.Stopped) = Unit {0}
 AnswersAt tries opening before after s (Err submit.Full) = length after ≡ opening.room
 AnswersAt tries opening before after s (Err submit.Memory) = Unit {0}
-AnswersAt tries opening before after s (Err (submit.TriesSpent seen now)) = HasRisen opening before after s tries now
+AnswersAt tries opening before after s (Err (submit.TriesSpent seen now)) = HasRisen opening before after s tries seen now
 AnswersAt tries opening before after s (Err submit.TooManyTrials) = IsRefusedOn opening after s statement.TooManyTrials
 
 -- tries are spent at a version that a text can have

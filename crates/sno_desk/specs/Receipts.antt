@@ -1,10 +1,10 @@
 -- What a seat is answered.
 use Rattle.std.specs.Prelude.{◌≡◌, ◌≢◌, ◌<◌, ◌≤◌, ℕ, List, Some, length}
 use Rattle.sno_book.specs.Entries.{Entry}
-use Rattle.sno_book.specs.Openings.{Opening}
+use Rattle.sno_book.specs.Openings.{Opening, place_in}
 use Rattle.sno_book.specs.Origins.{Stands}
 use Rattle.sno_book.specs.Proposals.{Proposed, Received, entry_of}
-use Rattle.sno_desk.specs.Seen.{HasVersion, place_in}
+use Rattle.sno_desk.specs.Seen.{HasVersion}
 use Rattle.sno_desk.specs.declared.faults.CommitFault.{CommitFault}
 use Rattle.sno_desk.specs.declared.faults.CommitFault.TheVariants as commit
 

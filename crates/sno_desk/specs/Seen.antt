@@ -1,10 +1,9 @@
 -- What a seat sees of its desk.
 use Rattle.std.specs.Prelude.{◌≡◌, ◌≢◌, ℕ, List, [], ◌∷◌, ◌++◌, length, Option, Some, None, Result, Ok, Err}
 use mathlib.Core.List.{IsPrefix as Begins}
-use Rattle.sno_pattern.specs.NameList.{place_of}
 use Rattle.sno_book.specs.Entries.{Entry}
 use Rattle.sno_book.specs.Journals.{Legal}
-use Rattle.sno_book.specs.Openings.{Opening, names_in, start}
+use Rattle.sno_book.specs.Openings.{Opening, place_in, start}
 use Rattle.sno_book.specs.Proposals.{Received}
 use Rattle.sno_book.specs.Snapshots.{Snapshot}
 use Rattle.sno_book.specs.Views.{View}
@@ -15,10 +14,6 @@ use Rattle.sno_desk.specs.declared.faults.SnapshotFault.TheVariants as snapshot
 -- the opening with the entries that were seen
 abbrev pub view_after : Opening → List Entry → View
 view_after opening seen = record { opening = opening; journal = seen }
-
--- the place of the text of this name in an opening
-abbrev pub place_in : Opening → List ℕ → Option ℕ
-place_in opening name = place_of (names_in opening.texts) name
 
 -- a snapshot of the text of this name after the entries that were seen: its place in the opening, and its characters and version after them
 pub record IsSeen (opening : Opening) (seen : List Entry) (name : List ℕ) (taken : Snapshot) : Type 0 where

@@ -38,14 +38,14 @@ HasWorked A jobs seats before after None = Unit {0}
 HasWorked A jobs seats before after (Some replies) = AllAnswer A jobs replies × (after ≡ before + sum_by receipts_in replies) × FollowInOrder seats before replies
 
 -- the list begins with these elements
-pub record Begins {A : Type 0} (xs front : List A) : Type 0 where
+pub record BeginsWith {A : Type 0} (xs front : List A) : Type 0 where
   pub left : List A
   pub joined : xs ≡ front ++ left
 
 -- each queue begins with its seat's replies
 abbrev pub Deals : {A : Type 0} → ℕ → ℕ → List (List A) → List A → Type 0
 Deals count first [] replies = Unit {0}
-Deals count first (queue ∷ queues) replies = Begins queue (every count first replies) × Deals count (suc first) queues replies
+Deals count first (queue ∷ queues) replies = BeginsWith queue (every count first replies) × Deals count (suc first) queues replies
 
 -- each queue has as many replies as there are jobs for its seat
 abbrev pub HasTurns : {X : Type 0} → ℕ → ℕ → List (List X) → List Task → Type 0

@@ -21,7 +21,7 @@
 //!   and `Stopped` has its cause in the seat's view.
 //! - **[`Desk::submit`]** (`src/submitting.rt`, `specs/Answers.antt`): a receipt's entry has the statement, and by the receipt's type its outcome
 //!   is what the statement does to the receipt's text. `NoText` comes exactly where the opening has no text of that name. `TriesSpent` comes only where
-//!   the text's version has risen at least as often as the statement was tried. `TextTooLong` and `TooManyTrials` come only where performing the statement on
+//!   the text's version has risen at least as often as the statement was tried, and names a version that the text had on the way. `TextTooLong` and `TooManyTrials` come only where performing the statement on
 //!   the text is refused so. `GateShut` comes only if the gate may be shut for the statement's number at one of its attempts; a [`Gate`] (`src/gates.rt`)
 //!   says by its ghost member when that is, and for [`OpenGate`] it never is.
 //! - **[`run_workers`]** (`src/workers.rt`, `src/gathering.rt`, `specs/Turns.antt`): there are as many replies as jobs, in the order of the jobs,
@@ -29,8 +29,8 @@
 //!   seat had accepted before, plus j. Each share rises by the number of receipts among its seat's replies, and all together by all receipts.
 //!
 //! The lemmas: `proofs/Turns.antt` is about dealing out jobs and putting replies in order; `proofs/Causes.antt` about what a book's answer says of
-//! the proposal; `proofs/Viewings.antt` and `proofs/Standing.antt` about what is seen, and which texts stand after it; `proofs/Attempts.antt` about one try
-//! after the other; `proofs/Openings.antt` compares openings; `proofs/Crossings.antt` shows which types may go to another thread.
+//! the proposal; `proofs/Viewings.antt` about what is seen, over `sno_book`'s `proofs/Standing.antt`, which texts stand after it; `proofs/Attempts.antt`
+//! about one try after the other; `proofs/Openings.antt` compares openings; `proofs/Crossings.antt` shows which types may go to another thread.
 //!
 //! # How to begin
 //!
@@ -43,8 +43,8 @@
 //! - That a call with `rt` returns: it may wait for the lock for ever. No lock is held at a gate, while a text is read or while a statement is performed, and no
 //!   call takes a second lock while it holds one. Tests show that two statements overlap.
 //! - That a snapshot is the newest, or that nothing is answered as `Stopped` without cause. No lawful run meets `Stopped`.
-//! - How many tries are made beyond the versions that `TriesSpent` names, that its first version is the one that the last try saw, and what the gate is told.
-//!   Tests show these.
+//! - How many tries are made beyond the versions that `TriesSpent` names, which of the versions that a text had on the way the last try saw, and what the
+//!   gate is told. Tests show these.
 //! - Which seat made an entry: that isn't kept.
 //! - That memory is there.
 #![tactic(auto)]

@@ -1,4 +1,4 @@
-//! Two seats that commit by themselves: the one overtakes the other's proposal, adds entries between two of its own, or sees what nobody told it.
+//! Seats that work by themselves: one overtakes another's proposal, adds entries between two of its own, and sees what nobody told it.
 ghost use Rattle.std.specs.Prelude.{◌≡◌, [], IfOk};
 ghost use Rattle.sno_book.specs.Views.{IsPrefix};
 ghost use Rattle.sno_desk.specs.Seen.{view_after};
@@ -7,8 +7,8 @@ use crate::day::{check_entry, check_text};
 use crate::jobs::{book, matching, rules, statement};
 use sno_book::Book;
 use sno_desk::{
-    Blank, CommitFault, Desk, Naming, Proposal, Receipt, Seat, SnapshotFault, TextName, close,
-    propose,
+    Blank, CommitFault, Desk, Naming, OpenGate, Outcome, Proposal, Receipt, Seat, SnapshotFault,
+    TextName, close, propose,
 };
 use sno_statement::Statement;
 use std::alloc::Global;
@@ -17,7 +17,7 @@ use std::process::Abort;
 use std::sync::{Arc, Wait};
 use std::test::Fail;
 
-/// What two seats do at a desk, with these statements.
+/// What three seats do at a desk, with these statements.
 trait Turns {
     fn take<L: Naming, R: Wait + Abort>(
         &self,
@@ -26,6 +26,7 @@ trait Turns {
         desk: &Desk<L>,
         first: &mut Seat<L>,
         second: &mut Seat<L>,
+        third: &mut Seat<L>,
     ) -> Result<(), Fail>;
 }
 
@@ -54,9 +55,26 @@ fn commit<L: Naming, R: Wait + Abort>(
     Ok(desk.commit(rt, seat, proposal).map_err(|(fault, _)| fault)?)
 }
 
-/// The second seat's snapshot is older than the first seat's commit.
+/// Compares the text of this name, as the seat sees it, and its version.
+fn check_seen<L: Naming>(
+    rt: &impl Abort,
+    seat: &mut Seat<L>,
+    name: &TextName,
+    text: &str,
+    version: u64,
+) -> Result<(), Fail> {
+    let snapshot = seat.snapshot(name)?;
+    assert_eq!(rt; snapshot.version, version);
+    assert_eq!(rt; snapshot.text.bytes(), text.as_bytes());
+    Ok(())
+}
+
+/// The second seat proposes on a snapshot that is older than the first seat's entry, of which neither it nor the third seat was told.
 #[derive(Drop)]
-struct Overtakes(Arc<Statement>);
+struct Overtakes {
+    late: Arc<Statement>,
+    first: Arc<Statement>,
+}
 
 impl Turns for Overtakes {
     fn take<L: Naming, R: Wait + Abort>(
@@ -66,19 +84,24 @@ impl Turns for Overtakes {
         desk: &Desk<L>,
         first: &mut Seat<L>,
         second: &mut Seat<L>,
+        third: &mut Seat<L>,
     ) -> Result<(), Fail> {
-        let late = proposal(alloc, second, &self.0)?;
+        let late = proposal(alloc, second, &self.late)?;
         assert_eq!(rt; late.version(), 0);
-        let receipt = commit(rt, alloc, desk, first, &self.0)?;
+        let job = Arc::try_clone(&self.first)?;
+        let receipt = desk.submit(rt, alloc, first, job, 1, &OpenGate)?;
         assert_eq!(rt; receipt.index, 0);
-        assert_eq!(rt; second.seen(), 0);
         assert_eq!(rt; receipt.text.bytes(), b"x".as_slice());
+        assert_eq!(rt; (first.seen(), second.seen(), third.seen()), (1, 0, 0));
         let refused = desk.commit(rt, second, late).err();
         let (fault, back) = refused.expect(rt, "it was overtaken");
         assert_eq!(rt; fault, CommitFault::Changed { seen: 0, now: 1 });
         assert_eq!(rt; back.version(), 0);
+        check_seen(rt, second, self.late.text(), "z", 1)?;
+        check_seen(rt, third, self.late.text(), "z", 1)?;
         assert_eq!(rt; (first.accepted(), first.seen()), (1, 1));
         assert_eq!(rt; (second.accepted(), second.seen()), (0, 1));
+        assert_eq!(rt; (third.accepted(), third.seen()), (0, 1));
         Ok(())
     }
 }
@@ -100,6 +123,7 @@ impl Turns for Interleaves {
         desk: &Desk<L>,
         first: &mut Seat<L>,
         second: &mut Seat<L>,
+        _third: &mut Seat<L>,
     ) -> Result<(), Fail> {
         assert_eq!(rt; commit(rt, alloc, desk, first, &self.first)?.index, 0);
         let late = proposal(alloc, first, &self.again)?;
@@ -117,29 +141,14 @@ impl Turns for Interleaves {
     }
 }
 
-/// Compares the text of this name, as the seat sees it, and its version.
-fn check_seen<L: Naming>(
-    rt: &impl Abort,
-    seat: &mut Seat<L>,
-    name: &TextName,
-    text: &str,
-    version: u64,
-) -> Result<(), Fail> {
-    let snapshot = seat.snapshot(name)?;
-    assert_eq!(rt; snapshot.version, version);
-    assert_eq!(rt; snapshot.text.bytes(), text.as_bytes());
-    Ok(())
-}
-
-/// The second seat, which commits nothing, sees what the first seat's entries leave; a text that isn't there it doesn't see.
+/// The first seat's statement fails, which is an entry that changes nothing; a text that isn't there no seat sees.
 #[derive(Drop)]
-struct Sees {
-    job: Arc<Statement>,
+struct Fails {
     unmatched: Arc<Statement>,
     elsewhere: TextName,
 }
 
-impl Turns for Sees {
+impl Turns for Fails {
     fn take<L: Naming, R: Wait + Abort>(
         &self,
         rt: &R,
@@ -147,22 +156,22 @@ impl Turns for Sees {
         desk: &Desk<L>,
         first: &mut Seat<L>,
         second: &mut Seat<L>,
+        _third: &mut Seat<L>,
     ) -> Result<(), Fail> {
-        check_seen(rt, second, self.job.text(), "x", 0)?;
-        assert_eq!(rt; commit(rt, alloc, desk, first, &self.job)?.index, 0);
-        assert_eq!(rt; (first.seen(), second.seen()), (1, 0));
-        check_seen(rt, second, self.job.text(), "z", 1)?;
-        assert_eq!(rt; commit(rt, alloc, desk, first, &self.unmatched)?.index, 1);
-        check_seen(rt, first, self.job.text(), "z", 1)?;
-        assert_eq!(rt; (first.seen(), second.seen()), (2, 1));
+        let job = Arc::try_clone(&self.unmatched)?;
+        let receipt = desk.submit(rt, alloc, first, job, 1, &OpenGate)?;
+        assert_eq!(rt; receipt.index, 0);
+        assert!(rt; matches!(&*receipt.entry.outcome, Outcome::Failed { .. }));
+        check_seen(rt, first, self.unmatched.text(), "x", 0)?;
         let missing = second.snapshot(&self.elsewhere).err();
         assert_eq!(rt; missing, Some(SnapshotFault::NoText));
-        assert_eq!(rt; (second.accepted(), second.seen()), (0, 1));
+        assert_eq!(rt; (first.accepted(), first.seen()), (1, 1));
+        assert_eq!(rt; (second.accepted(), second.seen()), (0, 0));
         Ok(())
     }
 }
 
-fn two_seats<L: Naming, T: Turns, R: Wait + Abort>(
+fn three_seats<L: Naming, T: Turns, R: Wait + Abort>(
     rt: &R,
     alloc: Global,
     blank: Blank,
@@ -172,18 +181,26 @@ fn two_seats<L: Naming, T: Turns, R: Wait + Abort>(
     requires name { (blank.ledger.name ≡ L.name) × (blank.ledger.parts ≡ L.parts) }
     requires histories { (blank.history ≡ record { history = L.book; entries = [] }) × (blank.attempts.history ≡ L.tries) }
     requires opening { book.opening ≡ L.opening }
-    requires two { blank.ledger.parts ≡ 2 }
+    requires three { blank.ledger.parts ≡ 3 }
     requires empty { book.journal ≡ [] }
 {
-    let (desk, mut seats) = Desk::<L>::new(rt, alloc, blank, book, 2).map_err(|(fault, _)| fault)?;
-    let (first, second) = seats.as_mut_slice().split_at_mut(1);
-    let taken = turns.take(rt, alloc, &desk, &mut first[0], &mut second[0]);
+    let (desk, mut seats) = Desk::<L>::new(rt, alloc, blank, book, 3).map_err(|(fault, _)| fault)?;
+    let (first, others) = seats.as_mut_slice().split_at_mut(1);
+    let (second, third) = others.split_at_mut(1);
+    let taken = turns.take(
+        rt,
+        alloc,
+        &desk,
+        &mut first[0],
+        &mut second[0],
+        &mut third[0],
+    );
     let closed = close(rt, desk, seats).map_err(|(fault, _)| fault);
     taken?;
     Ok(closed?)
 }
 
-/// A desk of two seats, with a ledger of its own.
+/// A desk of three seats, with a ledger of its own.
 fn share<T: Turns, R: Wait + Abort>(
     rt: &R,
     alloc: Global,
@@ -192,16 +209,21 @@ fn share<T: Turns, R: Wait + Abort>(
 ) -> Result<Book, Fail>
     requires { book.journal ≡ [] }
 {
-    two_seats::<Brand, T, R>(rt, alloc, Blank::new(2), book, turns)
+    three_seats::<Brand, T, R>(rt, alloc, Blank::new(3), book, turns)
 }
 
 #[test]
-fn a_proposal_that_was_overtaken_comes_back(rt: HostRuntime) -> Result<(), Fail> {
+fn an_overtaken_proposal_comes_back_and_each_seat_sees_why(rt: HostRuntime) -> Result<(), Fail> {
     let alloc = rt.alloc();
-    let job = statement(&rt, alloc, &rules(&rt, alloc)?, 1, "T", "'x'", "'z'")?;
+    let rules = rules(&rt, alloc)?;
+    let turns = Overtakes {
+        late: statement(&rt, alloc, &rules, 1, "T", "'x'", "'y'")?,
+        first: statement(&rt, alloc, &rules, 2, "T", "'x'", "'z'")?,
+    };
     let book = book(alloc, &[("T", b"x")], 1_000_000)?;
-    let book = share(&rt, alloc, book, &Overtakes(job))?;
+    let book = share(&rt, alloc, book, &turns)?;
     assert_eq!(rt; book.journal().len(), 1);
+    check_entry(&rt, &book, 0, 2, 0);
     check_text(&rt, &book, 0, "z", 1);
     Ok(())
 }
@@ -229,18 +251,16 @@ fn a_seat_commits_at_a_later_version(rt: HostRuntime) -> Result<(), Fail> {
 }
 
 #[test]
-fn a_seat_that_was_told_nothing_sees_what_is_shown(rt: HostRuntime) -> Result<(), Fail> {
+fn a_failure_is_an_entry_and_changes_no_text(rt: HostRuntime) -> Result<(), Fail> {
     let alloc = rt.alloc();
-    let rules = rules(&rt, alloc)?;
-    let turns = Sees {
-        job: statement(&rt, alloc, &rules, 1, "T", "'x'", "'z'")?,
-        unmatched: matching(&rt, alloc, &rules, 2, "T", "'q'")?,
+    let turns = Fails {
+        unmatched: matching(&rt, alloc, &rules(&rt, alloc)?, 1, "T", "'q'")?,
         elsewhere: TextName::new(alloc, b"U".as_slice())?,
     };
     let book = book(alloc, &[("T", b"x")], 1_000_000)?;
     let book = share(&rt, alloc, book, &turns)?;
-    assert_eq!(rt; book.journal().len(), 2);
-    check_entry(&rt, &book, 1, 2, 1);
-    check_text(&rt, &book, 0, "z", 1);
+    assert_eq!(rt; book.journal().len(), 1);
+    check_entry(&rt, &book, 0, 1, 0);
+    check_text(&rt, &book, 0, "x", 0);
     Ok(())
 }

@@ -4,7 +4,7 @@ use std::thread;
 use std::time::{Clock, Duration};
 
 /// How often a flag is looked at, once in ten milliseconds.
-const TURNS: usize = 1_000;
+pub(crate) const TURNS: usize = 1_000;
 
 /// A flag that is down until it is raised.
 #[derive(Drop)]
@@ -25,10 +25,15 @@ impl Flag {
         self.up.store(true, Ordering::SeqCst);
     }
 
+    /// Whether the flag is up.
+    pub(crate) fn is_up(&self) -> bool {
+        self.up.load(Ordering::SeqCst)
+    }
+
     /// Waits until the flag is up, but no longer than ten seconds; and answers whether it is.
     pub(crate) fn wait<C: Clock>(&self, clock: &C) -> bool {
         for _ in 0..TURNS {
-            if self.up.load(Ordering::SeqCst) {
+            if self.is_up() {
                 return true;
             }
             thread::sleep(clock, Duration::from_millis(10));

@@ -3,7 +3,7 @@ use sno_desk::Gate;
 use std::sync::Wait;
 use std::sync::atomic::{AtomicU32, Ordering};
 
-/// A gate that is shut for the statement with this number, and counts the answers that it is told.
+/// A gate that is shut for the statement with this number. It counts the answers that it is told: ones for the other statements, hundreds for this.
 #[derive(Drop)]
 pub(crate) struct ShutFor {
     pub(crate) number: u32,
@@ -21,7 +21,7 @@ impl ShutFor {
         }
     }
 
-    /// How many statements it was told to be accepted, and how many refused.
+    /// What it counted: receipts, and refusals.
     pub(crate) fn counts(&self) -> (u32, u32) {
         let accepted = self.accepted.load(Ordering::SeqCst);
         (accepted, self.refused.load(Ordering::SeqCst))
@@ -37,11 +37,12 @@ impl Gate for ShutFor {
         number != self.number
     }
 
-    fn done<R: Wait>(&self, _rt: &R, _number: u32, accepted: bool) {
+    fn done<R: Wait>(&self, _rt: &R, number: u32, accepted: bool) {
+        let one = if number == self.number { 100 } else { 1 };
         if accepted {
-            self.accepted.fetch_add(1, Ordering::SeqCst);
+            self.accepted.fetch_add(one, Ordering::SeqCst);
         } else {
-            self.refused.fetch_add(1, Ordering::SeqCst);
+            self.refused.fetch_add(one, Ordering::SeqCst);
         }
     }
 }

@@ -64,7 +64,7 @@ fn a_shut_gate_turns_one_away(rt: HostRuntime) -> Result<(), Fail> {
         Err(fault) => assert_eq!(rt; *fault, SubmitFault::GateShut),
     }
     assert!(rt; day.replies[1].is_ok() && day.replies[2].is_ok());
-    assert_eq!(rt; gate.counts(), (2u32, 1u32));
+    assert_eq!(rt; gate.counts(), (2u32, 100u32));
     assert_eq!(rt; day.shares.as_slice(), [1u64, 1].as_slice());
     check_text(&rt, &day.book, 0, "a", 0);
     Ok(())

@@ -1,7 +1,9 @@
-//! Desks at work, tested: each answer of a submit, workers that overlap, replies in order, shut gates, many seats over few texts, and what each
+//! Desks at work, tested: each answer of a submit, workers that overlap, a reader beside a submit, replies in order, shut gates, many seats over few texts, and what each
 //! fault prints.
 #![tactic(auto)]
 
+#[cfg(test)]
+mod beside;
 #[cfg(test)]
 mod commits;
 #[cfg(test)]
@@ -26,3 +28,5 @@ mod soak;
 mod spent;
 #[cfg(test)]
 mod submits;
+#[cfg(test)]
+mod viewers;

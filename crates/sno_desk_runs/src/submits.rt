@@ -148,7 +148,7 @@ fn a_shut_gate(rt: HostRuntime) -> Result<(), Fail> {
     let gate = ShutFor::new(1);
     let rest = submit(&rt, alloc, book, &[job], &gate)?;
     check_refused(&rt, &rest, SubmitFault::GateShut);
-    assert_eq!(rt; gate.counts(), (0u32, 1u32));
+    assert_eq!(rt; gate.counts(), (0u32, 100u32));
     check_text(&rt, &rest.book, 0, "x", 0);
     Ok(())
 }

@@ -142,15 +142,15 @@ bounded statement limit (Some rounds) = with_repeat (with_limit statement limit)
 
 -- the same with what the mode says: for those that don't say whether they are anchored, and how many trials each may take; and with how
 -- often it is repeated, which is looked at after its object
-unfoldable pub statement_row : Definitions → Mode → ℕ → StatementRow → Result Task RunFault
-statement_row rules mode s row =
+unfoldable pub task_row : Definitions → Mode → ℕ → StatementRow → Result Task RunFault
+task_row rules mode s row =
     usual_row rules mode.anchor s row >>= λ statement. repeat_row s statement.object row.repeat >>= λ repeat. Ok (bounded statement mode.trials repeat)
 
 -- the statements from number s on, after those before
 abbrev pub statements_from : Definitions → Mode → ℕ → List Task → List StatementRow → Result (List Task) RunFault
 statements_from rules mode s done [] = Ok done
 statements_from rules mode s done (row ∷ rows) =
-    statement_row rules mode s row >>= λ statement. statements_from rules mode (s + 1) (done ++ statement ∷ []) rows
+    task_row rules mode s row >>= λ statement. statements_from rules mode (s + 1) (done ++ statement ∷ []) rows
 
 -- the statements
 unfoldable pub statements_of : Definitions → Mode → List StatementRow → Result (List Task) RunFault

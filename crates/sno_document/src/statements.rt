@@ -7,7 +7,7 @@ ghost use Rattle.sno_read.specs.Reading.{pattern_of};
 ghost use Rattle.sno_statement.specs.Task.{IsLimit, IsRepeat};
 ghost use Rattle.sno_document.specs.Faults.{Gives};
 ghost use Rattle.sno_document.specs.DocumentRows.{statement_seen};
-ghost use Rattle.sno_document.specs.Document.{reading, object_row, text_name_row, statement_row, statements_from, statements_of, usual_row, repeat_row};
+ghost use Rattle.sno_document.specs.Document.{reading, object_row, text_name_row, task_row, statements_from, statements_of, usual_row, repeat_row};
 ghost use Rattle.sno_document.specs.Trees.{number_seen};
 ghost use Rattle.sno_document.specs.declared.faults.RunFault.TheVariants.{StatementPattern};
 
@@ -110,7 +110,7 @@ fn usual_statement(
 }
 
 /// Statement number `number`, by the mode, and repeated where it says so.
-#[tactic(auto, unfolding(crate::specs::Document::statement_row))]
+#[tactic(auto, unfolding(crate::specs::Document::task_row))]
 fn statement(
     alloc: Global,
     rules: &Arc<Rules>,
@@ -120,7 +120,7 @@ fn statement(
 ) -> Result<Statement, RunFault>
     requires number { number ≤ 1000000 }
     requires limit { IsLimit mode.trials }
-    ensures { Gives (λ s. s) result (statement_row (arc_value rules.now) mode number (statement_seen row.now)) }
+    ensures { Gives (λ s. s) result (task_row (arc_value rules.now) mode number (statement_seen row.now)) }
 {
     let usual = usual_statement(alloc, rules, mode.anchor, number, row)?;
     let repeat = repeat(number, usual.object(), row.repeat)?;

@@ -12,8 +12,6 @@ mod events;
 mod leaves;
 mod results;
 mod starts;
-#[cfg(test)]
-mod tests;
 
 pub use counting::trials;
 pub use sno_pattern::{Assign, Assigns, Conds, Found, Hit, Name, Pattern, Rules, Text, What};

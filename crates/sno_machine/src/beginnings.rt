@@ -1,4 +1,4 @@
-//! With what a match begins: starts at which none can begin are passed over.
+//! With what a match can begin.
 ghost use Rattle.std.specs.Prelude.{◌≡◌, ◌+◌, ◌≤◌, length, IfOk, MatchOption};
 ghost use Rattle.std.specs.Option.{option_copied};
 ghost use Rattle.sno_pattern.specs.Tree.{tree_of};

@@ -3,13 +3,15 @@ ghost use Rattle.std.specs.Prelude.{◌<◌, ◌≤◌, ◌^◌, vec_capacity, v
 
 use sno_pattern::Name;
 
-/// Where a match stands: the node that is next, the cursor, and the numbers of the list of frames and of the list of pending assignments.
+/// Where a match stands: the node that is next, the cursor, the numbers of the list of frames and of the list of pending assignments, and how many
+/// references deep it may still go.
 #[derive(Clone, Copy)]
 pub struct Place {
     pub node: u32,
     pub cursor: u32,
     pub frame: u32,
     pub pending: u32,
+    pub depth: u32,
 }
 
 /// An entry of the history. A list of frames, or of pending assignments, is named by how many entries there were once its first one
@@ -22,7 +24,7 @@ pub enum Entry<'a> {
     Frame {
         /// The node with which the match goes on after it.
         node: u32,
-        /// How many references deep it may still go.
+        /// How many references deep it may go from there.
         depth: u32,
         /// The list of frames outside it.
         below: u32,
@@ -31,8 +33,6 @@ pub enum Entry<'a> {
     Mark {
         /// Where it began.
         cursor: u32,
-        /// How many references deep it may go.
-        depth: u32,
         /// The list of frames outside it.
         below: u32,
     },

@@ -1,11 +1,14 @@
 //! What is put down in the history of a match, and taken up.
-ghost use Rattle.std.specs.Prelude.{◌≡◌, ◌<◌, ◌≤◌, ◌+◌, ◌-◌, ◌^◌, ◌++◌, ◌∷◌, [], length, vec_len, OnOk, IfOk, IfErr, MatchOption};
-ghost use Rattle.sno_machine.specs.History.{entries_of, Setting, Begins, IsEmpty, IsHistory, TakenUp, context_at, left};
+ghost use Rattle.std.specs.Prelude.{◌≡◌, ◌<◌, ◌≤◌, ◌+◌, ◌-◌, ◌^◌, ◌++◌, ◌∷◌, [], length, vec_len, OnOk, IfErr, IfNone, IfOk, MatchOption};
+ghost use Rattle.sno_machine.specs.History.{entries_of, Setting, Begins, IsEmpty, IsHistory, TakenUp, left};
 ghost use Rattle.sno_machine.specs.declared.faults.MatchFault.TheVariants.{Memory};
 
 use crate::entries::{Entry, History, Place};
 use crate::faults::MatchFault;
 use std::alloc::Global;
+
+/// So many entries are many: room for more of them is made more sparingly.
+const MANY: u32 = 4_096;
 
 impl<'a> History<'a> {
     pub fn new(alloc: Global) -> History<'a>
@@ -42,7 +45,7 @@ impl<'a> History<'a> {
         Ok(())
     }
 
-    /// Makes room for twice as many entries, and for 8 at first: most matches need few.
+    /// Makes room for 8 entries at first, since most matches need few; then for eight times as many, and past some thousands for twice as many.
     #[cold]
     #[inline(never)]
     fn grow(&mut self) -> Result<(), MatchFault>
@@ -50,7 +53,12 @@ impl<'a> History<'a> {
         ensures longer { OnOk result (vec_len self.new.entries < self.new.room) }
         ensures refused { IfErr result (λ e. e ≡ Memory) }
     {
-        let room = self.room.saturating_mul(2).max(8);
+        let more = if self.room < MANY {
+            self.room.saturating_mul(8)
+        } else {
+            self.room.saturating_mul(2)
+        };
+        let room = more.max(8);
         if self.entries.len() == room as usize {
             return Err(MatchFault::Memory);
         }
@@ -81,22 +89,15 @@ impl<'a> History<'a> {
         Some(entries[(number - 1) as usize])
     }
 
-    /// How many references deep the frame goes; `most` outside all.
-    #[inline(always)]
-    pub fn depth(&self, frame: u32, most: u32) -> u32
-        ensures { (s : Setting) → s.depth ≡ most → IsHistory s (entries_of self.now) → result ≡ (context_at s (entries_of self.now) frame).depth }
-    {
-        match self.entry(frame) {
-            Some(Entry::Frame { depth, .. }) | Some(Entry::Mark { depth, .. }) => depth,
-            Some(Entry::Choice(_)) | Some(Entry::Pending { .. }) | None => most,
-        }
-    }
-
     /// Takes up the newest choice; none where there is none. What was put down since it was left is dropped.
     #[inline(always)]
     pub fn back_up(&mut self) -> Option<Place>
-        ensures { (s : Setting) → IsHistory s (entries_of self.old) → MatchOption result (left s (entries_of self.old) ≡ []) (TakenUp s (entries_of self.old) (entries_of self.new)) }
+        ensures taken_up { (s : Setting) → IsHistory s (entries_of self.old) → MatchOption result (left s (entries_of self.old) ≡ []) (TakenUp s (entries_of self.old) (entries_of self.new)) }
+        ensures empty { IfNone result ((entries_of self.new) ≡ []) }
     {
+        if self.entries.is_empty() {
+            return None;
+        }
         while let Some(entry) = self.entries.pop() {
             if let Entry::Choice(place) = entry {
                 return Some(place);

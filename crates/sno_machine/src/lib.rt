@@ -36,8 +36,9 @@
 //! P . V            Mark ──> P ──> Later V ──>     what lies past the mark is put after the pending assignments
 //! P $ V            Mark ──> P ──> Now V ──>       .. or is assigned at once
 //!
-//! *D               Call D ──>                     the nodes of D, with a frame that says what comes after it; where nothing comes after it in
-//!                                                the definition that refers to it, the frame says what comes after that one
+//! *D               Call D ──>                     the nodes of D, with a frame that says what comes after it
+//! *D               Jump D                         where nothing comes after it in the definition that refers to it: the nodes of D without a
+//!                                                frame, since what comes after D is what comes after that definition
 //!  D's body        P ──> Return                   what comes after it
 //!
 //! BAL              BAL ──>                        the first end; the choice is the further ends
@@ -54,11 +55,12 @@
 //! # The history
 //!
 //! What can still be taken back stands in one list of entries, the history. Where the match stands is a [`Place`](entries::Place): the next
-//! node, the cursor, and two numbers, which name the list of frames and that of pending assignments. A list is named by how many entries
-//! there were once its first one was put down, so it is there as long as that entry is, and lists share what lies below. An entry is
+//! node, the cursor, two numbers, which name the list of frames and that of pending assignments, and how many references deep the match may still
+//! go. A list is named by how many entries there were once its first one was put down, so it is there as long as that entry is, and lists share
+//! what lies below. An entry is
 //!
 //! - a choice: a place at which the match goes on when it backs up;
-//! - a frame: the node after a reference, and how many references deep the definition may still go;
+//! - a frame: the node after a reference, and how many references deep the match may go from there;
 //! - a mark: the cursor at which a part began;
 //! - a pending assignment: the variable, and the two cursors of its part.
 //!
@@ -101,12 +103,13 @@
 //! | `rounds` | rounds of a repetition of a primitive |
 //! | `seeking` | `ARB` before a part with few heads |
 //! | `conditions` | the pending assignments of a success, in their order |
-//! | `running` | one step after the other, from one start |
+//! | `running` | one step after the other, and one start after the other |
 //! | `heads` | the characters with which a match can begin |
 //! | `needles` | few heads, which are sought together |
-//! | `beginnings` | starts at which no match can begin are passed over |
+//! | `beginnings` | with what a match can begin |
+//! | `passing` | starts at which no match can begin are passed over |
 //! | `taking` | the parts that take a character wherever they end |
-//! | `starts` | the starts in turn |
+//! | `starts` | what comes of a match |
 //! | `code` | [`compile`] and [`Code::first`] |
 //!
 //! How it is proved, in two halves. `specs/Plans.antt` says what a node does and what comes after it, its plan, and what is still to come
@@ -130,6 +133,7 @@ mod leaves;
 mod needles;
 mod nodes;
 mod other_leaves;
+mod passing;
 mod progress;
 mod rounds;
 mod running;

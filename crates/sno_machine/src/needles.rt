@@ -1,18 +1,22 @@
 //! The few heads that are sought together in a text.
-ghost use Rattle.std.specs.Prelude.{◌≡◌, ◌≤◌, length, IfOk, IfSome};
+ghost use Rattle.std.specs.Prelude.{◌≡◌, ◌≤◌, ◌∷◌, [], length, IfOk, IfSome};
 ghost use Rattle.memchr.specs.Find.{IsFirstByte};
 ghost use Rattle.sno_pattern.specs.Tree.{tree_of};
 ghost use Rattle.sno_machine.specs.Beginnings.{any_begins, heads_in, AreHeads};
 
 use crate::heads::{Head, byte_at, first_of_heads, heads_of};
-use sno_pattern::Pattern;
+use sno_pattern::{Class, Pattern};
 use std::alloc::{AllocError, Global};
 
-/// One head, or two or three that are bytes.
+/// One head, or two or three that are bytes. It takes no more room than a primitive, so that a node has 32 bytes.
 #[derive(Clone, Copy)]
 pub enum Needle<'a> {
-    /// This head.
-    One(Head<'a>),
+    /// This byte.
+    Byte(u8),
+    /// One character of the set.
+    OneOf(&'a Class),
+    /// One character that is not in the set.
+    NoneOf(&'a Class),
     /// One of two bytes.
     Two(u8, u8),
     /// One of three bytes.
@@ -52,7 +56,7 @@ impl<'a> Needle<'a> {
         ensures few { result ≤ 3 }
     {
         match self {
-            Needle::One(_) => 1,
+            Needle::Byte(_) | Needle::OneOf(_) | Needle::NoneOf(_) => 1,
             Needle::Two(_, _) => 2,
             Needle::Three(_, _, _) => 3,
         }
@@ -63,7 +67,9 @@ impl<'a> Needle<'a> {
         ensures { IsFirstByte (any_begins (heads_in self.entry)) text.now result }
     {
         match self {
-            Needle::One(head) => first_of_heads(&[head], text),
+            Needle::Byte(byte) => first_of_heads(&[Head::Byte(byte)], text),
+            Needle::OneOf(class) => first_of_heads(&[Head::OneOf(class)], text),
+            Needle::NoneOf(class) => first_of_heads(&[Head::NoneOf(class)], text),
             Needle::Two(first, second) => {
                 first_of_heads(&[Head::Byte(first), Head::Byte(second)], text)
             }
@@ -86,6 +92,17 @@ fn ends_in_arb(pattern: &Pattern) -> bool {
     }
 }
 
+// The head as a needle.
+fn needle_of<'a>(head: Head<'a>) -> Needle<'a>
+    ensures { heads_in result ≡ head.entry ∷ [] }
+{
+    match head {
+        Head::Byte(byte) => Needle::Byte(byte),
+        Head::OneOf(class) => Needle::OneOf(class),
+        Head::NoneOf(class) => Needle::NoneOf(class),
+    }
+}
+
 // The heads as a needle, where they are one, or two or three bytes.
 fn together<'a>(heads: &[Head<'a>]) -> Option<Needle<'a>>
     ensures { IfSome result (λ needle. heads_in needle ≡ heads.now) }
@@ -96,7 +113,7 @@ fn together<'a>(heads: &[Head<'a>]) -> Option<Needle<'a>>
         byte_at(heads, 1),
         byte_at(heads, 2),
     ) {
-        (1, _, _, _) => Some(Needle::One(heads[0])),
+        (1, _, _, _) => Some(needle_of(heads[0])),
         (2, Some(first), Some(second), _) => Some(Needle::Two(first, second)),
         (3, Some(first), Some(second), Some(third)) => Some(Needle::Three(first, second, third)),
         _ => None,

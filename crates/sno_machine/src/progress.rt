@@ -1,10 +1,13 @@
 //! What a match has done so far.
-ghost use Rattle.std.specs.Prelude.{◌≡◌, ◌+◌, ◌<◌, ◌≤◌, true, false, [], OnOk, IfOk, vec_len, vec_capacity};
+ghost use Rattle.std.specs.Prelude.{◌≡◌, ◌+◌, ◌-◌, ◌<◌, ◌≤◌, true, false, [], OnOk, IfOk, vec_len, vec_capacity};
 ghost use Rattle.sno_machine.specs.Progress.{assign, spend};
 
 use sno_pattern::{Assign, Name, What};
 use std::alloc::{AllocError, Global};
 use std::marker::Model;
+
+/// So many assignments are many: room for more of them is made more sparingly.
+const MANY: usize = 4_096;
 
 /// An immediate assignment whose name lies in the pattern: a name is 64 characters long, and is copied only into what is found.
 #[derive(Clone, Copy)]
@@ -13,24 +16,25 @@ pub struct Told<'a> {
     pub what: What,
 }
 
-/// What a match has done so far: its immediate assignments, which stay when it backs up, and its trials, with how many it may take.
+/// What a match has done so far: its immediate assignments, which stay when it backs up, and its trials, by how many of those that it may take are
+/// left. What is left is all that a trial looks at.
 #[derive(Drop)]
 pub struct Progress<'a> {
     sets: Vec<Told<'a>>,
-    trials: u32,
+    left: u32,
     limit: u32,
 }
 
 impl<'a> Model for Progress<'a> {
-    ghost use Rattle.std.specs.Prelude.{◌≤◌, map};
+    ghost use Rattle.std.specs.Prelude.{◌-◌, ◌≤◌, map};
     ghost use Rattle.sno_machine.specs.Progress.{Reached};
     ghost use Rattle.sno_machine.specs.Told.{told_assign};
 
     ghost Value = { Reached };
 
-    ghost view = { λ s. record { sets = map told_assign s.sets.items; trials = s.trials; limit = s.limit } };
+    ghost view = { λ s. record { sets = map told_assign s.sets.items; trials = s.limit - s.left; limit = s.limit } };
 
-    ghost invariant = { λ s. s.trials ≤ s.limit };
+    ghost invariant = { λ s. s.left ≤ s.limit };
 }
 
 impl<'a> Progress<'a> {
@@ -40,7 +44,7 @@ impl<'a> Progress<'a> {
     {
         Progress {
             sets: Vec::new(alloc),
-            trials: 0,
+            left: limit,
             limit,
         }
     }
@@ -63,11 +67,10 @@ impl<'a> Progress<'a> {
         ensures spent { result ≡ true → self.new ≡ spend count self.old }
         ensures refused { result ≡ false → self.old.limit < self.old.trials + count }
     {
-        let left = self.limit - self.trials;
-        if (left as usize) < count {
+        if (self.left as usize) < count {
             return false;
         }
-        self.trials += count as u32;
+        self.left -= count as u32;
         true
     }
 
@@ -87,14 +90,15 @@ impl<'a> Progress<'a> {
     }
 }
 
-/// Makes room for as many assignments more as were done, and for 8 at first.
+/// Makes room for 8 assignments at first; then for eight times as many as were done, and past some thousands for twice as many.
 #[cold]
 #[inline(never)]
 fn make_room(sets: &mut Vec<Told>) -> Result<(), AllocError>
     ensures same { sets.new.items ≡ sets.old.items }
     ensures room { OnOk result (vec_len sets.new < vec_capacity sets.new) }
 {
-    let more = sets.len().max(8);
-    sets.reserve(more)?;
+    let done = sets.len();
+    let more = if done < MANY { done * 7 } else { done };
+    sets.reserve(more.max(8))?;
     Ok(())
 }

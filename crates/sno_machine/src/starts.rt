@@ -1,21 +1,20 @@
-//! A match: the starts in turn, until one of them ends it.
-ghost use Rattle.std.specs.Prelude.{◌≡◌, ◌+◌, ◌*◌, ◌<◌, ◌≤◌, ℕ, false, [], length, IfOk, IfErr, IsTrue, MatchResult};
+//! What comes of a match: its starts in turn, until one of them ends it.
+ghost use Rattle.std.specs.Prelude.{◌≡◌, ◌<◌, ◌≤◌, [], length, IfOk, IfErr, IsTrue, MatchResult};
 ghost use Rattle.std.specs.List.{flat_map};
 ghost use Rattle.sno_pattern.specs.Tree.{tree_of, refs_below};
 ghost use Rattle.sno_pattern.specs.Results.{enough_depth};
 ghost use Rattle.sno_pattern.specs.Outcome.{outcome, outcome_at, starts, tried_from, trials};
 ghost use Rattle.sno_machine.specs.Beginnings.{AreBeginnings, cost};
 ghost use Rattle.sno_machine.specs.Code.{IsCompiled};
-ghost use Rattle.sno_machine.specs.Endings.{end_by, found_of, match_by, Overspent};
+ghost use Rattle.sno_machine.specs.Endings.{found_of, match_by, up_to, Overspent};
 ghost use Rattle.sno_machine.specs.declared.faults.MatchFault.TheVariants.{TooManyTrials};
 
 use crate::beginnings::Beginnings;
-use crate::entries::History;
 use crate::faults::MatchFault;
 use crate::nodes::Compiled;
 use crate::progress::Progress;
-use crate::running::{Ending, try_start};
-use sno_pattern::{Assigns, Found, Rules, Text};
+use crate::running::try_starts;
+use sno_pattern::{Assigns, Found, Hit, Pattern, Rules, Text};
 use std::alloc::{AllocError, Global};
 
 /// What comes of the match, at the depth that is counted here.
@@ -33,24 +32,20 @@ pub fn search(
 {
     let most = depth(text, code.rules);
     let mut progress = Progress::new(alloc, limit);
-    let ending = try_all(alloc, code, text.bytes(), most, anchored, &mut progress)?;
-    let found = report(alloc, &progress, ending)?;
+    let hit = try_all(alloc, code, text.bytes(), most, anchored, &mut progress)?;
+    let found = report(alloc, &progress, hit)?;
     Ok(found)
 }
 
 // What was found, once no start is left to be tried.
-fn report(alloc: Global, progress: &Progress, ending: Ending) -> Result<Found, AllocError>
-    ensures found { IfOk result (λ found. found ≡ found_of (end_by ending progress.now [])) }
+fn report(alloc: Global, progress: &Progress, hit: Option<Hit>) -> Result<Found, AllocError>
+    ensures found { IfOk result (λ found. found ≡ found_of (progress.now, hit)) }
     ensures within { progress.now.trials ≤ progress.now.limit }
 {
-    let end = match ending {
-        Ending::Success(hit) => Some(hit),
-        Ending::Failure | Ending::Open => None,
-    };
     let sets = progress.sets(alloc)?;
     Ok(Found {
         sets: Assigns::of(sets),
-        end,
+        end: hit,
     })
 }
 
@@ -61,7 +56,7 @@ fn depth(text: &Text, rules: &Rules) -> u32
     ((text.bytes().len() + 1) * rules.len()) as u32
 }
 
-// Tries each start at which a match may begin, until one of them ends the match.
+// Tries each start at which a match may begin, until one of them ends the match: cursor 0 alone where the match is anchored.
 fn try_all<'a>(
     alloc: Global,
     code: &Compiled<'a>,
@@ -69,61 +64,39 @@ fn try_all<'a>(
     most: u32,
     anchored: bool,
     progress: &mut Progress<'a>,
-) -> Result<Ending, MatchFault>
+) -> Result<Option<Hit>, MatchFault>
     requires compiled { IsCompiled code.now.rules.now.bodies (tree_of code.now.pattern.now) code.now.nodes }
     requires short { length text.now ≤ 65536 }
-    ensures ending { IfOk result (λ ending. match_by progress.old (flat_map (tried_from text.now code.now.rules.now.bodies most (tree_of code.now.pattern.now)) (starts text.now anchored)) ≡ end_by ending progress.new []) }
+    ensures found { IfOk result (λ hit. match_by progress.old (flat_map (tried_from text.now code.now.rules.now.bodies most (tree_of code.now.pattern.now)) (starts text.now anchored)) ≡ (progress.new, hit)) }
     ensures refused { IfErr result (Overspent progress.old (flat_map (tried_from text.now code.now.rules.now.bodies most (tree_of code.now.pattern.now)) (starts text.now anchored))) }
 {
-    let mut history = History::new(alloc);
-    if anchored {
-        let ending = try_start(alloc, code, text, most, 0, &mut history, progress)?;
-        return Ok(ending);
-    }
-    let beginnings = Beginnings::of(alloc, code.pattern)?;
-    let ending = try_starts(alloc, code, text, most, &beginnings, &mut history, progress)?;
-    Ok(ending)
+    let last = last_start(text, anchored);
+    let beginnings = beginnings_of(alloc, code.pattern, anchored)?;
+    let hit = try_starts(alloc, code, text, most, &beginnings, last, progress)?;
+    Ok(hit)
 }
 
-// How many trials it costs to pass over so many starts.
-fn price(starts: usize, cost: usize) -> usize
-    requires few { starts ≤ 65537 }
-    requires cheap { cost ≤ 64 }
-    ensures { result ≡ starts * cost }
+// The last cursor at which the match may begin.
+fn last_start(text: &[u8], anchored: bool) -> usize
+    requires { length text.now ≤ 65536 }
+    ensures starts { starts text.now anchored ≡ up_to 0 result }
+    ensures within { result ≤ length text.now }
 {
-    starts * cost
+    if anchored { 0 } else { text.len() }
 }
 
-// Tries one start after the other. Those at which no match can begin are passed over, at the cost of each.
-fn try_starts<'a>(
+// With what a match can begin. At a single start it isn't worth a look.
+fn beginnings_of<'a>(
     alloc: Global,
-    code: &Compiled<'a>,
-    text: &[u8],
-    most: u32,
-    beginnings: &Beginnings,
-    history: &mut History<'a>,
-    progress: &mut Progress<'a>,
-) -> Result<Ending, MatchFault>
-    requires compiled { IsCompiled code.now.rules.now.bodies (tree_of code.now.pattern.now) code.now.nodes }
-    requires short { length text.now ≤ 65536 }
-    requires begin { AreBeginnings (tree_of code.now.pattern.now) beginnings.now }
-    requires cheap { cost beginnings.now ≤ 64 }
-    ensures ending { IfOk result (λ ending. match_by progress.old (flat_map (tried_from text.now code.now.rules.now.bodies most (tree_of code.now.pattern.now)) (starts text.now false)) ≡ end_by ending progress.new []) }
-    ensures refused { IfErr result (Overspent progress.old (flat_map (tried_from text.now code.now.rules.now.bodies most (tree_of code.now.pattern.now)) (starts text.now false))) }
+    pattern: &'a Pattern,
+    anchored: bool,
+) -> Result<Beginnings<'a>, AllocError>
+    ensures begin { IfOk result (AreBeginnings (tree_of pattern.now)) }
+    ensures few { IfOk result (λ beginnings. cost beginnings ≤ 64) }
 {
-    let cost = beginnings.cost();
-    let mut start = 0;
-    while let Some(begin) = beginnings.next(text, start) {
-        if !progress.try_spend(price(begin - start, cost)) {
-            return Err(MatchFault::TooManyTrials);
-        }
-        match try_start(alloc, code, text, most, begin, history, progress)? {
-            Ending::Open => start = begin + 1,
-            ending => return Ok(ending),
-        }
+    if anchored {
+        return Ok(Beginnings::Any);
     }
-    if !progress.try_spend(price(text.len() + 1 - start, cost)) {
-        return Err(MatchFault::TooManyTrials);
-    }
-    Ok(Ending::Open)
+    let beginnings = Beginnings::of(alloc, pattern)?;
+    Ok(beginnings)
 }

@@ -17,8 +17,6 @@ mod laws;
 mod leaves;
 mod primitives;
 mod runs;
-#[cfg(test)]
-mod tests;
 
 pub use balance::first_balanced;
 pub use laws::arbitrary_ends_follow_one_another;
@@ -27,3 +25,4 @@ pub use primitives::{
     any_end, len_end, literal_end, notany_end, pos_end, rpos_end, rtab_end, tab_end,
 };
 pub use runs::{break_end, first_in, span_end};
+pub use sno_pattern::{Class, Pattern};

@@ -1,4 +1,3 @@
-pub mod Kinship
 pub mod Prefixes
 pub mod Adding
 pub mod LastEntries

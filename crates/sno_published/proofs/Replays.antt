@@ -13,7 +13,8 @@ use Rattle.sno_book.specs.Journals.{HasStep, step, replay}
 use Rattle.sno_book.specs.Openings.{Opening, start, names_in}
 use Rattle.sno_book.proofs.Steps.{replay_snoc, legal_snoc}
 use Rattle.sno_book.proofs.Places.{StandsAt, stands_at, stands_inside}
-use Rattle.sno_published.specs.StoredTexts.{called, named, contents, first_contents, IsReplay}
+use Rattle.sno_book.specs.Starts.{first_contents}
+use Rattle.sno_published.specs.StoredTexts.{called, named, contents, IsReplay}
 use Rattle.sno_published.specs.Tables.{text_after, text_at}
 use Rattle.sno_published.specs.declared.stored_texts.StoredText.{StoredText}
 

@@ -21,10 +21,6 @@ named (name ∷ names) (s ∷ stored) = called name s ∷ named names stored
 abbrev pub contents : List StoredText → List (List ℕ × ℕ)
 contents stored = map (λ s. (arc_value s.text, s.version)) stored
 
--- the characters as they were given, at version 0
-abbrev pub first_contents : List (List ℕ × List ℕ) → List (List ℕ × ℕ)
-first_contents texts = map (λ t. (t.1, 0)) texts
-
 -- the entries are legal from the opening, and what is stored is what they leave
 pub record IsReplay (opening : Opening) (entries : List Entry) (stored : List StoredText) : Type 0 where
   pub legal : Legal (start opening) entries

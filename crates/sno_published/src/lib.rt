@@ -31,12 +31,12 @@
 //! # How to begin
 //!
 //! Make two histories, and do all the work in a function that is generic over `L: Naming`, takes them and the opening, and requires that `L` stands for
-//! these. Call it with `Brand` for `L`. The tests have such functions.
+//! these. Call it with `Brand` for `L`. `sno_desk_runs` has such functions (`src/viewers.rt`).
 //!
 //! # What is not promised
 //!
 //! That memory is there, that a publish returns (it waits for readers that still read what was shown before the last entry), and that no call is refused
-//! as `Ended`, `Behind` or `Stopped`. The tests run one viewer after one writer and beside it.
+//! as `Ended`, `Behind` or `Stopped`. Tests of `sno_desk_runs` run one viewer after one writer and beside it.
 #![tactic(auto)]
 
 mod faults;
@@ -58,8 +58,7 @@ pub use keeping::{Kept, See, Seeing};
 pub use naming::Naming;
 pub use operations::{Given, Operation};
 pub use screens::{Screen, Spent, Unpublished};
+pub use sno_book::{Entry, Opening};
+pub use sno_pattern::Text;
 pub use tables::Table;
 pub use viewers::Viewer;
-
-#[cfg(test)]
-mod tests;

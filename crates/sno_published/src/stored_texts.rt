@@ -8,7 +8,8 @@ ghost use Rattle.sno_book.specs.Entries.{Entry as Accepted};
 ghost use Rattle.sno_book.specs.Journals.{HasStep, replay};
 ghost use Rattle.sno_book.specs.Openings.{start};
 ghost use Rattle.sno_book.specs.Entries.{after_of};
-ghost use Rattle.sno_published.specs.StoredTexts.{IsReplay, contents, first_contents, named};
+ghost use Rattle.sno_book.specs.Starts.{first_contents};
+ghost use Rattle.sno_published.specs.StoredTexts.{IsReplay, contents, named};
 
 use sno_book::{Entry, Opening, Text};
 use std::alloc::{AllocError, Global};

@@ -22,7 +22,7 @@ use Rattle.sno_read.specs.Gives.{◌>>=◌, found_or}
 use Rattle.sno_read.specs.Keywords.{keyword_of}
 use Rattle.sno_read.specs.Characters.{is_blank, is_other, quote_of, front, skip, begins, value_of, start_of, what_follows}
 use Rattle.sno_read.specs.Laws.{MemoryIsNoFault}
-use Rattle.sno_read.specs.Reading.{Env, Read, place, below, literal_at, set_at, number_at, name_at, variable_at, opening_at, closing_at, blanks_at, sign_at, cursor_at, reference_at, plain_of, number_call_at, set_call_at, group_at, repetition_at, from_name, from_name_at, quotation_at, element_by, element_at, target_by, targets_at, item_at, item_by, items_at, part_by, parts_at, concatenation_at, alternation_at, inside, end_at, shallow, whole_of, ascii_only, short_ascii, pattern_of}
+use Rattle.sno_read.specs.Reading.{Env, Read, place, below, literal_at, set_at, number_at, name_at, variable_at, opening_at, closing_at, blanks_at, sign_at, cursor_at, reference_at, plain_of, number_call_at, set_call_at, group_at, repetition_at, from_name, from_name_at, quotation_at, element_by, element_at, target_by, targets_at, item_at, item_by, items_at, next_part_by, parts_at, concatenation_at, alternation_at, inside, end_at, shallow, whole_of, ascii_only, short_ascii, pattern_of}
 use Rattle.sno_read.specs.Objects.{gap_at, parts_of, object_of}
 use Rattle.sno_read.specs.Objects as objects
 
@@ -148,7 +148,7 @@ module _ (env : Env) (room : ℕ) (inner : List ℕ → Read Tree) (within : (te
   parts_safe zero text = λ e. (cc)
   parts_safe (suc n) text = safe_bind (concatenation_at env room inner text) _ (items_safe (suc (length text)) text) (λ x. by_next (parts_at env (concatenation_at env room inner) n) (λ a. parts_safe n a) x (what_follows x.1))
     where
-      by_next : (more : List ℕ → Read Tree) → ((a : List ℕ) → Safe (more a)) → (x : Tree × List ℕ) (f : Following) → Safe (part_by env more x f)
+      by_next : (more : List ℕ → Read Tree) → ((a : List ℕ) → Safe (more a)) → (x : Tree × List ℕ) (f : Following) → Safe (next_part_by env more x f)
       by_next more h x follows.Bar = safe_bind (sign_at env x.1) _ (signed_safe env x.1) (λ a. safe_bind (more a) _ (h a) (λ y e. (cc)))
       by_next more h x follows.Nothing = λ e. (cc)
       by_next more h x follows.Dot = λ e. (cc)

@@ -20,7 +20,7 @@ use Rattle.sno_read.specs.Keywords.{keyword_of, word_tree, number_tree, set_tree
 use Rattle.sno_read.specs.Characters.{is_blank, is_quote, front, skip, start_of, what_follows}
 use Rattle.sno_read.specs.Grammar.{AreBlanks, SomeBlanks, IsNumber, IsLiteral, IsVariable, parenthesized, signed_by, IsElement, IsItem, IsConcatenation, IsAlternation, Spells}
 use Rattle.sno_read.specs.Grammar as grammar
-use Rattle.sno_read.specs.Reading.{Env, Read, place, below, literal_at, set_at, number_at, name_at, variable_at, opening_at, closing_at, sign_at, cursor_at, reference_at, plain_of, number_call_at, set_call_at, group_at, repetition_at, from_name, from_name_at, quotation_at, element_by, element_at, target_by, targets_at, item_at, item_by, items_at, part_by, parts_at, concatenation_at, alternation_at, inside}
+use Rattle.sno_read.specs.Reading.{Env, Read, place, below, literal_at, set_at, number_at, name_at, variable_at, opening_at, closing_at, sign_at, cursor_at, reference_at, plain_of, number_call_at, set_call_at, group_at, repetition_at, from_name, from_name_at, quotation_at, element_by, element_at, target_by, targets_at, item_at, item_by, items_at, next_part_by, parts_at, concatenation_at, alternation_at, inside}
 use Rattle.sno_read.proofs.Results.{bind_ok, found_ok, if_some, pair_ok}
 use Rattle.sno_read.proofs.Reserved.{reserved_not}
 use Rattle.sno_read.proofs.TokensRead.{literal_sound, set_sound, number_sound, name_sound, variable_sound, opened_sound, closed_sound, Signed, dot_sound, dollar_sound, bar_sound, follows_shape}
@@ -281,7 +281,7 @@ module _ (env : Env) (room : ℕ) (inner : List ℕ → Read Tree) where
       let i = items_sound reads (suc (length text)) text a.0.0 a.0.1 a.1 in
       by_next (parts_at env (concatenation_at env room inner) n) (λ m u. parts_sound reads n m u rest) a.0 i.0 i.1 i.2 (what_follows a.0.1) refl a.2
     where
-      by_next : (more : List ℕ → Read Tree) → ((m : List ℕ) (u : Tree) → more m ≡ Ok (u, rest) → Alternation m u rest) → (p : Tree × List ℕ) (x : List ℕ) → IsConcatenation env.names env.earlier room x p.0 → text ≡ x ++ p.1 → (f : Following) → what_follows p.1 ≡ f → part_by env more p f ≡ Ok (t, rest) → Alternation text t rest
+      by_next : (more : List ℕ → Read Tree) → ((m : List ℕ) (u : Tree) → more m ≡ Ok (u, rest) → Alternation m u rest) → (p : Tree × List ℕ) (x : List ℕ) → IsConcatenation env.names env.earlier room x p.0 → text ≡ x ++ p.1 → (f : Following) → what_follows p.1 ≡ f → next_part_by env more p f ≡ Ok (t, rest) → Alternation text t rest
       by_next more sound p x i split follows.Bar e g =
           let a = bind_ok (sign_at env p.1) _ (t, rest) g in
           let b = bind_ok (more a.0) _ (t, rest) a.2 in

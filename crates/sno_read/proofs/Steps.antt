@@ -3,7 +3,7 @@ use Rattle.std.proofs.Common.{◌≡◌, ℕ, zero, suc, ◌-◌, ◌<◌, List,
 use Rattle.sno_pattern.specs.Tree.{Tree}
 use Rattle.sno_read.specs.Gives.{◌>>=◌}
 use Rattle.sno_read.specs.Characters.{what_follows}
-use Rattle.sno_read.specs.Reading.{Env, Read, targets_at, target_by, items_at, item_by, parts_at, part_by, inside, alternation_at}
+use Rattle.sno_read.specs.Reading.{Env, Read, targets_at, target_by, items_at, item_by, parts_at, next_part_by, inside, alternation_at}
 
 pub targets_step : (env : Env) (n : ℕ) (t : Tree) (text : List ℕ) (m : ℕ) → m < n → targets_at env n t text ≡ target_by env (targets_at env (n - 1)) t text (what_follows text)
 unfolding targets_at
@@ -15,7 +15,7 @@ unfolding items_at
 items_step env item zero text m h = absurd (omega arith)
 items_step env item (suc n) text m h = let e : suc n - 1 ≡ n = omega arith in rw e refl
 
-pub parts_step : (env : Env) (part : List ℕ → Read Tree) (n : ℕ) (text : List ℕ) (m : ℕ) → m < n → parts_at env part n text ≡ (part text >>= λ x. part_by env (parts_at env part (n - 1)) x (what_follows x.1))
+pub parts_step : (env : Env) (part : List ℕ → Read Tree) (n : ℕ) (text : List ℕ) (m : ℕ) → m < n → parts_at env part n text ≡ (part text >>= λ x. next_part_by env (parts_at env part (n - 1)) x (what_follows x.1))
 unfolding parts_at
 parts_step env part zero text m h = absurd (omega arith)
 parts_step env part (suc n) text m h = let e : suc n - 1 ≡ n = omega arith in rw e refl

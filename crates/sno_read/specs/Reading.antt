@@ -202,14 +202,14 @@ items_at env item zero text = Err (fault.Unexpected (place env text))
 items_at env item (suc n) text = item text >>= λ x. item_by (items_at env item n) x (what_follows x.1)
 
 -- one part, and the parts behind it if there are more
-abbrev pub part_by : Env → (List ℕ → Read Tree) → Tree × List ℕ → Following → Read Tree
-part_by env more x follows.Bar = sign_at env x.1 >>= λ a. more a >>= λ y. Ok (tree.Alt x.0 y.0, y.1)
-part_by env more x _ = Ok x
+abbrev pub next_part_by : Env → (List ℕ → Read Tree) → Tree × List ℕ → Following → Read Tree
+next_part_by env more x follows.Bar = sign_at env x.1 >>= λ a. more a >>= λ y. Ok (tree.Alt x.0 y.0, y.1)
+next_part_by env more x _ = Ok x
 
 -- the parts of an alternation; the number bounds how many there are
 unfoldable pub parts_at : Env → (List ℕ → Read Tree) → ℕ → List ℕ → Read Tree
 parts_at env part zero text = Err (fault.Unexpected (place env text))
-parts_at env part (suc n) text = part text >>= λ x. part_by env (parts_at env part n) x (what_follows x.1)
+parts_at env part (suc n) text = part text >>= λ x. next_part_by env (parts_at env part n) x (what_follows x.1)
 
 -- the functions below are those above, where so many more parentheses may be opened
 unfoldable pub concatenation_at : Env → ℕ → (List ℕ → Read Tree) → List ℕ → Read Tree

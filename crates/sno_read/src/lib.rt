@@ -29,6 +29,3 @@ pub use laws::{memory_is_no_fault, one_object, one_tree};
 pub use objects::{Object, Part};
 pub use reading::{read_object, read_pattern};
 pub use sno_pattern::{Name, Names, Pattern, Text};
-
-#[cfg(test)]
-mod tests;

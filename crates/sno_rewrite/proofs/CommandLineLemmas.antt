@@ -12,7 +12,7 @@ use Rattle.clap.specs.Words.{App, IsAmong, ReadsOne, Row, Text, fault_of, is_sim
 use Rattle.clap.specs.declared.error.kind.ErrorKind.{ErrorKind}
 use Rattle.clap.specs.declared.error.kind.ErrorKind.TheVariants.{OutOfMemory}
 use Rattle.clap.proofs.OnLiterals.{clap_on_literals}
-use Rattle.sno_rewrite.specs.CommandLine.{AreRefused, IsAnswer, IsChecked, Tells, faults, is_numeral, number_from, option_rows, options_in, plain_options, program, shared_program}
+use Rattle.sno_rewrite.specs.CommandLine.{AreRefused, IsAnswer, IsChecked, Tells, faults, is_numeral, number_of_text, option_rows, options_in, plain_options, program, shared_program}
 use Rattle.sno_rewrite.specs.declared.options.Options.{Options}
 use Rattle.sno_rewrite.specs.declared.command_line.OptionsFault.{OptionsFault}
 use Rattle.sno_rewrite.specs.declared.command_line.OptionsFault.TheVariants.{Help, Usage, Memory}
@@ -51,7 +51,7 @@ number_no true n h = absurd (h refl)
 number_no false n h = refl
 
 number_as_read : {E : Type 0} (G : Text → Result ℕ E → Type 0) (t : Text) (r : Option ℕ) → ((x : Result ℕ E) → G t x → ParsesUnsigned 32 10 t x)
-    → ReadsOne G t r → r ≡ number_from (without_leading_plus t)
+    → ReadsOne G t r → r ≡ number_of_text (without_leading_plus t)
 number_as_read G t (Some v) parses read =
     let p = parses (Ok v) read in
     let ds = without_leading_plus t in
@@ -65,7 +65,7 @@ number_as_read G t None parses read =
 
 -- the number that is read of an option's text
 pub number_read : {E : Type 0} (G : Text → Result ℕ E → Type 0) (o : Option Text) (r : Option ℕ) → ((t : Text) (x : Result ℕ E) → G t x → ParsesUnsigned 32 10 t x)
-    → (o ≡ None → r ≡ None) → ((t : Text) → o ≡ Some t → ReadsOne G t r) → r ≡ option_and_then (λ t. number_from (without_leading_plus t)) o
+    → (o ≡ None → r ≡ None) → ((t : Text) → o ≡ Some t → ReadsOne G t r) → r ≡ option_and_then (λ t. number_of_text (without_leading_plus t)) o
 number_read G None r parses none value = none refl
 number_read G (Some t) r parses none value = number_as_read G t r (parses t) (value t refl)
 

@@ -1,7 +1,6 @@
 pub mod RunLemmas
 pub mod SerialLemmas
 pub mod OwnerLemmas
-pub mod PlaceLemmas
 pub mod SettlingLemmas
 pub mod StreamLemmas
 pub mod ReadLemmas

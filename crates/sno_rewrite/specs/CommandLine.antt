@@ -47,12 +47,12 @@ flag_in name rows = option_map_or (λ t. bytes_eq t (codes "true")) (one_of name
 abbrev pub is_numeral : Text → Bool
 is_numeral ds = nat_lt 0 (length ds) && list_all (λ d. nat_lt (digit_value d) 10) ds
 
-abbrev pub number_from : Text → Option ℕ
-number_from ds = if is_numeral ds && nat_lt (digits_value 10 ds) 4294967296 then Some (digits_value 10 ds) else None
+abbrev pub number_of_text : Text → Option ℕ
+number_of_text ds = if is_numeral ds && nat_lt (digits_value 10 ds) 4294967296 then Some (digits_value 10 ds) else None
 
 -- the number that a text writes, with or without a plus before it
 abbrev pub number_in : Text → List Row → Option ℕ
-number_in name rows = option_and_then (λ t. number_from (without_leading_plus t)) (one_of name rows)
+number_in name rows = option_and_then (λ t. number_of_text (without_leading_plus t)) (one_of name rows)
 
 -- the options that were given
 abbrev pub options_in : List Row → Options

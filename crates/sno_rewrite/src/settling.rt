@@ -25,7 +25,7 @@ use std::alloc::Global;
 use std::sync::Arc;
 
 /// The version of the statement's text, where the book has the text.
-#[tactic(auto, using(crate::proofs::PlaceLemmas::found_by_place, crate::proofs::PlaceLemmas::found_nowhere))]
+#[tactic(auto, using(sno_book::proofs::Standing::found_by_place, sno_book::proofs::Standing::found_nowhere))]
 fn version_in(book: &Book, statement: &Statement) -> Option<u64>
     ensures { result ≡ option_map (λ held. held.version) (find statement.now.text (state_of (view_of book.now))) }
 {
@@ -56,7 +56,7 @@ fn with_tries_spent(
 }
 
 /// The reason for which the statement is listed as refused.
-#[tactic(auto, using(crate::proofs::PlaceLemmas::is_named, crate::proofs::PlaceLemmas::is_nowhere))]
+#[tactic(auto, using(sno_book::proofs::Standing::is_named, sno_book::proofs::Standing::is_nowhere))]
 fn reason(
     book: &Book,
     statement: &Statement,

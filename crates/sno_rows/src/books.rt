@@ -59,7 +59,7 @@ fn long_book(alloc: Global, length: usize) -> Result<Book, Fail> {
     Ok(Book::new(alloc, rows, 1_000_000)?)
 }
 
-#[tactic(auto, using(crate::proofs::Kinship::of_snapshot))]
+#[tactic(auto, using(sno_book::proofs::Kinship::of_snapshot))]
 fn snapshot(alloc: Global, book: &Book, name: &str) -> Result<Result<Snapshot, SnapshotFault>, Fail>
     ensures { IfOk result (λ given. IfOk given (λ s. s.origin ≡ view_of book.now)) }
 {
@@ -67,7 +67,7 @@ fn snapshot(alloc: Global, book: &Book, name: &str) -> Result<Result<Snapshot, S
 }
 
 // What comes of proposing the statement on the text of this name, as it stands.
-#[tactic(auto, using(crate::proofs::Kinship::of_proposal))]
+#[tactic(auto, using(sno_book::proofs::Kinship::of_proposal))]
 fn attempt(
     rt: &(impl Abort + AllocGlobal),
     book: &Book,
@@ -81,7 +81,7 @@ fn attempt(
 }
 
 // The statement proposed on the text of this name, as it stands.
-#[tactic(auto, using(crate::proofs::Kinship::begins_itself))]
+#[tactic(auto, using(sno_book::proofs::Kinship::begins_itself))]
 fn proposal(
     rt: &(impl Abort + AllocGlobal),
     book: &Book,
@@ -94,7 +94,7 @@ fn proposal(
 }
 
 // What began the book's view begins it still.
-#[tactic(auto, using(crate::proofs::Kinship::is_kin, crate::proofs::Kinship::grows))]
+#[tactic(auto, using(sno_book::proofs::Kinship::is_kin, sno_book::proofs::Kinship::grows))]
 fn accept(book: &mut Book, proposal: Proposal) -> Result<Receipt, Fail>
     requires { IsPrefix proposal.origin (view_of book.old) }
     ensures { (v : View) → IsPrefix v (view_of book.old) → OnOk result (IsPrefix v (view_of book.new)) }
@@ -106,7 +106,7 @@ fn accept(book: &mut Book, proposal: Proposal) -> Result<Receipt, Fail>
 }
 
 // Why the proposal is refused, and the proposal that came back.
-#[tactic(auto, using(crate::proofs::Kinship::is_kin))]
+#[tactic(auto, using(sno_book::proofs::Kinship::is_kin))]
 fn refuse(book: &mut Book, proposal: Proposal) -> Result<(CommitFault, Proposal), Fail>
     requires { IsPrefix proposal.origin (view_of book.old) }
 {
@@ -117,7 +117,7 @@ fn refuse(book: &mut Book, proposal: Proposal) -> Result<(CommitFault, Proposal)
 }
 
 // Why the proposal can't be prepared, and the proposal that came back.
-#[tactic(auto, using(crate::proofs::Kinship::is_kin))]
+#[tactic(auto, using(sno_book::proofs::Kinship::is_kin))]
 fn refuse_to_prepare(book: &mut Book, proposal: Proposal) -> Result<(CommitFault, Proposal), Fail>
     requires { IsPrefix proposal.origin (view_of book.old) }
 {
@@ -128,7 +128,7 @@ fn refuse_to_prepare(book: &mut Book, proposal: Proposal) -> Result<(CommitFault
 }
 
 // The proposal prepared, and taken back again.
-#[tactic(auto, using(crate::proofs::Kinship::is_kin))]
+#[tactic(auto, using(sno_book::proofs::Kinship::is_kin))]
 fn prepare_and_take_back(book: &mut Book, proposal: Proposal) -> Result<Proposal, Fail>
     requires { IsPrefix proposal.origin (view_of book.old) }
 {
@@ -139,7 +139,7 @@ fn prepare_and_take_back(book: &mut Book, proposal: Proposal) -> Result<Proposal
 }
 
 // The proposal prepared and then accepted, with a share of the entry that it makes.
-#[tactic(auto, using(crate::proofs::Kinship::is_kin))]
+#[tactic(auto, using(sno_book::proofs::Kinship::is_kin))]
 fn prepare_and_finish(book: &mut Book, proposal: Proposal) -> Result<(Entry, Receipt), Fail>
     requires { IsPrefix proposal.origin (view_of book.old) }
 {

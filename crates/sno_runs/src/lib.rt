@@ -1,9 +1,11 @@
 //! Whole runs, tested: listings in lines and as JSON, the examples of `examples/`, the line of each fault, command lines, the program's
-//! endings, workers, and readers and writers that give pieces or fail.
+//! endings, workers, readers and writers that give pieces or fail, bytes that are no JSON, and documents at their limits.
 #![tactic(auto)]
 
 #[cfg(test)]
 mod command_lines;
+#[cfg(test)]
+mod damaged;
 #[cfg(test)]
 mod documents;
 #[cfg(test)]
@@ -18,5 +20,7 @@ mod programs;
 mod runs;
 #[cfg(test)]
 mod shared_runs;
+#[cfg(test)]
+mod sizes;
 #[cfg(test)]
 mod streams;

@@ -149,7 +149,7 @@ fn check_write(
     rt: &(impl Threads + Wait + Abort + AllocGlobal + Sync),
     most: usize,
     writes: usize,
-    beginning: &str,
+    beginning: &[u8],
 ) {
     let mut reader = reader_of(DOCUMENT.as_bytes(), NEVER, ErrorKind::Other);
     let mut writer = writer_of(rt, most, writes);
@@ -164,15 +164,18 @@ fn check_write(
         Some(1),
         "{most} bytes, {writes} times"
     );
-    assert_eq!(rt; writer.taken.as_slice(), beginning.as_bytes());
+    assert_eq!(rt; writer.taken.as_slice(), beginning);
 }
 
 #[test]
 fn a_write_that_fails_once_ends_the_run(rt: HostRuntime) {
-    check_write(&rt, 10, 0, "");
-    check_write(&rt, 10, 1, "texts 1\nA ");
-    check_write(&rt, 10, 2, "texts 1\nA 1 |k:v|\nen");
-    check_write(&rt, 1, 5, "texts");
+    check_write(&rt, 10, 0, b"");
+    check_write(&rt, 10, 1, b"texts 1\nA ");
+    check_write(&rt, 10, 2, b"texts 1\nA 1 |k:v|\nen");
+    let listing = LISTING.as_bytes();
+    for writes in 0..listing.len() {
+        check_write(&rt, 1, writes, listing.split_at(writes).0);
+    }
 }
 
 // A write that takes no byte ends the run, too.

@@ -21,15 +21,15 @@ returns c = λ s r is plan held placed.
     let a = conds_at old at.pending in
     let go = onward_at s old at c.args.next in
     let count_go = onward_steps s old at c.args.next in
-    let other : Place = record { node = at.node; cursor = at.cursor + 1; frame = at.frame; pending = at.pending } in
+    let other : Place = record { node = at.node; cursor = at.cursor + 1; depth = at.depth; frame = at.frame; pending = at.pending } in
     let after : Place = at_node at c.args.next in
     let same_length = ap length is in
     let inside : at.cursor + 1 ≤ length s.text = omega (arith, same_length) in
-    let come_other : place_to_come s old other ≡ carry (results s.text s.bodies ctx.depth Arb (at.cursor + 1)) a go = ap (λ p. to_come s.text s.bodies p ctx.depth ctx.marks ctx.back (at.cursor + 1) a) plan in
-    let count_other : place_steps s old other ≡ steps s.text s.bodies ctx.depth Arb (at.cursor + 1) count_go = ap (λ p. steps_to_come s.text s.bodies p ctx.depth ctx.marks ctx.back_steps (at.cursor + 1)) plan in
+    let come_other : place_to_come s old other ≡ carry (results s.text s.bodies at.depth Arb (at.cursor + 1)) a go = ap (λ p. to_come s.text s.bodies p at.depth ctx.marks ctx.back (at.cursor + 1) a) plan in
+    let count_other : place_steps s old other ≡ steps s.text s.bodies at.depth Arb (at.cursor + 1) count_go = ap (λ p. steps_to_come s.text s.bodies p at.depth ctx.marks ctx.back_steps (at.cursor + 1)) plan in
     let law = c.arbitrary_ends_follow_one_another.ensures in
-    let fewer = arb_steps s.text s.bodies law ctx.depth at.cursor count_go placed.0 in
+    let fewer = arb_steps s.text s.bodies law at.depth at.cursor count_go placed.0 in
     chosen s old r (carry (leaf_rest s.text Arb at.cursor) a go) (leaf_steps s.text Arb at.cursor count_go) after other new c.in_ok-push.ensures.entries held
     placed (inside, placed.1, placed.2)
-    (λ rest. arb_same s.text s.bodies law ctx.depth at.cursor a go inside rest ∙ ap (λ z. cut ((go at.cursor a ++ z) ++ rest)) (sym come_other))
+    (λ rest. arb_same s.text s.bodies law at.depth at.cursor a go inside rest ∙ ap (λ z. cut ((go at.cursor a ++ z) ++ rest)) (sym come_other))
     (omega (arith, count_other, fewer))

@@ -23,13 +23,13 @@ returns-in_ok-push-in-Some c = λ s r is plan held placed.
     let a = conds_at old at.pending in
     let go = onward_at s old at c.args.next in
     let count_go = onward_steps s old at c.args.next in
-    let there : Place = record { node = at.node; cursor = end; frame = at.frame; pending = at.pending } in
+    let there : Place = record { node = at.node; cursor = end; depth = at.depth; frame = at.frame; pending = at.pending } in
     let other : Place = at_node there c.args.other in
     let after : Place = at_node there c.args.next in
     let ends : bal_ends s.text at.cursor ≡ end ∷ bal_ends s.text end = ap (λ t. bal_ends t at.cursor) is ∙ c.in-Some.ensures.exact ∙ ap (λ t. end ∷ bal_ends t end) (sym is) in
     let inside : end ≤ length s.text = omega (arith, c.in-Some.ensures.behind, ap length is) in
-    let come_other : place_to_come s old other ≡ carry (further_ends (bal_ends s.text end)) a go = ap (λ p. to_come s.text s.bodies p ctx.depth ctx.marks ctx.back end a) plan in
-    let count_other : place_steps s old other ≡ 1 + end_steps (bal_ends s.text end) count_go = ap (λ p. steps_to_come s.text s.bodies p ctx.depth ctx.marks ctx.back_steps end) plan in
+    let come_other : place_to_come s old other ≡ carry (further_ends (bal_ends s.text end)) a go = ap (λ p. to_come s.text s.bodies p at.depth ctx.marks ctx.back end a) plan in
+    let count_other : place_steps s old other ≡ 1 + end_steps (bal_ends s.text end) count_go = ap (λ p. steps_to_come s.text s.bodies p at.depth ctx.marks ctx.back_steps end) plan in
     let fewer = bal_steps s.text s.bodies at.cursor end count_go ends in
     chosen s old r (carry (leaf_rest s.text Bal at.cursor) a go) (leaf_steps s.text Bal at.cursor count_go) after other new c.in_ok-push-in-Some.ensures.entries held
     (inside, placed.1, placed.2) (inside, placed.1, placed.2)

@@ -19,8 +19,8 @@ returns-then-not-try_spend c = λ s is fits held placed plan.
     let p = leaf_tree c.args.pattern in
     too_many s old c.args.progress.now _ _ (c.try_spend.ensures.refused c.if-not-try_spend.true)
     (λ rest.
-    ap (λ plan. cut (to_come s.text s.bodies plan ctx.depth ctx.marks ctx.back at.cursor a ++ rest)) plan
-    ∙ leaf_same s.text s.bodies ctx.depth p at.cursor a (onward_at s old at c.args.next) (other_leaf c.args.pattern) rest)
+    ap (λ plan. cut (to_come s.text s.bodies plan at.depth ctx.marks ctx.back at.cursor a ++ rest)) plan
+    ∙ leaf_same s.text s.bodies at.depth p at.cursor a (onward_at s old at c.args.next) (other_leaf c.args.pattern) rest)
 
 pub returns : goal.returns
 returns c = λ s is fits held placed plan.
@@ -32,10 +32,10 @@ returns c = λ s is fits held placed plan.
     let go = onward_at s old at c.args.next in
     let count_go = onward_steps s old at c.args.next in
     let count : place_steps s old at ≡ leaf_steps s.text p at.cursor count_go =
-    ap (λ plan. steps_to_come s.text s.bodies plan ctx.depth ctx.marks ctx.back_steps at.cursor) plan
-    ∙ leaf_count s.text s.bodies ctx.depth p at.cursor count_go (other_leaf c.args.pattern) in
+    ap (λ plan. steps_to_come s.text s.bodies plan at.depth ctx.marks ctx.back_steps at.cursor) plan
+    ∙ leaf_count s.text s.bodies at.depth p at.cursor count_go (other_leaf c.args.pattern) in
     tried_step s old _ c.args.progress.now _ _ _ _ _ _ (c.try_spend.ensures.spent c.if-not-try_spend.false)
     (λ rest.
-    ap (λ plan. cut (to_come s.text s.bodies plan ctx.depth ctx.marks ctx.back at.cursor a ++ rest)) plan
-    ∙ leaf_same s.text s.bodies ctx.depth p at.cursor a go (other_leaf c.args.pattern) rest)
+    ap (λ plan. cut (to_come s.text s.bodies plan at.depth ctx.marks ctx.back at.cursor a ++ rest)) plan
+    ∙ leaf_same s.text s.bodies at.depth p at.cursor a go (other_leaf c.args.pattern) rest)
     (omega (arith, count)) _ (c.ends.ensures s is plan fits held placed)

@@ -2,10 +2,10 @@
 use Rattle.std.proofs.Common.{ap, sym, subst, ◌∙◌, Some, None, ◌≢◌}
 use Rattle.std.proofs.lemmas.List.{append-nil}
 use Rattle.std.specs.Option.{option_map}
+use Rattle.sno_book.specs.Openings.{place_in}
 use Rattle.sno_desk.specs.Answers.{Answer, Answers}
-use Rattle.sno_desk.specs.Seen.{place_in}
 use Rattle.sno_rewrite.specs.Owners.{answer_in}
-use Rattle.sno_rewrite.proofs.PlaceLemmas.{is_named}
+use Rattle.sno_book.proofs.Standing.{is_named}
 use Rattle.sno_rewrite.proofs.settling.list.Goals as goal
 
 pub returns-in-Ok-clause-listed : goal.returns-in-Ok-clause-listed

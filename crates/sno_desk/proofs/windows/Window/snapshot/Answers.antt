@@ -1,9 +1,8 @@
 -- The text at the place of a name, as the viewer has found it.
 use Rattle.std.proofs.Common.{◌≡◌, Some, None, ap, sym, subst, ◌∙◌}
 use Rattle.std.specs.Arc.{arc_value}
-use Rattle.sno_book.specs.Openings.{Opening, IsOpening}
+use Rattle.sno_book.specs.Openings.{Opening, IsOpening, place_in}
 use Rattle.sno_published.specs.Tables.{text_after, text_at}
-use Rattle.sno_desk.specs.Seen.{place_in}
 use Rattle.sno_desk.proofs.Viewings.{stands_after, stays_there}
 use Rattle.sno_desk.proofs.windows.Window.snapshot.Goals as goal
 

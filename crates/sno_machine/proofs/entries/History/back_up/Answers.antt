@@ -1,13 +1,13 @@
 -- An entry that is dropped comes to nothing, and a choice to what comes of its place.
-use Rattle.std.proofs.Common.{◌≡◌, sym, ◌++◌, ◌∷◌, [], ap, ◌∙◌, subst, arith}
+use Rattle.std.proofs.Common.{◌≡◌, ◌++◌, ◌∷◌, [], ap, ◌∙◌, subst, arith}
 use Rattle.sno_machine.specs.History.{entries_of, IsHistory, left, steps_left}
 use Rattle.sno_machine.specs.declared.entries.Entry.{Entry}
 use Rattle.sno_machine.specs.declared.entries.Entry.TheVariants as entry
 use Rattle.sno_machine.proofs.HistoryLaws.{left_new, steps_new, history_old, dropped}
 use Rattle.sno_machine.proofs.entries.History.back_up.Goals as goal
 
-pub returns-in-Choice : goal.returns-in-Choice
-returns-in-Choice c = λ s held.
+pub returns-in-Choice-clause-taken_up : goal.returns-in-Choice-clause-taken_up
+returns-in-Choice-clause-taken_up c = λ s held.
     let before = c.loop-entry.invariant s held in
     let new = c.pop.new.self.items in
     let x : Entry = entry.Choice c.in-Choice.place in

@@ -1,7 +1,7 @@
 -- A table with no entry.
 use Rattle.std.proofs.Common.{ap, ◌∙◌, arith}
 use Rattle.sno_book.specs.Openings.{Opening}
-use Rattle.sno_published.specs.StoredTexts.{first_contents}
+use Rattle.sno_book.specs.Starts.{first_contents}
 use Rattle.sno_published.proofs.Replays.{first}
 use Rattle.sno_published.proofs.tables.Table.new.Goals as goal
 

@@ -1,0 +1,106 @@
+//! The listing of a document's serial run, in a caller's buffer.
+ghost use Rattle.std.specs.Prelude.{◌≡◌, ◌<◌, ◌≤◌, ◌↔◌, ◌⊎◌, ◌++◌, ℕ, Bool, List, drop, length, take};
+ghost use Rattle.sno_c.specs.Answers.{IsFaulty, IsListed, IsLonger};
+ghost use Rattle.sno_document.specs.declared.modes.Mode.{Mode};
+ghost use Rattle.sno_rewrite.specs.Reports.{IsReport, status_of_run};
+
+use sno_rewrite::{Options, Report, RunFault, run_serial, status_of};
+use std::alloc::Global;
+
+/// The limit of trials is none: 1 to 1,000,000,000.
+const BAD_LIMIT: u8 = 3;
+
+/// The buffer is too short for the listing.
+const TOO_SHORT: u8 = 5;
+
+const MAX_TRIALS: u32 = 1_000_000_000;
+
+/// Copies the bytes to the beginning of the buffer, which has room for them.
+fn copy_to(buffer: &mut [u8], bytes: &[u8])
+    requires { length bytes.now ≤ length buffer.old }
+    ensures { buffer.new ≡ bytes.now ++ drop (length bytes.now) buffer.old }
+{
+    let (room, _) = buffer.split_at_mut(bytes.len());
+    room.copy_from_slice(bytes);
+}
+
+/// Puts the line of a fault in the buffer, as much of it as there is room for, and tells how much that is.
+fn put_fault(alloc: Global, fault: &RunFault, buffer: &mut [u8], told: &mut usize)
+    ensures rest { drop told.new buffer.new ≡ drop told.new buffer.old }
+    ensures same { length buffer.new ≡ length buffer.old }
+    ensures inside { told.new ≤ length buffer.new }
+{
+    *told = 0;
+    if let Ok(line) = fault.to_string(alloc) {
+        let count = line.len().min(buffer.len());
+        let (front, _) = line.as_bytes().split_at(count);
+        copy_to(buffer, front);
+        *told = count;
+    }
+}
+
+/// Puts the listing in the buffer if there is room for it, and tells its length either way.
+fn put_listing(report: &Report, buffer: &mut [u8], told: &mut usize) -> u8
+    ensures counted { told.new ≡ length report.now.bytes.items }
+    ensures longer { result ≡ 5 → (length buffer.old < told.new) × (buffer.new ≡ buffer.old) }
+    ensures written { result < 2 → (buffer.new ≡ report.now.bytes.items ++ drop told.new buffer.old) × (result ≡ status_of_run report.now.refused) }
+    ensures known { (result < 2) ⊎ (result ≡ 5) }
+{
+    *told = report.bytes.len();
+    if report.bytes.len() > buffer.len() {
+        return TOO_SHORT;
+    }
+    copy_to(buffer, &report.bytes);
+    if report.refused == 0 { 0 } else { 1 }
+}
+
+/// Performs the statements of a document in order on its texts, and puts the listing in the buffer, as JSON where `json` is set. `anchor` is whether
+/// statements that don't say otherwise are anchored, and `trials` how many trials a match may take, 1 to 1,000,000,000. It takes memory by `malloc`, and
+/// gives all of it back.
+///
+/// What comes back is a status, and `told` is a number of bytes:
+///
+/// - 0: no statement was refused. The listing is the first `told` bytes of the buffer.
+/// - 1: the same, and statements were refused, as the listing has it.
+/// - 2: the bytes are no document. The first `told` bytes of the buffer are the line of the first fault, as much of it as there is room for.
+/// - 3: the limit of trials is none. `told` is 0.
+/// - 4: memory was refused. The first `told` bytes of the buffer are a line that says so.
+/// - 5: the buffer is too short for the listing, which has `told` bytes. The buffer is as it was.
+///
+/// Past the first `told` bytes the buffer is as it was.
+#[unsafe(no_mangle)]
+pub extern "C" fn sno_rewrite_list(
+    alloc: Global,
+    document: &[u8],
+    anchor: bool,
+    json: bool,
+    trials: u32,
+    buffer: &mut [u8],
+    told: &mut usize,
+) -> u8
+    ensures listed { result < 2 → IsListed (record { anchor = anchor; trials = trials }) json document.now buffer.old buffer.new told.new result }
+    ensures faulty { result ≡ 2 → IsFaulty (record { anchor = anchor; trials = trials }) document.now }
+    ensures limit { result ≡ 3 ↔ ((trials ≡ 0) ⊎ (1000000000 < trials)) }
+    ensures longer { result ≡ 5 → IsLonger (record { anchor = anchor; trials = trials }) json document.now buffer.old told.new }
+    ensures rest { drop told.new buffer.new ≡ drop told.new buffer.old }
+    ensures known { result ≤ 5 }
+{
+    *told = 0;
+    if trials == 0 || trials > MAX_TRIALS {
+        return BAD_LIMIT;
+    }
+    let options = Options {
+        anchor,
+        workers: None,
+        tries: 1,
+        json,
+        trials,
+    };
+    match run_serial(alloc, document, &options) {
+        Ok(report) => put_listing(&report, buffer, told),
+        Err(fault) => {
+            put_fault(alloc, &fault, buffer, told);
+            status_of(&fault)
+        }
+    }
+}

@@ -1,0 +1,176 @@
+//! A seat that goes on reading in one thread while a submit on the same text stands at its gate in another.
+ghost use Rattle.std.specs.Prelude.{◌≡◌, []};
+ghost use Rattle.std.specs.Thread.{IsSend};
+
+use crate::day::{check_entry, check_text};
+use crate::flags::{Flag, TURNS};
+use crate::jobs::{book, rules, statement};
+use sno_book::{Book, Entry};
+use sno_desk::{Blank, Desk, Gate, Naming, Reply, Seat, TextName, close};
+use sno_statement::Statement;
+use std::alloc::Global;
+use std::marker::Brand;
+use std::process::Abort;
+use std::sync::{Arc, Wait};
+use std::test::Fail;
+use std::thread;
+use std::thread::Threads;
+use std::time::{Clock, Duration};
+
+/// How often the reader looks in a turn.
+const LOOKS: usize = 100;
+
+/// Holds the submit until the reader has read, and lets the reader know that it came and that it has its answer.
+#[derive(Drop)]
+struct Held<'a, C: Clock> {
+    clock: &'a C,
+    came: Flag,
+    read: Flag,
+    done: Flag,
+}
+
+impl<C: Clock> Gate for Held<'_, C> {
+    ghost shuts = { λ _ _ _. Unit {0} };
+
+    fn pass<R: Wait>(&self, _rt: &R, _number: u32, _attempt: u32) -> bool {
+        self.came.raise();
+        self.read.wait(self.clock)
+    }
+
+    fn done<R: Wait>(&self, _rt: &R, _number: u32, _accepted: bool) {
+        self.done.raise();
+    }
+}
+
+/// Reads for a turn. The last version, or none where there was no snapshot, or one whose version was lower than that before.
+fn look<L: Naming>(seat: &mut Seat<L>, name: &TextName, first: u64) -> Option<u64> {
+    let mut last = first;
+    for _ in 0..LOOKS {
+        match seat.snapshot(name) {
+            Ok(snapshot) if snapshot.version >= last => last = snapshot.version,
+            _ => return None,
+        }
+    }
+    Some(last)
+}
+
+/// Reads until the submit has its answer, and then for a last turn.
+fn look_on<L: Naming, C: Clock>(
+    seat: &mut Seat<L>,
+    name: &TextName,
+    gate: &Held<'_, C>,
+    first: u64,
+) -> Option<u64> {
+    let mut last = first;
+    for _ in 0..TURNS {
+        let done = gate.done.is_up();
+        last = look(seat, name, last)?;
+        if done {
+            return Some(last);
+        }
+        thread::sleep(gate.clock, Duration::from_millis(10));
+    }
+    None
+}
+
+/// Who reads a text beside a submit.
+trait Reads {
+    /// Reads while the gate holds the submit, and goes on until after its answer. The last version of each part; none where a version went down.
+    fn read<C: Clock>(&mut self, name: &TextName, gate: &Held<'_, C>) -> Option<(u64, u64)>;
+}
+
+impl<L: Naming> Reads for Seat<L> {
+    fn read<C: Clock>(&mut self, name: &TextName, gate: &Held<'_, C>) -> Option<(u64, u64)> {
+        if !gate.came.wait(gate.clock) {
+            return None;
+        }
+        let held = look(self, name, 0);
+        gate.read.raise();
+        let last = look_on(self, name, gate, held?)?;
+        Some((held?, last))
+    }
+}
+
+/// The job submitted in this thread while the reader reads in another.
+fn submit_beside<L: Naming, S: Reads + Send, R: Threads + Wait + Clock + Sync>(
+    rt: &R,
+    alloc: Global,
+    desk: &Desk<L>,
+    writer: &mut Seat<L>,
+    job: Arc<Statement>,
+    reader: &mut S,
+    name: &TextName,
+) -> (Option<(u64, u64)>, Reply) {
+    let gate = Held {
+        clock: rt,
+        came: Flag::new(),
+        read: Flag::new(),
+        done: Flag::new(),
+    };
+    thread::join(
+        rt,
+        || reader.read(name, &gate),
+        || { desk.submit(rt, alloc, writer, job, 1, &gate) },
+    )
+}
+
+/// That a value of this type may go to another thread. It does nothing: its contract is used.
+fn may_cross<T: Send>()
+    ensures sends { IsSend T.row }
+{}
+
+/// One seat submits the job while the other reads its text.
+fn read_beside<L: Naming + Send + Sync, R: Threads + Wait + Clock + Abort + Sync>(
+    rt: &R,
+    alloc: Global,
+    blank: Blank,
+    book: Book,
+    job: Arc<Statement>,
+    name: &TextName,
+) -> Result<Book, Fail>
+    requires name { (blank.ledger.name ≡ L.name) × (blank.ledger.parts ≡ L.parts) }
+    requires histories { (blank.history ≡ record { history = L.book; entries = [] }) × (blank.attempts.history ≡ L.tries) }
+    requires opening { book.opening ≡ L.opening }
+    requires two { blank.ledger.parts ≡ 2 }
+    requires empty { book.journal ≡ [] }
+{
+    may_cross::<Entry>();
+    let mut all = Vec::with_capacity(alloc, 2)?;
+    let (desk, mut seats) = Desk::<L>::new(rt, alloc, blank, book, 2).map_err(|(fault, _)| fault)?;
+    let mut reader = seats.pop().unwrap();
+    let mut writer = seats.pop().unwrap();
+    let (versions, reply) = submit_beside(rt, alloc, &desk, &mut writer, job, &mut reader, name);
+    assert_eq!(rt; versions, Some((0, 1)));
+    assert!(rt; reply.is_ok());
+    assert_eq!(rt; (reader.accepted(), reader.seen()), (0, 1));
+    all.push_reserved(writer);
+    all.push_reserved(reader);
+    let book = close(rt, desk, all).map_err(|(fault, _)| fault)?;
+    Ok(book)
+}
+
+/// The same at a desk of its own.
+fn share<R: Threads + Wait + Clock + Abort + Sync>(
+    rt: &R,
+    alloc: Global,
+    book: Book,
+    job: Arc<Statement>,
+    name: &TextName,
+) -> Result<Book, Fail>
+    requires { book.journal ≡ [] }
+{
+    read_beside::<Brand, R>(rt, alloc, Blank::new(2), book, job, name)
+}
+
+#[test]
+fn a_reader_goes_on_while_a_submit_is_held(rt: HostRuntime) -> Result<(), Fail> {
+    let alloc = rt.alloc();
+    let job = statement(&rt, alloc, &rules(&rt, alloc)?, 1, "T", "'x'", "'z'")?;
+    let name = TextName::new(alloc, b"T".as_slice())?;
+    let book = book(alloc, &[("T", b"x")], 1_000_000)?;
+    let book = share(&rt, alloc, book, job, &name)?;
+    assert_eq!(rt; book.journal().len(), 1);
+    check_entry(&rt, &book, 0, 1, 0);
+    check_text(&rt, &book, 0, "z", 1);
+    Ok(())
+}

@@ -1,0 +1,33 @@
+//! What a test tells of its calls, a line each, for `tests/refused_growths` to read.
+use std::fmt;
+use std::test::Fail;
+
+/// What a call came to.
+#[derive(Clone, Copy, Debug, PartialEq, Eq)]
+pub(crate) enum Answer {
+    /// What it has to answer.
+    Given,
+    /// That memory was refused.
+    Refused,
+}
+
+impl fmt::Display for Answer {
+    fn fmt<W: fmt::Write>(&self, f: &mut fmt::Formatter<W>) -> fmt::Result {
+        f.write_str(match self {
+            Answer::Given => "given",
+            Answer::Refused => "refused",
+        })
+    }
+}
+
+/// Tells that all is made that the calls need.
+pub(crate) fn tell_ready(rt: &impl Print) -> Result<(), Fail> {
+    println!(rt; "ready")?;
+    Ok(())
+}
+
+/// Tells what a call came to.
+pub(crate) fn tell(rt: &impl Print, answer: Answer) -> Result<(), Fail> {
+    println!(rt; "{answer}")?;
+    Ok(())
+}

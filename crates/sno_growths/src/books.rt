@@ -1,0 +1,174 @@
+//! Performing, proposing, and committing to a book.
+ghost use Rattle.std.specs.Prelude.{IfErr};
+ghost use Rattle.sno_book.specs.Books.{view_of};
+ghost use Rattle.sno_book.specs.Views.{IsPrefix};
+
+use crate::answers::{Answer, tell, tell_ready};
+use crate::jobs::{book, check_book, check_exchange, exchange, proposal, row};
+use sno_book::{
+    Book, BookFault, CommitFault, Proposal, Snapshot, StatementFault, Text, TextName, propose,
+};
+use sno_statement::{Statement, perform};
+use std::alloc::Global;
+use std::process::Abort;
+use std::sync::Arc;
+use std::test::Fail;
+
+const BEFORE: &[u8] = b"k=v";
+
+const AFTER: &[u8] = b"v=k";
+
+fn open(rt: &impl Abort, alloc: Global, texts: Vec<(TextName, Text)>) -> Answer {
+    match Book::new(alloc, texts, 1_000_000) {
+        Ok(book) => {
+            check_book(rt, &book, BEFORE, 0, 0);
+            Answer::Given
+        }
+        Err(fault) => {
+            assert_eq!(rt; fault, BookFault::Memory);
+            Answer::Refused
+        }
+    }
+}
+
+#[test]
+fn a_book(rt: HostRuntime) -> Result<(), Fail> {
+    let alloc = rt.alloc();
+    let mut texts = Vec::new(alloc);
+    texts.push(row(alloc, "T", "k=v")?)?;
+    let mut same_texts = Vec::new(alloc);
+    same_texts.push(row(alloc, "T", "k=v")?)?;
+    tell_ready(&rt)?;
+    tell(&rt, open(&rt, alloc, texts))?;
+    tell(&rt, open(&rt, alloc, same_texts))
+}
+
+fn perform_once(rt: &impl Abort, alloc: Global, statement: &Statement, text: &Text) -> Answer {
+    match perform(alloc, statement, text) {
+        Ok(outcome) => {
+            check_exchange(rt, &outcome);
+            Answer::Given
+        }
+        Err(fault) => {
+            assert_eq!(rt; fault, StatementFault::Memory);
+            Answer::Refused
+        }
+    }
+}
+
+#[test]
+fn a_statement_is_performed(rt: HostRuntime) -> Result<(), Fail> {
+    let alloc = rt.alloc();
+    let statement = exchange(&rt, alloc)?;
+    let text = Text::new(Vec::from_slice(alloc, BEFORE)?)?;
+    tell_ready(&rt)?;
+    tell(&rt, perform_once(&rt, alloc, &statement, &text))?;
+    tell(&rt, perform_once(&rt, alloc, &statement, &text))
+}
+
+fn propose_once(
+    rt: &impl Abort,
+    alloc: Global,
+    statement: Arc<Statement>,
+    snapshot: Snapshot,
+) -> Answer {
+    match propose(alloc, statement, snapshot) {
+        Ok(proposal) => {
+            check_exchange(rt, proposal.outcome());
+            assert_eq!(rt; (proposal.place(), proposal.version()), (0, 0));
+            Answer::Given
+        }
+        Err(fault) => {
+            assert_eq!(rt; fault, StatementFault::Memory);
+            Answer::Refused
+        }
+    }
+}
+
+/// The caller's own statement stands, so the call can be made again.
+#[test]
+fn a_statement_is_proposed(rt: HostRuntime) -> Result<(), Fail> {
+    let alloc = rt.alloc();
+    let statement = exchange(&rt, alloc)?;
+    let book = book(alloc, &[("T", "k=v")])?;
+    let snapshot = book.snapshot(statement.text())?;
+    let again = book.snapshot(statement.text())?;
+    let shared = Arc::try_clone(&statement)?;
+    tell_ready(&rt)?;
+    tell(&rt, propose_once(&rt, alloc, shared, snapshot))?;
+    tell(&rt, propose_once(&rt, alloc, statement, again))
+}
+
+/// Prepares the proposal, and takes it back. The book is as it was, with both answers.
+#[tactic(auto, using(sno_book::proofs::Kinship::is_kin, sno_book::proofs::Kinship::held, sno_book::proofs::Kinship::still))]
+fn prepare(rt: &impl Abort, book: &mut Book, proposal: Proposal) -> (Answer, Proposal)
+    requires { IsPrefix proposal.origin (view_of book.old) }
+    ensures { IsPrefix result.1.origin (view_of book.new) }
+{
+    match book.prepare(proposal) {
+        Ok(ready) => {
+            assert!(rt; book.has_spare());
+            check_book(rt, book, BEFORE, 0, 0);
+            (Answer::Given, ready.back())
+        }
+        Err((fault, back)) => {
+            assert_eq!(rt; fault, CommitFault::Memory);
+            check_book(rt, book, BEFORE, 0, 0);
+            (Answer::Refused, back)
+        }
+    }
+}
+
+#[test]
+fn a_commit_is_prepared(rt: HostRuntime) -> Result<(), Fail> {
+    let alloc = rt.alloc();
+    let mut book = book(alloc, &[("T", "k=v")])?;
+    let proposal = proposal(alloc, &book, &exchange(&rt, alloc)?)?;
+    tell_ready(&rt)?;
+    let (answer, back) = prepare(&rt, &mut book, proposal);
+    tell(&rt, answer)?;
+    check_exchange(&rt, back.outcome());
+    let (answer, back) = prepare(&rt, &mut book, back);
+    check_exchange(&rt, back.outcome());
+    tell(&rt, answer)
+}
+
+/// Commits the proposal; where memory is refused the book is as it was, and the proposal comes back.
+#[tactic(auto, using(sno_book::proofs::Kinship::is_kin, sno_book::proofs::Kinship::still))]
+fn commit(rt: &impl Abort, book: &mut Book, proposal: Proposal) -> Result<(), Proposal>
+    requires { IsPrefix proposal.origin (view_of book.old) }
+    ensures { IfErr result (λ p. IsPrefix p.origin (view_of book.new)) }
+{
+    match book.commit(proposal) {
+        Ok(receipt) => {
+            assert_eq!(rt; receipt.index, 0);
+            check_book(rt, book, AFTER, 1, 1);
+            Ok(())
+        }
+        Err((fault, back)) => {
+            assert_eq!(rt; fault, CommitFault::Memory);
+            check_book(rt, book, BEFORE, 0, 0);
+            check_exchange(rt, back.outcome());
+            Err(back)
+        }
+    }
+}
+
+#[test]
+fn a_proposal_is_committed(rt: HostRuntime) -> Result<(), Fail> {
+    let alloc = rt.alloc();
+    let mut book = book(alloc, &[("T", "k=v")])?;
+    let proposal = proposal(alloc, &book, &exchange(&rt, alloc)?)?;
+    tell_ready(&rt)?;
+    let Err(back) = commit(&rt, &mut book, proposal) else {
+        return tell(&rt, Answer::Given);
+    };
+    tell(&rt, Answer::Refused)?;
+    tell(
+        &rt,
+        match commit(&rt, &mut book, back) {
+            Ok(()) => Answer::Given,
+            Err(_) => Answer::Refused,
+        },
+    )
+}

@@ -1,0 +1,241 @@
+//! A desk that is opened, and one seat of it that commits and submits.
+ghost use Rattle.std.specs.Prelude.{◌≡◌, [], IfOk, IfErr};
+ghost use Rattle.sno_book.specs.Views.{IsPrefix};
+ghost use Rattle.sno_desk.specs.Seen.{view_after};
+
+use crate::answers::{Answer, tell, tell_ready};
+use crate::jobs::{book, check_book, statement};
+use sno_book::Book;
+use sno_desk::{
+    Blank, CommitFault, Desk, DeskFault, Naming, OpenGate, Proposal, Seat, SubmitFault, close,
+    propose,
+};
+use sno_statement::Statement;
+use std::alloc::Global;
+use std::marker::Brand;
+use std::process::Abort;
+use std::sync::{Arc, Wait};
+use std::test::Fail;
+
+/// A desk over the book, closed again; where memory is refused the book comes back.
+fn open_and_close<L: Naming, R: Wait + Abort>(
+    rt: &R,
+    alloc: Global,
+    blank: Blank,
+    book: Book,
+) -> Result<(), Book>
+    requires name { (blank.ledger.name ≡ L.name) × (blank.ledger.parts ≡ L.parts) }
+    requires histories { (blank.history ≡ record { history = L.book; entries = [] }) × (blank.attempts.history ≡ L.tries) }
+    requires opening { book.opening ≡ L.opening }
+    requires two { blank.ledger.parts ≡ 2 }
+    requires empty { book.journal ≡ [] }
+    ensures { IfErr result (λ b. b ≡ book) }
+{
+    match Desk::<L>::new(rt, alloc, blank, book, 2) {
+        Ok((desk, seats)) => {
+            assert_eq!(rt; seats.len(), 2);
+            let closed = close(rt, desk, seats);
+            let book = closed.ok().expect(rt, "it is closed");
+            check_book(rt, &book, b"x".as_slice(), 0, 0);
+            Ok(())
+        }
+        Err((fault, book)) => {
+            assert_eq!(rt; fault, DeskFault::Memory);
+            check_book(rt, &book, b"x".as_slice(), 0, 0);
+            Err(book)
+        }
+    }
+}
+
+fn open<R: Wait + Abort>(rt: &R, alloc: Global, book: Book) -> Result<(), Book>
+    requires { book.journal ≡ [] }
+    ensures { IfErr result (λ b. b ≡ book) }
+{
+    open_and_close::<Brand, R>(rt, alloc, Blank::new(2), book)
+}
+
+#[test]
+fn a_desk(rt: HostRuntime) -> Result<(), Fail> {
+    let alloc = rt.alloc();
+    let book = book(alloc, &[("T", "x")])?;
+    tell_ready(&rt)?;
+    let Err(book) = open(&rt, alloc, book) else {
+        return tell(&rt, Answer::Given);
+    };
+    tell(&rt, Answer::Refused)?;
+    tell(
+        &rt,
+        match open(&rt, alloc, book) {
+            Ok(()) => Answer::Given,
+            Err(_) => Answer::Refused,
+        },
+    )
+}
+
+/// What is done at a seat of a desk.
+trait Turn {
+    /// What the call came to. All that it needs is made before `tell_ready`.
+    fn take<L: Naming, R: Wait + Abort + Print>(
+        &self,
+        rt: &R,
+        alloc: Global,
+        desk: &Desk<L>,
+        seat: &mut Seat<L>,
+    ) -> Result<Answer, Fail>;
+}
+
+/// The statement proposed on its text as the seat sees it.
+fn proposal<L: Naming>(
+    alloc: Global,
+    seat: &mut Seat<L>,
+    job: &Arc<Statement>,
+) -> Result<Proposal, Fail>
+    ensures { IfOk result (λ p. IsPrefix p.origin (view_after L.opening seat.new.viewer.seen)) }
+{
+    let snapshot = seat.snapshot(job.text())?;
+    let proposal = propose(alloc, Arc::try_clone(job)?, snapshot)?;
+    Ok(proposal)
+}
+
+/// That the seat has accepted so many, and sees its text so.
+fn check_seat<L: Naming>(
+    rt: &impl Abort,
+    seat: &mut Seat<L>,
+    job: &Statement,
+    accepted: u64,
+    text: &[u8],
+) {
+    assert_eq!(rt; seat.accepted(), accepted);
+    let snapshot = seat.snapshot(job.text()).ok().expect(rt, "it is shown");
+    assert_eq!(rt; snapshot.version, accepted);
+    assert_eq!(rt; snapshot.text.bytes(), text);
+}
+
+/// What stands after the call, as it came out.
+fn check_answer<L: Naming>(
+    rt: &impl Abort,
+    seat: &mut Seat<L>,
+    job: &Statement,
+    answer: Answer,
+) -> Answer {
+    match answer {
+        Answer::Given => check_seat(rt, seat, job, 1, b"z".as_slice()),
+        Answer::Refused => check_seat(rt, seat, job, 0, b"x".as_slice()),
+    }
+    answer
+}
+
+/// The statement is proposed, and its proposal committed.
+#[derive(Drop)]
+struct Commits(Arc<Statement>);
+
+impl Turn for Commits {
+    fn take<L: Naming, R: Wait + Abort + Print>(
+        &self,
+        rt: &R,
+        alloc: Global,
+        desk: &Desk<L>,
+        seat: &mut Seat<L>,
+    ) -> Result<Answer, Fail> {
+        let proposal = proposal(alloc, seat, &self.0)?;
+        tell_ready(rt)?;
+        let answer = match desk.commit(rt, seat, proposal) {
+            Ok(receipt) => {
+                assert_eq!(rt; receipt.index, 0);
+                Answer::Given
+            }
+            Err((fault, back)) => {
+                assert_eq!(rt; fault, CommitFault::Memory);
+                assert_eq!(rt; back.version(), 0);
+                Answer::Refused
+            }
+        };
+        Ok(check_answer(rt, seat, &self.0, answer))
+    }
+}
+
+/// The statement is submitted.
+#[derive(Drop)]
+struct Submits(Arc<Statement>);
+
+impl Turn for Submits {
+    fn take<L: Naming, R: Wait + Abort + Print>(
+        &self,
+        rt: &R,
+        alloc: Global,
+        desk: &Desk<L>,
+        seat: &mut Seat<L>,
+    ) -> Result<Answer, Fail> {
+        let shared = Arc::try_clone(&self.0)?;
+        tell_ready(rt)?;
+        let answer = match desk.submit(rt, alloc, seat, shared, 100, &OpenGate) {
+            Ok(receipt) => {
+                assert_eq!(rt; receipt.index, 0);
+                Answer::Given
+            }
+            Err(fault) => {
+                assert_eq!(rt; fault, SubmitFault::Memory);
+                Answer::Refused
+            }
+        };
+        Ok(check_answer(rt, seat, &self.0, answer))
+    }
+}
+
+fn at_seat<L: Naming, T: Turn, R: Wait + Abort + Print>(
+    rt: &R,
+    alloc: Global,
+    blank: Blank,
+    book: Book,
+    turn: &T,
+) -> Result<(Answer, Book), Fail>
+    requires name { (blank.ledger.name ≡ L.name) × (blank.ledger.parts ≡ L.parts) }
+    requires histories { (blank.history ≡ record { history = L.book; entries = [] }) × (blank.attempts.history ≡ L.tries) }
+    requires opening { book.opening ≡ L.opening }
+    requires one { blank.ledger.parts ≡ 1 }
+    requires empty { book.journal ≡ [] }
+{
+    let (desk, mut seats) = Desk::<L>::new(rt, alloc, blank, book, 1).map_err(|(fault, _)| fault)?;
+    let (first, _) = seats.as_mut_slice().split_at_mut(1);
+    let taken = turn.take(rt, alloc, &desk, &mut first[0]);
+    let closed = close(rt, desk, seats).map_err(|(fault, _)| fault);
+    Ok((taken?, closed?))
+}
+
+fn at_own_desk<T: Turn, R: Wait + Abort + Print>(
+    rt: &R,
+    alloc: Global,
+    book: Book,
+    turn: &T,
+) -> Result<(Answer, Book), Fail>
+    requires { book.journal ≡ [] }
+{
+    at_seat::<Brand, T, R>(rt, alloc, Blank::new(1), book, turn)
+}
+
+/// The turn at a seat. The closed journal has the entry where the answer is given, and none where it is refused.
+fn check_turn<T: Turn, R: Wait + Abort + Print>(
+    rt: &R,
+    alloc: Global,
+    turn: &T,
+) -> Result<(), Fail> {
+    let book = book(alloc, &[("T", "x")])?;
+    let (answer, book) = at_own_desk(rt, alloc, book, turn)?;
+    match answer {
+        Answer::Given => check_book(rt, &book, b"z".as_slice(), 1, 1),
+        Answer::Refused => check_book(rt, &book, b"x".as_slice(), 0, 0),
+    }
+    tell(rt, answer)
+}
+
+#[test]
+fn a_proposal_is_committed_at_a_desk(rt: HostRuntime) -> Result<(), Fail> {
+    let job = statement(&rt, rt.alloc(), "T", "'x'", "'z'")?;
+    check_turn(&rt, rt.alloc(), &Commits(job))
+}
+
+#[test]
+fn a_statement_is_submitted(rt: HostRuntime) -> Result<(), Fail> {
+    let job = statement(&rt, rt.alloc(), "T", "'x'", "'z'")?;
+    check_turn(&rt, rt.alloc(), &Submits(job))
+}

@@ -1,0 +1,100 @@
+//! Books and statements for the tests.
+ghost use Rattle.std.specs.Prelude.{◌≡◌, [], IfOk};
+ghost use Rattle.sno_book.specs.Books.{view_of};
+ghost use Rattle.sno_book.specs.Views.{IsPrefix};
+
+use sno_book::{Book, Proposal, Text, TextName, propose};
+use sno_pattern::{Names, Rules};
+use sno_read::{read_object, read_pattern};
+use sno_statement::{Datum, Outcome, Statement};
+use std::alloc::Global;
+use std::process::Abort;
+use std::sync::Arc;
+use std::test::Fail;
+
+/// A text with its name.
+pub(crate) fn row(alloc: Global, name: &str, text: &str) -> Result<(TextName, Text), Fail> {
+    let characters = Vec::from_slice(alloc, text.as_bytes())?;
+    Ok((
+        TextName::new(alloc, name.as_bytes())?,
+        Text::new(characters)?,
+    ))
+}
+
+/// A book of these texts, each with its name.
+pub(crate) fn book(alloc: Global, texts: &[(&str, &str)]) -> Result<Book, Fail>
+    ensures { IfOk result (λ b. b.journal ≡ []) }
+{
+    let mut rows = Vec::new(alloc);
+    for (name, text) in texts {
+        rows.push(row(alloc, name, text)?)?;
+    }
+    let book = Book::new(alloc, rows, 1_000_000)?;
+    Ok(book)
+}
+
+/// A statement that replaces what the pattern matches in the text by the object.
+pub(crate) fn statement(
+    rt: &impl Abort,
+    alloc: Global,
+    text: &str,
+    pattern: &str,
+    object: &str,
+) -> Result<Arc<Statement>, Fail> {
+    let rules = Rules::admit(alloc, Names::new(alloc, &[])?, Vec::new(alloc))?;
+    let pattern = read_pattern(alloc, rules.names(), 0, pattern.as_bytes())?;
+    let object = read_object(alloc, rules.names(), object.as_bytes())?;
+    assert!(rt; rules.covers(&pattern));
+    let text = TextName::new(alloc, text.as_bytes())?;
+    let rules = Arc::new(alloc, rules)?;
+    let statement = Statement::new(1, rules, pattern, Some(object), text, false);
+    Ok(Arc::new(alloc, statement)?)
+}
+
+/// A key and its value change places.
+pub(crate) fn exchange(rt: &impl Abort, alloc: Global) -> Result<Arc<Statement>, Fail> {
+    statement(rt, alloc, "T", "BREAK('=') . K '=' REM . V", "V '=' K")
+}
+
+/// The statement on its text as it stands.
+pub(crate) fn proposal(alloc: Global, book: &Book, job: &Arc<Statement>) -> Result<Proposal, Fail>
+    ensures { IfOk result (λ p. IsPrefix p.origin (view_of book.now)) }
+{
+    let snapshot = book.snapshot(job.text())?;
+    let proposal = propose(alloc, Arc::try_clone(job)?, snapshot)?;
+    Ok(proposal)
+}
+
+fn check_string(rt: &impl Abort, datum: Option<&Datum>, wanted: &[u8]) {
+    match datum {
+        Some(Datum::Str(text)) => assert_eq!(rt; text.bytes(), wanted),
+        Some(Datum::Int(_)) | None => assert!(rt; false, "no string"),
+    }
+}
+
+/// That this is what `exchange` does to `k=v`.
+pub(crate) fn check_exchange(rt: &impl Abort, outcome: &Outcome) {
+    match outcome {
+        Outcome::Matched {
+            start,
+            end,
+            bindings,
+            after,
+        } => {
+            assert_eq!(rt; (*start, *end, bindings.len()), (0, 3, 2));
+            check_string(rt, bindings.get(0).map(|b| b.1), b"k".as_slice());
+            check_string(rt, bindings.get(1).map(|b| b.1), b"v".as_slice());
+            let after = after.as_ref().expect(rt, "there is a new text");
+            assert_eq!(rt; after.bytes(), b"v=k".as_slice());
+        }
+        Outcome::Failed { .. } | Outcome::Repeated { .. } => assert!(rt; false, "no match"),
+    }
+}
+
+/// Compares the book's first text and its version, and how many entries there are.
+pub(crate) fn check_book(rt: &impl Abort, book: &Book, text: &[u8], version: u64, entries: usize) {
+    let (_, characters, at) = book.text(0).expect(rt, "there is a text");
+    assert_eq!(rt; characters.bytes(), text);
+    assert_eq!(rt; at, version);
+    assert_eq!(rt; book.journal().len(), entries);
+}

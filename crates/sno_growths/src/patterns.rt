@@ -1,0 +1,223 @@
+//! Names, definitions, patterns, objects, and what is compiled of them.
+ghost use Rattle.std.specs.Prelude.{IsTrue, length};
+
+use crate::answers::{Answer, tell, tell_ready};
+use sno_machine::{Code, MatchFault, compile};
+use sno_pattern::{Name, NameFault, Names, NamesFault, Pattern, Rules, RulesFault, Text, TextName};
+use sno_read::{Part, ReadFault, read_object, read_pattern};
+use std::alloc::Global;
+use std::process::Abort;
+use std::test::Fail;
+
+/// A name of this kind, which it has to be.
+pub(crate) fn name(rt: &impl Abort, bytes: &[u8]) -> Name {
+    Name::read(bytes).expect(rt, "it is a name")
+}
+
+fn make_text_name(rt: &impl Abort, alloc: Global) -> Answer {
+    match TextName::new(alloc, b"T".as_slice()) {
+        Ok(name) => {
+            assert_eq!(rt; name.bytes(), b"T".as_slice());
+            Answer::Given
+        }
+        Err(fault) => {
+            assert_eq!(rt; fault, NameFault::Memory);
+            Answer::Refused
+        }
+    }
+}
+
+#[test]
+fn a_name_of_a_text(rt: HostRuntime) -> Result<(), Fail> {
+    tell_ready(&rt)?;
+    tell(&rt, make_text_name(&rt, rt.alloc()))?;
+    tell(&rt, make_text_name(&rt, rt.alloc()))
+}
+
+fn make_names(rt: &impl Abort, alloc: Global, names: &[Name; 2]) -> Answer {
+    match Names::new(alloc, names.as_slice()) {
+        Ok(made) => {
+            assert_eq!(rt; made.len(), 2);
+            assert_eq!(rt; made.place(&names[1]), Some(1));
+            Answer::Given
+        }
+        Err(fault) => {
+            assert_eq!(rt; fault, NamesFault::Memory);
+            Answer::Refused
+        }
+    }
+}
+
+#[test]
+fn names_of_definitions(rt: HostRuntime) -> Result<(), Fail> {
+    let names = [name(&rt, b"D".as_slice()), name(&rt, b"N".as_slice())];
+    tell_ready(&rt)?;
+    tell(&rt, make_names(&rt, rt.alloc(), &names))?;
+    tell(&rt, make_names(&rt, rt.alloc(), &names))
+}
+
+/// Definitions by their names and patterns, each of which may name all of them.
+fn definitions(
+    rt: &impl Abort,
+    alloc: Global,
+    written: &[(&'static str, &'static str)],
+) -> Result<(Names, Vec<Pattern>), Fail> {
+    let mut list = Vec::new(alloc);
+    for (definition, _) in written {
+        list.push(name(rt, definition.as_bytes()))?;
+    }
+    let names = Names::new(alloc, list.as_slice())?;
+    let mut bodies = Vec::new(alloc);
+    for (_, pattern) in written {
+        bodies.push(read_pattern(alloc, &names, names.len(), pattern.as_bytes())?)?;
+    }
+    Ok((names, bodies))
+}
+
+/// A row of digits, and two of them with a point between.
+static NUMBERS: [(&str, &str); 2] = [("D", "SPAN('0123456789')"), ("N", "D '.' D")];
+
+fn admit(rt: &impl Abort, alloc: Global, names: Names, bodies: Vec<Pattern>) -> Answer {
+    assert_eq!(rt; names.len(), bodies.len());
+    match Rules::admit(alloc, names, bodies) {
+        Ok(rules) => {
+            assert_eq!(rt; rules.len(), 2);
+            Answer::Given
+        }
+        Err(fault) => {
+            assert!(rt; matches!(fault, RulesFault::Memory), "{fault}");
+            Answer::Refused
+        }
+    }
+}
+
+#[test]
+fn definitions_are_admitted(rt: HostRuntime) -> Result<(), Fail> {
+    let alloc = rt.alloc();
+    let (names, bodies) = definitions(&rt, alloc, NUMBERS.as_slice())?;
+    let (same_names, same_bodies) = definitions(&rt, alloc, NUMBERS.as_slice())?;
+    tell_ready(&rt)?;
+    tell(&rt, admit(&rt, alloc, names, bodies))?;
+    tell(&rt, admit(&rt, alloc, same_names, same_bodies))
+}
+
+fn read_assigned(rt: &impl Abort, alloc: Global, names: &Names, expected: &Pattern) -> Answer {
+    match read_pattern(alloc, names, 0, b"LEN( 007 ) . A $ B".as_slice()) {
+        Ok(pattern) => {
+            assert!(rt; pattern == *expected);
+            Answer::Given
+        }
+        Err(fault) => {
+            assert_eq!(rt; fault, ReadFault::Memory);
+            Answer::Refused
+        }
+    }
+}
+
+#[test]
+fn a_pattern_is_read(rt: HostRuntime) -> Result<(), Fail> {
+    let alloc = rt.alloc();
+    let names = Names::new(alloc, &[])?;
+    let part = Pattern::Cond(
+        Box::new(alloc, Pattern::Len(7))?,
+        name(&rt, b"A".as_slice()),
+    );
+    let expected = Pattern::Imm(Box::new(alloc, part)?, name(&rt, b"B".as_slice()));
+    tell_ready(&rt)?;
+    tell(&rt, read_assigned(&rt, alloc, &names, &expected))?;
+    tell(&rt, read_assigned(&rt, alloc, &names, &expected))
+}
+
+fn read_three_parts(rt: &impl Abort, alloc: Global, names: &Names, expected: &[Part]) -> Answer {
+    match read_object(alloc, names, b"V '=' K".as_slice()) {
+        Ok(object) => {
+            assert!(rt; object.parts() == expected);
+            Answer::Given
+        }
+        Err(fault) => {
+            assert_eq!(rt; fault, ReadFault::Memory);
+            Answer::Refused
+        }
+    }
+}
+
+#[test]
+fn an_object_is_read(rt: HostRuntime) -> Result<(), Fail> {
+    let alloc = rt.alloc();
+    let names = Names::new(alloc, &[])?;
+    let mut expected = Vec::new(alloc);
+    expected.push(Part::Var(name(&rt, b"V".as_slice())))?;
+    expected.push(Part::Quoted(Text::new(Vec::from_slice(alloc, b"=".as_slice())?)?))?;
+    expected.push(Part::Var(name(&rt, b"K".as_slice())))?;
+    tell_ready(&rt)?;
+    tell(
+        &rt,
+        read_three_parts(&rt, alloc, &names, expected.as_slice()),
+    )?;
+    tell(
+        &rt,
+        read_three_parts(&rt, alloc, &names, expected.as_slice()),
+    )
+}
+
+/// As many `a` as there are, or fewer.
+static ROW: [(&str, &str); 1] = [("S", "'a' *S | ''")];
+
+const TWO_ROWS: &[u8] = b"*S . A 'a' *S . B 'b'";
+
+fn admitted_row(rt: &impl Abort, alloc: Global) -> Result<Rules, Fail> {
+    let (names, bodies) = definitions(rt, alloc, ROW.as_slice())?;
+    assert_eq!(rt; names.len(), bodies.len());
+    Ok(Rules::admit(alloc, names, bodies)?)
+}
+
+fn compile_once(rt: &impl Abort, alloc: Global, rules: &Rules, pattern: &Pattern) -> Answer {
+    assert!(rt; rules.covers(pattern));
+    match compile(alloc, rules, pattern) {
+        Ok(_) => Answer::Given,
+        Err(_) => Answer::Refused,
+    }
+}
+
+#[test]
+fn a_pattern_is_compiled(rt: HostRuntime) -> Result<(), Fail> {
+    let alloc = rt.alloc();
+    let rules = admitted_row(&rt, alloc)?;
+    let pattern = read_pattern(alloc, rules.names(), 1, TWO_ROWS)?;
+    tell_ready(&rt)?;
+    tell(&rt, compile_once(&rt, alloc, &rules, &pattern))?;
+    tell(&rt, compile_once(&rt, alloc, &rules, &pattern))
+}
+
+/// The first part matches `aa`, the second one nothing.
+fn match_once(rt: &impl Abort, alloc: Global, code: &Code<'_>, text: &Text) -> Answer {
+    match code.first(alloc, text, true, 1_000_000) {
+        Ok(found) => {
+            let hit = found.end.as_ref().expect(rt, "it matches");
+            assert_eq!(rt; (hit.start, hit.end), (0, 4));
+            let expected = [
+                (name(rt, b"A".as_slice()), 0, 2),
+                (name(rt, b"B".as_slice()), 3, 3),
+            ];
+            assert!(rt; hit.conds.as_slice() == expected.as_slice());
+            Answer::Given
+        }
+        Err(fault) => {
+            assert_eq!(rt; fault, MatchFault::Memory);
+            Answer::Refused
+        }
+    }
+}
+
+#[test]
+fn a_pattern_is_matched(rt: HostRuntime) -> Result<(), Fail> {
+    let alloc = rt.alloc();
+    let rules = admitted_row(&rt, alloc)?;
+    let pattern = read_pattern(alloc, rules.names(), 1, TWO_ROWS)?;
+    let text = Text::new(Vec::from_slice(alloc, b"aaab".as_slice())?)?;
+    assert!(rt; rules.covers(&pattern));
+    let code = compile(alloc, &rules, &pattern)?;
+    tell_ready(&rt)?;
+    tell(&rt, match_once(&rt, alloc, &code, &text))?;
+    tell(&rt, match_once(&rt, alloc, &code, &text))
+}

@@ -1,0 +1,132 @@
+//! Options and whole runs.
+ghost use Rattle.std.specs.Prelude.{IfSome, ◌≤◌};
+ghost use Rattle.sno_rewrite.specs.Runs.{AreInLimits};
+
+use crate::answers::{Answer, tell, tell_ready};
+use sno_rewrite::{
+    Options, OptionsFault, Report, RunFault, options_of, run, run_serial, run_shared,
+};
+use std::alloc::Global;
+use std::process::Abort;
+use std::sync::Wait;
+use std::test::Fail;
+use std::thread::Threads;
+
+/// Three statements: two on two texts, and one on a text that isn't there.
+const DOCUMENT: &str =
+    r#"{"texts":[{"name":"A","text":"k=v"},{"name":"B","text":"aaab"}],"statements":[{"text":"A","pattern":"BREAK('=') . K '=' REM . V","object":"V '=' K"},{"text":"B","pattern":"SPAN('a') 'a'"},{"text":"C","pattern":"'x'"}]}"#;
+
+/// How the listing begins; the order of the entries is left to the workers.
+const BEGINNING: &str = "texts 2\nA 1 |v=k|\nB 0 |aaab|\nentries 2\n";
+
+const LISTING: &str =
+    "texts 2\nA 1 |v=k|\nB 0 |aaab|\nentries 2\n0 statement 1 A 0 matched 0 3\n  K = |k|\n  V = |v|\n  -> |v=k|\n1 statement 2 B 0 failed\nrefused 1\nstatement 3 no text\n";
+
+/// The options that are given by no words.
+const PLAIN: Options = Options {
+    anchor: false,
+    workers: None,
+    tries: 100,
+    json: false,
+    trials: 1_000_000,
+};
+
+fn read_words(rt: &impl Abort, alloc: Global, words: &[String]) -> Answer {
+    match options_of(alloc, words) {
+        Ok(options) => {
+            assert_eq!(rt;
+                options,
+                Options {
+                    json: true,
+                    tries: 5,
+                    ..PLAIN
+                }
+            );
+            Answer::Given
+        }
+        Err(fault) => {
+            assert!(rt; matches!(fault, OptionsFault::Memory));
+            Answer::Refused
+        }
+    }
+}
+
+#[test]
+fn options_are_read(rt: HostRuntime) -> Result<(), Fail> {
+    let alloc = rt.alloc();
+    let mut words = Vec::new(alloc);
+    for word in ["--json", "--tries", "5"] {
+        words.push(String::from_str(alloc, word)?)?;
+    }
+    tell_ready(&rt)?;
+    tell(&rt, read_words(&rt, alloc, words.as_slice()))?;
+    tell(&rt, read_words(&rt, alloc, words.as_slice()))
+}
+
+/// What the run came to: a report that begins so, or that memory was refused.
+fn answer_of(rt: &impl Abort, report: Result<Report, RunFault>, beginning: &str) -> Answer {
+    match report {
+        Ok(report) => {
+            assert!(rt; report.bytes.starts_with(beginning.as_bytes()));
+            assert_eq!(rt; report.bytes.len(), LISTING.len());
+            assert_eq!(rt; report.refused, 1);
+            Answer::Given
+        }
+        Err(fault) => {
+            assert_eq!(rt; fault, RunFault::Memory);
+            Answer::Refused
+        }
+    }
+}
+
+#[test]
+fn a_serial_run(rt: HostRuntime) -> Result<(), Fail> {
+    let alloc = rt.alloc();
+    tell_ready(&rt)?;
+    let first = run_serial(alloc, DOCUMENT.as_bytes(), &PLAIN);
+    tell(&rt, answer_of(&rt, first, LISTING))?;
+    let second = run_serial(alloc, DOCUMENT.as_bytes(), &PLAIN);
+    tell(&rt, answer_of(&rt, second, LISTING))
+}
+
+#[test]
+fn a_run_shared_by_workers(rt: HostRuntime) -> Result<(), Fail> {
+    let options = Options {
+        workers: Some(2),
+        ..PLAIN
+    };
+    tell_ready(&rt)?;
+    let report = run_shared(&rt, rt.alloc(), DOCUMENT.as_bytes(), &options);
+    tell(&rt, answer_of(&rt, report, BEGINNING))
+}
+
+/// The run between a reader and a writer that has room for the listing. Where memory is refused nothing is written.
+fn run_once<R: Threads + Wait + Abort + Sync>(
+    rt: &R,
+    alloc: Global,
+    mut written: Vec<u8>,
+) -> Answer {
+    let mut reader = DOCUMENT.as_bytes();
+    match run(rt, alloc, &mut reader, &mut written, &PLAIN) {
+        Ok(status) => {
+            assert_eq!(rt; status, 1);
+            assert_eq!(rt; written.as_slice(), LISTING.as_bytes());
+            Answer::Given
+        }
+        Err(fault) => {
+            assert_eq!(rt; fault, RunFault::Memory);
+            assert!(rt; written.is_empty());
+            Answer::Refused
+        }
+    }
+}
+
+#[test]
+fn a_run(rt: HostRuntime) -> Result<(), Fail> {
+    let alloc = rt.alloc();
+    let written = Vec::with_capacity(alloc, 1_000)?;
+    let written_again = Vec::with_capacity(alloc, 1_000)?;
+    tell_ready(&rt)?;
+    tell(&rt, run_once(&rt, alloc, written))?;
+    tell(&rt, run_once(&rt, alloc, written_again))
+}

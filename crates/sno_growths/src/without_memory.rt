@@ -1,0 +1,131 @@
+//! Calls that take no memory, and so have their answer whatever is refused.
+ghost use Rattle.std.specs.Prelude.{◌≡◌, []};
+
+use crate::answers::{Answer, tell, tell_ready};
+use crate::jobs::{book, check_book, exchange, proposal};
+use crate::patterns::name;
+use sno_book::Book;
+use sno_desk::{Blank, Desk, Naming, close};
+use sno_pattern::{Class, Name, Names, Pattern, Rules, Text, TextName};
+use sno_rewrite::{RunFault, status_of};
+use sno_statement::Statement;
+use std::alloc::Global;
+use std::marker::Brand;
+use std::process::Abort;
+use std::slice;
+use std::sync::{Arc, Wait};
+use std::test::Fail;
+
+#[test]
+fn names_sets_and_texts_without_memory(rt: HostRuntime) -> Result<(), Fail> {
+    let alloc = rt.alloc();
+    let names = Names::new(alloc, &[name(&rt, b"D".as_slice())])?;
+    let members = Vec::from_slice(alloc, b"ab".as_slice())?;
+    let none = Vec::new(alloc);
+    let characters = Vec::from_slice(alloc, b"xyz".as_slice())?;
+    tell_ready(&rt)?;
+    let word = Name::read(b"ARB".as_slice()).expect(&rt, "it is a name");
+    assert!(rt; word.is_reserved() && Name::read(b"1A".as_slice()).is_none());
+    assert_eq!(rt; names.place(&name(&rt, b"D".as_slice())), Some(0));
+    assert_eq!(rt; names.place(&word), None);
+    let class = Class::new(members).expect(&rt, "it is a set");
+    assert!(rt; class.has(b'b') && !class.has(b'c') && Class::new(none).is_none());
+    let text = Text::new(characters)?;
+    assert_eq!(rt; text.bytes(), b"xyz".as_slice());
+    assert_eq!(rt; status_of(&RunFault::NotJson), 2);
+    tell(&rt, Answer::Given)
+}
+
+#[test]
+fn a_statement_without_memory(rt: HostRuntime) -> Result<(), Fail> {
+    let alloc = rt.alloc();
+    let rules = Rules::admit(alloc, Names::new(alloc, &[])?, Vec::new(alloc))?;
+    let rules = Arc::new(alloc, rules)?;
+    let object = sno_read::read_object(alloc, rules.names(), b"'x'".as_slice())?;
+    let text = TextName::new(alloc, b"T".as_slice())?;
+    tell_ready(&rt)?;
+    let pattern = Pattern::Len(1);
+    assert!(rt; rules.covers(&pattern));
+    let statement = Statement::new(7, rules, pattern, Some(object), text, true);
+    let statement = statement.limited(5).repeated(3);
+    assert_eq!(rt; (statement.number(), statement.limit()), (7, 5));
+    assert_eq!(rt; (statement.repeat(), statement.anchored()), (Some(3), true));
+    tell(&rt, Answer::Given)
+}
+
+/// A proposal that is ready is taken back.
+#[test]
+#[tactic(auto, using(sno_book::proofs::Kinship::is_kin))]
+fn a_book_without_memory(rt: HostRuntime) -> Result<(), Fail> {
+    let alloc = rt.alloc();
+    let mut book = book(alloc, &[("T", "k=v")])?;
+    let name = TextName::new(alloc, b"T".as_slice())?;
+    let proposal = proposal(alloc, &book, &exchange(&rt, alloc)?)?;
+    let Ok(ready) = book.prepare(proposal) else {
+        return Err("out of memory".into());
+    };
+    tell_ready(&rt)?;
+    check_book(&rt, &book, b"k=v".as_slice(), 0, 0);
+    assert_eq!(rt; ready.back().version(), 0);
+    assert_eq!(rt; book.opening().place(&name), Some(0));
+    assert!(rt; book.has_spare());
+    tell(&rt, Answer::Given)
+}
+
+/// A proposal that is ready is accepted, and the receipt audited.
+#[test]
+#[tactic(auto, using(sno_book::proofs::Kinship::is_kin, sno_book::proofs::Kinship::kin_after))]
+fn a_commit_is_finished_without_memory(rt: HostRuntime) -> Result<(), Fail> {
+    let alloc = rt.alloc();
+    let mut book = book(alloc, &[("T", "k=v")])?;
+    let proposal = proposal(alloc, &book, &exchange(&rt, alloc)?)?;
+    let Ok(ready) = book.prepare(proposal) else {
+        return Err("out of memory".into());
+    };
+    tell_ready(&rt)?;
+    let receipt = book.finish(ready);
+    check_book(&rt, &book, b"v=k".as_slice(), 1, 1);
+    assert_eq!(rt; book.audit(slice::from_ref(&receipt)), Ok(()));
+    tell(&rt, Answer::Given)
+}
+
+/// The seats are counted, and the desk is closed.
+fn count_and_close<L: Naming, R: Wait + Abort + Print>(
+    rt: &R,
+    alloc: Global,
+    blank: Blank,
+    book: Book,
+) -> Result<(), Fail>
+    requires name { (blank.ledger.name ≡ L.name) × (blank.ledger.parts ≡ L.parts) }
+    requires histories { (blank.history ≡ record { history = L.book; entries = [] }) × (blank.attempts.history ≡ L.tries) }
+    requires opening { book.opening ≡ L.opening }
+    requires two { blank.ledger.parts ≡ 2 }
+    requires empty { book.journal ≡ [] }
+{
+    let (desk, seats) = Desk::<L>::new(rt, alloc, blank, book, 2).map_err(|(fault, _)| fault)?;
+    let told = tell_ready(rt);
+    for seat in &seats {
+        assert_eq!(rt; (seat.accepted(), seat.seen()), (0, 0));
+    }
+    let closed = close(rt, desk, seats);
+    let book = closed.ok().expect(rt, "it is closed");
+    check_book(rt, &book, b"x".as_slice(), 0, 0);
+    told?;
+    tell(rt, Answer::Given)
+}
+
+fn count_and_close_one<R: Wait + Abort + Print>(
+    rt: &R,
+    alloc: Global,
+    book: Book,
+) -> Result<(), Fail>
+    requires { book.journal ≡ [] }
+{
+    count_and_close::<Brand, R>(rt, alloc, Blank::new(2), book)
+}
+
+#[test]
+fn seats_and_the_close_without_memory(rt: HostRuntime) -> Result<(), Fail> {
+    let book = book(rt.alloc(), &[("T", "x")])?;
+    count_and_close_one(&rt, rt.alloc(), book)
+}

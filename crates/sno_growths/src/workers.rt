@@ -1,0 +1,90 @@
+//! Two workers with three jobs.
+ghost use Rattle.std.specs.Prelude.{◌≡◌, []};
+
+use crate::answers::{Answer, tell, tell_ready};
+use crate::jobs::{book, statement};
+use sno_book::Book;
+use sno_desk::{
+    Blank, Desk, Naming, OpenGate, Reply, SubmitFault, WorkersFault, close, run_workers,
+};
+use sno_statement::Statement;
+use std::alloc::Global;
+use std::marker::Brand;
+use std::process::Abort;
+use std::sync::{Arc, Wait};
+use std::test::Fail;
+use std::thread::Threads;
+
+/// What the workers came to: all replies are receipts, or the call or a reply says that memory was refused. Then others may say that the desk was
+/// stopped.
+fn answer_of(rt: &impl Abort, replies: Result<Vec<Reply>, WorkersFault>) -> Answer {
+    let Ok(replies) = replies else {
+        return Answer::Refused;
+    };
+    assert_eq!(rt; replies.len(), 3);
+    let mut answer = Answer::Given;
+    let mut is_stopped = false;
+    for reply in &replies {
+        match reply {
+            Ok(_) => {}
+            Err(SubmitFault::Memory) => answer = Answer::Refused,
+            Err(SubmitFault::Stopped) => is_stopped = true,
+            Err(fault) => assert!(rt; false, "{fault}"),
+        }
+    }
+    assert!(rt; !is_stopped || answer == Answer::Refused);
+    answer
+}
+
+/// What the workers came to, how many each seat has accepted, and the closed book.
+fn work<L: Naming + Send + Sync, R: Threads + Wait + Abort + Print + Sync>(
+    rt: &R,
+    alloc: Global,
+    blank: Blank,
+    book: Book,
+    jobs: &[Arc<Statement>],
+) -> Result<(Answer, (u64, u64), Book), Fail>
+    requires name { (blank.ledger.name ≡ L.name) × (blank.ledger.parts ≡ L.parts) }
+    requires histories { (blank.history ≡ record { history = L.book; entries = [] }) × (blank.attempts.history ≡ L.tries) }
+    requires opening { book.opening ≡ L.opening }
+    requires two { blank.ledger.parts ≡ 2 }
+    requires empty { book.journal ≡ [] }
+{
+    let (desk, mut seats) = Desk::<L>::new(rt, alloc, blank, book, 2).map_err(|(fault, _)| fault)?;
+    let told = tell_ready(rt);
+    let replies = run_workers(rt, alloc, &desk, seats.as_mut_slice(), jobs, 100, &OpenGate);
+    let answer = answer_of(rt, replies);
+    assert_eq!(rt; seats.len(), 2);
+    let shares = (seats[0].accepted(), seats[1].accepted());
+    let closed = close(rt, desk, seats).map_err(|(fault, _)| fault);
+    told?;
+    Ok((answer, shares, closed?))
+}
+
+fn work_at_own_desk<R: Threads + Wait + Abort + Print + Sync>(
+    rt: &R,
+    alloc: Global,
+    book: Book,
+    jobs: &[Arc<Statement>],
+) -> Result<(Answer, (u64, u64), Book), Fail>
+    requires { book.journal ≡ [] }
+{
+    work::<Brand, R>(rt, alloc, Blank::new(2), book, jobs)
+}
+
+/// The journal has as many entries as the seats have accepted: all three where every reply is a receipt.
+#[test]
+fn jobs_are_done_by_workers(rt: HostRuntime) -> Result<(), Fail> {
+    let alloc = rt.alloc();
+    let mut jobs = Vec::new(alloc);
+    jobs.push(statement(&rt, alloc, "A", "'a'", "'x'")?)?;
+    jobs.push(statement(&rt, alloc, "B", "'b'", "'x'")?)?;
+    jobs.push(statement(&rt, alloc, "C", "'c'", "'x'")?)?;
+    let book = book(alloc, &[("A", "a"), ("B", "b"), ("C", "c")])?;
+    let (answer, (first, second), book) = work_at_own_desk(&rt, alloc, book, jobs.as_slice())?;
+    assert_eq!(rt; book.journal().len() as u64, first.saturating_add(second));
+    if answer == Answer::Given {
+        assert_eq!(rt; (first, second), (2, 1));
+    }
+    tell(&rt, answer)
+}

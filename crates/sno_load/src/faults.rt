@@ -1,0 +1,100 @@
+//! Why the program ends otherwise.
+ghost use Rattle.std.specs.Prelude.{◌≡◌};
+ghost use Rattle.sno_load.specs.Faults.{status};
+
+use sno_desk::{SnapshotFault, StatementFault, SubmitFault};
+use std::alloc::{AllocError, AllocFailed};
+use thiserror::Error;
+
+/// Why the program ends otherwise than with its lines. What it prints is the line for standard error.
+#[derive(Clone, Copy, Debug, PartialEq, Eq, Error)]
+pub enum Fault {
+    /// The words are none that the program knows.
+    #[error("usage: sno_load [--submits N --writers W --readers R | --times N], where N is 1 to 1000000 submits or 1 to 100000 times, W is 1 to 16, and R is 0 to 16 - W")]
+    Usage,
+    /// A text or a statement of the load is none.
+    #[error("no load")]
+    NoLoad,
+    /// There is no desk.
+    #[error("no desk")]
+    NoDesk,
+    /// Memory was refused.
+    #[error("out of memory")]
+    Memory,
+    /// The clock could not be read.
+    #[error("clock failed")]
+    Clock,
+    /// A line could not be written.
+    #[error("write failed")]
+    Write,
+    /// A statement was not accepted.
+    #[error("a statement was refused: {0}")]
+    Refused(SubmitFault),
+    /// A reader got no snapshot.
+    #[error("a snapshot was refused: {0}")]
+    NoSnapshot(SnapshotFault),
+    /// A reader saw a lower version than before.
+    #[error("a version went down")]
+    WentDown,
+    /// A receipt's entry is not the journal's at its index.
+    #[error("a receipt is not in the journal")]
+    Elsewhere,
+    /// Two receipts have one index.
+    #[error("two receipts for one entry")]
+    Twice,
+    /// A seat has accepted more or fewer statements than it has receipts.
+    #[error("a seat counted wrong")]
+    Miscounted,
+    /// The desk's book came back with another opening.
+    #[error("close failed")]
+    Close,
+}
+
+impl Fault {
+    /// The status with which the program ends: 3 for its words, 1 for what was not found as it has to be, and otherwise 4.
+    pub fn status(&self) -> u8
+        ensures { result ≡ status self.now }
+    {
+        match self {
+            Fault::Usage => 3,
+            Fault::NoLoad | Fault::NoDesk | Fault::Memory | Fault::Clock | Fault::Write => 4,
+            Fault::Refused(_)
+            | Fault::NoSnapshot(_)
+            | Fault::WentDown
+            | Fault::Elsewhere
+            | Fault::Twice
+            | Fault::Miscounted
+            | Fault::Close => 1,
+        }
+    }
+}
+
+impl From<AllocError> for Fault {
+    fn from(_refused: AllocError) -> Fault {
+        Fault::Memory
+    }
+}
+
+impl<T: Drop> From<AllocFailed<T>> for Fault {
+    fn from(_refused: AllocFailed<T>) -> Fault {
+        Fault::Memory
+    }
+}
+
+impl From<SnapshotFault> for Fault {
+    fn from(fault: SnapshotFault) -> Fault {
+        Fault::NoSnapshot(fault)
+    }
+}
+
+impl From<StatementFault> for Fault {
+    fn from(fault: StatementFault) -> Fault {
+        Fault::Refused(SubmitFault::from(fault))
+    }
+}
+
+impl From<SubmitFault> for Fault {
+    fn from(fault: SubmitFault) -> Fault {
+        Fault::Refused(fault)
+    }
+}

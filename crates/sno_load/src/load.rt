@@ -1,0 +1,190 @@
+//! A desk under load, from its opening to its close.
+ghost use Rattle.std.specs.Prelude.{◌≡◌, ◌≤◌, ◌+◌, [], IfOk, length};
+ghost use Rattle.std.specs.Thread.{IsSend, IsSync};
+
+use crate::faults::Fault;
+use crate::posts::{Post, Record, Shift};
+use crate::texts::{TEXTS, book_of, jobs_of, names_of};
+use crate::words::Load;
+use sno_book::{Book, Entry, Receipt};
+use sno_desk::{Blank, Desk, Naming, Seat, TextName, close};
+use sno_statement::Statement;
+use std::alloc::{AllocError, Global};
+use std::marker::Brand;
+use std::sync::atomic::AtomicU64;
+use std::sync::{Arc, Wait};
+use std::thread;
+use std::thread::Threads;
+use std::time::{Clock, Duration, Instant};
+
+/// What a load leaves: the book, what was done at each seat and how many it has accepted, and how long that took.
+#[derive(Drop)]
+pub struct Rest {
+    pub book: Book,
+    pub records: Vec<Record>,
+    pub accepted: Vec<u64>,
+    pub took: Duration,
+}
+
+/// The time that the clock shows.
+pub fn now<C: Clock>(clock: &C) -> Result<Instant, Fault> {
+    Instant::now(clock).map_err(|_| Fault::Clock)
+}
+
+/// That a value of this type may go to another thread, and be shared there. It does nothing: its contract is used more than once.
+fn may_cross<T: Send + Sync>()
+    ensures sends { IsSend T.row }
+    ensures shares { IsSync T.row }
+{}
+
+/// All posts at work, each in a thread of its own.
+fn work_all<L: Naming + Send + Sync, R: Threads + Wait + Sync>(
+    rt: &R,
+    alloc: Global,
+    desk: &Desk<L>,
+    posts: &mut [Post<L>],
+    jobs: &[Arc<Statement>],
+    names: &[TextName],
+    load: Load,
+    writers: &AtomicU64,
+)
+    requires some { 1 ≤ length posts.old }
+    ensures { length posts.new ≡ length posts.old }
+{
+    may_cross::<Entry>();
+    may_cross::<Statement>();
+    may_cross::<Receipt>();
+    let threads = posts.len();
+    let worker = |place: usize, post: &mut Post<L>| {
+        let shift = Shift {
+            desk,
+            jobs,
+            names,
+            load,
+            writers,
+        };
+        shift.work(rt, alloc, place, post);
+    };
+    thread::for_each_mut(rt, posts, threads, &worker);
+}
+
+/// A post at each seat.
+fn posts_at<L: Naming>(alloc: Global, seats: Vec<Seat<L>>) -> Result<Vec<Post<L>>, AllocError>
+    ensures { IfOk result (λ posts. length posts.items ≡ length seats.items) }
+{
+    let mut posts = Vec::with_capacity(alloc, seats.len())?;
+    for seat in seats {
+        posts.push(Post::new(alloc, seat)).map_err(|_| AllocError)?;
+    }
+    Ok(posts)
+}
+
+/// What was done at each post.
+fn take_records<L: Naming>(alloc: Global, posts: &mut [Post<L>]) -> Result<Vec<Record>, AllocError>
+    ensures { length posts.new ≡ length posts.old }
+{
+    let mut records = Vec::with_capacity(alloc, posts.len())?;
+    for post in posts.iter_mut() {
+        records
+            .push(post.take_record(alloc))
+            .map_err(|_| AllocError)?;
+    }
+    Ok(records)
+}
+
+/// The seats of the posts.
+fn seats_of<L: Naming>(alloc: Global, posts: Vec<Post<L>>) -> Result<Vec<Seat<L>>, AllocError>
+    ensures { IfOk result (λ seats. length seats.items ≡ length posts.items) }
+{
+    let mut seats = Vec::with_capacity(alloc, posts.len())?;
+    for post in posts {
+        seats.push(post.into_seat()).map_err(|_| AllocError)?;
+    }
+    Ok(seats)
+}
+
+/// How many each seat has accepted.
+fn counts_of<L: Naming>(alloc: Global, seats: &[Seat<L>]) -> Result<Vec<u64>, AllocError> {
+    let mut counts = Vec::with_capacity(alloc, seats.len())?;
+    for seat in seats {
+        counts.push(seat.accepted()).map_err(|_| AllocError)?;
+    }
+    Ok(counts)
+}
+
+/// The load at its seats, and the seats and records that are left of it. Where it is refused, the seats are lost.
+fn spend<L: Naming + Send + Sync, R: Threads + Wait + Clock + Sync>(
+    rt: &R,
+    alloc: Global,
+    desk: &Desk<L>,
+    seats: Vec<Seat<L>>,
+    load: Load,
+) -> Result<(Vec<Seat<L>>, Vec<Record>, Duration), Fault>
+    requires { 1 ≤ length seats.items }
+    ensures { IfOk result (λ r. length r.0.items ≡ length seats.items) }
+{
+    let jobs = jobs_of(alloc, load)?;
+    let names = names_of(alloc, TEXTS)?;
+    let writers = AtomicU64::new(load.writers as u64);
+    let mut posts = posts_at(alloc, seats)?;
+    let begun = now(rt)?;
+    work_all(
+        rt,
+        alloc,
+        desk,
+        posts.as_mut_slice(),
+        &jobs,
+        &names,
+        load,
+        &writers,
+    );
+    let took = now(rt)?.duration_since(begun);
+    let records = take_records(alloc, posts.as_mut_slice())?;
+    let seats = seats_of(alloc, posts)?;
+    Ok((seats, records, took))
+}
+
+/// A desk over the book, with so many seats, under load.
+fn run<L: Naming + Send + Sync, R: Threads + Wait + Clock + Sync>(
+    rt: &R,
+    alloc: Global,
+    blank: Blank,
+    book: Book,
+    load: Load,
+) -> Result<Rest, Fault>
+    requires name { (blank.ledger.name ≡ L.name) × (blank.ledger.parts ≡ L.parts) }
+    requires histories { (blank.history ≡ record { history = L.book; entries = [] }) × (blank.attempts.history ≡ L.tries) }
+    requires opening { book.opening ≡ L.opening }
+    requires one_each { blank.ledger.parts ≡ load.writers + load.readers }
+    requires empty { book.journal ≡ [] }
+{
+    let count = load.writers + load.readers;
+    let (desk, seats) = Desk::<L>::new(rt, alloc, blank, book, count).map_err(|_| Fault::NoDesk)?;
+    let spent = spend(rt, alloc, &desk, seats, load);
+    let (seats, records, took) = match spent {
+        Ok(spent) => spent,
+        Err(fault) => {
+            desk.end(rt);
+            return Err(fault);
+        }
+    };
+    let accepted = counts_of(alloc, seats.as_slice());
+    let book = close(rt, desk, seats).map_err(|_| Fault::Close)?;
+    Ok(Rest {
+        book,
+        records,
+        accepted: accepted?,
+        took,
+    })
+}
+
+/// A desk of its own under load.
+pub fn run_load<R: Threads + Wait + Clock + Sync>(
+    rt: &R,
+    alloc: Global,
+    load: Load,
+) -> Result<Rest, Fault> {
+    let book = book_of(alloc, TEXTS)?;
+    let blank = Blank::new((load.writers + load.readers) as u64);
+    run::<Brand, R>(rt, alloc, blank, book, load)
+}

@@ -1,0 +1,131 @@
+//! What a writer and a reader do at their seats.
+ghost use Rattle.std.specs.Prelude.{◌≤◌};
+
+use crate::faults::Fault;
+use crate::texts::TEXTS;
+use crate::words::Load;
+use sno_desk::{Desk, Naming, OpenGate, Receipt, Seat, TextName};
+use sno_statement::Statement;
+use std::alloc::Global;
+use std::sync::atomic::{AtomicU64, Ordering};
+use std::sync::{Arc, Wait};
+use std::{mem, thread};
+
+/// How many tries a submit has: more than there are replacements of one text by others in a load of many writers.
+const TRIES: u32 = 1_000;
+
+/// What was done at a seat: the receipts, how many snapshots were taken, and the first fault.
+#[derive(Drop)]
+pub struct Record {
+    pub receipts: Vec<Receipt>,
+    pub snapshots: u64,
+    pub fault: Option<Fault>,
+}
+
+impl Record {
+    /// Of a seat at which nothing was done.
+    fn new(alloc: Global) -> Record {
+        Record {
+            receipts: Vec::new(alloc),
+            snapshots: 0,
+            fault: None,
+        }
+    }
+}
+
+/// A seat with its record.
+#[derive(Drop)]
+pub struct Post<L: Naming> {
+    pub seat: Seat<L>,
+    pub record: Record,
+}
+
+impl<L: Naming> Post<L> {
+    /// A post at which nothing was done.
+    pub fn new(alloc: Global, seat: Seat<L>) -> Post<L> {
+        Post {
+            seat,
+            record: Record::new(alloc),
+        }
+    }
+
+    /// The record, in whose place there is a new one.
+    pub fn take_record(&mut self, alloc: Global) -> Record {
+        mem::replace(&mut self.record, Record::new(alloc))
+    }
+
+    /// The seat, without its record.
+    pub fn into_seat(self) -> Seat<L> {
+        self.seat
+    }
+
+    /// A snapshot of each text. No version is lower than the one that was seen before.
+    fn look(&mut self, names: &[TextName], versions: &mut [u64]) -> Result<(), Fault> {
+        for (name, version) in names.iter().zip(versions.iter_mut()) {
+            let snapshot = self.seat.snapshot(name)?;
+            if snapshot.version < *version {
+                return Err(Fault::WentDown);
+            }
+            *version = snapshot.version;
+            self.record.snapshots = self.record.snapshots.saturating_add(1);
+        }
+        Ok(())
+    }
+
+    /// Takes snapshots while there are writers.
+    fn read(&mut self, names: &[TextName], writers: &AtomicU64) -> Result<(), Fault> {
+        let mut versions = [0u64; TEXTS];
+        for _ in 0..u64::MAX {
+            if writers.load(Ordering::SeqCst) == 0 {
+                break;
+            }
+            self.look(names, &mut versions)?;
+            thread::yield_now();
+        }
+        Ok(())
+    }
+}
+
+/// What all posts share.
+#[derive(Drop)]
+pub struct Shift<'a, L: Naming> {
+    pub desk: &'a Desk<L>,
+    pub jobs: &'a [Arc<Statement>],
+    pub names: &'a [TextName],
+    pub load: Load,
+    pub writers: &'a AtomicU64,
+}
+
+impl<L: Naming> Shift<'_, L> {
+    /// Submits each job whose turn it is.
+    fn write<R: Wait>(
+        &self,
+        rt: &R,
+        alloc: Global,
+        post: &mut Post<L>,
+        first: usize,
+    ) -> Result<(), Fault> {
+        for (place, job) in self.jobs.iter().enumerate() {
+            if place % self.load.writers == first {
+                let job = Arc::try_clone(job)?;
+                let receipt = self
+                    .desk
+                    .submit(rt, alloc, &mut post.seat, job, TRIES, &OpenGate)?;
+                post.record.receipts.push(receipt)?;
+            }
+        }
+        Ok(())
+    }
+
+    /// Does the work of the post at a place: the first ones write, the others read.
+    pub fn work<R: Wait>(&self, rt: &R, alloc: Global, place: usize, post: &mut Post<L>) {
+        let done = if place < self.load.writers {
+            let done = self.write(rt, alloc, post, place);
+            self.writers.fetch_sub(1, Ordering::SeqCst);
+            done
+        } else {
+            post.read(self.names, self.writers)
+        };
+        post.record.fault = done.err();
+    }
+}

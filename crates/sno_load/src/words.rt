@@ -1,0 +1,127 @@
+//! What the words of the program ask for.
+ghost use Rattle.std.specs.Prelude.{◌≤◌, ◌+◌, IfOk};
+
+use crate::faults::Fault;
+use std::env::Args;
+use std::io;
+use std::io::ErrorKind;
+
+/// How many submits there may be: as many as a journal has room for.
+const MAX_SUBMITS: u32 = 1_000_000;
+
+/// How many seats there may be, writers and readers together.
+const MAX_SEATS: u32 = 16;
+
+/// How often a work may be timed in a run, so that the journal has room for five runs.
+const MAX_TIMES: u32 = 100_000;
+
+/// How many statements are submitted by how many seats, beside how many that read.
+#[derive(Clone, Copy, Debug)]
+pub struct Load {
+    pub submits: u32,
+    pub writers: usize,
+    pub readers: usize,
+    ghost room: { submits ≤ 1000000 },
+    ghost some: { 1 ≤ writers },
+    ghost few: { writers + readers ≤ 16 },
+}
+
+/// How often a work is timed in a run.
+#[derive(Clone, Copy, Debug)]
+pub struct Times {
+    pub number: u32,
+    ghost lawful: { (1 ≤ number) × (number ≤ 100000) },
+}
+
+/// What the words ask for.
+#[derive(Clone, Copy, Debug)]
+pub enum Task {
+    /// A load; timed where its rates are wanted too.
+    Load { load: Load, is_timed: bool },
+    /// The times of a snapshot and of a commit.
+    Times(Times),
+}
+
+/// The number that a word is, between these two.
+fn number_in(word: Option<String>, least: u32, most: u32) -> Result<u32, Fault>
+    ensures { IfOk result (λ n. (least ≤ n) × (n ≤ most)) }
+{
+    let Some(word) = word else {
+        return Err(Fault::Usage);
+    };
+    match word.as_str().parse::<u32>() {
+        Ok(number) if least <= number && number <= most => Ok(number),
+        _ => Err(Fault::Usage),
+    }
+}
+
+/// The number after the option of this name.
+fn option_in(words: &mut Args, name: &str, least: u32, most: u32) -> Result<u32, Fault>
+    ensures { IfOk result (λ n. (least ≤ n) × (n ≤ most)) }
+{
+    match words.next() {
+        Some(word) if word.as_str() == name => {
+            let number = number_in(words.next(), least, most)?;
+            Ok(number)
+        }
+        _ => Err(Fault::Usage),
+    }
+}
+
+/// The load of `--submits N --writers W --readers R`, after the first of these words.
+fn load_in(words: &mut Args) -> Result<Load, Fault> {
+    let submits = number_in(words.next(), 1, MAX_SUBMITS)?;
+    let writers = option_in(words, "--writers", 1, MAX_SEATS)?;
+    let readers = option_in(words, "--readers", 0, MAX_SEATS - writers)?;
+    Ok(Load {
+        submits,
+        writers: writers as usize,
+        readers: readers as usize,
+    })
+}
+
+/// What the words after the program's name ask for.
+fn task_after_name(words: Args) -> Result<Task, Fault> {
+    let mut words = words;
+    let _name = words.next();
+    let Some(option) = words.next() else {
+        return Ok(Task::Load {
+            load: Load {
+                submits: 8_000,
+                writers: 8,
+                readers: 8,
+            },
+            is_timed: false,
+        });
+    };
+    let task = match option.as_str() {
+        "--submits" => Task::Load {
+            load: load_in(&mut words)?,
+            is_timed: true,
+        },
+        "--times" => Task::Times(Times {
+            number: number_in(words.next(), 1, MAX_TIMES)?,
+        }),
+        _ => return Err(Fault::Usage),
+    };
+    if words.next().is_some() {
+        return Err(Fault::Usage);
+    }
+    Ok(task)
+}
+
+/// What the program's words ask for, its name the first of them.
+///
+/// Refused: `Usage` for other words, also one that is no text, and `Memory` where memory is.
+pub fn task_in(words: io::Result<Args>) -> Result<Task, Fault> {
+    match words {
+        Ok(words) => {
+            let task = task_after_name(words)?;
+            Ok(task)
+        }
+        Err(error) => Err(match error.kind() {
+            ErrorKind::OutOfMemory => Fault::Memory,
+            _ => Fault::Usage,
+        }),
+    }
+}

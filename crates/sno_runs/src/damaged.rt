@@ -1,0 +1,58 @@
+//! Bytes that are no JSON, between a reader and a writer: nothing is written.
+use crate::runs::{PLAIN, THREE_STATEMENTS};
+use sno_rewrite::{RunFault, run, status_of};
+use std::alloc::Global;
+use std::process::Abort;
+use std::sync::Wait;
+use std::test::Fail;
+use std::thread::Threads;
+
+fn check_refused<R: Threads + Wait + Abort + AllocGlobal + Sync>(
+    rt: &R,
+    document: &[u8],
+    expected: RunFault,
+) {
+    let mut reader = document;
+    let mut written = Vec::new(rt.alloc());
+    let answer = run(rt, rt.alloc(), &mut reader, &mut written, &PLAIN);
+    assert_eq!(rt; answer, Err(expected), "for {document:?}");
+    assert_eq!(rt; status_of(&expected), 2);
+    assert!(rt; written.is_empty());
+}
+
+// The document but for some of its last bytes, down to no byte at all.
+#[test]
+fn no_beginning_of_a_document_is_json(rt: HostRuntime) {
+    let document = THREE_STATEMENTS.as_bytes();
+    for length in 0..document.len() {
+        check_refused(&rt, document.split_at(length).0, RunFault::NotJson);
+    }
+}
+
+// The document with the byte FF in place of each of its bytes in turn.
+#[test]
+fn no_document_has_the_byte_ff(rt: HostRuntime) -> Result<(), Fail> {
+    for place in 0..THREE_STATEMENTS.len() {
+        let mut document = Vec::from_slice(rt.alloc(), THREE_STATEMENTS.as_bytes())?;
+        if let Some(byte) = document.get_mut(place) {
+            *byte = 0xFF;
+        }
+        check_refused(&rt, &document, RunFault::NotJson);
+    }
+    Ok(())
+}
+
+// So many arrays, one in the other.
+fn nested(alloc: Global, depth: usize) -> Result<Vec<u8>, Fail> {
+    let mut document = vec![in alloc; b'['; depth]?;
+    document.extend_from_slice(vec![in alloc; b']'; depth]?.as_slice())?;
+    Ok(document)
+}
+
+// Arrays nest 127 deep, and are then no document for another reason.
+#[test]
+fn arrays_nest_at_most_127_deep(rt: HostRuntime) -> Result<(), Fail> {
+    check_refused(&rt, &nested(rt.alloc(), 127)?, RunFault::Shape);
+    check_refused(&rt, &nested(rt.alloc(), 128)?, RunFault::NotJson);
+    Ok(())
+}
