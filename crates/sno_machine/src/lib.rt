@@ -18,6 +18,9 @@
 //! P | Q            Fork ──> P ──>                 the choice is Q, which goes on to the same node as P; where P begins with a primitive with at
 //!                    └────> Q ──┘                most one end, it is tried at once, and no choice is left where it fails
 //!
+//! 'a' P | Q        Fork 'a' ──> P ──>             a literal of one character is tried by the branch itself: `next` is the node after the literal.
+//!                    └────────> Q ──┘             Repeat and Further do the same, also with RPOS
+//!
 //! ARBNO(P)         Repeat ──────────────────>     no round; the choice is a round, which comes back
 //!                  ^  └──> Mark ──> P ──> Moved
 //!                  └──────────────────────┘       Moved backs up where the round took no character
@@ -26,8 +29,8 @@
 //!                  ^  └──> 'a' ──> P ┐
 //!                  └─────────────────┘
 //!
-//! ARBNO('a')       Repeat ──>                     of a primitive with at most one end: a round is one node, which does what Mark, the
-//!                  └──> Round ──>                 primitive, Moved and Repeat do, and is its own choice
+//! ARBNO(BREAK('a'))  Repeat ──>                   of a primitive with at most one end that may take no character: a round is one node, which does
+//!                  └──> Round ──>                 what Mark, the primitive, Moved and Repeat do, and is its own choice
 //!
 //! ARB 'a'          Seek ──> 'a' ──>               before what begins with a few known characters: one node finds the first end before one
 //!                                                 of them, and is its own choice for the ends past it
@@ -39,7 +42,7 @@
 //! *D               Call D ──>                     the nodes of D, with a frame that says what comes after it
 //! *D               Jump D                         where nothing comes after it in the definition that refers to it: the nodes of D without a
 //!                                                frame, since what comes after D is what comes after that definition
-//!  D's body        P ──> Return                   what comes after it
+//!  D's body        P ──> Return                   what comes after it; a literal of one character that comes last goes back itself
 //!
 //! BAL              BAL ──>                        the first end; the choice is the further ends
 //!                   └──> Further ──>              the next one; the choice is those past it
@@ -72,22 +75,22 @@
 //! `ARBNO('a') . X 'b'` from cursor 0 of `ab`. Its nodes, with `next` and, where it is named, `other`:
 //!
 //! ```text
-//! 2 'b' → 1    3 Later X → 2    4 Round 'a' → 3    5 Repeat → 3, 4    6 Mark → 5    (0 Halt, 1 Return)
+//! 2 last 'b' → 1    3 Later X → 2    4 Repeat → 3, 5    5 'a' → 4    6 Mark → 4    (0 Halt, 1 Return)
 //! ```
 //!
 //! ```text
 //! node  cursor  the history after the step, the newest entry last     what happened
 //! 6     0       mark 0                                                X begins at 0
-//! 5     0       mark 0, choice 4 at 0                                 no round; a round is left as a choice
-//! 3     0       mark 0, choice 4 at 0, pending X 0-0                  X would be the null string
+//! 4     0       mark 0, choice 5 at 0                                 no round; a round is left as a choice
+//! 3     0       mark 0, choice 5 at 0, pending X 0-0                  X would be the null string
 //! 2     0       mark 0                                                a trial: there is no `b` at 0, and the choice is taken up
-//! 4     0       mark 0, choice 4 at 1                                 a trial: `a`, and the cursor is 1; a further round is left as a choice
-//! 3     1       mark 0, choice 4 at 1, pending X 0-1                  X would be `a`
-//! 2     1       the same                                              a trial: `b`, and the cursor is 2
-//! 1     2       the same                                              outside all frames: matched 0 to 2, X is `a`
+//! 5     0       mark 0                                                a trial: `a`, and the cursor is 1
+//! 4     1       mark 0, choice 5 at 1                                 no further round; one is left as a choice
+//! 3     1       mark 0, choice 5 at 1, pending X 0-1                  X would be `a`
+//! 2     1       the same                                              a trial: `b`; outside all frames: matched 0 to 2, X is `a`
 //! ```
 //!
-//! Without the ` . X`, `'b'` would come right after `Repeat` and `Round`, and be tried by them: then no choice is left at cursor 0.
+//! Without the ` . X`, `'b'` would come right after `Repeat`, and be tried by it: then no choice is left at cursor 0.
 //!
 //! | File | What it holds |
 //! |---|---|
@@ -98,6 +101,7 @@
 //! | `progress` | what was done so far: immediate assignments and trials |
 //! | `stepping` | one step: what a node does |
 //! | `branching` | one node, and another one as a choice |
+//! | `lookaheads` | the primitives that a branch tries itself |
 //! | `singles` | the primitives that have at most one end |
 //! | `other_leaves`, `leaves` | the other patterns without parts |
 //! | `rounds` | rounds of a repetition of a primitive |
@@ -130,6 +134,7 @@ mod faults;
 mod heads;
 mod history;
 mod leaves;
+mod lookaheads;
 mod needles;
 mod nodes;
 mod other_leaves;
