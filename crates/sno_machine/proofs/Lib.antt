@@ -12,4 +12,5 @@ pub mod HeadLaws
 pub mod BeginningLaws
 pub mod SeekingLaws
 pub mod StartLaws
+pub mod SizeLaws
 pub mod CompileLaws
