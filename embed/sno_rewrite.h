@@ -1,8 +1,7 @@
 /* The serial run of a document, for C: performs the statements of a document in order on its texts, and lists what they did.
  *
  * The function is that of the static library crates/sno_c, which is proved: what stands here about the status, the number of bytes and the buffer is what
- * its contract says, but for three things that are only tested or said: the line of a fault, that 3 tells no bytes, and that 5 leaves the buffer as it
- * was. That C hands it what it asks for is the caller's part: each pointer is to as many bytes as are named after it, none of
+ * its contract says, but for the line of a fault, which is only tested. That C hands it what it asks for is the caller's part: each pointer is to as many bytes as are named after it, none of
  * them is used by anyone else while the call goes on, and none is null, not even with a length of 0. `sno_rewrite` looks for null first. */
 #ifndef SNO_REWRITE_H
 #define SNO_REWRITE_H

@@ -44,6 +44,7 @@ fn put_listing(report: &Report, buffer: &mut [u8], told: &mut usize) -> u8
     ensures counted { told.new ≡ length report.now.bytes.items }
     ensures longer { result ≡ 5 → (length buffer.old < told.new) × (buffer.new ≡ buffer.old) }
     ensures written { result < 2 → (buffer.new ≡ report.now.bytes.items ++ drop told.new buffer.old) × (result ≡ status_of_run report.now.refused) }
+    ensures inside { result < 2 → told.new ≤ length buffer.old }
     ensures known { (result < 2) ⊎ (result ≡ 5) }
 {
     *told = report.bytes.len();
@@ -83,6 +84,9 @@ pub extern "C" fn sno_rewrite_list(
     ensures limit { result ≡ 3 ↔ ((trials ≡ 0) ⊎ (1000000000 < trials)) }
     ensures longer { result ≡ 5 → IsLonger (record { anchor = anchor; trials = trials }) json document.now buffer.old told.new }
     ensures rest { drop told.new buffer.new ≡ drop told.new buffer.old }
+    ensures inside { result < 5 → told.new ≤ length buffer.old }
+    ensures none { result ≡ 3 → told.new ≡ 0 }
+    ensures kept { result ≡ 5 → buffer.new ≡ buffer.old }
     ensures known { result ≤ 5 }
 {
     *told = 0;

@@ -8,8 +8,8 @@ use std::sync::Wait;
 use std::sync::ledger::{self, Share};
 
 /// The book, what is shown of it, and the ledger's total, which is the number of the journal's entries. The screen, while there is one, shows the
-/// journal; with none the desk is stopped. So the lock is never let go with an entry that no seat counts or no reader sees, nor with a count for
-/// which there is no entry. `rest` is what is left of the ledger's shares when each seat has its part: nothing.
+/// journal; with none the desk is stopped. So the lock is never let go with an entry that no seat counts, nor with a count for which there is no
+/// entry, and as long as the desk isn't stopped with none that no reader sees. `rest` is what is left of the ledger's shares when each seat has its part: nothing.
 pub(crate) struct Locked<L: Naming> {
     pub(crate) book: Book,
     pub(crate) screen: Option<Screen<L>>,
