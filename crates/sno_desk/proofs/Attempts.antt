@@ -14,6 +14,7 @@ use Rattle.sno_book.specs.Proposals.{Proposed, Received, Proposes, GivesProposal
 use Rattle.sno_book.specs.Snapshots.{Snapshot}
 use Rattle.sno_book.specs.States.{VersionedText}
 use Rattle.sno_book.specs.Views.{View, IsPrefix}
+use Rattle.sno_book.specs.declared.faults.CommitFault.TheVariants as book
 use Rattle.sno_book.proofs.Rising.{versions_only_rise_in_place}
 use Rattle.sno_published.specs.Tables.{text_at}
 use Rattle.sno_published.proofs.Prefixes.{prefix_self, prefix_trans, prefix_length}
@@ -27,6 +28,7 @@ use Rattle.sno_desk.specs.Faults.{of_commit, of_snapshot, of_statement}
 use Rattle.sno_desk.specs.Receipts.{IsCause, IsFor}
 use Rattle.sno_desk.specs.Seen.{GivesSeen, HasVersion, IsSeen, IsTold, view_after}
 use Rattle.sno_book.proofs.Standing.{standing}
+use Rattle.sno_desk.proofs.Causes.{explained}
 
 -- ---- versions
 
@@ -215,23 +217,25 @@ pub proposed_on : (opening : Opening) (seen : List Entry) (s its : Task) (name :
 proposed_on opening seen s its name taken p called same h made =
     proposed opening seen s taken p (subst (λ (n : List ℕ). IsSeen opening seen n taken) called h) (subst (λ (t : Task). Proposes p t taken) same made)
 
-pub committed_named : (e : CommitFault) (opening : Opening) (seen after : List Entry) (s : Task) (p : Proposed) → IsProposed opening seen s p → IsCause e opening after p → IsNamed opening s (Err (of_commit e))
-committed_named commit.NoText opening seen after s p h why = absurd (why (ap (λ (t : Task). place_in opening t.text) h.statement ∙ h.named))
+pub committed_named : (e : CommitFault) (opening : Opening) (seen after : List Entry) (s : Task) (p : Proposed) → IsProposed opening seen s p → IsCause e (view_after opening after) p → IsNamed opening s (Err (of_commit e))
+committed_named commit.NoText opening seen after s p h why =
+    let away = explained (view_after opening after) p book.NoText why in absurd (away (ap (λ (t : Task). place_in opening t.text) h.statement ∙ h.named))
 committed_named (commit.Changed was now) opening seen after s p h why = has_place opening s.text p.place h.named
 committed_named commit.Full opening seen after s p h why = has_place opening s.text p.place h.named
 committed_named commit.Memory opening seen after s p h why = has_place opening s.text p.place h.named
 committed_named commit.Stopped opening seen after s p h why = has_place opening s.text p.place h.named
 
 -- a text that changed has risen past the proposal's version
-changed : (opening : Opening) (seen after : List Entry) (s : Task) (p : Proposed) (was now : ℕ) → IsProposed opening seen s p → Begins seen after → IsCause (commit.Changed was now) opening after p → was < now
+changed : (opening : Opening) (seen after : List Entry) (s : Task) (p : Proposed) (was now : ℕ) → IsProposed opening seen s p → Begins seen after → IsCause (commit.Changed was now) (view_after opening after) p → was < now
 changed opening seen after s p was now h begins why =
-    let up = rises opening seen after p.place p.version now begins h.versioned why.2 in
-    let is : was ≡ p.version = why.0 in
-    let apart : now ≢ was = why.1 in
+    let told = explained (view_after opening after) p (book.Changed was now) why in
+    let up = rises opening seen after p.place p.version now begins h.versioned told.2 in
+    let is : was ≡ p.version = told.0 in
+    let apart : now ≢ was = told.1 in
     omega (arith, up, is, apart)
 
 pub committed_says : (e : CommitFault) (shuts : ℕ → ℕ → Type 0) (tries : ℕ) (opening : Opening) (seen after : List Entry) (s : Task) (p : Proposed) → IsProposed opening seen s p → Begins seen after
-    → IsCause e opening after p → Says shuts tries 1 s (Err (of_commit e))
+    → IsCause e (view_after opening after) p → Says shuts tries 1 s (Err (of_commit e))
 committed_says (commit.Changed was now) shuts tries opening seen after s p h begins why = let up = changed opening seen after s p was now h begins why in (up, omega (arith, up))
 committed_says commit.NoText shuts tries opening seen after s p h begins why = tt
 committed_says commit.Full shuts tries opening seen after s p h begins why = tt
@@ -239,10 +243,11 @@ committed_says commit.Memory shuts tries opening seen after s p h begins why = t
 committed_says commit.Stopped shuts tries opening seen after s p h begins why = tt
 
 pub committed_at : (e : CommitFault) (opening : Opening) (before seen after : List Entry) (s : Task) (p : Proposed) → IsProposed opening seen s p → Begins before seen → Begins seen after
-    → IsCause e opening after p → AnswersAt 1 opening before after s (Err (of_commit e))
+    → IsCause e (view_after opening after) p → AnswersAt 1 opening before after s (Err (of_commit e))
 committed_at (commit.Changed was now) opening before seen after s p h first then_on why =
     let up = changed opening seen after s p was now h then_on why in
-    let is : was ≡ p.version = why.0 in
+    let told = explained (view_after opening after) p (book.Changed was now) why in
+    let is : was ≡ p.version = told.0 in
     record {
       place = p.place;
       named = h.named;
@@ -250,12 +255,12 @@ committed_at (commit.Changed was now) opening before seen after s p h first then
       since = first;
       until = then_on;
       saw = subst (λ (v : ℕ). HasVersion opening seen p.place v) (sym is) h.versioned;
-      versioned = why.2;
+      versioned = told.2;
       higher = up;
       risen = λ version k. let below = rises opening before seen p.place version p.version first k h.versioned in omega (arith, below, is);
     }
 committed_at commit.NoText opening before seen after s p h first then_on why = tt
-committed_at commit.Full opening before seen after s p h first then_on why = why
+committed_at commit.Full opening before seen after s p h first then_on why = explained (view_after opening after) p book.Full why
 committed_at commit.Memory opening before seen after s p h first then_on why = tt
 committed_at commit.Stopped opening before seen after s p h first then_on why = tt
 

@@ -3,6 +3,7 @@ use Rattle.std.proofs.Common.{◌≡◌, ◌≢◌, ◌≤◌, ◌<◌, ℕ, zer
 use Rattle.std.specs.Prelude.{nat_eq, slice_get, if◌then◌else◌, Ok, Err, IfOk, IfErr}
 use Rattle.std.proofs.lemmas.Bool.{eqb-true, eqb-false}
 use Rattle.sno_pattern.specs.Identifiers.{same}
+use Rattle.sno_book.specs.Books.{Book, view_of}
 use Rattle.sno_book.specs.Entries.{Entry}
 use Rattle.sno_book.specs.Journals.{HasStep, replay}
 use Rattle.sno_book.specs.Openings.{Opening, start, place_in}
@@ -21,6 +22,7 @@ use Rattle.sno_desk.specs.declared.faults.CommitFault.TheVariants as commit
 use Rattle.sno_desk.specs.Receipts.{IsCause, NamesVersion, StandsAfter}
 use Rattle.sno_desk.specs.Answers.{Answer, MayFollow, SpentAt}
 use Rattle.sno_desk.specs.Faults.{of_book, of_commit}
+use Rattle.sno_desk.specs.Seen.{HasVersion, view_after}
 use Rattle.sno_book.proofs.Standing.{standing}
 
 -- what holds of each refusal that may come holds of the one that comes
@@ -60,20 +62,35 @@ module _ (v : View) (p : Proposed) (P : BookRefusal → Type 0) (no_text : place
   by_refusal : (e : BookRefusal) → refusal v p ≡ Some e → P e
   by_refusal e h = of_at e (place_in v.opening p.statement.text) refl h
 
+-- what the book's refusal says of its texts: a text that changed has another version than the proposal's, and the refusal names both; a full journal has
+-- as many entries as the opening has room for; and there is no text only where the opening has none of the statement's name at the proposal's place
+abbrev pub Explains : BookRefusal → View → Proposed → Type 0
+Explains (fault.Changed seen now) v p = (seen ≡ p.version) × (now ≢ seen) × HasVersion v.opening v.journal p.place now
+Explains fault.NoText v p = place_in v.opening p.statement.text ≢ Some p.place
+Explains fault.Full v p = length v.journal ≡ v.opening.room
+Explains fault.Memory v p = Unit {0}
+
+pub explained : (v : View) (p : Proposed) (e : BookRefusal) → refusal v p ≡ Some e → Explains e v p
+explained v p e h = by_refusal v p (λ d. Explains d v p) (λ q. q) (λ q. q) (λ held there differ. (refl, (λ q. differ (sym q)), record { text = held.text; name = held.name; there = there })) e h
+
 -- the desk's refusal has its cause in the view that the seat has seen, which is the book's
 pub cause : (before after : View) (p back : Proposed) (e : BookRefusal) (opening : Opening) (seen : List Entry) → IsRefused before after p back e
-    → before.opening ≡ opening → before.journal ≡ seen → IsCause (of_book e) opening seen p
-cause before after p back e opening seen refused opens is = subst (λ (o : Opening). IsCause (of_book e) o seen p) opens (subst (λ (l : List Entry). IsCause (of_book e) before.opening l p) is (by_cause e refused.cause))
+    → before.opening ≡ opening → before.journal ≡ seen → IsCause (of_book e) (view_after opening seen) p
+cause before after p back e opening seen refused opens is =
+    subst (λ (o : Opening). IsCause (of_book e) (view_after o seen) p) opens (subst (λ (l : List Entry). IsCause (of_book e) (view_after before.opening l) p) is (by_cause e refused.cause refused.memory))
   where
-    by_rule : (d : BookRefusal) → refusal before p ≡ Some d → IsCause (of_book d) before.opening before.journal p
-    by_rule d h = by_refusal before p (λ d. IsCause (of_book d) before.opening before.journal p) (λ q. q) (λ q. q)
-        (λ held there differ. (refl, (λ q. differ (sym q)), record { text = held.text; name = held.name; there = there })) d h
+    by_cause : (d : BookRefusal) → (d ≢ fault.Memory → refusal before p ≡ Some d) → (d ≡ fault.Memory → refusal before p ≡ None) → IsCause (of_book d) (view_after before.opening before.journal) p
+    by_cause fault.NoText h m = h (λ q. cc)
+    by_cause (fault.Changed seen now) h m = h (λ q. cc)
+    by_cause fault.Full h m = h (λ q. cc)
+    by_cause fault.Memory h m = m refl
 
-    by_cause : (d : BookRefusal) → (d ≢ fault.Memory → refusal before p ≡ Some d) → IsCause (of_book d) before.opening before.journal p
-    by_cause fault.NoText h = by_rule fault.NoText (h (λ q. cc))
-    by_cause (fault.Changed seen now) h = by_rule (fault.Changed seen now) (h (λ q. cc))
-    by_cause fault.Full h = by_rule fault.Full (h (λ q. cc))
-    by_cause fault.Memory h = tt
+-- and so has the one that the publish of a proposal met which nothing else refuses
+pub memory_cause : (held : Book) (p : Proposed) (opening : Opening) (seen after : List Entry) → refusal (view_of held) p ≡ None → held.opening ≡ opening → held.journal ≡ seen → after ≡ seen
+    → IsCause commit.Memory (view_after opening after) p
+memory_cause held p opening seen after none opens is same =
+    let all : held.journal ≡ after = is ∙ sym same in
+    subst (λ (o : Opening). refusal (view_after o after) p ≡ None) opens (subst (λ (l : List Entry). refusal (view_after held.opening l) p ≡ None) all none)
 
 -- the version that a refusal names is one that a text can have
 pub named : (before after : View) (p back : Proposed) (e : BookRefusal) (seats accepted total : ℕ) → IsRefused before after p back e → IsLawful before → VersionsCountEntries

@@ -6,7 +6,7 @@ use mir.Syntax.{Sym}
 use denote.Struct.Field.{row_field}
 use denote.Struct.Tuple.{TupleAt, type_at, parts}
 use denote.Param.Send.{IsSend, IsSync, AllSync, sendable, view_send}
-use denote.Param.SendFields.{FieldsHave, as_row_send, as_row_sync, declared_send, declared_sync}
+use denote.Param.SendFields.{FieldsHave, as_row_send, as_row_sync, declared_send, declared_sync, variants_send}
 use Rattle.std.proofs.Crossing.{crosses, Arc-send, Arc-sync, Deque-send, send, sync, frees}
 use Rattle.std.proofs.option.Option.TheSendSync as option
 use Rattle.std.proofs.result.Result.TheSendSync as result
@@ -53,6 +53,7 @@ use Rattle.sno_desk.specs.contracts.faults.SubmitFault as SubmitFault
 use Rattle.sno_desk.specs.contracts.locked.Locked as Locked
 use Rattle.sno_desk.specs.contracts.locked.Locked.TheInside as LockedInside
 use Rattle.sno_desk.specs.contracts.seats.Seat as Seat
+use Rattle.sno_desk.specs.contracts.shown.Shown as Shown
 use Rattle.sno_desk.specs.contracts.windows.Window as Window
 use Rattle.sno_desk.specs.contracts.windows.Window.TheInside as Inside
 
@@ -115,11 +116,14 @@ module _ (L : RattleType) (n : NamingGhosts L.Denot) (g : Ghosts L.Denot) (entry
   spent_send : IsSend (Spent.the_row L (absorbs.ghosts L n absorbs.no_dict g absorbs.no_dict) n g)
   spent_send = view_send _ _ _ _ _ (declared_send (SpentInside.the_type L (absorbs.ghosts L n absorbs.no_dict g absorbs.no_dict) n g) (writer_send, tt))
 
+  shown_send : IsSend (Shown.the_row L n g)
+  shown_send = variants_send (Shown.the_type L n g) ((as_row_send (Screen.the_field L (absorbs.ghosts L n absorbs.no_dict g absorbs.no_dict) n g) screen_send, tt),
+      ((as_row_send (Spent.the_field L (absorbs.ghosts L n absorbs.no_dict g absorbs.no_dict) n g) spent_send, tt), tt))
+
   locked_send : IsSend Book.the_row → IsSend (Locked.the_row L n g)
   locked_send book =
-      let shown = option.the_send (Screen.the_row L (absorbs.ghosts L n absorbs.no_dict g absorbs.no_dict) n g) screen_send in
-      let spent = option.the_send (Spent.the_row L (absorbs.ghosts L n absorbs.no_dict g absorbs.no_dict) n g) spent_send in
-      view_send _ _ _ _ _ (declared_send (LockedInside.the_type L n g) (as_row_send Book.the_field book, (shown, (spent, (total.the_send L g, (share.the_send L g, tt))))))
+      let shown = option.the_send (Shown.the_row L n g) shown_send in
+      view_send _ _ _ _ _ (declared_send (LockedInside.the_type L n g) (as_row_send Book.the_field book, (shown, (total.the_send L g, (share.the_send L g, tt)))))
 
   pub desk_sync : IsSend Book.the_row → IsSync (Desk.the_row L n g)
   desk_sync book =

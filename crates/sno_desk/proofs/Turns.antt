@@ -6,46 +6,64 @@ use Rattle.std.proofs.lemmas.Bool.Decides.{leb_tells}
 use Rattle.std.proofs.lemmas.List.Sums.{sum-map, sum_by-cons}
 use Rattle.std.proofs.lemmas.List.{append-nil, get_or-map, length-map, map-append}
 use Rattle.sno_statement.specs.Task.{Task}
-use Rattle.sno_desk.specs.Answers.{Answer, MayFollow, receipts_in}
-use Rattle.sno_desk.specs.Turns.{AllAnswer, BeginsWith, Deals, FollowInOrder, Goes, HasTurns, HasWorked, every, shares_after}
+use Rattle.sno_book.specs.Entries.{Entry}
+use Rattle.sno_book.specs.Openings.{Opening}
+use Rattle.sno_desk.specs.Answers.{Answer, Answers, receipts_in}
+use Rattle.sno_desk.specs.Turns.{AllAnswer, BeginsWith, Deals, Goes, HasTurns, HasWorked, InTurn, IsSubmitted, Position, every, position, shares_after}
 
-pub goes_none : (A : Task → Answer → Type 0) (all : List Task) → Goes A all all []
-goes_none A all = record { on = λ more h. h }
+pub goes_none : (A : Position → Position → Task → Answer → Type 0) (before : Position) (all : List Task) → Goes A before before all all []
+goes_none A before all = record { on = λ after more h. h }
 
 -- the job whose turn it is has its reply
-pub goes_one : (A : Task → Answer → Type 0) (all : List Task) (count wait : ℕ) (s : Task) (jobs : List Task)
+pub goes_one : (A : Position → Position → Task → Answer → Type 0) (before now next : Position) (all : List Task) (count wait : ℕ) (s : Task) (jobs : List Task)
     (replies : List Answer) (r : Answer)
-    → wait ≡ 0 → A s r → Goes A all (every count wait (s ∷ jobs)) replies → Goes A all (every count (count - 1) jobs) (replies ++ r ∷ [])
-goes_one A all count zero s jobs replies r e a g = record { on = λ more h. rw append_assoc (g.on (r ∷ more) (a, h)) }
-goes_one A all count (suc wait) s jobs replies r e a g = absurd (omega arith)
+    → wait ≡ 0 → A now next s r → Goes A before now all (every count wait (s ∷ jobs)) replies → Goes A before next all (every count (count - 1) jobs) (replies ++ r ∷ [])
+goes_one A before now next all count zero s jobs replies r e a g = record { on = λ after more h. rw append_assoc (g.on after (r ∷ more) (next, (a, h))) }
+goes_one A before now next all count (suc wait) s jobs replies r e a g = absurd (omega arith)
 
 -- a job that is another seat's is passed over
-pub goes_by : (A : Task → Answer → Type 0) (all : List Task) (count wait next : ℕ) (s : Task) (jobs : List Task)
+pub goes_by : (A : Position → Position → Task → Answer → Type 0) (before now : Position) (all : List Task) (count wait next : ℕ) (s : Task) (jobs : List Task)
     (replies : List Answer)
-    → next + 1 ≡ wait → Goes A all (every count wait (s ∷ jobs)) replies → Goes A all (every count next jobs) replies
-goes_by A all count zero next s jobs replies e g = absurd (omega arith)
-goes_by A all count (suc wait) next s jobs replies e g =
+    → next + 1 ≡ wait → Goes A before now all (every count wait (s ∷ jobs)) replies → Goes A before now all (every count next jobs) replies
+goes_by A before now all count zero next s jobs replies e g = absurd (omega arith)
+goes_by A before now all count (suc wait) next s jobs replies e g =
     let q : wait ≡ next = omega arith in
-    let P : ℕ → Type 0 = λ w. Goes A all (every count w jobs) replies in subst P q g
+    let P : ℕ → Type 0 = λ w. Goes A before now all (every count w jobs) replies in subst P q g
 
-pub goes_end : (A : Task → Answer → Type 0) (all : List Task) (count wait : ℕ) (left : List Task)
-    (replies : List Answer) → left ≡ [] → Goes A all (every count wait left) replies → AllAnswer A all replies
-goes_end A all count wait left replies none g =
-    let P : List Task → Type 0 = λ l. Goes A all (every count wait l) replies in
+pub goes_end : (A : Position → Position → Task → Answer → Type 0) (before now : Position) (all : List Task) (count wait : ℕ) (left : List Task)
+    (replies : List Answer) → left ≡ [] → Goes A before now all (every count wait left) replies → InTurn A before now all replies
+goes_end A before now all count wait left replies none g =
+    let P : List Task → Type 0 = λ l. Goes A before now all (every count wait l) replies in
     let h = subst P none g in
-    rw append-nil at (h.on [] tt)
+    rw append-nil at (h.on now [] refl)
 
--- ---- the replies of one seat in their order
+-- ---- the replies of one seat
 
--- one more reply, to which the receipts among those before it lead
-pub follow_one : (seats before accepted : ℕ) (replies : List Answer) (r : Answer) → before + sum_by receipts_in replies ≡ accepted
-    → FollowInOrder seats before replies → MayFollow seats accepted r → FollowInOrder seats before (replies ++ r ∷ [])
-follow_one seats before accepted [] r e f h =
-    let same : accepted ≡ before = omega (arith, e) in
-    let P : ℕ → Type 0 = λ n. MayFollow seats n r in (subst P same h, tt)
-follow_one seats before accepted (x ∷ replies) r e f h =
-    let more = sum_by-cons receipts_in x replies in
-    (f.0, follow_one seats (before + receipts_in x) accepted replies r (omega (arith, e, more)) f.1 h)
+as_many : (A : Position → Position → Task → Answer → Type 0) (before after : Position) (jobs : List Task) (replies : List Answer) → InTurn A before after jobs replies → length replies ≡ length jobs
+as_many A before after [] [] a = refl
+as_many A before after [] (r ∷ replies) a = absurd a
+as_many A before after (s ∷ jobs) [] a = absurd a
+as_many A before after (s ∷ jobs) (r ∷ replies) a = ap (λ n. suc n) (as_many A a.0 after jobs replies a.2)
+
+-- each is an answer to its job, and the seat has accepted as many more as there are receipts
+module _ (shuts : ℕ → ℕ → Type 0) (tries : ℕ) (opening : Opening) (seats : ℕ) where
+  each_answers : (before after : Position) (jobs : List Task) (replies : List Answer) → InTurn (IsSubmitted shuts tries opening seats) before after jobs replies
+      → AllAnswer (Answers shuts tries opening) jobs replies
+  each_answers before after [] [] a = tt
+  each_answers before after [] (r ∷ replies) a = absurd a
+  each_answers before after (s ∷ jobs) [] a = absurd a
+  each_answers before after (s ∷ jobs) (r ∷ replies) a = (a.1.answers, each_answers a.0 after jobs replies a.2)
+
+  all_counted : (before after : Position) (jobs : List Task) (replies : List Answer) → InTurn (IsSubmitted shuts tries opening seats) before after jobs replies
+      → after.accepted ≡ before.accepted + sum_by receipts_in replies
+  all_counted before after [] [] a = let same = ap (λ (p : Position). p.accepted) a in omega (arith, same)
+  all_counted before after [] (r ∷ replies) a = absurd a
+  all_counted before after (s ∷ jobs) [] a = absurd a
+  all_counted before after (s ∷ jobs) (r ∷ replies) a =
+      let rest = all_counted a.0 after jobs replies a.2 in
+      let one = a.1.counted in
+      let more = sum_by-cons receipts_in r replies in
+      omega (arith, rest, one, more)
 
 -- ---- the replies of all seats
 
@@ -56,12 +74,6 @@ turns_alike count first [] (y ∷ ys) e = absurd (omega arith)
 turns_alike count first (x ∷ xs) [] e = absurd (omega arith)
 turns_alike count zero (x ∷ xs) (y ∷ ys) e = ap (λ n. suc n) (turns_alike count (count - 1) xs ys (omega arith))
 turns_alike count (suc first) (x ∷ xs) (y ∷ ys) e = turns_alike count first xs ys (omega arith)
-
-as_many : (A : Task → Answer → Type 0) (jobs : List Task) (replies : List Answer) → AllAnswer A jobs replies → length replies ≡ length jobs
-as_many A [] [] a = refl
-as_many A [] (r ∷ replies) a = absurd a
-as_many A (s ∷ jobs) [] a = absurd a
-as_many A (s ∷ jobs) (r ∷ replies) a = ap (λ n. suc n) (as_many A jobs replies a.1)
 
 none_left : {X : Type 0} (xs : List X) → length xs ≡ 0 → xs ≡ []
 none_left [] e = refl
@@ -120,27 +132,26 @@ first_of [] k h = absurd (omega arith)
 first_of (x ∷ xs) k h = x
 
 -- what one seat's replies are, by what it kept
-replies_of_seat : (A : Task → Answer → Type 0) (jobs : List Task) (mine : List Answer) (seats before after : ℕ)
+replies_of_seat : (A : Position → Position → Task → Answer → Type 0) (jobs : List Task) (mine : List Answer) (before after : Position)
     (kept : Option (List Answer)) (queue : List Answer)
-    → HasWorked A jobs seats before after kept → kept ≡ Some queue → BeginsWith queue mine → length mine ≡ length jobs
-    → AllAnswer A jobs mine × (after ≡ before + sum_by receipts_in mine) × FollowInOrder seats before mine
-replies_of_seat A jobs mine seats before after None queue worked kept b e = absurd cc
-replies_of_seat A jobs mine seats before after (Some replies) queue worked kept b e =
+    → HasWorked A jobs before after kept → kept ≡ Some queue → BeginsWith queue mine → length mine ≡ length jobs → InTurn A before after jobs mine
+replies_of_seat A jobs mine before after None queue worked kept b e = absurd cc
+replies_of_seat A jobs mine before after (Some replies) queue worked kept b e =
     let same : replies ≡ queue = cc in
-    let counts = as_many A jobs replies worked.0 in
+    let counts = as_many A before after jobs replies worked in
     let counted : length mine ≡ length queue = e ∙ sym counts ∙ ap length same in
     let whole : replies ≡ mine = same ∙ begins_whole queue mine b counted in
-    let P : List Answer → Type 0 = λ l. AllAnswer A jobs l × (after ≡ before + sum_by receipts_in l) × FollowInOrder seats before l in
+    let P : List Answer → Type 0 = λ l. InTurn A before after jobs l in
     subst P whole worked
 
 -- as many replies as jobs are kept
-kept_turns : (A : Task → Answer → Type 0) (jobs : List Task) (seats before after : ℕ) (kept : Option (List Answer)) (queue : List Answer)
-    → HasWorked A jobs seats before after kept → kept ≡ Some queue → length queue ≡ length jobs
-kept_turns A jobs seats before after None queue worked kept = absurd cc
-kept_turns A jobs seats before after (Some replies) queue worked kept =
+kept_turns : (A : Position → Position → Task → Answer → Type 0) (jobs : List Task) (before after : Position) (kept : Option (List Answer)) (queue : List Answer)
+    → HasWorked A jobs before after kept → kept ≡ Some queue → length queue ≡ length jobs
+kept_turns A jobs before after None queue worked kept = absurd cc
+kept_turns A jobs before after (Some replies) queue worked kept =
     let same : replies ≡ queue = cc in
     let P : List Answer → Type 0 = λ l. length l ≡ length jobs in
-    subst P same (as_many A jobs replies worked.0)
+    subst P same (as_many A before after jobs replies worked)
 
 turns_all : {X : Type 0} (count first : ℕ) (queues : List (List X)) (jobs : List Task)
     → ((k place : ℕ) → place ≡ first + k → k < length queues → length (get_or queues k []) ≡ length (every count place jobs)) → HasTurns count first queues jobs
@@ -150,62 +161,73 @@ turns_all count first (queue ∷ queues) jobs each = (
   turns_all count (suc first) queues jobs (λ k place q h. each (suc k) place (omega arith) (omega arith)),
 )
 
-module _ {X Q : Type 0} (share : X → ℕ) (kept : X → Option (List Answer)) (items : Q → List Answer) (seats : ℕ) (A : Task → Answer → Type 0) where
-  -- the seats at work, then their replies taken and put in order: each job has its answer, and each share has risen by its seat's receipts
+module _ {X Q : Type 0} (share : X → ℕ) (view : X → List Entry) (kept : X → Option (List Answer)) (items : Q → List Answer) (shuts : ℕ → ℕ → Type 0) (tries : ℕ) (opening : Opening) (seats : ℕ) where
+  abbrev at : X → Position
+  at x = position (share x) (view x)
+
+  abbrev Submitted : Position → Position → Task → Answer → Type 0
+  Submitted = IsSubmitted shuts tries opening seats
+
+  -- the seats at work, then their replies taken and put in order: each seat's jobs have their answers in turn
   pub record Settles (jobs : List Task) (before worked after : List X) (queues : List Q) (replies : List Answer) : Type 0 where
     pub some : 1 ≤ length before
     pub worked_as_many : length worked ≡ length before
     pub after_as_many : length after ≡ length before
     pub queues_as_many : length queues ≡ length before
-    pub at_work : (k : ℕ) (d : X) → k < length before → HasWorked A (every (length before) k jobs) seats (share (get_or before k d)) (share (get_or worked k d)) (kept (get_or worked k d))
+    pub at_work : (k : ℕ) (d : X) → k < length before → HasWorked Submitted (every (length before) k jobs) (at (get_or before k d)) (at (get_or worked k d)) (kept (get_or worked k d))
     pub taken : (k : ℕ) (d : X) (e : Q) → k < length before → kept (get_or worked k d) ≡ Some (items (get_or queues k e))
     pub same : (k : ℕ) (d : X) → k < length before → share (get_or after k d) ≡ share (get_or worked k d)
+    pub same_view : (k : ℕ) (d : X) → k < length before → view (get_or after k d) ≡ view (get_or worked k d)
     pub dealt : Deals (length before) 0 (map items queues) replies
     pub in_all : length replies ≡ length jobs
 
   at_seat : (jobs : List Task) (before worked after : List X) (queues : List Q) (replies : List Answer)
       → Settles jobs before worked after queues replies → (k : ℕ) (d : X) (e : Q) → k < length before
-      → AllAnswer A (every (length before) k jobs) (every (length before) k replies) × (share (get_or after k d) ≡ share (get_or before k d) + sum_by receipts_in (every (length before) k replies))
-      × FollowInOrder seats (share (get_or before k d)) (every (length before) k replies)
+      → InTurn Submitted (at (get_or before k d)) (at (get_or after k d)) (every (length before) k jobs) (every (length before) k replies)
   at_seat jobs before worked after queues replies s k d e h =
       let inside : k < length (map items queues) = rw length-map (rw s.queues_as_many h) in
       let begins = deals_at (length before) 0 (map items queues) replies s.dealt k k (omega arith) inside in
       let there = get_or-map items queues k e [] (rw s.queues_as_many h) in
       let P : List Answer → Type 0 = λ q. BeginsWith q (every (length before) k replies) in
-      let mine = replies_of_seat A (every (length before) k jobs) (every (length before) k replies) seats (share (get_or before k d)) (share (get_or worked k d)) (kept (get_or worked k d))
+      let mine = replies_of_seat Submitted (every (length before) k jobs) (every (length before) k replies) (at (get_or before k d)) (at (get_or worked k d)) (kept (get_or worked k d))
       (items (get_or queues k e)) (s.at_work k d h) (s.taken k d e h) (subst P there begins) (turns_alike (length before) k replies jobs s.in_all) in
-      (mine.0, s.same k d h ∙ mine.1, mine.2)
+      let count : ℕ → Type 0 = λ n. InTurn Submitted (at (get_or before k d)) (position n (view (get_or worked k d))) (every (length before) k jobs) (every (length before) k replies) in
+      let seen : List Entry → Type 0 = λ l. InTurn Submitted (at (get_or before k d)) (position (share (get_or after k d)) l) (every (length before) k jobs) (every (length before) k replies) in
+      subst seen (sym (s.same_view k d h)) (subst count (sym (s.same k d h)) mine)
 
   -- the replies that are taken from the seats at work
   pub taken_turns : (jobs : List Task) (before worked : List X) (queues : List Q) → length queues ≡ length before
-      → ((k : ℕ) (d : X) → k < length before → HasWorked A (every (length before) k jobs) seats (share (get_or before k d)) (share (get_or worked k d)) (kept (get_or worked k d)))
+      → ((k : ℕ) (d : X) → k < length before → HasWorked Submitted (every (length before) k jobs) (at (get_or before k d)) (at (get_or worked k d)) (kept (get_or worked k d)))
       → ((k : ℕ) (d : X) (e : Q) → k < length before → kept (get_or worked k d) ≡ Some (items (get_or queues k e)))
       → HasTurns (length before) 0 (map items queues) jobs
   taken_turns jobs before worked queues many at_work taken =
       turns_all (length before) 0 (map items queues) jobs
       (λ k place q h.
       let inside : k < length queues = rw length-map at h in
-      let at : k < length before = omega arith in
-      let d = first_of before k at in
+      let within : k < length before = omega arith in
+      let d = first_of before k within in
       let e = first_of queues k inside in
       let same : k ≡ place = omega arith in
-      let mine = kept_turns A (every (length before) k jobs) seats (share (get_or before k d)) (share (get_or worked k d)) (kept (get_or worked k d)) (items (get_or queues k e))
-      (at_work k d at) (taken k d e at) in
+      let mine = kept_turns Submitted (every (length before) k jobs) (at (get_or before k d)) (at (get_or worked k d)) (kept (get_or worked k d)) (items (get_or queues k e))
+      (at_work k d within) (taken k d e within) in
       let there = ap length (get_or-map items queues k e [] inside) in
       let P : ℕ → Type 0 = λ m. length (get_or (map items queues) k []) ≡ length (every (length before) m jobs) in
       subst P same (there ∙ mine))
 
   pub settled_answers : (jobs : List Task) (before worked after : List X) (queues : List Q) (replies : List Answer)
-      → Settles jobs before worked after queues replies → AllAnswer A jobs replies
+      → Settles jobs before worked after queues replies → AllAnswer (Answers shuts tries opening) jobs replies
   settled_answers jobs before worked after queues replies s =
-      answer_all A (length before) s.some jobs replies s.in_all
-      (λ k h. (at_seat jobs before worked after queues replies s k (first_of before k h) (first_of queues k (rw s.queues_as_many h)) h).0)
+      answer_all (Answers shuts tries opening) (length before) s.some jobs replies s.in_all
+      (λ k h.
+      let d = first_of before k h in
+      each_answers shuts tries opening seats (at (get_or before k d)) (at (get_or after k d)) (every (length before) k jobs) (every (length before) k replies)
+      (at_seat jobs before worked after queues replies s k d (first_of queues k (rw s.queues_as_many h)) h))
 
-  pub settled_order : (jobs : List Task) (before worked after : List X) (queues : List Q) (replies : List Answer)
+  pub settled_turns : (jobs : List Task) (before worked after : List X) (queues : List Q) (replies : List Answer)
       → Settles jobs before worked after queues replies → (k : ℕ) (d : X) → k < length before
-      → FollowInOrder seats (share (get_or before k d)) (every (length before) k replies)
-  settled_order jobs before worked after queues replies s k d h =
-      (at_seat jobs before worked after queues replies s k d (first_of queues k (rw s.queues_as_many h)) h).2
+      → InTurn Submitted (at (get_or before k d)) (at (get_or after k d)) (every (length before) k jobs) (every (length before) k replies)
+  settled_turns jobs before worked after queues replies s k d h =
+      at_seat jobs before worked after queues replies s k d (first_of queues k (rw s.queues_as_many h)) h
 
   pub settled_shares : (jobs : List Task) (before worked after : List X) (queues : List Q) (replies : List Answer)
       → Settles jobs before worked after queues replies → map share after ≡ shares_after (length before) 0 (map share before) replies
@@ -215,7 +237,8 @@ module _ {X Q : Type 0} (share : X → ℕ) (kept : X → Option (List Answer)) 
       let inside : k < length before = rw length-map at h in
       let d = first_of before k inside in
       let same : k ≡ place = omega arith in
-      let mine = (at_seat jobs before worked after queues replies s k d (first_of queues k (rw s.queues_as_many inside)) inside).1 in
+      let mine = all_counted shuts tries opening seats (at (get_or before k d)) (at (get_or after k d)) (every (length before) k jobs) (every (length before) k replies)
+      (at_seat jobs before worked after queues replies s k d (first_of queues k (rw s.queues_as_many inside)) inside) in
       let was = get_or-map share before k d 0 inside in
       let is = get_or-map share after k d 0 (rw s.after_as_many inside) in
       let P : ℕ → Type 0 = λ m. get_or (map share after) k 0 ≡ get_or (map share before) k 0 + sum_by receipts_in (every (length before) m replies) in

@@ -3,4 +3,5 @@ pub mod Closings
 pub mod Faults
 pub mod Receipts
 pub mod Seen
+pub mod Shown
 pub mod Turns

@@ -1,10 +1,10 @@
 -- What a seat is answered.
-use Rattle.std.specs.Prelude.{◌≡◌, ◌≢◌, ◌<◌, ◌≤◌, ℕ, List, Some, length}
-use Rattle.sno_book.specs.Entries.{Entry}
-use Rattle.sno_book.specs.Openings.{Opening, place_in}
+use Rattle.std.specs.Prelude.{◌≡◌, ◌<◌, ◌≤◌, ℕ, Some, None}
+use Rattle.sno_book.specs.Commits.{refusal}
 use Rattle.sno_book.specs.Origins.{Stands}
 use Rattle.sno_book.specs.Proposals.{Proposed, Received, entry_of}
-use Rattle.sno_desk.specs.Seen.{HasVersion}
+use Rattle.sno_book.specs.Views.{View}
+use Rattle.sno_book.specs.declared.faults.CommitFault.TheVariants as book
 use Rattle.sno_desk.specs.declared.faults.CommitFault.{CommitFault}
 use Rattle.sno_desk.specs.declared.faults.CommitFault.TheVariants as commit
 
@@ -21,14 +21,13 @@ pub record StandsAfter (seats accepted : ℕ) (receipt : Received) : Type 0 wher
   pub within : receipt.index < 1000000
   pub version : receipt.entry.version ≤ receipt.index
 
--- a text that changed has another version than the proposal's after what the seat has seen, and the refusal names both; a full journal has as many
--- entries as the opening has room for; and no text is the answer only where the opening has none of the statement's name at the proposal's place
-abbrev pub IsCause : CommitFault → Opening → List Entry → Proposed → Type 0
-IsCause (commit.Changed seen now) opening entries p = (seen ≡ p.version) × (now ≢ seen) × HasVersion opening entries p.place now
-IsCause commit.NoText opening entries p = place_in opening p.statement.text ≢ Some p.place
-IsCause commit.Full opening entries p = length entries ≡ opening.room
-IsCause commit.Memory opening entries p = Unit {0}
-IsCause commit.Stopped opening entries p = Unit {0}
+-- why a commit is refused at the view that its seat has now: for the book's own refusal, the first that holds; for memory only where none holds
+abbrev pub IsCause : CommitFault → View → Proposed → Type 0
+IsCause (commit.Changed seen now) view p = refusal view p ≡ Some (book.Changed seen now)
+IsCause commit.NoText view p = refusal view p ≡ Some book.NoText
+IsCause commit.Full view p = refusal view p ≡ Some book.Full
+IsCause commit.Memory view p = refusal view p ≡ None
+IsCause commit.Stopped view p = Unit {0}
 
 -- a text can have this version: a version rises with an entry alone, so it is at most as many as a journal may hold, and at most what the seat
 -- has accepted where the desk has no other seat

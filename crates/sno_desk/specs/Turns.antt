@@ -1,7 +1,10 @@
 -- How jobs are dealt out to the seats in turn, and their replies put in order again.
 use Rattle.std.specs.Prelude.{◌≡◌, ℕ, zero, suc, ◌+◌, ◌-◌, List, [], ◌∷◌, ◌++◌, Option, Some, None, length, sum_by}
+use mathlib.Core.List.{IsPrefix as Begins}
 use Rattle.sno_statement.specs.Task.{Task}
-use Rattle.sno_desk.specs.Answers.{Answer, MayFollow, receipts_in}
+use Rattle.sno_book.specs.Entries.{Entry}
+use Rattle.sno_book.specs.Openings.{Opening}
+use Rattle.sno_desk.specs.Answers.{Answer, Answers, AnswersAt, MayFollow, receipts_in}
 
 -- the elements at the place `first` and then at each `count`-th place past it: those of the seat `first` of `count` seats
 abbrev pub every : {A : Type 0} → ℕ → ℕ → List A → List A
@@ -16,26 +19,43 @@ AllAnswer A [] (r ∷ replies) = ⊥
 AllAnswer A (s ∷ jobs) [] = ⊥
 AllAnswer A (s ∷ jobs) (r ∷ replies) = A s r × AllAnswer A jobs replies
 
--- these replies, and then those to the jobs that are left, answer all jobs of a seat
-pub record Goes (A : Task → Answer → Type 0) (all left : List Task) (replies : List Answer) : Type 0 where
-  pub on : (more : List Answer) → AllAnswer A left more → AllAnswer A all (replies ++ more)
+-- where a seat is: how many proposals were accepted through it, and what it has seen
+pub record Position : Type 0 where
+  pub accepted : ℕ
+  pub seen : List Entry
 
--- the replies of one seat in their order: each may follow what the seat had accepted by then, which each receipt makes one more. So the j-th
--- receipt, from 0, has an index of at least the seat's old count + j, and exactly that where the desk has no other seat
-abbrev pub FollowInOrder : ℕ → ℕ → List Answer → Type 0
-FollowInOrder seats accepted [] = Unit {0}
-FollowInOrder seats accepted (r ∷ replies) = MayFollow seats accepted r × FollowInOrder seats (accepted + receipts_in r) replies
+abbrev pub position : ℕ → List Entry → Position
+position accepted seen = record { accepted = accepted; seen = seen }
+
+-- a submit of this statement by a seat that is at the first position, which takes it to the other one
+pub record IsSubmitted (shuts : ℕ → ℕ → Type 0) (tries : ℕ) (opening : Opening) (seats : ℕ) (before after : Position) (s : Task) (r : Answer) : Type 0 where
+  pub answers : Answers shuts tries opening s r
+  pub at : AnswersAt tries opening before.seen after.seen s r
+  pub begins : Begins before.seen after.seen
+  pub follows : MayFollow seats before.accepted r
+  pub counted : after.accepted ≡ before.accepted + receipts_in r
+
+-- the replies to the jobs of one seat, in their order: each submit begins where the one before it left the seat, and the last one leaves it at `after`. So the
+-- index of each receipt is above that of the receipt before, and where the desk has no other seat it is the next one
+abbrev pub InTurn : (Position → Position → Task → Answer → Type 0) → Position → Position → List Task → List Answer → Type 0
+InTurn A before after [] [] = before ≡ after
+InTurn A before after [] (r ∷ replies) = ⊥
+InTurn A before after (s ∷ jobs) [] = ⊥
+InTurn A before after (s ∷ jobs) (r ∷ replies) = (between : Position) × A before between s r × InTurn A between after jobs replies
+
+-- these replies, with which the seat has come from `before` to `now`, and then those to the jobs that are left, answer all jobs of the seat
+pub record Goes (A : Position → Position → Task → Answer → Type 0) (before now : Position) (all left : List Task) (replies : List Answer) : Type 0 where
+  pub on : (after : Position) (more : List Answer) → InTurn A now after left more → InTurn A before after all (replies ++ more)
 
 -- each seat's share, higher by the receipts among its replies
 abbrev pub shares_after : ℕ → ℕ → List ℕ → List Answer → List ℕ
 shares_after count first [] replies = []
 shares_after count first (share ∷ shares) replies = (share + sum_by receipts_in (every count first replies)) ∷ shares_after count (suc first) shares replies
 
--- a seat that kept its replies has one for each of its jobs, its share rose by the receipts among them, and they follow one another; nothing is
--- known of a seat for which memory was refused
-abbrev pub HasWorked : (Task → Answer → Type 0) → List Task → ℕ → ℕ → ℕ → Option (List Answer) → Type 0
-HasWorked A jobs seats before after None = Unit {0}
-HasWorked A jobs seats before after (Some replies) = AllAnswer A jobs replies × (after ≡ before + sum_by receipts_in replies) × FollowInOrder seats before replies
+-- a seat that kept its replies has one for each of its jobs, in turn; nothing is known of a seat for which memory was refused
+abbrev pub HasWorked : (Position → Position → Task → Answer → Type 0) → List Task → Position → Position → Option (List Answer) → Type 0
+HasWorked A jobs before after None = Unit {0}
+HasWorked A jobs before after (Some replies) = InTurn A before after jobs replies
 
 -- the list begins with these elements
 pub record BeginsWith {A : Type 0} (xs front : List A) : Type 0 where

@@ -7,63 +7,66 @@ ghost use Rattle.sno_book.specs.Origins.{IsPerformed};
 ghost use Rattle.sno_book.specs.Views.{IsPrefix, Kin};
 ghost use Rattle.sno_desk.specs.Receipts.{IsCause, IsFor, NamesVersion, StandsAfter};
 ghost use Rattle.sno_desk.specs.Seen.{IsTold, view_after};
+ghost use Rattle.sno_desk.specs.Shown.{entries_of};
 
-use crate::locked::{Locked, put_screen, put_spent};
+use crate::locked::Locked;
+use crate::shown::Shown;
 use crate::{CommitFault, Desk, Seat};
-use sno_book::{Proposal, Ready, Receipt, kin_agree, versions_count_entries};
+use sno_book::{Book, Proposal, Ready, Receipt, kin_agree, versions_count_entries};
 use sno_published::{Naming, Screen, Unpublished};
 use std::alloc::Global;
+use std::sync::ledger;
 use std::sync::{MutexGuard, Wait};
 
-impl<L: Naming> Locked<L> {
-    /// Publishes a proposal that was prepared, and then accepts it and counts it: of the seat and of the total alike.
-    fn publish<R: Wait>(
-        &mut self,
-        rt: &R,
-        alloc: Global,
-        screen: Screen<L>,
-        seat: &mut Seat<L>,
-        ready: Ready,
-    ) -> Result<Receipt, Proposal>
-        requires level { (screen ≡ self.old.journal) × (seat.old.viewer.seen ≡ self.old.journal) }
-        requires kept { 0 < self.old.spare }
-        requires free { refusal (view_of self.old) ready ≡ None }
-        requires fits { Fits (view_of self.old) ready }
-        requires performed { IsPerformed ready.origin ready.place ready.version ready.statement ready.done }
-        requires kin { Kin ready.origin (view_of self.old) }
-        ensures receipt { IfOk result (λ r. IsFor r ready) }
-        ensures index { IfOk result (λ r. StandsAfter L.parts seat.old.accepted r) }
-        ensures at_end { IfOk result (λ r. r.index ≡ length self.old.journal) }
-        ensures told { IfOk result (λ r. IsTold L.opening seat.new.viewer.seen r) }
-        ensures begins { Begins seat.old.viewer.seen seat.new.viewer.seen }
-        ensures counted { OnOk result (seat.new.accepted ≡ seat.old.accepted + 1) }
-        ensures back { IfErr result (λ p. p ≡ ready) }
-        ensures same { OnErr result (seat.new.accepted ≡ seat.old.accepted) }
-    {
-        kin_agree();
-        versions_count_entries();
-        let _ = self.book.journal();
-        let _ = self.book.opening().room();
-        seat.audit(&mut self.total);
-        let screen = match screen.publish(rt, alloc, ready.entry()) {
-            Ok(screen) => screen,
-            Err(Unpublished::Memory(screen)) => {
-                put_screen(rt, &mut self.screen, screen);
-                return Err(ready.back());
-            }
-            Err(Unpublished::Stopped(spent)) => {
-                put_spent(rt, &mut self.spent, spent);
-                return Err(ready.back());
-            }
-        };
-        let receipt = self.book.finish(ready);
-        let _ = self.book.journal();
-        seat.learn(&screen);
-        put_screen(rt, &mut self.screen, screen);
-        seat.count(&mut self.total);
-        Ok(receipt)
-    }
+/// Publishes a proposal that was prepared, and then accepts it and counts it: of the seat and of the total alike. Answers what is shown now, too.
+fn publish<L: Naming, R: Wait>(
+    rt: &R,
+    alloc: Global,
+    screen: Screen<L>,
+    book: &mut Book,
+    total: &mut ledger::Book<L>,
+    seat: &mut Seat<L>,
+    ready: Ready,
+) -> (Shown<L>, Result<Receipt, Proposal>)
+    requires opening { book.old.opening ≡ L.opening }
+    requires level { (screen ≡ book.old.journal) × (seat.old.viewer.seen ≡ book.old.journal) }
+    requires total { length book.old.journal ≡ total.old.total }
+    requires kept { 0 < book.old.spare }
+    requires free { refusal (view_of book.old) ready ≡ None }
+    requires fits { Fits (view_of book.old) ready }
+    requires performed { IsPerformed ready.origin ready.place ready.version ready.statement ready.done }
+    requires kin { Kin ready.origin (view_of book.old) }
+    ensures opening { book.new.opening ≡ L.opening }
+    ensures shown { entries_of result.0 ≡ book.new.journal }
+    ensures total { length book.new.journal ≡ total.new.total }
+    ensures receipt { IfOk result.1 (λ r. IsFor r ready) }
+    ensures index { IfOk result.1 (λ r. StandsAfter L.parts seat.old.accepted r) }
+    ensures at_end { IfOk result.1 (λ r. r.index ≡ length book.old.journal) }
+    ensures told { IfOk result.1 (λ r. IsTold L.opening seat.new.viewer.seen r) }
+    ensures begins { Begins seat.old.viewer.seen seat.new.viewer.seen }
+    ensures counted { OnOk result.1 (seat.new.accepted ≡ seat.old.accepted + 1) }
+    ensures back { IfErr result.1 (λ p. p ≡ ready) }
+    ensures same { OnErr result.1 (seat.new.accepted ≡ seat.old.accepted) }
+    ensures seen { OnErr result.1 (seat.new.viewer.seen ≡ seat.old.viewer.seen) }
+{
+    kin_agree();
+    versions_count_entries();
+    let _ = book.journal();
+    let _ = book.opening().room();
+    seat.audit(total);
+    let screen = match screen.publish(rt, alloc, ready.entry()) {
+        Ok(screen) => screen,
+        Err(Unpublished::Memory(screen)) => return (Shown::Open(screen), Err(ready.back())),
+        Err(Unpublished::Stopped(spent)) => return (Shown::Stopped(spent), Err(ready.back())),
+    };
+    let receipt = book.finish(ready);
+    let _ = book.journal();
+    seat.learn(&screen);
+    seat.count(total);
+    (Shown::Open(screen), Ok(receipt))
+}
 
+impl<L: Naming> Locked<L> {
     /// Commits the proposal to the book, and publishes and counts it where it was accepted.
     fn commit<R: Wait>(
         &mut self,
@@ -80,15 +83,20 @@ impl<L: Naming> Locked<L> {
         ensures begins { Begins seat.old.viewer.seen seat.new.viewer.seen }
         ensures counted { OnOk result (seat.new.accepted ≡ seat.old.accepted + 1) }
         ensures back { IfErr result (λ r. r.1 ≡ proposal) }
-        ensures cause { IfErr result (λ r. IsCause r.0 L.opening seat.new.viewer.seen proposal) }
+        ensures cause { IfErr result (λ r. IsCause r.0 (view_after L.opening seat.new.viewer.seen) proposal) }
         ensures version { IfErr result (λ r. NamesVersion L.parts seat.old.accepted r.0) }
         ensures same { OnErr result (seat.new.accepted ≡ seat.old.accepted) }
     {
-        let Some(screen) = self.screen.take() else {
-            return Err((CommitFault::Stopped, proposal));
+        let screen = match self.shown.take() {
+            Some(Shown::Open(screen)) => screen,
+            Some(stopped) => {
+                stopped.put(rt, &mut self.shown);
+                return Err((CommitFault::Stopped, proposal));
+            }
+            None => return Err((CommitFault::Stopped, proposal)),
         };
         if !seat.see_all(&screen) {
-            put_screen(rt, &mut self.screen, screen);
+            Shown::Open(screen).put(rt, &mut self.shown);
             return Err((CommitFault::Stopped, proposal));
         }
         versions_count_entries();
@@ -98,11 +106,21 @@ impl<L: Naming> Locked<L> {
         let ready = match self.book.prepare(proposal) {
             Ok(ready) => ready,
             Err((fault, proposal)) => {
-                put_screen(rt, &mut self.screen, screen);
+                Shown::Open(screen).put(rt, &mut self.shown);
                 return Err((CommitFault::from(fault), proposal));
             }
         };
-        match self.publish(rt, alloc, screen, seat, ready) {
+        let (shown, answer) = publish(
+            rt,
+            alloc,
+            screen,
+            &mut self.book,
+            &mut self.total,
+            seat,
+            ready,
+        );
+        shown.put(rt, &mut self.shown);
+        match answer {
             Ok(receipt) => Ok(receipt),
             Err(proposal) => Err((CommitFault::Memory, proposal)),
         }
@@ -124,8 +142,9 @@ impl<L: Naming> Desk<L> {
     /// opening has no text of the statement's name, or has it at another place than the snapshot's; `Changed` with the proposal's version and the
     /// text's, which it has after all that the seat has seen now, and which is at most a million, and at most the seat's share if there is no other
     /// seat; `Full`, where the seat has seen as many entries as there is room for; `Memory`, and if it was refused to the publish itself the desk is
-    /// stopped: it accepts nothing more, and can be closed. After each refusal the share is the same, no entry is added, what the seat has seen begins
-    /// with what it had seen, and the same proposal comes back.
+    /// stopped: it accepts nothing more, and can be closed. Of `NoText`, `Changed` and `Full` the first that holds comes, and `Memory` only where none
+    /// does. After each refusal the share is the same, no entry is added or shown, what the seat has seen begins with what it had seen, and the same
+    /// proposal comes back.
     pub fn commit<R: Wait>(
         &self,
         rt: &R,
@@ -140,7 +159,7 @@ impl<L: Naming> Desk<L> {
         ensures begins { Begins seat.old.viewer.seen seat.new.viewer.seen }
         ensures counted { OnOk result (seat.new.accepted ≡ seat.old.accepted + 1) }
         ensures back { IfErr result (λ r. r.1 ≡ proposal) }
-        ensures cause { IfErr result (λ r. IsCause r.0 L.opening seat.new.viewer.seen proposal) }
+        ensures cause { IfErr result (λ r. IsCause r.0 (view_after L.opening seat.new.viewer.seen) proposal) }
         ensures version { IfErr result (λ r. NamesVersion L.parts seat.old.accepted r.0) }
         ensures same { OnErr result (seat.new.accepted ≡ seat.old.accepted) }
     {

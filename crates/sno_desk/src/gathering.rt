@@ -22,6 +22,7 @@ pub(crate) fn collect<L: Naming>(
     ensures as_many { IfOk result (λ queues. length queues.items ≡ length seats.old) }
     ensures taken { IfOk result (λ queues. (k : ℕ) (d : Seat L) (e : _) → k < length seats.old → option_map (λ q. q.items) (slice_index_or seats.old k d).replies ≡ Some (slice_index_or queues.items k e).items) }
     ensures same { OnOk result ((k : ℕ) (d : Seat L) → k < length seats.old → (slice_index_or seats.new k d).accepted ≡ (slice_index_or seats.old k d).accepted) }
+    ensures same_view { OnOk result ((k : ℕ) (d : Seat L) → k < length seats.old → (slice_index_or seats.new k d).viewer.seen ≡ (slice_index_or seats.old k d).viewer.seen) }
 {
     let mut queues = VecDeque::new(alloc);
     for seat in seats.iter_mut() {

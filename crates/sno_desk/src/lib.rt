@@ -58,6 +58,7 @@ mod gates;
 mod gathering;
 mod locked;
 mod seats;
+mod shown;
 mod starting;
 mod submitting;
 mod windows;

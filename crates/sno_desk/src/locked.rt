@@ -1,26 +1,29 @@
 //! What lies under a desk's lock.
-ghost use Rattle.std.specs.Prelude.{◌≡◌, Some, length};
+ghost use Rattle.std.specs.Prelude.{◌≡◌, length};
 
+use crate::shown::Shown;
 use sno_book::Book;
-use sno_published::{Naming, Screen, Spent};
+use sno_published::Naming;
 use std::marker::Model;
 use std::sync::Wait;
 use std::sync::ledger::{self, Share};
 
-/// The book, what is shown of it, and the ledger's total, which is the number of the journal's entries. The screen, while there is one, shows the
-/// journal; with none the desk is stopped. So the lock is never let go with an entry that no seat counts, nor with a count for which there is no
-/// entry, and as long as the desk isn't stopped with none that no reader sees. `rest` is what is left of the ledger's shares when each seat has its part: nothing.
+/// The book, what is shown of it, and the ledger's total, which is the number of the journal's entries. What is shown is the journal, whether the desk
+/// is stopped or not. So the lock is never let go with an entry that no seat counts or no reader sees, nor with a count for which there is no entry.
+/// There is always something shown; it is away only while it is published to. `rest` is what is left of the ledger's shares when each seat has its
+/// part: nothing.
 pub(crate) struct Locked<L: Naming> {
     pub(crate) book: Book,
-    pub(crate) screen: Option<Screen<L>>,
-    pub(crate) spent: Option<Spent<L>>,
+    pub(crate) shown: Option<Shown<L>>,
     pub(crate) total: ledger::Book<L>,
     pub(crate) rest: Share<L>,
 }
 
 impl<L: Naming> Model for Locked<L> {
-    ghost use Rattle.std.specs.Prelude.{◌≡◌, IfSome, length};
+    ghost use Rattle.std.specs.Prelude.{◌≡◌, Some, length};
+    ghost use Rattle.std.specs.Option.{option_map};
     ghost use Rattle.sno_book.specs.Books.{Book, book_code};
+    ghost use Rattle.sno_desk.specs.Shown.{entries_of};
 
     ghost Value = { Book };
 
@@ -28,36 +31,13 @@ impl<L: Naming> Model for Locked<L> {
 
     ghost view = { λ s. s.book };
 
-    ghost invariant = { λ s. (s.book.opening ≡ L.opening) × IfSome s.screen (λ x. x ≡ s.book.journal) × (length s.book.journal ≡ s.total.total) × (s.rest.parts ≡ 0) × (s.rest.amount ≡ 0) };
-}
-
-/// Puts a screen into its place; one that stood there is ended.
-pub(crate) fn put_screen<L: Naming, R: Wait>(
-    rt: &R,
-    place: &mut Option<Screen<L>>,
-    screen: Screen<L>,
-)
-    ensures { place.new ≡ Some screen }
-{
-    if let Some(other) = place.replace(screen) {
-        other.end(rt);
-    }
-}
-
-/// Puts a spent screen into its place; one that stood there is ended.
-pub(crate) fn put_spent<L: Naming, R: Wait>(rt: &R, place: &mut Option<Spent<L>>, spent: Spent<L>) {
-    if let Some(other) = place.replace(spent) {
-        other.end(rt);
-    }
+    ghost invariant = { λ s. (s.book.opening ≡ L.opening) × (option_map entries_of s.shown ≡ Some s.book.journal) × (length s.book.journal ≡ s.total.total) × (s.rest.parts ≡ 0) × (s.rest.amount ≡ 0) };
 }
 
 /// Ends what is shown.
-fn end_shown<L: Naming, R: Wait>(rt: &R, screen: Option<Screen<L>>, spent: Option<Spent<L>>) {
-    if let Some(screen) = screen {
-        screen.end(rt);
-    }
-    if let Some(spent) = spent {
-        spent.end(rt);
+fn end_shown<L: Naming, R: Wait>(rt: &R, shown: Option<Shown<L>>) {
+    if let Some(shown) = shown {
+        shown.end(rt);
     }
 }
 
@@ -66,12 +46,11 @@ impl<L: Naming> Locked<L> {
     pub(crate) fn end<R: Wait>(self, rt: &R) {
         let Locked {
             book: _book,
-            screen,
-            spent,
+            shown,
             total: _total,
             rest: _rest,
         } = self;
-        end_shown(rt, screen, spent);
+        end_shown(rt, shown);
     }
 
     /// The book with the ledger's total and the rest of its shares; what was shown is ended.
@@ -82,12 +61,11 @@ impl<L: Naming> Locked<L> {
     {
         let Locked {
             book,
-            screen,
-            spent,
+            shown,
             total,
             rest,
         } = self;
-        end_shown(rt, screen, spent);
+        end_shown(rt, shown);
         (book, total, rest)
     }
 }

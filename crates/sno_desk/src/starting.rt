@@ -4,6 +4,7 @@ ghost use Rattle.std.specs.Arc.{arc_value};
 ghost use Rattle.std.specs.List.{All};
 
 use crate::locked::Locked;
+use crate::shown::Shown;
 use crate::{Blank, Desk, DeskFault, Seat};
 use sno_book::{Book, Opening};
 use sno_published::{Naming, Screen};
@@ -122,8 +123,7 @@ impl<L: Naming> Desk<L> {
         };
         let lock = Mutex::new(Locked {
             book,
-            screen: Some(screen),
-            spent: None,
+            shown: Some(Shown::Open(screen)),
             total,
             rest,
         });

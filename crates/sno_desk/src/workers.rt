@@ -1,11 +1,11 @@
 //! Workers: each seat submits its part of a list of jobs, in threads.
-ghost use Rattle.std.specs.Prelude.{◌≡◌, ◌+◌, ◌<◌, ◌≤◌, ℕ, ◌∷◌, IfOk, OnOk, List, length, map, slice_index_or, sum_by};
+ghost use Rattle.std.specs.Prelude.{◌≡◌, ◌+◌, ◌<◌, ◌≤◌, ℕ, ◌∷◌, IfOk, List, length, map, slice_index_or, sum_by};
 ghost use Rattle.std.specs.Option.{option_map};
 ghost use Rattle.std.specs.Thread.{IsSend, IsSync};
 ghost use Rattle.std.specs.Arc.{arc_value};
 ghost use Rattle.sno_statement.specs.Task.{Task};
 ghost use Rattle.sno_desk.specs.Answers.{Answers, receipts_in};
-ghost use Rattle.sno_desk.specs.Turns.{AllAnswer, FollowInOrder, Goes, HasWorked, every, shares_after};
+ghost use Rattle.sno_desk.specs.Turns.{AllAnswer, Goes, HasWorked, InTurn, IsSubmitted, Position, every, position, shares_after};
 
 use crate::gathering::{collect, in_order};
 use crate::{Desk, Gate, Reply, Seat, WorkersFault};
@@ -33,7 +33,7 @@ struct Shift<'a, L: Naming, G: Gate> {
 impl<L: Naming, G: Gate> Shift<'_, L, G> {
     /// Submits this job if it is the seat's turn, which it is when no job of another seat is to be passed over first. The reply is kept after the
     /// others. Answers how many jobs of other seats come before the seat's next one.
-    #[tactic(auto, using(crate::proofs::Turns::goes_one, crate::proofs::Turns::goes_by, crate::proofs::Turns::follow_one, crate::proofs::Causes::follows))]
+    #[tactic(auto, using(crate::proofs::Turns::goes_one, crate::proofs::Turns::goes_by, crate::proofs::Causes::follows))]
     fn turn<R: Wait>(
         &self,
         rt: &R,
@@ -43,12 +43,9 @@ impl<L: Naming, G: Gate> Shift<'_, L, G> {
         wait: usize,
         replies: &mut VecDeque<Reply>,
     ) -> Result<usize, AllocError>
-        ensures goes { IfOk result (λ next. (all jobs : List Task)
-            → Goes (Answers (G.shuts self.now.gate.now) self.now.tries L.opening) all (every self.now.workers wait (arc_value job.now ∷ jobs)) replies.old.items
-            → Goes (Answers (G.shuts self.now.gate.now) self.now.tries L.opening) all (every self.now.workers next jobs) replies.new.items) }
-        ensures counted { OnOk result (seat.new.accepted + sum_by receipts_in replies.old.items ≡ seat.old.accepted + sum_by receipts_in replies.new.items) }
-        ensures in_order { OnOk result ((before : ℕ) → before + sum_by receipts_in replies.old.items ≡ seat.old.accepted
-            → FollowInOrder L.parts before replies.old.items → FollowInOrder L.parts before replies.new.items) }
+        ensures goes { IfOk result (λ next. (before : Position) (all jobs : List Task)
+            → Goes (IsSubmitted (G.shuts self.now.gate.now) self.now.tries L.opening L.parts) before (position seat.old.accepted seat.old.viewer.seen) all (every self.now.workers wait (arc_value job.now ∷ jobs)) replies.old.items
+            → Goes (IsSubmitted (G.shuts self.now.gate.now) self.now.tries L.opening L.parts) before (position seat.new.accepted seat.new.viewer.seen) all (every self.now.workers next jobs) replies.new.items) }
     {
         if wait > 0 {
             return Ok(wait - 1);
@@ -68,9 +65,8 @@ impl<L: Naming, G: Gate> Shift<'_, L, G> {
         seat: &mut Seat<L>,
         first: usize,
     ) -> Result<VecDeque<Reply>, AllocError>
-        ensures answers { IfOk result (λ replies. AllAnswer (Answers (G.shuts self.now.gate.now) self.now.tries L.opening) (every self.now.workers first (map arc_value self.now.jobs.now)) replies.items) }
-        ensures counted { IfOk result (λ replies. seat.new.accepted ≡ seat.old.accepted + sum_by receipts_in replies.items) }
-        ensures in_order { IfOk result (λ replies. FollowInOrder L.parts seat.old.accepted replies.items) }
+        ensures { IfOk result (λ replies. InTurn (IsSubmitted (G.shuts self.now.gate.now) self.now.tries L.opening L.parts)
+            (position seat.old.accepted seat.old.viewer.seen) (position seat.new.accepted seat.new.viewer.seen) (every self.now.workers first (map arc_value self.now.jobs.now)) replies.items) }
     {
         let mut replies = VecDeque::with_capacity(alloc, self.jobs.len().div_ceil(self.workers))?;
         let mut wait = first;
@@ -82,7 +78,8 @@ impl<L: Naming, G: Gate> Shift<'_, L, G> {
 
     /// Submits the jobs of one seat, which keeps the replies.
     fn work<R: Wait>(&self, rt: &R, alloc: Global, seat: &mut Seat<L>, first: usize)
-        ensures { HasWorked (Answers (G.shuts self.now.gate.now) self.now.tries L.opening) (every self.now.workers first (map arc_value self.now.jobs.now)) L.parts seat.old.accepted seat.new.accepted (option_map (λ q. q.items) seat.new.replies) }
+        ensures { HasWorked (IsSubmitted (G.shuts self.now.gate.now) self.now.tries L.opening L.parts) (every self.now.workers first (map arc_value self.now.jobs.now))
+            (position seat.old.accepted seat.old.viewer.seen) (position seat.new.accepted seat.new.viewer.seen) (option_map (λ q. q.items) seat.new.replies) }
     {
         seat.replies = match self.replies(rt, alloc, seat, first) {
             Ok(replies) => Some(replies),
@@ -109,8 +106,9 @@ fn work_all<L: Naming + Send + Sync, G: Gate + Sync, R: Threads + Wait + Sync>(
 )
     requires some { 1 ≤ length seats.old }
     requires lawful { (1 ≤ tries) × (tries ≤ 1000) }
-    ensures { (k : ℕ) (d : Seat L) → k < length seats.old → HasWorked (Answers (G.shuts gate.now) tries L.opening) (every (length seats.old) k (map arc_value jobs.now)) L.parts
-        (slice_index_or seats.old k d).accepted (slice_index_or seats.new k d).accepted (option_map (λ q. q.items) (slice_index_or seats.new k d).replies) }
+    ensures { (k : ℕ) (d : Seat L) → k < length seats.old → HasWorked (IsSubmitted (G.shuts gate.now) tries L.opening L.parts) (every (length seats.old) k (map arc_value jobs.now))
+        (position (slice_index_or seats.old k d).accepted (slice_index_or seats.old k d).viewer.seen) (position (slice_index_or seats.new k d).accepted (slice_index_or seats.new k d).viewer.seen)
+        (option_map (λ q. q.items) (slice_index_or seats.new k d).replies) }
 {
     may_cross::<Entry>();
     may_cross::<Book>();
@@ -119,7 +117,8 @@ fn work_all<L: Naming + Send + Sync, G: Gate + Sync, R: Threads + Wait + Sync>(
     let workers = seats.len();
     let worker = |first: usize, seat: &mut Seat<L>|
         requires { (1 ≤ workers) × (1 ≤ tries) × (tries ≤ 1000) }
-        ensures { HasWorked (Answers (G.shuts gate.entry.now) tries L.opening) (every workers first (map arc_value jobs.entry.now)) L.parts seat.old.accepted seat.new.accepted (option_map (λ q. q.items) seat.new.replies) }
+        ensures { HasWorked (IsSubmitted (G.shuts gate.entry.now) tries L.opening L.parts) (every workers first (map arc_value jobs.entry.now))
+            (position seat.old.accepted seat.old.viewer.seen) (position seat.new.accepted seat.new.viewer.seen) (option_map (λ q. q.items) seat.new.replies) }
     {
         let shift = Shift {
             desk,
@@ -138,10 +137,11 @@ fn work_all<L: Naming + Send + Sync, G: Gate + Sync, R: Threads + Wait + Sync>(
 ///
 /// From 1 to 16 seats of this desk, and 1 to 1,000 tries.
 ///
-/// On `Ok` there are as many replies as jobs, in the order of the jobs, and each is an answer of [`Desk::submit`] to the job at its place. Of
-/// the receipts of one seat, the j-th, from 0, has an index of at least the seat's share before the call plus j, and exactly that if there is no
-/// other seat. The second version of `TriesSpent` is at most a million. Each share is higher by the number of receipts among its seat's
-/// replies, and all together by the number of all receipts.
+/// On `Ok` there are as many replies as jobs, in the order of the jobs, and each is an answer of [`Desk::submit`] to the job at its place. The replies of
+/// one seat are those of its submits one after the other: each began with what the seat had accepted and seen after the one before, and the last left it as it is
+/// now. So of its receipts each has a higher index than the one before; the j-th, from 0, has an index of at least the seat's share before the call plus
+/// j, and exactly that if there is no other seat. Each share is higher by the number of receipts among its seat's replies, and all together by the number of
+/// all receipts.
 ///
 /// Refused: `Memory`. Some jobs may have been accepted then and their replies lost; each share counts what was accepted through its seat, and
 /// the desk can still be used and closed.
@@ -158,8 +158,9 @@ pub fn run_workers<L: Naming + Send + Sync, G: Gate + Sync, R: Threads + Wait + 
     requires lawful { (1 ≤ tries) × (tries ≤ 1000) }
     ensures answers { IfOk result (λ replies. AllAnswer (Answers (G.shuts gate.now) tries L.opening) (map arc_value jobs.now) replies.items) }
     ensures total { IfOk result (λ replies. sum_by (λ s. s.accepted) seats.new ≡ sum_by (λ s. s.accepted) seats.old + sum_by receipts_in replies.items) }
-    ensures in_order { IfOk result (λ replies. (k : ℕ) (d : Seat L) → k < length seats.old
-        → FollowInOrder L.parts (slice_index_or seats.old k d).accepted (every (length seats.old) k replies.items)) }
+    ensures in_turn { IfOk result (λ replies. (k : ℕ) (d : Seat L) → k < length seats.old → InTurn (IsSubmitted (G.shuts gate.now) tries L.opening L.parts)
+        (position (slice_index_or seats.old k d).accepted (slice_index_or seats.old k d).viewer.seen) (position (slice_index_or seats.new k d).accepted (slice_index_or seats.new k d).viewer.seen)
+        (every (length seats.old) k (map arc_value jobs.now)) (every (length seats.old) k replies.items)) }
     ensures shares { IfOk result (λ replies. map (λ s. s.accepted) seats.new ≡ shares_after (length seats.old) 0 (map (λ s. s.accepted) seats.old) replies.items) }
 {
     work_all(rt, alloc, desk, seats, jobs, tries, gate);

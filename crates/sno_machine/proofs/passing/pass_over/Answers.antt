@@ -4,7 +4,6 @@ use Rattle.std.specs.List.{flat_map}
 use Rattle.sno_pattern.specs.Outcome.{tried_from}
 use Rattle.sno_machine.specs.Progress.{spend}
 use Rattle.sno_machine.specs.Endings.{match_by, up_to}
-use Rattle.sno_machine.proofs.StartLaws.{none_left}
 use Rattle.sno_machine.proofs.BeginningLaws.{passed_over}
 use Rattle.sno_machine.proofs.EndingLaws.{past_limit}
 use Rattle.sno_machine.proofs.passing.pass_over.Goals as goal
@@ -21,22 +20,8 @@ returns-then-not-try_spend-clause-refused c = λ bodies p k are.
     past_limit r (spend c.price.result r) (flat_map (tried_from t bodies k p) (up_to start c.args.last)) (flat_map (tried_from t bodies k p) (up_to begin c.args.last)) passed
     (c.try_spend.ensures.refused c.if-not-try_spend.true)
 
-pub returns-then-begin-last-clause-passed : goal.returns-then-begin-last-clause-passed
-returns-then-begin-last-clause-passed c = λ bodies p k are.
-    let t = c.args.text.now in
-    let r = c.args.progress.now in
-    let start = c.args.start in
-    let begin = c.first_beginning-begin.result in
-    let found = c.first_beginning-begin.ensures in
-    let spent = c.price.ensures ∙ ap (λ z. (begin - start) * z) c.cost.ensures in
-    let passed = passed_over p c.args.beginnings.now are t bodies k start begin c.args.last r c.price.result spent found.inside.0 found.inside.1 found.passed in (
-      found.inside.0,
-      c.if-begin-last.true,
-      passed ∙ ap (λ z. match_by z (flat_map (tried_from t bodies k p) (up_to begin c.args.last))) (sym (c.try_spend.ensures.spent c.if-not-try_spend.false)),
-    )
-
-pub returns-else-begin-last-clause-passed : goal.returns-else-begin-last-clause-passed
-returns-else-begin-last-clause-passed c = λ bodies p k are.
+pub returns-clause-passed : goal.returns-clause-passed
+returns-clause-passed c = λ bodies p k are.
     let t = c.args.text.now in
     let r = c.args.progress.now in
     let start = c.args.start in
@@ -44,6 +29,4 @@ returns-else-begin-last-clause-passed c = λ bodies p k are.
     let found = c.first_beginning-begin.ensures in
     let spent = c.price.ensures ∙ ap (λ z. (begin - start) * z) c.cost.ensures in
     let passed = passed_over p c.args.beginnings.now are t bodies k start begin c.args.last r c.price.result spent found.inside.0 found.inside.1 found.passed in
-    passed
-    ∙ ap (λ z. match_by z (flat_map (tried_from t bodies k p) (up_to begin c.args.last))) (sym (c.try_spend.ensures.spent c.if-not-try_spend.false))
-    ∙ none_left t bodies k p c.try_spend.new.self c.args.last begin c.if-begin-last.false
+    passed ∙ ap (λ z. match_by z (flat_map (tried_from t bodies k p) (up_to begin c.args.last))) (sym (c.try_spend.ensures.spent c.if-not-try_spend.false))
