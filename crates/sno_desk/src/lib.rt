@@ -12,21 +12,21 @@
 //!   ledger, and each seat (`src/seats.rt`) that its share of that ledger is the number that [`Seat::accepted`] answers. A share rises only
 //!   together with the total. So the book that [`close`] (`src/closing.rt`) gives back has exactly as many entries as its seats have accepted.
 //! - **The book is lawful whenever the lock is free.** By its type each entry of its journal is a step from the texts as the entries before it
-//!   leave them, and its texts are the replay of the journal. What is shown is the journal, unless the desk is stopped. [`close`] gives the book back with
+//!   leave them, and its texts are the replay of the journal. What is shown is the journal, also when the desk is stopped. [`close`] gives the book back with
 //!   the opening that the desk began with.
 //! - **Readers don't wait.** [`Seat::snapshot`] (`src/windows.rt`, `specs/Seen.antt`) takes no handle that may wait. It answers the text as the entries that
 //!   the seat has then seen leave it, and what a seat has seen only grows: it is the seat's view.
 //! - **A receipt is for what was handed in.** [`Desk::commit`] (`src/committing.rt`, `specs/Receipts.antt`) answers the proposal's entry, which stands at the
-//!   receipt's index in the seat's view, and the text that the proposal was made for. A refused proposal comes back as it was, and each refusal but `Memory`
-//!   and `Stopped` has its cause in the seat's view.
+//!   receipt's index in the seat's view, and the text that the proposal was made for. A refused proposal comes back as it was, and each refusal but `Stopped`
+//!   is the one that the book's own rule gives after the seat's view.
 //! - **[`Desk::submit`]** (`src/submitting.rt`, `specs/Answers.antt`): a receipt's entry has the statement, and by the receipt's type its outcome
 //!   is what the statement does to the receipt's text. `NoText` comes exactly where the opening has no text of that name. `TriesSpent` comes only where
 //!   the text's version has risen at least as often as the statement was tried, and names a version that the text had on the way. `TextTooLong` and `TooManyTrials` come only where performing the statement on
 //!   the text is refused so. `GateShut` comes only if the gate may be shut for the statement's number at one of its attempts; a [`Gate`] (`src/gates.rt`)
 //!   says by its ghost member when that is, and for [`OpenGate`] it never is.
 //! - **[`run_workers`]** (`src/workers.rt`, `src/gathering.rt`, `specs/Turns.antt`): there are as many replies as jobs, in the order of the jobs,
-//!   and each is an answer of `submit` to its job. The j-th receipt of a seat, from 0, has an index of at least the number of entries that the
-//!   seat had accepted before, plus j. Each share rises by the number of receipts among its seat's replies, and all together by all receipts.
+//!   and each is an answer of `submit` to its job. Those of one seat are the answers of its submits one after the other, with all that a submit
+//!   promises, so the indexes of its receipts rise. Each share rises by the number of receipts among its seat's replies, and all together by all receipts.
 //!
 //! The lemmas: `proofs/Turns.antt` is about dealing out jobs and putting replies in order; `proofs/Causes.antt` about what a book's answer says of
 //! the proposal; `proofs/Viewings.antt` about what is seen, over `sno_book`'s `proofs/Standing.antt`, which texts stand after it; `proofs/Attempts.antt`
