@@ -18,7 +18,7 @@ goes_none A before all = record { on = λ after more h. h }
 pub goes_one : (A : Position → Position → Task → Answer → Type 0) (before now next : Position) (all : List Task) (count wait : ℕ) (s : Task) (jobs : List Task)
     (replies : List Answer) (r : Answer)
     → wait ≡ 0 → A now next s r → Goes A before now all (every count wait (s ∷ jobs)) replies → Goes A before next all (every count (count - 1) jobs) (replies ++ r ∷ [])
-goes_one A before now next all count zero s jobs replies r e a g = record { on = λ after more h. rw append_assoc (g.on after (r ∷ more) (next, (a, h))) }
+goes_one A before now next all count zero s jobs replies r e a g = record { on = λ after more h. rw append_assoc (g.on after (r ∷ more) (next, a, h)) }
 goes_one A before now next all count (suc wait) s jobs replies r e a g = absurd (omega arith)
 
 -- a job that is another seat's is passed over
