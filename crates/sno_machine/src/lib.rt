@@ -39,7 +39,7 @@
 //! P . V            Mark ──> P ──> Later V ──>     what lies past the mark is put after the pending assignments
 //! P $ V            Mark ──> P ──> Now V ──>       .. or is assigned at once
 //!
-//! *D               Call D ──>                     the nodes of D, with a frame that says what comes after it
+//! *D               Call D ──>                     the nodes of D (`other` is the first), with a frame that says what comes after it
 //! *D               Jump D                         where nothing comes after it in the definition that refers to it: the nodes of D without a
 //!                                                frame, since what comes after D is what comes after that definition
 //!  D's body        P ──> Return                   what comes after it; a literal of one character that comes last goes back itself
@@ -53,7 +53,8 @@
 //!
 //! The pattern itself ends in `Return`, too: outside all frames the match has succeeded there. Nodes are written from the last to the first,
 //! so a successor has its number before it is named. Only a round has to come back to a node that was written before it: `Repeat` is
-//! written with no round, and told of it once it is there.
+//! written with no round, and told of it once it is there. And a reference may be written before its definition, so once all nodes are there each
+//! reference is told the first node of its definition (`other`).
 //!
 //! # The history
 //!
