@@ -117,8 +117,10 @@ module _ (L : RattleType) (n : NamingGhosts L.Denot) (g : Ghosts L.Denot) (entry
   spent_send = view_send _ _ _ _ _ (declared_send (SpentInside.the_type L (absorbs.ghosts L n absorbs.no_dict g absorbs.no_dict) n g) (writer_send, tt))
 
   shown_send : IsSend (Shown.the_row L n g)
-  shown_send = variants_send (Shown.enum L n g) ((as_row_send (Screen.the_field L (absorbs.ghosts L n absorbs.no_dict g absorbs.no_dict) n g) screen_send, tt),
-      ((as_row_send (Spent.the_field L (absorbs.ghosts L n absorbs.no_dict g absorbs.no_dict) n g) spent_send, tt), tt))
+  shown_send = variants_send (Shown.enum L n g) (
+    (as_row_send (Screen.the_field L (absorbs.ghosts L n absorbs.no_dict g absorbs.no_dict) n g) screen_send, tt),
+    ((as_row_send (Spent.the_field L (absorbs.ghosts L n absorbs.no_dict g absorbs.no_dict) n g) spent_send, tt), tt),
+  )
 
   locked_send : IsSend Book.the_row → IsSend (Locked.the_row L n g)
   locked_send book =

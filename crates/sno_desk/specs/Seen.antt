@@ -1,5 +1,5 @@
 -- What a seat sees of its desk.
-use Rattle.std.specs.Prelude.{◌≡◌, ◌≢◌, ℕ, List, [], ◌∷◌, ◌++◌, length, Option, Some, None, Result, Ok, Err}
+use Rattle.std.specs.Prelude.{◌≡◌, ◌≢◌, ℕ, List, [], ◌∷◌, ◌++◌, length, Some, None, Result, Ok, Err}
 use mathlib.Core.List.{IsPrefix as Begins}
 use Rattle.sno_book.specs.Entries.{Entry}
 use Rattle.sno_book.specs.Journals.{Legal}

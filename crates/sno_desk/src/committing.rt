@@ -15,8 +15,7 @@ use crate::{CommitFault, Desk, Seat};
 use sno_book::{Book, Proposal, Ready, Receipt, kin_agree, versions_count_entries};
 use sno_published::{Naming, Screen, Unpublished};
 use std::alloc::Global;
-use std::sync::ledger;
-use std::sync::{MutexGuard, Wait};
+use std::sync::{MutexGuard, Wait, ledger};
 
 /// Publishes a proposal that was prepared, and then accepts it and counts it: of the seat and of the total alike. Answers what is shown now, too.
 fn publish<L: Naming, R: Wait>(

@@ -1,5 +1,5 @@
 -- One entry more, which is shown first.
-use Rattle.std.proofs.Common.{◌≤◌, ◌<◌, length, sym, subst, ◌∙◌}
+use Rattle.std.proofs.Common.{◌≤◌, sym, subst, ◌∙◌}
 use mathlib.Core.List.{IsPrefix as Begins}
 use Rattle.sno_book.specs.Books.{view_of}
 use Rattle.sno_book.specs.Openings.{Opening}

@@ -1,7 +1,6 @@
 -- What the book refuses.
-use Rattle.std.proofs.Common.{◌≡◌, List, Some, ap, sym, subst, ◌∙◌}
+use Rattle.std.proofs.Common.{◌≡◌, Some, ap, sym, subst, ◌∙◌}
 use Rattle.sno_book.specs.Books.{view_of}
-use Rattle.sno_book.specs.Entries.{Entry}
 use Rattle.sno_published.specs.Viewings.{Viewing}
 use Rattle.sno_desk.specs.declared.faults.CommitFault.{CommitFault}
 use Rattle.sno_desk.specs.declared.shown.Shown.TheVariants.{Open}
