@@ -1,11 +1,11 @@
 -- What a book's refusal says of the proposal.
-use Rattle.std.proofs.Common.{◌≡◌, ◌≢◌, ◌≤◌, ◌<◌, ℕ, zero, suc, Bool, true, false, Some, None, Option, List, [], ◌∷◌, length, refl, sym, ap, subst, ◌∙◌, arith}
+use Rattle.std.proofs.Common.{◌≡◌, ◌≢◌, ◌≤◌, ◌<◌, ℕ, zero, suc, Bool, true, false, Some, None, Option, List, [], ◌∷◌, ◌++◌, length, refl, sym, ap, subst, ◌∙◌, arith}
 use Rattle.std.specs.Prelude.{nat_eq, slice_get, if◌then◌else◌, Ok, Err, IfOk, IfErr}
 use Rattle.std.proofs.lemmas.Bool.{eqb-true, eqb-false}
 use Rattle.sno_pattern.specs.Identifiers.{same}
 use Rattle.sno_book.specs.Books.{Book, view_of}
 use Rattle.sno_book.specs.Entries.{Entry}
-use Rattle.sno_book.specs.Journals.{HasStep, replay}
+use Rattle.sno_book.specs.Journals.{HasStep, Legal, replay}
 use Rattle.sno_book.specs.Openings.{Opening, start, place_in}
 use Rattle.sno_book.specs.Origins.{IsPerformed}
 use Rattle.sno_book.specs.Views.{View, IsLawful, Kin, state_of}
@@ -22,8 +22,10 @@ use Rattle.sno_desk.specs.declared.faults.CommitFault.TheVariants as commit
 use Rattle.sno_desk.specs.Receipts.{IsCause, NamesVersion, StandsAfter}
 use Rattle.sno_desk.specs.Answers.{Answer, MayFollow, SpentAt}
 use Rattle.sno_desk.specs.Faults.{of_book, of_commit}
-use Rattle.sno_desk.specs.Seen.{HasVersion, view_after}
+use Rattle.sno_desk.specs.Seen.{HasVersion, IsTold, view_after}
 use Rattle.sno_book.proofs.Standing.{standing}
+use Rattle.sno_published.specs.Tables.{text_after}
+use mathlib.Core.List.{IsPrefix as Begins}
 
 -- what holds of each refusal that may come holds of the one that comes
 module _ (v : View) (p : Proposed) (P : BookRefusal → Type 0) (no_text : place_in v.opening p.statement.text ≢ Some p.place → P fault.NoText)
@@ -134,6 +136,22 @@ next_step v p opening shown entry step opens is same =
     subst (λ (e : Entry). HasStep (replay (start opening) shown) e) (sym same) on_screen
 
 -- ---- receipts
+
+-- the seat is told of the entry, with the text that it is for
+pub told : (before after : View) (p : Proposed) (given : Received) (opening : Opening) (seen : List Entry) → IsAccepted before after p given → before.opening ≡ opening
+    → Legal (start opening) (before.journal ++ given.entry ∷ []) → Begins (before.journal ++ given.entry ∷ []) seen → IsTold opening seen given
+told before after p given opening seen a opens legal begins =
+    let named : place_in before.opening p.statement.text ≡ Some p.place = (free before p a.free).placed in
+    record {
+      front = before.journal;
+      legal = legal;
+      many = sym a.index;
+      begins = begins;
+      place = p.place;
+      named = subst (λ (o : Opening). place_in o given.entry.statement.text ≡ Some p.place) opens (subst (λ (e : Entry). place_in before.opening e.statement.text ≡ Some p.place) (sym a.entry) named);
+      text = subst (λ (o : Opening). text_after o before.journal p.place ≡ Some (record { name = given.entry.statement.text; text = given.text; version = given.entry.version })) opens
+          (subst (λ (e : Entry). text_after before.opening before.journal p.place ≡ Some (record { name = e.statement.text; text = given.text; version = e.version })) (sym a.entry) a.text);
+    }
 
 -- the text that is found by its name stands at a place
 place_of : (name : List ℕ) (state : State) (held : VersionedText) → find name state ≡ Some held → (place : ℕ) × (slice_get state place ≡ Some held)

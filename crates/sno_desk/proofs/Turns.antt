@@ -5,11 +5,32 @@ use Rattle.std.proofs.Math.Dec.{leb}
 use Rattle.std.proofs.lemmas.Bool.Decides.{leb_tells}
 use Rattle.std.proofs.lemmas.List.Sums.{sum-map, sum_by-cons}
 use Rattle.std.proofs.lemmas.List.{append-nil, get_or-map, length-map, map-append}
+use mathlib.Core.List.{IsPrefix as Begins}
 use Rattle.sno_statement.specs.Task.{Task}
+use Rattle.sno_published.proofs.Prefixes.{prefix_self, prefix_trans}
 use Rattle.sno_book.specs.Entries.{Entry}
 use Rattle.sno_book.specs.Openings.{Opening}
 use Rattle.sno_desk.specs.Answers.{Answer, Answers, receipts_in}
-use Rattle.sno_desk.specs.Turns.{AllAnswer, BeginsWith, Deals, Goes, HasTurns, HasWorked, InTurn, IsSubmitted, Position, every, position, shares_after}
+use Rattle.sno_desk.specs.Turns.{AllAnswer, BeginsWith, Deals, Goes, HasGrown, HasTurns, HasWorked, InTurn, IsSubmitted, Position, every, position, shares_after}
+
+-- a seat that did nothing has gone on
+pub grown_self : (p : Position) → HasGrown p p
+grown_self p = record { accepted = omega arith; begins = prefix_self p.seen }
+
+pub grown_on : (first second third : Position) → HasGrown first second → HasGrown second third → HasGrown first third
+grown_on first second third g h =
+    let one : first.accepted ≤ second.accepted = g.accepted in
+    let other : second.accepted ≤ third.accepted = h.accepted in
+    record { accepted = omega arith; begins = prefix_trans first.seen second.seen third.seen g.begins h.begins }
+
+-- and so has one that submitted
+pub grown_by : (before after : Position) (r : Answer) → after.accepted ≡ before.accepted + receipts_in r → Begins before.seen after.seen → HasGrown before after
+grown_by before after r counted begins = record { accepted = omega arith; begins = begins }
+
+pub grown_still : (before now after : Position) → HasGrown before now → after.accepted ≡ now.accepted → after.seen ≡ now.seen → HasGrown before after
+grown_still before now after g counted seen =
+    let one : before.accepted ≤ now.accepted = g.accepted in
+    record { accepted = omega arith; begins = subst (λ (l : List Entry). Begins before.seen l) (sym seen) g.begins }
 
 pub goes_none : (A : Position → Position → Task → Answer → Type 0) (before : Position) (all : List Task) → Goes A before before all all []
 goes_none A before all = record { on = λ after more h. h }

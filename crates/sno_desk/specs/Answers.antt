@@ -48,7 +48,7 @@ IsNamed opening s (Err (submit.TriesSpent seen now)) = place_in opening s.text �
 IsNamed opening s (Err submit.TooManyTrials) = place_in opening s.text ≢ None
 
 -- the receipt's entry has the statement; the gate was shut only where it may be; the statement is refused so on some text; the text rose from the version
--- that the last try saw to a higher one, and by one with each try
+-- that the last try saw to a higher one, which is at least the number of tries
 abbrev pub Says : (ℕ → ℕ → Type 0) → ℕ → ℕ → Task → Answer → Type 0
 Says shuts tries lost s (Ok receipt) = receipt.entry.statement ≡ s
 Says shuts tries lost s (Err submit.NoText) = Unit {0}

@@ -21,7 +21,8 @@ pub record StandsAfter (seats accepted : ℕ) (receipt : Received) : Type 0 wher
   pub within : receipt.index < 1000000
   pub version : receipt.entry.version ≤ receipt.index
 
--- why a commit is refused at the view that its seat has now: for the book's own refusal, the first that holds; for memory only where none holds
+-- why a commit is refused at the view that its seat has now: for the book's own refusal, the first that holds; for memory only where none holds; of
+-- `Stopped` nothing is said
 abbrev pub IsCause : CommitFault → View → Proposed → Type 0
 IsCause (commit.Changed seen now) view p = refusal view p ≡ Some (book.Changed seen now)
 IsCause commit.NoText view p = refusal view p ≡ Some book.NoText

@@ -8,6 +8,7 @@ use Rattle.sno_book.specs.Proposals.{Received}
 use Rattle.sno_book.specs.Snapshots.{Snapshot}
 use Rattle.sno_book.specs.Views.{View}
 use Rattle.sno_published.specs.Tables.{text_after, text_at}
+use Rattle.sno_published.specs.Viewings.{Viewing}
 use Rattle.sno_desk.specs.declared.faults.SnapshotFault.{SnapshotFault}
 use Rattle.sno_desk.specs.declared.faults.SnapshotFault.TheVariants as snapshot
 
@@ -28,18 +29,22 @@ GivesSeen (Err snapshot.NoText) opening seen name = place_in opening name ≡ No
 GivesSeen (Err snapshot.Stopped) opening seen name = place_in opening name ≢ None
 GivesSeen (Err snapshot.Memory) opening seen name = place_in opening name ≢ None
 
--- where nothing was entered nothing more is seen
-abbrev pub StaysBehind : SnapshotFault → List Entry → List Entry → Type 0
-StaysBehind snapshot.NoText before after = after ≡ before
-StaysBehind snapshot.Stopped before after = after ≡ before
-StaysBehind snapshot.Memory before after = Unit {0}
+-- where nothing was entered nothing more is seen; where memory was refused, what is shown was seen
+abbrev pub StaysBehind : SnapshotFault → Viewing → Viewing → Type 0
+StaysBehind snapshot.NoText before after = after.seen ≡ before.seen
+StaysBehind snapshot.Stopped before after = after.seen ≡ before.seen
+StaysBehind snapshot.Memory before after = after.seen ≡ after.shown
 
--- the seat was told a legal list, of as many entries as stand before the receipt's and that one as the last: what it has seen begins with the list
+-- the seat was told a legal list, of as many entries as stand before the receipt's and that one as the last: what it has seen begins with the list. The
+-- receipt's text is that of its statement's name, with the entry's version, as the entries before its own leave it
 pub record IsTold (opening : Opening) (seen : List Entry) (receipt : Received) : Type 0 where
   pub front : List Entry
   pub legal : Legal (start opening) (front ++ receipt.entry ∷ [])
   pub many : length front ≡ receipt.index
   pub begins : Begins (front ++ receipt.entry ∷ []) seen
+  pub place : ℕ
+  pub named : place_in opening receipt.entry.statement.text ≡ Some place
+  pub text : text_after opening front place ≡ Some (record { name = receipt.entry.statement.text; text = receipt.text; version = receipt.entry.version })
 
 -- the text at this place has this version after the entries that were seen
 pub record HasVersion (opening : Opening) (seen : List Entry) (place version : ℕ) : Type 0 where

@@ -1,5 +1,5 @@
 -- How jobs are dealt out to the seats in turn, and their replies put in order again.
-use Rattle.std.specs.Prelude.{◌≡◌, ℕ, zero, suc, ◌+◌, ◌-◌, List, [], ◌∷◌, ◌++◌, Option, Some, None, length, sum_by}
+use Rattle.std.specs.Prelude.{◌≡◌, ◌≤◌, ℕ, zero, suc, ◌+◌, ◌-◌, List, [], ◌∷◌, ◌++◌, Option, Some, None, length, sum_by}
 use mathlib.Core.List.{IsPrefix as Begins}
 use Rattle.sno_statement.specs.Task.{Task}
 use Rattle.sno_book.specs.Entries.{Entry}
@@ -26,6 +26,11 @@ pub record Position : Type 0 where
 
 abbrev pub position : ℕ → List Entry → Position
 position accepted seen = record { accepted = accepted; seen = seen }
+
+-- a seat has gone on from the first position to the other one: its count is no lower, and what it had seen begins what it has seen
+pub record HasGrown (before after : Position) : Type 0 where
+  pub accepted : before.accepted ≤ after.accepted
+  pub begins : Begins before.seen after.seen
 
 -- a submit of this statement by a seat that is at the first position, which takes it to the other one
 pub record IsSubmitted (shuts : ℕ → ℕ → Type 0) (tries : ℕ) (opening : Opening) (seats : ℕ) (before after : Position) (s : Task) (r : Answer) : Type 0 where

@@ -1,14 +1,16 @@
 //! How a desk is closed.
-ghost use Rattle.std.specs.Prelude.{◌≡◌, ◌≢◌, ◌<◌, ◌↔◌, IfOk, IfErr, IsTrue, length, slice_get, sum_by};
+ghost use Rattle.std.specs.Prelude.{◌≡◌, ◌<◌, ◌↔◌, Decides, IfOk, IfErr, IsTrue, length, slice_get, sum_by};
 ghost use Rattle.std.specs.Arc.{arc_value};
+ghost use Rattle.std.specs.List.{All};
+ghost use mathlib.Core.List.{IsPrefix as Begins};
 ghost use Rattle.sno_book.specs.Views.{IsLawful};
 ghost use Rattle.sno_book.specs.Books.{view_of};
-ghost use Rattle.sno_desk.specs.Closings.{book_in};
+ghost use Rattle.sno_desk.specs.Closings.{IsCause, book_in};
 
 use crate::locked::Locked;
 use crate::{CloseFault, Desk, Seat};
 use sno_book::{Book, Opening};
-use sno_published::Naming;
+use sno_published::{Naming, Table};
 use std::sync::Wait;
 use std::sync::ledger::Share;
 
@@ -41,6 +43,18 @@ fn is_same(one: &Opening, other: &Opening) -> bool
     true
 }
 
+/// Whether a table shows all that each of the seats has seen.
+fn are_within<L: Naming>(seats: &[Seat<L>], table: &Table<L>) -> bool
+    ensures { Decides result (All (λ s. Begins s.viewer.seen table.now) seats.now) }
+{
+    for seat in seats {
+        if !seat.is_within(table) {
+            return false;
+        }
+    }
+    true
+}
+
 /// The seats' shares put together.
 fn gather<L: Naming>(seats: Vec<Seat<L>>, rest: &mut Share<L>)
     requires none { (rest.old.parts ≡ 0) × (rest.old.amount ≡ 0) }
@@ -53,10 +67,20 @@ fn gather<L: Naming>(seats: Vec<Seat<L>>, rest: &mut Share<L>)
 }
 
 impl<L: Naming> Locked<L> {
+    /// Whether the journal begins with all that each of the seats has seen.
+    fn has_all(&self, seats: &[Seat<L>]) -> bool
+        ensures { Decides result (All (λ s. Begins s.viewer.seen self.now.journal) seats.now) }
+    {
+        match &self.shown {
+            Some(shown) => are_within(seats, shown.table()),
+            None => false,
+        }
+    }
+
     /// The book, whose journal has as many entries as these seats have accepted: they are all there are.
     fn into_book<R: Wait>(self, rt: &R, seats: Vec<Seat<L>>) -> Book
         requires all { length seats.items ≡ L.parts }
-        ensures opening { result.opening ≡ L.opening }
+        ensures book { result ≡ self }
         ensures counted { length result.journal ≡ sum_by (λ s. s.accepted) seats.items }
     {
         let (book, mut total, mut rest) = self.into_parts(rt);
@@ -69,11 +93,13 @@ impl<L: Naming> Locked<L> {
 /// Closes a desk, and gives its book back. The seats are all the seats of the desk: as many as its ledger has parts. The call waits for readers that
 /// still read.
 ///
-/// On `Ok` the book's opening is the one that the desk began with, its journal is lawful from there, and it has as many entries as the seats have
-/// accepted. The call takes no memory.
+/// On `Ok` the book's opening is the one that the desk began with, its journal is lawful from there, it has as many entries as the seats have
+/// accepted, and it begins with what each of the seats has seen or was told of. So the entry of each receipt stands in it, at the receipt's index. The
+/// call takes no memory.
 ///
-/// Refused: `Opening`, exactly if the book's opening is not, by value, the desk's. No lawful run meets it. The book comes back with its journal,
-/// which is lawful from the book's own opening and has as many entries as the seats have accepted.
+/// Refused, in this order: `Opening`, exactly if the book's opening is not, by value, the desk's; `Journal`, exactly if the journal does not begin with what
+/// some seat has seen. No lawful run meets these. The book comes back with its journal, which is lawful from the book's own opening and has as many
+/// entries as the seats have accepted.
 pub fn close<L: Naming, R: Wait>(
     rt: &R,
     desk: Desk<L>,
@@ -81,7 +107,8 @@ pub fn close<L: Naming, R: Wait>(
 ) -> Result<Book, (CloseFault, Book)>
     requires all { length seats.items ≡ L.parts }
     ensures opening { IfOk result (λ book. book.opening ≡ arc_value desk.opening) }
-    ensures another { IfErr result (λ r. r.1.opening ≢ arc_value desk.opening) }
+    ensures seen { IfOk result (λ book. All (λ s. Begins s.viewer.seen book.journal) seats.items) }
+    ensures cause { IfErr result (λ r. IsCause r.0 r.1 (arc_value desk.opening) (All (λ s. Begins s.viewer.seen r.1.journal) seats.items)) }
     ensures counted { length (book_in result).journal ≡ sum_by (λ s. s.accepted) seats.items }
     ensures lawful { IsLawful (view_of (book_in result)) }
 {
@@ -90,11 +117,15 @@ pub fn close<L: Naming, R: Wait>(
         alloc: _alloc,
         lock,
     } = desk;
-    let book = lock.into_inner().into_book(rt, seats);
+    let locked = lock.into_inner();
+    let has_all = locked.has_all(&seats);
+    let book = locked.into_book(rt, seats);
     let _ = book.journal();
-    if is_same(book.opening(), &opening) {
-        Ok(book)
-    } else {
+    if !is_same(book.opening(), &opening) {
         Err((CloseFault::Opening, book))
+    } else if !has_all {
+        Err((CloseFault::Journal, book))
+    } else {
+        Ok(book)
     }
 }

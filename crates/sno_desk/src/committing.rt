@@ -60,7 +60,7 @@ fn publish<L: Naming, R: Wait>(
     };
     let receipt = book.finish(ready);
     let _ = book.journal();
-    seat.learn(&screen);
+    seat.learn(screen.table());
     seat.count(total);
     (Shown::Open(screen), Ok(receipt))
 }
@@ -94,7 +94,7 @@ impl<L: Naming> Locked<L> {
             }
             None => return Err((CommitFault::Stopped, proposal)),
         };
-        if !seat.see_all(&screen) {
+        if !seat.see_all(screen.table()) {
             Shown::Open(screen).put(rt, &mut self.shown);
             return Err((CommitFault::Stopped, proposal));
         }
@@ -137,8 +137,9 @@ impl<L: Naming> Desk<L> {
     /// seen begins with this list, and with all that it had seen before. The index is no lower than the number of entries that the seat had seen, and
     /// no lower than its share was; if there is no other seat it is the share. The entry's version is no higher than the index.
     ///
-    /// Refused, in this order: `Stopped`, where a publish of this desk was refused before, or nothing more is shown to the seat; `NoText`, where the
-    /// opening has no text of the statement's name, or has it at another place than the snapshot's; `Changed` with the proposal's version and the
+    /// Refused, in this order: `Stopped`, where a publish of this desk was refused before, nothing more is shown to the seat, or the seat has seen more
+    /// than the journal has, which no lawful run meets; `NoText`, where the opening has no text of the statement's name, or has it at another place than
+    /// the snapshot's; `Changed` with the proposal's version and the
     /// text's, which it has after all that the seat has seen now, and which is at most a million, and at most the seat's share if there is no other
     /// seat; `Full`, where the seat has seen as many entries as there is room for; `Memory`, and if it was refused to the publish itself the desk is
     /// stopped: it accepts nothing more, and can be closed. Of `NoText`, `Changed` and `Full` the first that holds comes, and `Memory` only where none

@@ -22,7 +22,7 @@ pub enum SnapshotFault {
     /// The desk's opening has no text of that name.
     #[error("no text")]
     NoText,
-    /// Nothing is shown to the seat any more.
+    /// Nothing is shown to the seat any more, or less than it was told of, which no lawful run meets.
     #[error("stopped")]
     Stopped,
     /// The text could not be shared.
@@ -33,7 +33,8 @@ pub enum SnapshotFault {
 /// Why a proposal is not accepted at a desk. No entry was added.
 #[derive(Clone, Copy, Debug, PartialEq, Eq, Error)]
 pub enum CommitFault {
-    /// The desk was stopped by a publish that was refused, or nothing is shown to the seat any more.
+    /// The desk was stopped by a publish that was refused, or nothing is shown to the seat any more, or the seat has seen more than the journal has, which
+    /// no lawful run meets.
     #[error("stopped")]
     Stopped,
     /// The opening has no text of the statement's name, or has it at another place than the snapshot's.
@@ -67,7 +68,7 @@ pub enum SubmitFault {
     /// The new text would have had more than 65,536 characters.
     #[error("text too long")]
     TextTooLong,
-    /// The desk was stopped, or nothing is shown to the seat any more.
+    /// The desk was stopped, or nothing is shown to the seat any more, or the seat has seen more than the journal has, which no lawful run meets.
     #[error("stopped")]
     Stopped,
     /// The journal has as many entries as it may hold.
@@ -95,6 +96,9 @@ pub enum CloseFault {
     /// The book's opening is not the desk's. No lawful run meets this.
     #[error("another opening")]
     Opening,
+    /// The book's journal does not begin with what one of the seats has seen or was told of. No lawful run meets this.
+    #[error("another journal")]
+    Journal,
 }
 
 /// Why there are no replies of workers. Some jobs may have been accepted then; desk and seats are lawful.

@@ -1,5 +1,5 @@
 //! Replies put in the order of the jobs.
-ghost use Rattle.std.specs.Prelude.{◌≡◌, ◌<◌, ℕ, ◌∷◌, IfOk, OnOk, Some, List, length, map, slice_index_or};
+ghost use Rattle.std.specs.Prelude.{◌≡◌, ◌<◌, ℕ, ◌∷◌, IfOk, Some, List, length, map, slice_index_or};
 ghost use Rattle.std.specs.Option.{option_map};
 ghost use Rattle.std.specs.Arc.{arc_value};
 ghost use Rattle.sno_statement.specs.Task.{Task};
@@ -21,8 +21,8 @@ pub(crate) fn collect<L: Naming>(
 ) -> Result<VecDeque<VecDeque<Reply>>, WorkersFault>
     ensures as_many { IfOk result (λ queues. length queues.items ≡ length seats.old) }
     ensures taken { IfOk result (λ queues. (k : ℕ) (d : Seat L) (e : _) → k < length seats.old → option_map (λ q. q.items) (slice_index_or seats.old k d).replies ≡ Some (slice_index_or queues.items k e).items) }
-    ensures same { OnOk result ((k : ℕ) (d : Seat L) → k < length seats.old → (slice_index_or seats.new k d).accepted ≡ (slice_index_or seats.old k d).accepted) }
-    ensures same_view { OnOk result ((k : ℕ) (d : Seat L) → k < length seats.old → (slice_index_or seats.new k d).viewer.seen ≡ (slice_index_or seats.old k d).viewer.seen) }
+    ensures same { (k : ℕ) (d : Seat L) → k < length seats.old → (slice_index_or seats.new k d).accepted ≡ (slice_index_or seats.old k d).accepted }
+    ensures same_view { (k : ℕ) (d : Seat L) → k < length seats.old → (slice_index_or seats.new k d).viewer.seen ≡ (slice_index_or seats.old k d).viewer.seen }
 {
     let mut queues = VecDeque::new(alloc);
     for seat in seats.iter_mut() {

@@ -17,8 +17,8 @@
 //! - **Readers don't wait.** [`Seat::snapshot`] (`src/windows.rt`, `specs/Seen.antt`) takes no handle that may wait. It answers the text as the entries that
 //!   the seat has then seen leave it, and what a seat has seen only grows: it is the seat's view.
 //! - **A receipt is for what was handed in.** [`Desk::commit`] (`src/committing.rt`, `specs/Receipts.antt`) answers the proposal's entry, which stands at the
-//!   receipt's index in the seat's view, and the text that the proposal was made for. A refused proposal comes back as it was, and each refusal but `Stopped`
-//!   is the one that the book's own rule gives after the seat's view.
+//!   receipt's index in the seat's view, and the text that the proposal was made for. A refused proposal comes back as it was. Of the refusals but `Stopped`
+//!   each is the one that the book's own rule gives after the seat's view; `Memory` comes only where it gives none.
 //! - **[`Desk::submit`]** (`src/submitting.rt`, `specs/Answers.antt`): a receipt's entry has the statement, and by the receipt's type its outcome
 //!   is what the statement does to the receipt's text. `NoText` comes exactly where the opening has no text of that name. `TriesSpent` comes only where
 //!   the text's version has risen at least as often as the statement was tried, and names a version that the text had on the way. `TextTooLong` and `TooManyTrials` come only where performing the statement on
@@ -42,7 +42,7 @@
 //!
 //! - That a call with `rt` returns: it may wait for the lock for ever. No lock is held at a gate, while a text is read or while a statement is performed, and no
 //!   call takes a second lock while it holds one. Tests show that two statements overlap.
-//! - That a snapshot is the newest, or that nothing is answered as `Stopped` without cause. No lawful run meets `Stopped`.
+//! - That a snapshot is the newest, or that nothing is answered as `Stopped` without cause. With ample memory no lawful run meets `Stopped`.
 //! - How many tries are made beyond the versions that `TriesSpent` names, which of the versions that a text had on the way the last try saw, and what the
 //!   gate is told. Tests show these.
 //! - Which seat made an entry: that isn't kept.

@@ -55,7 +55,7 @@ impl<L: Naming> Locked<L> {
 
     /// The book with the ledger's total and the rest of its shares; what was shown is ended.
     pub(crate) fn into_parts<R: Wait>(self, rt: &R) -> (Book, ledger::Book<L>, Share<L>)
-        ensures opening { result.0.opening ≡ L.opening }
+        ensures book { result.0 ≡ self }
         ensures counted { length result.0.journal ≡ result.1.total }
         ensures none { (result.2.parts ≡ 0) × (result.2.amount ≡ 0) }
     {

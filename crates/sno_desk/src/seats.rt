@@ -1,5 +1,5 @@
 //! Seats.
-ghost use Rattle.std.specs.Prelude.{◌≡◌, ◌+◌, ◌<◌, ◌≤◌, ◌^◌, MatchBool, OnOk, IfErr, length};
+ghost use Rattle.std.specs.Prelude.{◌≡◌, ◌+◌, ◌<◌, ◌≤◌, ◌^◌, Decides, MatchBool, OnOk, IfErr, length};
 ghost use Rattle.std.specs.Arc.{arc_value};
 ghost use mathlib.Core.List.{IsPrefix};
 ghost use Rattle.sno_desk.specs.Seen.{GivesSeen, StaysBehind};
@@ -8,7 +8,7 @@ use crate::windows::Window;
 use crate::{SnapshotFault, SubmitFault};
 use sno_book::{Opening, Receipt, Snapshot};
 use sno_pattern::TextName;
-use sno_published::{Naming, Screen, Viewer};
+use sno_published::{Naming, Table, Viewer};
 use std::collections::VecDeque;
 use std::sync::Arc;
 use std::sync::ledger::{self, Share};
@@ -52,28 +52,35 @@ impl<L: Naming> Seat<L> {
         ensures gives { GivesSeen result L.opening self.new.viewer.seen name.now }
         ensures begins { IsPrefix self.old.viewer.seen self.new.viewer.seen }
         ensures shown { OnOk result (self.new.viewer.seen ≡ self.new.viewer.shown) }
-        ensures behind { IfErr result (λ e. StaysBehind e self.old.viewer.seen self.new.viewer.seen) }
+        ensures behind { IfErr result (λ e. StaysBehind e self.old.viewer self.new.viewer) }
         ensures same { self.new.accepted ≡ self.old.accepted }
     {
         self.viewer.snapshot(name)
     }
 
-    /// Sees all that a screen shows, which it is told first, and says whether it has seen just that.
-    pub(crate) fn see_all(&mut self, screen: &Screen<L>) -> bool
+    /// Sees all that a table shows, which it is told first, and says whether it has seen just that.
+    pub(crate) fn see_all(&mut self, table: &Table<L>) -> bool
         ensures begins { IsPrefix self.old.viewer.seen self.new.viewer.seen }
-        ensures level { MatchBool result (self.new.viewer.seen ≡ screen.now) (Unit {0}) }
+        ensures level { MatchBool result (self.new.viewer.seen ≡ table.now) (Unit {0}) }
         ensures accepted { self.new.accepted ≡ self.old.accepted }
     {
-        self.viewer.see_all(screen)
+        self.viewer.see_all(table)
     }
 
-    /// Is told what a screen shows.
-    pub(crate) fn learn(&mut self, screen: &Screen<L>)
+    /// Is told what a table shows.
+    pub(crate) fn learn(&mut self, table: &Table<L>)
         ensures begins { IsPrefix self.old.viewer.seen self.new.viewer.seen }
-        ensures told { IsPrefix screen.now self.new.viewer.seen }
+        ensures told { IsPrefix table.now self.new.viewer.seen }
         ensures accepted { self.new.accepted ≡ self.old.accepted }
     {
-        self.viewer.learn(screen);
+        self.viewer.learn(table);
+    }
+
+    /// Whether a table shows all that the seat has seen.
+    pub(crate) fn is_within(&self, table: &Table<L>) -> bool
+        ensures { Decides result (IsPrefix self.now.viewer.seen table.now) }
+    {
+        self.viewer.is_within(table)
     }
 
     /// A seat with a part of the ledger and nothing accepted.

@@ -1,7 +1,8 @@
 //! What readers see of a desk.
 ghost use Rattle.std.specs.Prelude.{◌≡◌, Some};
+ghost use Rattle.sno_desk.specs.Shown.{entries_of};
 
-use sno_published::{Naming, Screen, Spent};
+use sno_published::{Naming, Screen, Spent, Table};
 use std::sync::Wait;
 
 /// What readers see of a desk, and whether more can be published. It is not `Drop`: end it by [`Shown::end`].
@@ -13,6 +14,16 @@ pub(crate) enum Shown<L: Naming> {
 }
 
 impl<L: Naming> Shown<L> {
+    /// The table that readers see.
+    pub(crate) fn table(&self) -> &Table<L>
+        ensures { result.now ≡ entries_of self.now }
+    {
+        match self {
+            Shown::Open(screen) => screen.table(),
+            Shown::Stopped(spent) => spent.table(),
+        }
+    }
+
     /// Waits for the readers, and ends what is shown.
     pub(crate) fn end<R: Wait>(self, rt: &R) {
         match self {

@@ -89,7 +89,8 @@ impl<L: Naming> Desk<L> {
     ///
     /// From 1 to 16 seats; the blank is new and has as many parts; `L` stands for the blank and for the book's opening; the book's journal is empty.
     ///
-    /// Refused: `Memory`; `NoReader`, where there was no place for a reader. The book comes back as it was, and the blank is spent.
+    /// Refused: `Memory`; `NoReader`, where there was no place for a reader, or no further share of what is shown. The book comes back as it was, and the
+    /// blank is spent.
     pub fn new<R: Wait>(
         rt: &R,
         alloc: Global,

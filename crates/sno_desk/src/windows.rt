@@ -1,12 +1,12 @@
 //! Windows, through which seats see their desk's texts.
-ghost use Rattle.std.specs.Prelude.{◌≡◌, MatchBool, OnOk, IfErr};
+ghost use Rattle.std.specs.Prelude.{◌≡◌, Decides, MatchBool, OnOk, IfErr};
 ghost use mathlib.Core.List.{IsPrefix};
 ghost use Rattle.sno_desk.specs.Seen.{GivesSeen, StaysBehind};
 
 use crate::SnapshotFault;
 use sno_book::{Opening, Origin, Snapshot};
 use sno_pattern::TextName;
-use sno_published::{Naming, Screen, Viewer};
+use sno_published::{Naming, Table, Viewer};
 use std::marker::Model;
 use std::sync::Arc;
 
@@ -41,7 +41,7 @@ impl<L: Naming> Window<L> {
         ensures gives { GivesSeen result L.opening self.new.seen name.now }
         ensures begins { IsPrefix self.old.seen self.new.seen }
         ensures shown { OnOk result (self.new.seen ≡ self.new.shown) }
-        ensures behind { IfErr result (λ e. StaysBehind e self.old.seen self.new.seen) }
+        ensures behind { IfErr result (λ e. StaysBehind e self.old self.new) }
     {
         let Some(place) = self.opening.place(name) else {
             return Err(SnapshotFault::NoText);
@@ -54,23 +54,30 @@ impl<L: Naming> Window<L> {
         Ok(Snapshot::new(Origin::of(&self.viewer), place, version, text))
     }
 
-    /// Sees all that a screen shows, which it is told first, and says whether it has seen just that.
-    pub(crate) fn see_all(&mut self, screen: &Screen<L>) -> bool
+    /// Sees all that a table shows, which it is told first, and says whether it has seen just that.
+    pub(crate) fn see_all(&mut self, table: &Table<L>) -> bool
         ensures begins { IsPrefix self.old.seen self.new.seen }
-        ensures level { MatchBool result (self.new.seen ≡ screen.now) (Unit {0}) }
+        ensures level { MatchBool result (self.new.seen ≡ table.now) (Unit {0}) }
     {
-        self.viewer.learn(screen);
+        self.viewer.learn(table);
         match self.viewer.enter() {
-            Ok(()) => self.viewer.is_level(screen),
+            Ok(()) => self.viewer.is_level(table),
             Err(_) => false,
         }
     }
 
-    /// Is told what a screen shows.
-    pub(crate) fn learn(&mut self, screen: &Screen<L>)
+    /// Is told what a table shows.
+    pub(crate) fn learn(&mut self, table: &Table<L>)
         ensures begins { IsPrefix self.old.seen self.new.seen }
-        ensures told { IsPrefix screen.now self.new.seen }
+        ensures told { IsPrefix table.now self.new.seen }
     {
-        self.viewer.learn(screen);
+        self.viewer.learn(table);
+    }
+
+    /// Whether a table shows all that was seen.
+    pub(crate) fn is_within(&self, table: &Table<L>) -> bool
+        ensures { Decides result (IsPrefix self.now.seen table.now) }
+    {
+        self.viewer.is_within(table)
     }
 }

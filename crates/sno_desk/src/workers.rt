@@ -5,7 +5,7 @@ ghost use Rattle.std.specs.Thread.{IsSend, IsSync};
 ghost use Rattle.std.specs.Arc.{arc_value};
 ghost use Rattle.sno_statement.specs.Task.{Task};
 ghost use Rattle.sno_desk.specs.Answers.{Answers, receipts_in};
-ghost use Rattle.sno_desk.specs.Turns.{AllAnswer, Goes, HasWorked, InTurn, IsSubmitted, Position, every, position, shares_after};
+ghost use Rattle.sno_desk.specs.Turns.{AllAnswer, Goes, HasGrown, HasWorked, InTurn, IsSubmitted, Position, every, position, shares_after};
 
 use crate::gathering::{collect, in_order};
 use crate::{Desk, Gate, Reply, Seat, WorkersFault};
@@ -33,7 +33,7 @@ struct Shift<'a, L: Naming, G: Gate> {
 impl<L: Naming, G: Gate> Shift<'_, L, G> {
     /// Submits this job if it is the seat's turn, which it is when no job of another seat is to be passed over first. The reply is kept after the
     /// others. Answers how many jobs of other seats come before the seat's next one.
-    #[tactic(auto, using(crate::proofs::Turns::goes_one, crate::proofs::Turns::goes_by, crate::proofs::Causes::follows))]
+    #[tactic(auto, using(crate::proofs::Turns::goes_one, crate::proofs::Turns::goes_by, crate::proofs::Turns::grown_self, crate::proofs::Turns::grown_by, crate::proofs::Causes::follows))]
     fn turn<R: Wait>(
         &self,
         rt: &R,
@@ -46,6 +46,7 @@ impl<L: Naming, G: Gate> Shift<'_, L, G> {
         ensures goes { IfOk result (λ next. (before : Position) (all jobs : List Task)
             → Goes (IsSubmitted (G.shuts self.now.gate.now) self.now.tries L.opening L.parts) before (position seat.old.accepted seat.old.viewer.seen) all (every self.now.workers wait (arc_value job.now ∷ jobs)) replies.old.items
             → Goes (IsSubmitted (G.shuts self.now.gate.now) self.now.tries L.opening L.parts) before (position seat.new.accepted seat.new.viewer.seen) all (every self.now.workers next jobs) replies.new.items) }
+        ensures grown { HasGrown (position seat.old.accepted seat.old.viewer.seen) (position seat.new.accepted seat.new.viewer.seen) }
     {
         if wait > 0 {
             return Ok(wait - 1);
@@ -58,6 +59,7 @@ impl<L: Naming, G: Gate> Shift<'_, L, G> {
     }
 
     /// Submits the jobs of one seat, in order.
+    #[tactic(auto, using(crate::proofs::Turns::grown_self, crate::proofs::Turns::grown_on))]
     fn replies<R: Wait>(
         &self,
         rt: &R,
@@ -65,8 +67,9 @@ impl<L: Naming, G: Gate> Shift<'_, L, G> {
         seat: &mut Seat<L>,
         first: usize,
     ) -> Result<VecDeque<Reply>, AllocError>
-        ensures { IfOk result (λ replies. InTurn (IsSubmitted (G.shuts self.now.gate.now) self.now.tries L.opening L.parts)
+        ensures in_turn { IfOk result (λ replies. InTurn (IsSubmitted (G.shuts self.now.gate.now) self.now.tries L.opening L.parts)
             (position seat.old.accepted seat.old.viewer.seen) (position seat.new.accepted seat.new.viewer.seen) (every self.now.workers first (map arc_value self.now.jobs.now)) replies.items) }
+        ensures grown { HasGrown (position seat.old.accepted seat.old.viewer.seen) (position seat.new.accepted seat.new.viewer.seen) }
     {
         let mut replies = VecDeque::with_capacity(alloc, self.jobs.len().div_ceil(self.workers))?;
         let mut wait = first;
@@ -78,8 +81,9 @@ impl<L: Naming, G: Gate> Shift<'_, L, G> {
 
     /// Submits the jobs of one seat, which keeps the replies.
     fn work<R: Wait>(&self, rt: &R, alloc: Global, seat: &mut Seat<L>, first: usize)
-        ensures { HasWorked (IsSubmitted (G.shuts self.now.gate.now) self.now.tries L.opening L.parts) (every self.now.workers first (map arc_value self.now.jobs.now))
+        ensures worked { HasWorked (IsSubmitted (G.shuts self.now.gate.now) self.now.tries L.opening L.parts) (every self.now.workers first (map arc_value self.now.jobs.now))
             (position seat.old.accepted seat.old.viewer.seen) (position seat.new.accepted seat.new.viewer.seen) (option_map (λ q. q.items) seat.new.replies) }
+        ensures grown { HasGrown (position seat.old.accepted seat.old.viewer.seen) (position seat.new.accepted seat.new.viewer.seen) }
     {
         seat.replies = match self.replies(rt, alloc, seat, first) {
             Ok(replies) => Some(replies),
@@ -106,9 +110,10 @@ fn work_all<L: Naming + Send + Sync, G: Gate + Sync, R: Threads + Wait + Sync>(
 )
     requires some { 1 ≤ length seats.old }
     requires lawful { (1 ≤ tries) × (tries ≤ 1000) }
-    ensures { (k : ℕ) (d : Seat L) → k < length seats.old → HasWorked (IsSubmitted (G.shuts gate.now) tries L.opening L.parts) (every (length seats.old) k (map arc_value jobs.now))
+    ensures worked { (k : ℕ) (d : Seat L) → k < length seats.old → HasWorked (IsSubmitted (G.shuts gate.now) tries L.opening L.parts) (every (length seats.old) k (map arc_value jobs.now))
         (position (slice_index_or seats.old k d).accepted (slice_index_or seats.old k d).viewer.seen) (position (slice_index_or seats.new k d).accepted (slice_index_or seats.new k d).viewer.seen)
         (option_map (λ q. q.items) (slice_index_or seats.new k d).replies) }
+    ensures grown { (k : ℕ) (d : Seat L) → k < length seats.old → HasGrown (position (slice_index_or seats.old k d).accepted (slice_index_or seats.old k d).viewer.seen) (position (slice_index_or seats.new k d).accepted (slice_index_or seats.new k d).viewer.seen) }
 {
     may_cross::<Entry>();
     may_cross::<Book>();
@@ -117,8 +122,9 @@ fn work_all<L: Naming + Send + Sync, G: Gate + Sync, R: Threads + Wait + Sync>(
     let workers = seats.len();
     let worker = |first: usize, seat: &mut Seat<L>|
         requires { (1 ≤ workers) × (1 ≤ tries) × (tries ≤ 1000) }
-        ensures { HasWorked (IsSubmitted (G.shuts gate.entry.now) tries L.opening L.parts) (every workers first (map arc_value jobs.entry.now))
+        ensures worked { HasWorked (IsSubmitted (G.shuts gate.entry.now) tries L.opening L.parts) (every workers first (map arc_value jobs.entry.now))
             (position seat.old.accepted seat.old.viewer.seen) (position seat.new.accepted seat.new.viewer.seen) (option_map (λ q. q.items) seat.new.replies) }
+        ensures grown { HasGrown (position seat.old.accepted seat.old.viewer.seen) (position seat.new.accepted seat.new.viewer.seen) }
     {
         let shift = Shift {
             desk,
@@ -144,7 +150,7 @@ fn work_all<L: Naming + Send + Sync, G: Gate + Sync, R: Threads + Wait + Sync>(
 /// all receipts.
 ///
 /// Refused: `Memory`. Some jobs may have been accepted then and their replies lost; each share counts what was accepted through its seat, and
-/// the desk can still be used and closed.
+/// the desk can still be used and closed. With each answer no share is lower than before, and what a seat has seen begins with what it had seen.
 pub fn run_workers<L: Naming + Send + Sync, G: Gate + Sync, R: Threads + Wait + Sync>(
     rt: &R,
     alloc: Global,
@@ -162,6 +168,7 @@ pub fn run_workers<L: Naming + Send + Sync, G: Gate + Sync, R: Threads + Wait + 
         (position (slice_index_or seats.old k d).accepted (slice_index_or seats.old k d).viewer.seen) (position (slice_index_or seats.new k d).accepted (slice_index_or seats.new k d).viewer.seen)
         (every (length seats.old) k (map arc_value jobs.now)) (every (length seats.old) k replies.items)) }
     ensures shares { IfOk result (λ replies. map (λ s. s.accepted) seats.new ≡ shares_after (length seats.old) 0 (map (λ s. s.accepted) seats.old) replies.items) }
+    ensures grown { (k : ℕ) (d : Seat L) → k < length seats.old → HasGrown (position (slice_index_or seats.old k d).accepted (slice_index_or seats.old k d).viewer.seen) (position (slice_index_or seats.new k d).accepted (slice_index_or seats.new k d).viewer.seen) }
 {
     work_all(rt, alloc, desk, seats, jobs, tries, gate);
     let mut queues = collect(alloc, seats)?;

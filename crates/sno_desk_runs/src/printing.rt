@@ -45,5 +45,6 @@ fn faults_of_desks(rt: HostRuntime) -> Result<(), Fail> {
     check(&rt, alloc, &DeskFault::NoReader, "no place for a reader")?;
     check(&rt, alloc, &DeskFault::Memory, "out of memory")?;
     check(&rt, alloc, &WorkersFault::Memory, "out of memory")?;
-    check(&rt, alloc, &CloseFault::Opening, "another opening")
+    check(&rt, alloc, &CloseFault::Opening, "another opening")?;
+    check(&rt, alloc, &CloseFault::Journal, "another journal")
 }

@@ -135,11 +135,11 @@ fn watch<L: Naming, R: Wait + Abort>(
     let Some(screen) = follow(rt, alloc, screen, book, proposal) else {
         return Err("not published".into());
     };
-    let late = viewer.is_level(&screen);
+    let late = viewer.is_level(screen.table());
     let after = viewer.text(0);
-    let level = viewer.is_level(&screen);
+    let level = viewer.is_level(screen.table());
     let past = viewer.text(1);
-    viewer.learn(&screen);
+    viewer.learn(screen.table());
     screen.end(rt);
     let ended = viewer.enter();
     assert!(rt; is_text(before, b"x".as_slice(), 0) && is_text(after, b"yx".as_slice(), 1));

@@ -36,7 +36,7 @@ impl<'a> Model for Code<'a> {
 /// Compiles the pattern with the definitions. Each reference of the pattern has to be to one of them (`Rules::covers`).
 ///
 /// Refused only where memory is, or where there would be more than 4,294,967,295 nodes; a pattern and its definitions have at most
-/// three nodes for each of their parts.
+/// three nodes for each of their parts, and two more.
 pub fn compile<'a>(
     alloc: Global,
     rules: &'a Rules,

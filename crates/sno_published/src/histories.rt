@@ -51,8 +51,8 @@ impl History {
 
     /// Adds an entry behind the others, and says whether it did. It waits for nobody and takes no memory.
     ///
-    /// It did not exactly if the history has gone on without this front, which has seen the whole of it then. No lawful run meets this, as nobody else
-    /// can add to the history.
+    /// It did not only if the history goes on from what this front had seen, of which the front has seen more then. No lawful run meets this, as nobody
+    /// else can add to the history.
     pub fn add(&mut self, entry: &Entry) -> bool
         requires room { length self.old.entries < 2 ^ 62 }
         ensures history { self.new.history ≡ self.old.history }

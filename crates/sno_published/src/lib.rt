@@ -25,8 +25,10 @@
 //!   After each refusal it shows what it showed; after `Memory` it can be used as before.
 //! - **A view never goes back.** The rule over the two copies (`src/keeping.rt`, `specs/Keeping.antt`) is that what each reader has seen begins what is
 //!   shown. [`Viewer::enter`] and [`Viewer::text`] (`src/viewers.rt`, `specs/Viewings.antt`) on `Ok` leave a view that is what is shown, and that begins with
-//!   the old one. [`Viewer::learn`] tells a viewer what a screen shows, and [`Viewer::is_level`] says exactly whether it has seen just that.
-//! - **Refusals have their causes.** `Behind` comes only to a viewer that was told of more than it had found shown itself.
+//!   the old one. [`Viewer::learn`] tells a viewer what a table shows, and [`Viewer::is_level`] says exactly whether it has seen just that, and
+//!   [`Viewer::is_within`] whether all that it has seen is shown there.
+//! - **`Behind` and `Memory` have their causes.** `Behind` comes only to a viewer that was told of more than it had found shown itself, and `Memory` only
+//!   after what is shown was seen. `Ended` has none.
 //!
 //! # How to begin
 //!

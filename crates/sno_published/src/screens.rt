@@ -73,7 +73,8 @@ where
 pub enum Unpublished<L: Naming> {
     /// Memory was refused. The screen comes back, and can be used as before.
     Memory(Screen<L>),
-    /// The publish itself was refused, where the entry was in the history already. Nothing more can be published.
+    /// The publish itself was refused; or the history had gone on without the screen, or the slot was full, which no lawful run meets. Nothing more can
+    /// be published.
     Stopped(Spent<L>),
 }
 
@@ -183,8 +184,8 @@ impl<L: Naming> Screen<L> {
 
     /// Publishes an entry behind those that are shown, all at once. It waits for readers that still read what was shown before the last entry.
     ///
-    /// Refused, in this order: `Memory`, where the entry couldn't be shared or put into the log, and the screen comes back as it was; `Stopped`, where
-    /// the publish itself was refused.
+    /// Refused, in this order: `Memory`, where the entry couldn't be shared or put into the log, or 2^61 attempts were made before, and the screen comes
+    /// back as it was; `Stopped`, where the publish itself was refused.
     pub fn publish<R: Wait>(
         self,
         rt: &R,
@@ -216,7 +217,7 @@ impl<L: Naming> Screen<L> {
 
     /// A viewer of this screen, which is told what is shown.
     ///
-    /// Refused only if each place for a reader is taken, or memory is refused.
+    /// Refused only if each place for a reader is taken, or what is shown has as many owners as it may have.
     pub fn viewer(&self) -> Result<Viewer<L>, AllocError>
         ensures { IfOk result (λ viewer. viewer ≡ record { shown = []; seen = self.now }) }
     {
@@ -236,6 +237,13 @@ impl<L: Naming> Screen<L> {
 }
 
 impl<L: Naming> Spent<L> {
+    /// The table that readers see.
+    pub fn table(&self) -> &Table<L>
+        ensures { result.now ≡ self.now }
+    {
+        self.writer.published()
+    }
+
     /// Waits for the readers and ends what was shown. The viewers find it `Ended` from now on.
     pub fn end<R: Wait>(self, rt: &R) {
         let Spent { writer } = self;

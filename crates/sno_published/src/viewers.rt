@@ -11,7 +11,7 @@ ghost use Rattle.sno_published.specs.Tables.{text_after, text_at};
 ghost use Rattle.sno_published.specs.Viewings.{IsCause};
 ghost use Rattle.sno_published.specs.declared.faults.ViewFault.TheVariants.{Memory};
 
-use crate::{Front, Kept, Naming, Screen, See, Seeing, Table, ViewFault};
+use crate::{Front, Kept, Naming, See, Seeing, Table, ViewFault};
 use left_right::reader::{Reader, Reading};
 use sno_book::{Text, ViewSource};
 use std::alloc::AllocError;
@@ -166,25 +166,34 @@ impl<L: Naming> Viewer<L> {
         found
     }
 
-    /// Is told what a screen of its own desk shows: the longer of the two lists is what it has seen from now on. It waits for nobody and takes no memory.
-    pub fn learn(&mut self, screen: &Screen<L>)
+    /// Is told what a table of its own desk shows: the longer of the two lists is what it has seen from now on. It waits for nobody and takes no memory.
+    pub fn learn(&mut self, table: &Table<L>)
         ensures begins { IsPrefix self.old.seen self.new.seen }
-        ensures told { IsPrefix screen.now self.new.seen }
-        ensures one { (self.new.seen ≡ self.old.seen) ⊎ (self.new.seen ≡ screen.now) }
+        ensures told { IsPrefix table.now self.new.seen }
+        ensures one { (self.new.seen ≡ self.old.seen) ⊎ (self.new.seen ≡ table.now) }
     {
-        let _ = go_on(&mut self.front, screen.table());
+        let _ = go_on(&mut self.front, table);
     }
 
-    /// Whether it has seen just what a screen of its own desk shows.
-    pub fn is_level(&self, screen: &Screen<L>) -> bool
-        ensures { Decides result (self.now.seen ≡ screen.now) }
+    /// Whether it has seen just what a table of its own desk shows.
+    pub fn is_level(&self, table: &Table<L>) -> bool
+        ensures { Decides result (self.now.seen ≡ table.now) }
     {
-        let shown = screen.table().front();
+        let shown = table.front();
         if self.front.count() != shown.count() {
             return false;
         }
         self.front.learn(shown);
         true
+    }
+
+    /// Whether what a table of its own desk shows begins with all that it has seen.
+    pub fn is_within(&self, table: &Table<L>) -> bool
+        ensures { Decides result (IsPrefix self.now.seen table.now) }
+    {
+        let shown = table.front();
+        self.front.learn(shown);
+        shown.count() >= self.front.count()
     }
 }
 

@@ -118,7 +118,8 @@ fn run_and_report<T: Threads + Wait + Sync, R: Read, W: Write, E: Write>(
 /// - Otherwise the status is that of [`run`], 0 or 1; or there is a fault, whose line goes to `errors`, and the status is that of
 ///   [`status_of`], also where the line can't be printed.
 ///
-/// Where memory is refused before there are options, the line of `RunFault::Memory` goes to `errors`, and the status is 4.
+/// Where memory is refused before there are options, the line of `RunFault::Memory` goes to `errors`, and the status is 4. At most 16,777,217 bytes are
+/// taken from `reader`.
 pub fn run_program<T: Threads + Wait + Sync, R: Read, W: Write, E: Write>(
     rt: &T,
     alloc: Global,
@@ -135,6 +136,7 @@ pub fn run_program<T: Threads + Wait + Sync, R: Read, W: Write, E: Write>(
         × RunsTo options (R.remaining reader.old) writer.old writer.new (W.contents writer.old) (W.contents writer.new) outcome)
         (λ fault. (reader.new ≡ reader.old)
         × EndsBy writer.old writer.new (W.contents writer.old) (W.contents writer.new) errors.old errors.new (E.contents errors.old) (E.contents errors.new) fault result) }
+    ensures taken { TakesAtMost 16777217 (R.remaining reader.old) (R.remaining reader.new) }
 {
     match options_after_name(alloc, words) {
         Ok(options) => {

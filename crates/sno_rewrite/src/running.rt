@@ -121,8 +121,9 @@ fn shared_report_of<T: Threads + Wait + Sync>(
 /// fixed; the listing has the statements in the order in which they were accepted.
 ///
 /// Refused with the first fault of the bytes, as `run_serial` refuses; with `Memory` where that was refused, also for a single statement;
-/// with `Stopped` where the desk was stopped, and `NoReader` where a worker got no reader's place; with `Audit` where the receipts of the
-/// statements don't agree with the journal, and with `Closing` where the desk does not close. No lawful run meets the last two.
+/// with `Stopped` where a statement was answered so and none `Memory`; with `NoReader` where a worker got no reader's place; with `Audit` where the
+/// receipts of the statements don't agree with the journal, and with `Closing` where the desk does not close. No lawful run meets `Stopped`, `Audit` or
+/// `Closing`.
 pub fn run_shared<T: Threads + Wait + Sync>(
     rt: &T,
     alloc: Global,

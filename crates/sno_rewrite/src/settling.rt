@@ -154,7 +154,7 @@ fn is_short(reply: &Reply) -> bool
 }
 
 /// Whether memory was refused for one of the statements.
-fn is_any_short(replies: &[Reply]) -> bool
+pub(crate) fn is_any_short(replies: &[Reply]) -> bool
     ensures { result ≡ list_any is_short replies.now }
 {
     replies.iter().any(|reply| is_short(reply))

@@ -11,7 +11,7 @@ ghost use Rattle.sno_rewrite.specs.Runs.{IsOwn};
 ghost use Rattle.sno_rewrite.specs.Shared.{IsShared};
 
 use crate::serial::BookWithRefusals;
-use crate::settling::settle_replies;
+use crate::settling::{is_any_short, settle_replies};
 use sno_book::Book;
 use sno_desk::{
     Blank, Desk, DeskFault, Naming, OpenGate, Reply, Seat, WorkersFault, close, run_workers,
@@ -76,6 +76,7 @@ fn work<L: Naming + Send + Sync, R: Threads + Wait + Sync>(
     };
     match close(rt, desk, seats) {
         Ok(book) => Ok((book, replies)),
+        Err(_) if is_any_short(&replies) => Err(RunFault::Memory),
         Err(_) => Err(RunFault::Closing),
     }
 }

@@ -1,11 +1,14 @@
 -- One entry more, which is shown first.
-use Rattle.std.proofs.Common.{◌≤◌, sym, subst, ◌∙◌}
+use Rattle.std.proofs.Common.{◌≡◌, ◌≤◌, List, [], ◌∷◌, ◌++◌, ap, sym, subst, ◌∙◌}
 use mathlib.Core.List.{IsPrefix as Begins}
 use Rattle.sno_book.specs.Books.{view_of}
-use Rattle.sno_book.specs.Openings.{Opening}
+use Rattle.sno_book.specs.Entries.{Entry}
+use Rattle.sno_book.specs.Journals.{Legal}
+use Rattle.sno_book.specs.Views.{View}
+use Rattle.sno_book.specs.Openings.{Opening, start}
 use Rattle.sno_published.specs.Viewings.{Viewing}
 use Rattle.sno_published.proofs.Prefixes.{prefix_self}
-use Rattle.sno_desk.proofs.Causes.{has_step, next_step, stands}
+use Rattle.sno_desk.proofs.Causes.{has_step, next_step, stands, told}
 use Rattle.sno_desk.proofs.committing.publish.Goals as goal
 
 pub publish-requires-clause-step : goal.publish-requires-clause-step
@@ -28,3 +31,19 @@ returns-clause-index g c =
     let few : book.opening.room ≤ 1000000 = subst (λ (o : Opening). o.room ≤ 1000000) (c.deref.ensures ∙ c.opening.ensures) c.room.ensures.small in
     stands (view_of book) (view_of c.finish-receipt.new.self) c.args.ready c.finish-receipt.result g.L.Ledger.parts c.args.seat.now.accepted c.args.total.now.total
     c.finish-receipt.ensures.accepted c.versions_count_entries.ensures c.audit.ensures.backed c.audit.ensures.alone c.requires.total c.requires.fits.room few
+
+pub returns-clause-told : goal.returns-clause-told
+returns-clause-told g c =
+    let book = c.args.book.now in
+    let given = c.finish-receipt.result in
+    let accepted = c.finish-receipt.ensures.accepted in
+    let opens : c.finish-receipt.new.self.opening ≡ g.L.Naming.opening = ap (λ (v : View). v.opening) accepted.appended ∙ c.requires.opening in
+    let after : c.finish-receipt.new.self.journal ≡ book.journal ++ given.entry ∷ [] =
+    ap (λ (v : View). v.journal) accepted.appended ∙ ap (λ (e : Entry). book.journal ++ e ∷ []) (sym accepted.entry) in
+    let legal : Legal (start g.L.Naming.opening) (book.journal ++ given.entry ∷ []) =
+    subst (λ (l : List Entry). Legal (start g.L.Naming.opening) l) after (subst (λ (o : Opening). Legal (start o) c.finish-receipt.new.self.journal) opens c.journal-2.ensures.lawful.legal) in
+    let shown : c.table.result.now ≡ book.journal ++ given.entry ∷ [] = c.table.ensures ∙ c.in-Ok.ensures.published ∙ ap (λ (l : List Entry). l ++ c.entry.result.now ∷ []) c.requires.level.0
+    ∙ ap (λ (e : Entry). book.journal ++ e ∷ []) (c.entry.ensures ∙ sym accepted.entry) in
+    let begins : Begins (book.journal ++ given.entry ∷ []) c.count.new.self.viewer.seen =
+    subst (λ (v : Viewing). Begins (book.journal ++ given.entry ∷ []) v.seen) (sym c.count.ensures.viewer) (subst (λ (l : List Entry). Begins l c.learn.new.self.viewer.seen) shown c.learn.ensures.told) in
+    told (view_of book) (view_of c.finish-receipt.new.self) c.args.ready given g.L.Naming.opening c.count.new.self.viewer.seen accepted c.requires.opening legal begins

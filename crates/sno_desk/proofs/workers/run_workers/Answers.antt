@@ -3,7 +3,7 @@ use Rattle.std.specs.Option.{option_map}
 use Rattle.std.specs.Arc.{arc_value}
 use Rattle.std.proofs.lemmas.List.{length-map}
 use Rattle.sno_desk.specs.Turns.{Deals, HasTurns}
-use Rattle.sno_desk.proofs.Turns.{Settles, settled_answers, settled_turns, settled_shares, shares_total, taken_turns}
+use Rattle.sno_desk.proofs.Turns.{Settles, grown_still, settled_answers, settled_turns, settled_shares, shares_total, taken_turns}
 use Rattle.sno_desk.proofs.workers.run_workers.Goals as goal
 use Rattle.sno_desk.proofs.workers.run_workers.Goals.{After-drop-queues-2}
 
@@ -19,7 +19,7 @@ settles g c =
       worked_as_many = omega arith;
       after_as_many = omega arith;
       queues_as_many = many;
-      at_work = c.work_all.ensures;
+      at_work = c.work_all.ensures.worked;
       taken = λ k d e h. kept.taken k d e (omega arith);
       same = λ k d h. kept.same k d (omega arith);
       same_view = λ k d h. kept.same_view k d (omega arith);
@@ -34,7 +34,7 @@ in_order-requires-clause-turns g c =
     let P : ℕ → Type 0 = λ n. HasTurns n 0 (map (λ q. q.items) c.in_ok-queues.queues.items) (map arc_value c.args.jobs.now) in
     subst P (sym many)
     (taken_turns (λ s. s.accepted) (λ s. s.viewer.seen) (λ s. option_map (λ q. q.items) s.replies) (λ q. q.items) (g.G.Gate.shuts c.args.gate.now) c.args.tries g.L.Naming.opening g.L.Ledger.parts
-    (map arc_value c.args.jobs.now) c.args.seats.now c.work_all.new.seats c.in_ok-queues.queues.items many c.work_all.ensures (λ k d e h. kept.taken k d e (omega arith)))
+    (map arc_value c.args.jobs.now) c.args.seats.now c.work_all.new.seats c.in_ok-queues.queues.items many c.work_all.ensures.worked (λ k d e h. kept.taken k d e (omega arith)))
 
 pub returns-clause-answers : goal.returns-clause-answers
 returns-clause-answers g c = settled_answers _ _ _ _ _ _ _ _ _ _ _ _ _ _ (settles g c)
@@ -49,3 +49,12 @@ pub returns-clause-total : goal.returns-clause-total
 returns-clause-total g c =
     let risen = settled_shares _ _ _ _ _ _ _ _ _ _ _ _ _ _ (settles g c) in
     shares_total (λ s. s.accepted) c.args.seats.now c.collect.new.seats c.in_ok-replies.replies.items (omega arith) risen
+
+pub returns-in_err-queues-clause-grown : goal.returns-in_err-queues-clause-grown
+returns-in_err-queues-clause-grown g c k d h = grown_still _ _ _ (c.work_all.ensures.grown k d h) (c.collect.ensures.same k d (omega arith)) (c.collect.ensures.same_view k d (omega arith))
+
+pub returns-in_err-replies-clause-grown : goal.returns-in_err-replies-clause-grown
+returns-in_err-replies-clause-grown g c k d h = grown_still _ _ _ (c.work_all.ensures.grown k d h) (c.collect.ensures.same k d (omega arith)) (c.collect.ensures.same_view k d (omega arith))
+
+pub returns-clause-grown : goal.returns-clause-grown
+returns-clause-grown g c k d h = grown_still _ _ _ (c.work_all.ensures.grown k d h) (c.collect.ensures.same k d (omega arith)) (c.collect.ensures.same_view k d (omega arith))

@@ -1,3 +1,4 @@
+use Rattle.std.proofs.Common.{get_or, subst}
 use mathlib.Core.List.{[], ◌∷◌}
 use mir.Syntax.{named, w32, w64}
 use denote.Plain.{UInt}
@@ -15,6 +16,8 @@ use Rattle.sno_book.specs.contracts.books.Book as Book
 use Rattle.sno_book.specs.contracts.entries.Entry as Entry
 use Rattle.sno_book.specs.contracts.entries.Receipt as Receipt
 use Rattle.sno_statement.specs.contracts.statements.Statement as Statement
+use Rattle.sno_desk.specs.Turns.{HasGrown, position}
+use Rattle.sno_desk.specs.declared.seats.Seat.{Seat}
 use Rattle.sno_desk.proofs.Crossings.{book_send, book_sync, receipt_send, receipt_sync, seat_send, desk_sync, closure_sync}
 use Rattle.sno_desk.proofs.workers.work_all.Lts as Lts
 use Rattle.sno_desk.proofs.workers.work_all.Goals as goal
@@ -70,3 +73,12 @@ for_each_mut-requires-sync-F g c κs within =
     (shr_sync _ _ _ desk, (shr_slice_sync _ _ _ job, (search sendable, (search sendable, (shr_sync _ _ _ c.type_bounds.sync-G, (shr_sync _ _ _ c.type_bounds.sync-R, (shr_sync _ _ _ sync, tt)))))))
     in
     record { shared = closure.shared }
+
+pub returns-clause-grown : goal.returns-clause-grown
+returns-clause-grown g c k d h =
+    let at = (c.for_each_mut.ensures k d h).1 in
+    let was = at.argument.now in
+    let next = get_or c.for_each_mut.new.s k d in
+    let grown : HasGrown (position was.accepted was.viewer.seen) (position at.after_call.now.accepted at.after_call.now.viewer.seen) = at.call.1 in
+    subst (λ (s : Seat g.row.L.Denot). HasGrown (position s.accepted s.viewer.seen) (position next.accepted next.viewer.seen)) at.argument_is
+    (subst (λ (s : Seat g.row.L.Denot). HasGrown (position was.accepted was.viewer.seen) (position s.accepted s.viewer.seen)) at.left grown)

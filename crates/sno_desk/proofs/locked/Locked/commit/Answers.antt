@@ -16,7 +16,7 @@ returns-in-Err-clause-cause g c =
     let held : c.self.inside.shown ≡ Some (Open c.in-Some-Open.screen) = sym c.take.ensures.value ∙ c.in-Some-Open.is ∙ ap Some c.in-Some-Open.field-0-is in
     let both : Some c.in-Some-Open.screen ≡ Some book.journal = rw held at c.self.invariant.1 in
     let shown : c.in-Some-Open.screen ≡ book.journal = cc in
-    let level : seen ≡ c.in-Some-Open.screen = ap (λ (v : Viewing). v.seen) c.audit.ensures.viewer ∙ c.if-not-see_all.ensures.level in
+    let level : seen ≡ c.in-Some-Open.screen = ap (λ (v : Viewing). v.seen) c.audit.ensures.viewer ∙ c.if-not-see_all.ensures.level ∙ c.table.ensures in
     subst (λ (e : CommitFault). IsCause e (view_after g.L.Naming.opening seen) c.args.proposal) (sym c.from.ensures)
     (cause (view_of book) (view_of c.prepare.new.self) c.args.proposal c.in-Err.proposal c.in-Err.fault g.L.Naming.opening seen c.in-Err.ensures.refused c.self.invariant.0 (sym (level ∙ shown)))
 
