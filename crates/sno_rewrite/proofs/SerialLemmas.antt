@@ -2,7 +2,6 @@
 use Rattle.std.proofs.Common.{◌≡◌, ◌≢◌, ℕ, List, [], ◌∷◌, ◌++◌, length, Option, Some, None, Result, Ok, Err, refl, ap, sym, subst, ◌∙◌, arith}
 use Rattle.std.specs.Prelude.{option_and_then}
 use Rattle.std.specs.Option.{option_map}
-use Rattle.std.specs.Arc.{arc_value}
 use Rattle.sno_statement.specs.Task.{Task}
 use Rattle.sno_statement.specs.Perform.{Done, perform}
 use Rattle.sno_statement.proofs.NotMemory.{IsNotMemory, of_perform}

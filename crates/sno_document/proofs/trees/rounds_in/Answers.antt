@@ -1,5 +1,5 @@
 -- A number with a sign says no rounds, and one without is read as it stands.
-use Rattle.std.proofs.Common.{◌≡◌, get_or, true, false, ◌==◌, drop, None, unwrap_or, sym, ap, ◌∙◌}
+use Rattle.std.proofs.Common.{◌≡◌, get_or, true, false, ◌==◌, drop, unwrap_or, sym, ap, ◌∙◌}
 use Rattle.fast_float.specs.Text.{scan}
 use Rattle.serde_json.specs.Data.{unsigned}
 use Rattle.serde_json.specs.Read.{number_of, number_from}

@@ -2,7 +2,6 @@
 use Rattle.std.proofs.Common.{◌≡◌, ap, ◌∙◌, sym, Some}
 use Rattle.sno_pattern.specs.NameList.{place_of}
 use Rattle.sno_book.specs.Openings.{Opening, names_in, place_in}
-use Rattle.sno_book.specs.Books.{view_of}
 use Rattle.sno_book.specs.contracts.books.Book.{the_view}
 use Rattle.sno_book.proofs.BookLaws.{place_inside}
 use Rattle.sno_book.proofs.books.Book.versioned_text.Goals as goal
