@@ -12,6 +12,6 @@ book_in (Err refused) = refused.1
 
 -- why a close is refused: the book has not the desk's opening; or it has, but its journal does not begin with what
 -- each of the seats has seen
-abbrev pub IsCause : CloseFault → Book → Opening → Type 0 → Type 0
-IsCause close.Opening book opening has_all = book.opening ≢ opening
-IsCause close.Journal book opening has_all = (book.opening ≡ opening) × (has_all → ⊥)
+abbrev pub IsCloseCause : CloseFault → Book → Opening → Type 0 → Type 0
+IsCloseCause close.Opening book opening has_all = book.opening ≢ opening
+IsCloseCause close.Journal book opening has_all = (book.opening ≡ opening) × (has_all → ⊥)

@@ -5,7 +5,7 @@ ghost use Rattle.std.specs.List.{All};
 ghost use mathlib.Core.List.{IsPrefix as Begins};
 ghost use Rattle.sno_book.specs.Views.{IsLawful};
 ghost use Rattle.sno_book.specs.Books.{view_of};
-ghost use Rattle.sno_desk.specs.Closings.{IsCause, book_in};
+ghost use Rattle.sno_desk.specs.Closings.{IsCloseCause, book_in};
 
 use crate::locked::Locked;
 use crate::{CloseFault, Desk, Seat};
@@ -108,7 +108,7 @@ pub fn close<L: Naming, R: Wait>(
     requires all { length seats.items ≡ L.parts }
     ensures opening { IfOk result (λ book. book.opening ≡ arc_value desk.opening) }
     ensures seen { IfOk result (λ book. All (λ s. Begins s.viewer.seen book.journal) seats.items) }
-    ensures cause { IfErr result (λ r. IsCause r.0 r.1 (arc_value desk.opening) (All (λ s. Begins s.viewer.seen r.1.journal) seats.items)) }
+    ensures cause { IfErr result (λ r. IsCloseCause r.0 r.1 (arc_value desk.opening) (All (λ s. Begins s.viewer.seen r.1.journal) seats.items)) }
     ensures counted { length (book_in result).journal ≡ sum_by (λ s. s.accepted) seats.items }
     ensures lawful { IsLawful (view_of (book_in result)) }
 {
