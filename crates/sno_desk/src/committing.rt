@@ -132,18 +132,19 @@ impl<L: Naming> Desk<L> {
     ///
     /// The view from which the proposal comes begins what the seat has seen. So does that of a proposal on a snapshot of the seat.
     ///
-    /// On `Ok` the receipt's entry is the proposal's, its text is the one that the proposal was made for, and the seat's share is one higher. The
-    /// seat was told a legal list of entries that ends in the receipt's; it has as many before that one as the receipt's index. What the seat has
-    /// seen begins with this list, and with all that it had seen before. The text is what the entries before the receipt's leave. The index is no lower than the number of entries that the seat had seen, and
-    /// no lower than its share was; if there is no other seat it is the share. The entry's version is no higher than the index.
+    /// On `Ok` the receipt's entry is the proposal's, its text is the one that the proposal was made for, and the seat's share is one higher. The seat
+    /// was told a legal list of entries that ends in the receipt's; it has as many before that one as the receipt's index. What the seat has seen
+    /// begins with this list, and with all that it had seen before. The text is what the entries before the receipt's leave. The index is no lower than
+    /// the number of entries that the seat had seen, and no lower than its share was; if there is no other seat it is the share. The entry's version is
+    /// no higher than the index.
     ///
     /// Refused, in this order: `Stopped`, where a publish of this desk was refused before, nothing more is shown to the seat, or the seat has seen more
-    /// than the journal has, which no lawful run meets; `NoText`, where the opening has no text of the statement's name, or has it at another place than
-    /// the snapshot's; `Changed` with the proposal's version and the text's, which it has after all that the seat has seen now, and which is at most a
-    /// million, and at most the seat's share if there is no other seat; `Full`, where the seat has seen as many entries as there is room for; `Memory`, and if it was refused to the publish itself the desk is
-    /// stopped: it accepts nothing more, and can be closed. Of `NoText`, `Changed` and `Full` the first that holds comes, and `Memory` only where none
-    /// does. After each refusal the share is the same, no entry is added or shown, what the seat has seen begins with what it had seen, and the same
-    /// proposal comes back.
+    /// than the journal has, which no lawful run meets; `NoText`, where the opening has no text of the statement's name, or has it at another place
+    /// than the snapshot's; `Changed` with the proposal's version and the text's, which it has after all that the seat has seen now, and which is at
+    /// most a million, and at most the seat's share if there is no other seat; `Full`, where the seat has seen as many entries as there is room for;
+    /// `Memory`, and if it was refused to the publish itself the desk is stopped: it accepts nothing more, and can be closed. Of `NoText`, `Changed`
+    /// and `Full` the first that holds comes, and `Memory` only where none does. After each refusal the share is the same, no entry is added or shown,
+    /// what the seat has seen begins with what it had seen, and the same proposal comes back.
     pub fn commit<R: Wait>(
         &self,
         rt: &R,
