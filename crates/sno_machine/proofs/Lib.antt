@@ -14,3 +14,4 @@ pub mod SeekingLaws
 pub mod StartLaws
 pub mod SizeLaws
 pub mod CompileLaws
+pub mod LinkingLaws
