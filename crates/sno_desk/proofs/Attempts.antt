@@ -6,6 +6,7 @@ use Rattle.std.specs.Char.{is_ascii}
 use Rattle.std.proofs.lemmas.List.{append-nil}
 use mathlib.Core.List.{IsPrefix as Begins}
 use Rattle.sno_statement.specs.Task.{Task}
+use Rattle.sno_statement.specs.Perform.{perform}
 use Rattle.sno_statement.specs.declared.outcomes.StatementFault.{StatementFault}
 use Rattle.sno_statement.specs.declared.outcomes.StatementFault.TheVariants as statement
 use Rattle.sno_book.specs.Entries.{Entry}
@@ -16,7 +17,7 @@ use Rattle.sno_book.specs.States.{VersionedText}
 use Rattle.sno_book.specs.Views.{View, IsPrefix}
 use Rattle.sno_book.specs.declared.faults.CommitFault.TheVariants as book
 use Rattle.sno_book.proofs.Rising.{versions_only_rise_in_place}
-use Rattle.sno_published.specs.Tables.{text_at}
+use Rattle.sno_published.specs.Tables.{text_after, text_at}
 use Rattle.sno_published.proofs.Prefixes.{prefix_self, prefix_trans, prefix_length}
 use Rattle.sno_desk.specs.declared.faults.CommitFault.{CommitFault}
 use Rattle.sno_desk.specs.declared.faults.CommitFault.TheVariants as commit
@@ -45,6 +46,13 @@ rises : (opening : Opening) (before after : List Entry) (place a b : ℕ) → Be
 rises opening before after place a b begins h k =
     let prefix : IsPrefix (view_after opening before) (view_after opening after) = record { opening = refl; more = begins.0; journal = sym begins.1 } in
     (versions_only_rise_in_place (view_after opening before) (view_after opening after) prefix place (held h.name h.text a) (held k.name k.text b) h.there k.there).version
+
+-- a text that has kept its version has kept its characters
+one_text : (opening : Opening) (before after : List Entry) (place version : ℕ) → Begins before after → (h : HasVersion opening before place version)
+    → (k : HasVersion opening after place version) → h.text ≡ k.text
+one_text opening before after place version begins h k =
+    let prefix : IsPrefix (view_after opening before) (view_after opening after) = record { opening = refl; more = begins.0; journal = sym begins.1 } in
+    (versions_only_rise_in_place (view_after opening before) (view_after opening after) prefix place (held h.name h.text version) (held k.name k.text version) h.there k.there).text refl
 
 -- the text of a name has a version after any entries
 versioned : (opening : Opening) (seen : List Entry) (name : List ℕ) (place : ℕ) → place_in opening name ≡ Some place → (version : ℕ) × HasVersion opening seen place version
@@ -114,6 +122,8 @@ last_at tries opening earlier seen after s attempt (Err (submit.TriesSpent was_s
       since = prefix_trans earlier seen last.between come.begins last.since;
       until = last.until;
       saw = last.saw;
+      done = last.done;
+      performed = last.performed;
       versioned = last.versioned;
       higher = last.higher;
       risen = λ version h.
@@ -197,17 +207,21 @@ pub record IsProposed (opening : Opening) (seen : List Entry) (s : Task) (p : Pr
   pub statement : p.statement ≡ s
   pub named : place_in opening s.text ≡ Some p.place
   pub versioned : HasVersion opening seen p.place p.version
+  pub performed : perform s versioned.text ≡ Ok p.done
   pub prefix : IsPrefix p.origin (view_after opening seen)
 
 pub proposed : (opening : Opening) (seen : List Entry) (s : Task) (taken : Snapshot) (p : Proposed) → IsSeen opening seen s.text taken → Proposes p s taken → IsProposed opening seen s p
 proposed opening seen s taken p h made =
     let origin : view_after opening seen ≡ p.origin = sym (made.origin ∙ h.origin) in
     let whole : IsPrefix (view_after opening seen) (view_after opening seen) = record { opening = refl; more = []; journal = sym (append-nil seen) } in
-    let at : HasVersion opening seen taken.place taken.version = record { text = taken.text; name = (text_at opening taken.place taken.text taken.version).name; there = h.there } in
+    let name = (text_at opening taken.place taken.text taken.version).name in
+    let at : text_after opening seen taken.place ≡ Some (held name taken.text p.version)
+    = h.there ∙ ap (λ (v : ℕ). Some (held name taken.text v)) (sym made.version) in
     record {
       statement = made.statement;
       named = h.place ∙ ap (λ (k : ℕ). Some k) (sym made.place);
-      versioned = subst (λ (k : ℕ). HasVersion opening seen k p.version) (sym made.place) (subst (λ (v : ℕ). HasVersion opening seen taken.place v) (sym made.version) at);
+      versioned = record { text = taken.text; name = name; there = ap (λ (k : ℕ). text_after opening seen k) made.place ∙ at };
+      performed = made.done;
       prefix = subst (λ (v : View). IsPrefix v (view_after opening seen)) origin whole;
     }
 
@@ -254,13 +268,31 @@ committed_at (commit.Changed was now) opening before seen after s p h first then
       between = seen;
       since = first;
       until = then_on;
-      saw = subst (λ (v : ℕ). HasVersion opening seen p.place v) (sym is) h.versioned;
+      saw = record {
+        text = h.versioned.text;
+        name = h.versioned.name;
+        there = h.versioned.there ∙ ap (λ (v : ℕ). Some (held h.versioned.name h.versioned.text v)) (sym is);
+      };
+      done = p.done;
+      performed = h.performed;
       versioned = told.2;
       higher = up;
       risen = λ version k. let below = rises opening before seen p.place version p.version first k h.versioned in omega (arith, below, is);
     }
 committed_at commit.NoText opening before seen after s p h first then_on why = tt
-committed_at commit.Full opening before seen after s p h first then_on why = explained (view_after opening after) p book.Full why
+committed_at commit.Full opening before seen after s p h first then_on why =
+    let told = explained (view_after opening after) p book.Full why in
+    let same = one_text opening seen after p.place p.version then_on h.versioned told.1 in (
+      told.0,
+      record {
+        place = p.place;
+        named = h.named;
+        held = held told.1.name told.1.text p.version;
+        there = told.1.there;
+        done = p.done;
+        performed = subst (λ (l : List ℕ). perform s l ≡ Ok p.done) same h.performed;
+      },
+    )
 committed_at commit.Memory opening before seen after s p h first then_on why = tt
 committed_at commit.Stopped opening before seen after s p h first then_on why = tt
 

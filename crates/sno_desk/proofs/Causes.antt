@@ -29,18 +29,19 @@ use mathlib.Core.List.{IsPrefix as Begins}
 
 -- what holds of each refusal that may come holds of the one that comes
 module _ (v : View) (p : Proposed) (P : BookRefusal → Type 0) (no_text : place_in v.opening p.statement.text ≢ Some p.place → P fault.NoText)
-    (at_end : length v.journal ≡ v.opening.room → P fault.Full)
+    (at_end : (held : VersionedText) → slice_get (state_of v) p.place ≡ Some held → p.version ≡ held.version → length v.journal ≡ v.opening.room → P fault.Full)
     (another : (held : VersionedText) → slice_get (state_of v) p.place ≡ Some held → p.version ≢ held.version → P (fault.Changed p.version held.version)) where
   carried : (e d : BookRefusal) → P e → Some e ≡ Some d → P d
   carried e d k h = let q : e ≡ d = cc in subst P q k
 
-  of_full : (e : BookRefusal) (b : Bool) → nat_eq (length v.journal) v.opening.room ≡ b → (if b then Some fault.Full else None) ≡ Some e → P e
-  of_full e true was h = carried fault.Full e (at_end (eqb-true (length v.journal) v.opening.room was)) h
-  of_full e false was h = absurd cc
+  of_full : (e : BookRefusal) (held : VersionedText) (b : Bool) → slice_get (state_of v) p.place ≡ Some held → p.version ≡ held.version → nat_eq (length v.journal) v.opening.room ≡ b
+      → (if b then Some fault.Full else None) ≡ Some e → P e
+  of_full e held true there same was h = carried fault.Full e (at_end held there same (eqb-true (length v.journal) v.opening.room was)) h
+  of_full e held false there same was h = absurd cc
 
   of_version : (e : BookRefusal) (held : VersionedText) (b : Bool) → slice_get (state_of v) p.place ≡ Some held → nat_eq p.version held.version ≡ b
       → (if b then full v else Some (fault.Changed p.version held.version)) ≡ Some e → P e
-  of_version e held true there was h = of_full e (nat_eq (length v.journal) v.opening.room) refl h
+  of_version e held true there was h = of_full e held (nat_eq (length v.journal) v.opening.room) there (eqb-true p.version held.version was) refl h
   of_version e held false there was h = carried (fault.Changed p.version held.version) e (another held there (eqb-false p.version held.version was)) h
 
   of_there : (e : BookRefusal) (held : VersionedText) → slice_get (state_of v) p.place ≡ Some held → beside v p (Some held) ≡ Some e → P e
@@ -65,15 +66,26 @@ module _ (v : View) (p : Proposed) (P : BookRefusal → Type 0) (no_text : place
   by_refusal e h = of_at e (place_in v.opening p.statement.text) refl h
 
 -- what the book's refusal says of its texts: a text that changed has another version than the proposal's, and the refusal names both; a full journal has
--- as many entries as the opening has room for; and there is no text only where the opening has none of the statement's name at the proposal's place
+-- as many entries as the opening has room for, and the text has the proposal's version; and there is no text only where the opening has none of the statement's
+-- name at the proposal's place
 abbrev pub Explains : BookRefusal → View → Proposed → Type 0
 Explains (fault.Changed seen now) v p = (seen ≡ p.version) × (now ≢ seen) × HasVersion v.opening v.journal p.place now
 Explains fault.NoText v p = place_in v.opening p.statement.text ≢ Some p.place
-Explains fault.Full v p = length v.journal ≡ v.opening.room
+Explains fault.Full v p = (length v.journal ≡ v.opening.room) × HasVersion v.opening v.journal p.place p.version
 Explains fault.Memory v p = Unit {0}
 
 pub explained : (v : View) (p : Proposed) (e : BookRefusal) → refusal v p ≡ Some e → Explains e v p
-explained v p e h = by_refusal v p (λ d. Explains d v p) (λ q. q) (λ q. q) (λ held there differ. (refl, (λ q. differ (sym q)), record { text = held.text; name = held.name; there = there })) e h
+explained v p e h =
+    by_refusal v p (λ d. Explains d v p) (λ q. q)
+    (λ held there same full. (
+      full,
+      record {
+        text = held.text;
+        name = held.name;
+        there = there ∙ (λ i. Some (record { name = held.name; text = held.text; version = sym same i }));
+      },
+    ))
+    (λ held there differ. (refl, (λ q. differ (sym q)), record { text = held.text; name = held.name; there = there })) e h
 
 -- the desk's refusal has its cause in the view that the seat has seen, which is the book's
 pub cause : (before after : View) (p back : Proposed) (e : BookRefusal) (opening : Opening) (seen : List Entry) → IsRefused before after p back e
@@ -98,7 +110,7 @@ memory_cause held p opening seen after none opens is same =
 pub named : (before after : View) (p back : Proposed) (e : BookRefusal) (seats accepted total : ℕ) → IsRefused before after p back e → IsLawful before → VersionsCountEntries
     → (seats ≡ 1 → accepted ≡ total) → length before.journal ≡ total → NamesVersion seats accepted (of_book e)
 named before after p back (fault.Changed seen now) seats accepted total refused lawful law alone counted =
-    by_refusal before p (λ d. NamesVersion seats accepted (of_book d)) (λ _. tt) (λ _. tt)
+    by_refusal before p (λ d. NamesVersion seats accepted (of_book d)) (λ _. tt) (λ _ _ _ _. tt)
     (λ held there differ.
     let small = law before p.place held there in
     record { within = omega (arith, small, lawful.within, lawful.opening.room); alone = λ one. let all = alone one in omega (arith, small, all, counted) })

@@ -118,7 +118,7 @@ deals_at {X} count first (queue ∷ queues) replies d zero place e h =
 deals_at count first (queue ∷ queues) replies d (suc k) place e h = deals_at count (suc first) queues replies d.1 k place (omega arith) (omega arith)
 
 -- the replies in the order of the jobs answer them, where those of each seat do
-answer_all : (A : Task → Answer → Type 0) (count : ℕ) → 1 ≤ count → (jobs : List Task) (replies : List Answer)
+pub answer_all : (A : Task → Answer → Type 0) (count : ℕ) → 1 ≤ count → (jobs : List Task) (replies : List Answer)
     → length replies ≡ length jobs → ((k : ℕ) → k < count → AllAnswer A (every count k jobs) (every count k replies)) → AllAnswer A jobs replies
 answer_all A count some [] [] e each = tt
 answer_all A count some [] (r ∷ replies) e each = absurd (omega arith)

@@ -4,7 +4,7 @@ use Rattle.std.specs.List.{list_all}
 use Rattle.std.specs.Char.{is_ascii}
 use mathlib.Core.List.{IsPrefix as Begins}
 use Rattle.sno_statement.specs.Task.{Task}
-use Rattle.sno_statement.specs.Perform.{perform}
+use Rattle.sno_statement.specs.Perform.{Done, perform}
 use Rattle.sno_statement.specs.declared.outcomes.StatementFault.{StatementFault}
 use Rattle.sno_statement.specs.declared.outcomes.StatementFault.TheVariants as statement
 use Rattle.sno_book.specs.Entries.{Entry}
@@ -72,8 +72,17 @@ pub record IsRefusedOn (opening : Opening) (entries : List Entry) (s : Task) (re
   pub there : text_after opening entries place ≡ Some held
   pub performed : perform s held.text ≡ Err refused
 
--- the last try saw the text of the statement's name, at this version, at some point between the earlier entries and the later ones; after the later ones
--- the text has a higher version; and with each lost try before the last its version had risen by one at least
+-- performing the statement on the text of its name, as these entries leave it, is not refused
+pub record IsPerformedOn (opening : Opening) (entries : List Entry) (s : Task) : Type 0 where
+  pub place : ℕ
+  pub named : place_in opening s.text ≡ Some place
+  pub held : VersionedText
+  pub there : text_after opening entries place ≡ Some held
+  pub done : Done
+  pub performed : perform s held.text ≡ Ok done
+
+-- the last try saw the text of the statement's name, at this version, at some point between the earlier entries and the later ones, and performing the statement
+-- on it is not refused; after the later ones the text has a higher version; and with each lost try before the last its version had risen by one at least
 pub record HasRisen (opening : Opening) (earlier later : List Entry) (s : Task) (lost seen now : ℕ) : Type 0 where
   pub place : ℕ
   pub named : place_in opening s.text ≡ Some place
@@ -81,6 +90,8 @@ pub record HasRisen (opening : Opening) (earlier later : List Entry) (s : Task) 
   pub since : Begins earlier between
   pub until : Begins between later
   pub saw : HasVersion opening between place seen
+  pub done : Done
+  pub performed : perform s saw.text ≡ Ok done
   pub versioned : HasVersion opening later place now
   pub higher : seen < now
   pub risen : (version : ℕ) → HasVersion opening earlier place version → version + lost ≤ seen + 1
@@ -92,7 +103,7 @@ AnswersAt tries opening before after s (Err submit.NoText) = Unit {0}
 AnswersAt tries opening before after s (Err submit.GateShut) = Unit {0}
 AnswersAt tries opening before after s (Err submit.TextTooLong) = IsRefusedOn opening after s statement.TextTooLong
 AnswersAt tries opening before after s (Err submit.Stopped) = Unit {0}
-AnswersAt tries opening before after s (Err submit.Full) = length after ≡ opening.room
+AnswersAt tries opening before after s (Err submit.Full) = (length after ≡ opening.room) × IsPerformedOn opening after s
 AnswersAt tries opening before after s (Err submit.Memory) = Unit {0}
 AnswersAt tries opening before after s (Err (submit.TriesSpent seen now)) = HasRisen opening before after s tries seen now
 AnswersAt tries opening before after s (Err submit.TooManyTrials) = IsRefusedOn opening after s statement.TooManyTrials

@@ -119,10 +119,11 @@ impl<L: Naming> Desk<L> {
     /// Refused, in the order in which an attempt meets it: `NoText` if the book has no text of the statement's name; `GateShut`, only if the gate
     /// may be shut for the statement's number at an attempt from 1 to `tries`; `TooManyTrials` and `TextTooLong`, only if performing the
     /// statement on the text, as the seat has seen it now, is refused so; `Stopped` as [`Desk::commit`] and [`Seat::snapshot`] say; `Full`, where the
-    /// seat has seen as many entries as there is room for; `Memory`, at whichever step it is refused; `TriesSpent` with the version that the last
-    /// attempt saw, which the text had at some point between what the seat had seen before the call and what it has seen now, higher by at least
-    /// `tries` less one than the one that the seat had seen before; and with the text's version at that attempt's commit, which is higher, at most a
-    /// million, and at most the seat's share if there is no other seat.
+    /// seat has seen as many entries as there is room for, and performing the statement on the text, as the seat has seen it now, is not refused; `Memory`,
+    /// at whichever step it is refused; `TriesSpent` with the version that the last attempt saw, which the text had at some point between what the seat had
+    /// seen before the call and what it has seen now, higher by at least `tries` less one than the one that the seat had seen before, and on which performing
+    /// the statement is not refused; and with the text's version at that attempt's commit, which is higher, at most a million, and at most the seat's share if
+    /// there is no other seat.
     pub fn submit<R: Wait, G: Gate>(
         &self,
         rt: &R,
