@@ -6,3 +6,4 @@ pub mod StreamLemmas
 pub mod ReadLemmas
 pub mod CommandLineLemmas
 pub mod LimitLemmas
+pub mod WithinLemmas

@@ -1,26 +1,38 @@
 -- What replies come to.
-use Rattle.std.proofs.Common.{◌≡◌, ℕ, zero, suc, ◌<◌, ◌≤◌, List, [], ◌∷◌, ◌++◌, get_or, take, length, map, Option, Some, Result, slice_get, refl, ap, sym, subst, ◌∙◌, append_assoc}
-use Rattle.std.proofs.lemmas.List.{append-nil, take_all}
+use Rattle.std.proofs.Common.{◌≡◌, ℕ, zero, suc, ◌<◌, ◌≤◌, List, [], ◌∷◌, ◌++◌, get_or, take, length, map, Option, Some, None, Result, Ok, Err, slice_get, refl, ap, sym, subst, ◌∙◌, append_assoc, length-append, Global, arith}
+use Rattle.std.proofs.lemmas.List.{append-nil, length-map, take_all}
+use Rattle.std.specs.Arc.{arc_value}
+use Rattle.std.specs.declared.sync.Arc.{Arc}
 use Rattle.std.specs.List.{All}
 use Rattle.std.specs.Option.{option_map}
 use Rattle.std.proofs.lemmas.Option.{slice_get-map, slice_get_read}
 use Rattle.std.specs.Prelude.{IsSome}
+use mathlib.Core.List.{IsPrefix as Begins}
 use Rattle.sno_statement.specs.Task.{Task}
+use Rattle.sno_statement.specs.declared.outcomes.StatementFault.{StatementFault}
+use Rattle.sno_statement.specs.declared.outcomes.StatementFault.TheVariants as statement
 use Rattle.sno_book.specs.Proposals.{Received}
-use Rattle.sno_book.specs.States.{State}
-use Rattle.sno_book.specs.Views.{IsLawful, state_of}
+use Rattle.sno_book.specs.Entries.{Entry}
+use Rattle.sno_book.specs.States.{VersionedText, find}
+use Rattle.sno_book.specs.Views.{View, IsLawful, IsPrefix}
 use Rattle.sno_book.specs.Books.{Book, view_of}
 use Rattle.sno_book.specs.Journals.{Legal, replay}
-use Rattle.sno_book.specs.Openings.{Opening, start}
-use Rattle.sno_desk.specs.Answers.{Answers}
+use Rattle.sno_book.specs.Openings.{Opening, place_in, start}
+use Rattle.sno_book.proofs.Rising.{versions_only_rise}
+use Rattle.sno_book.proofs.Standing.{is_named, is_nowhere, standing}
+use Rattle.sno_published.specs.Tables.{text_after}
+use Rattle.sno_published.proofs.Prefixes.{prefix_trans}
+use Rattle.sno_desk.specs.Answers.{Answers, HasRisen, IsRefusedOn}
 use Rattle.sno_desk.specs.Turns.{AllAnswer}
 use Rattle.sno_desk.specs.declared.faults.SubmitFault.{SubmitFault}
+use Rattle.sno_desk.specs.declared.faults.SubmitFault.TheVariants as submit
 use Rattle.sno_listing.specs.History.{history_of}
-use Rattle.sno_rewrite.specs.Owners.{IsListed, Lists, Owns, answer_in}
+use Rattle.sno_rewrite.specs.Owners.{IsAnsweredWithin, IsListed, Lists, Owns, answer_in}
 use Rattle.sno_document.specs.Document.{Document}
 use Rattle.sno_document.specs.Document.{room}
-use Rattle.sno_rewrite.specs.Shared.{AreAnswers, IsShared, MayAnswer, Settles, refusal_of, refusals}
+use Rattle.sno_rewrite.specs.Shared.{AreAnswers, IsOvertaken, IsRefusedThen, IsShared, MayAnswer, Settles, opening_in, refusal_of, refusals}
 use Rattle.sno_listing.specs.declared.refusals.Reason.{Reason}
+use Rattle.sno_listing.specs.declared.refusals.Reason.TheVariants as reason
 use Rattle.sno_listing.specs.declared.refusals.Refusal.{Refusal}
 use Rattle.sno_rewrite.proofs.OwnerLemmas.{fill, in_order}
 
@@ -57,76 +69,159 @@ map_more : {X Y : Type 0} (f : X → Y) (xs : List X) (x : X) → map f (xs ++ x
 map_more f [] x = refl
 map_more f (y ∷ xs) x = ap (λ l. f y ∷ l) (map_more f xs x)
 
-module _ (tries : ℕ) (state : State) where
-  -- one answer more
-  answers_more : (statements : List Task) (answers : List (Option Reason)) (s : Task) (a : Option Reason) → AreAnswers tries state statements answers
-      → MayAnswer tries state s a → AreAnswers tries state (statements ++ s ∷ []) (answers ++ a ∷ [])
-  answers_more [] [] s a h may = (may, tt)
-  answers_more [] (b ∷ answers) s a h may = absurd h
-  answers_more (x ∷ statements) [] s a h may = absurd h
-  answers_more (x ∷ statements) (b ∷ answers) s a h may = (h.0, answers_more statements answers s a h.1 may)
+refusals_more : (statements : List Task) (answers : List (Option Reason)) (s : Task) (a : Option Reason) → length answers ≡ length statements
+    → refusals (statements ++ s ∷ []) (answers ++ a ∷ []) ≡ refusals statements answers ++ refusal_of s a
+refusals_more [] [] s a e = append-nil (refusal_of s a)
+refusals_more [] (b ∷ answers) s a e = absurd (omega arith)
+refusals_more (x ∷ statements) [] s a e = absurd (omega arith)
+refusals_more (x ∷ statements) (b ∷ answers) s a e =
+    ap (λ (l : List Refusal). refusal_of x b ++ l) (refusals_more statements answers s a (omega arith))
+    ∙ sym (append_assoc (refusal_of x b) (refusals statements answers) (refusal_of s a))
 
-  refusals_more : (statements : List Task) (answers : List (Option Reason)) (s : Task) (a : Option Reason) → AreAnswers tries state statements answers
-      → refusals (statements ++ s ∷ []) (answers ++ a ∷ []) ≡ refusals statements answers ++ refusal_of s a
-  refusals_more [] [] s a h = append-nil (refusal_of s a)
-  refusals_more [] (b ∷ answers) s a h = absurd h
-  refusals_more (x ∷ statements) [] s a h = absurd h
-  refusals_more (x ∷ statements) (b ∷ answers) s a h =
-      ap (λ (l : List Refusal). refusal_of x b ++ l) (refusals_more statements answers s a h.1)
-      ∙ sym (append_assoc (refusal_of x b) (refusals statements answers) (refusal_of s a))
+-- before all replies none is listed
+pub lists_none : Lists [] [] []
+lists_none = record { answers = []; as_many = refl; given = refl; listed = refl }
 
-  -- before all replies none is listed
-  pub lists_none : Lists tries state [] [] []
-  lists_none = record { answers = []; given = refl; listed = refl; may = tt }
+-- one reply more
+pub lists_more : (statements : List Task) (replies : List (Result Received SubmitFault)) (i : ℕ) (s : Task) (r : Result Received SubmitFault) (old new : List Refusal)
+    → Lists (take i statements) (take i replies) old → slice_get statements i ≡ Some s → slice_get replies i ≡ Some r
+    → IsListed s r old new → Lists (take (suc i) statements) (take (suc i) replies) new
+lists_more statements replies i s r old new before there replied more =
+    let first = take_at statements i s there in
+    let second = take_at replies i r replied in
+    let given : map answer_in (take (suc i) replies) ≡ map Some (before.answers ++ more.answer ∷ [])
+    = ap (map answer_in) second ∙ map_more answer_in (take i replies) r ∙ (λ j. before.given j ++ more.given j ∷ []) ∙ sym (map_more Some before.answers more.answer) in
+    let even = before.as_many in
+    let grown = length-append before.answers (more.answer ∷ []) in
+    let past = ap length first ∙ length-append (take i statements) (s ∷ []) in
+    record {
+      answers = before.answers ++ more.answer ∷ [];
+      as_many = omega (arith, even, grown, past);
+      given = given;
+      listed = more.listed ∙ ap (λ (l : List Refusal). l ++ refusal_of s more.answer) before.listed
+          ∙ sym (refusals_more (take i statements) before.answers s more.answer before.as_many)
+          ∙ ap (λ (l : List Task). refusals l (before.answers ++ more.answer ∷ [])) (sym first);
+    }
 
-  -- one reply more
-  pub lists_more : (statements : List Task) (replies : List (Result Received SubmitFault)) (i : ℕ) (s : Task) (r : Result Received SubmitFault) (old new : List Refusal)
-      → Lists tries state (take i statements) (take i replies) old → slice_get statements i ≡ Some s → slice_get replies i ≡ Some r
-      → IsListed tries state s r old new → Lists tries state (take (suc i) statements) (take (suc i) replies) new
-  lists_more statements replies i s r old new before there replied more =
-      let first = take_at statements i s there in
-      let second = take_at replies i r replied in
-      let given : map answer_in (take (suc i) replies) ≡ map Some (before.answers ++ more.answer ∷ [])
-      = ap (map answer_in) second ∙ map_more answer_in (take i replies) r ∙ (λ j. before.given j ++ more.given j ∷ []) ∙ sym (map_more Some before.answers more.answer) in
-      record {
-        answers = before.answers ++ more.answer ∷ [];
-        given = given;
-        listed = more.listed ∙ ap (λ (l : List Refusal). l ++ refusal_of s more.answer) before.listed
-            ∙ sym (refusals_more (take i statements) before.answers s more.answer before.may)
-            ∙ ap (λ (l : List Task). refusals l (before.answers ++ more.answer ∷ [])) (sym first);
-        may = subst (λ l. AreAnswers tries state l (before.answers ++ more.answer ∷ [])) (sym first)
-            (answers_more (take i statements) before.answers s more.answer before.may more.may);
-      }
+-- after the last reply all are listed
+pub lists_all : (statements : List Task) (replies : List (Result Received SubmitFault)) (i : ℕ) (refused : List Refusal) → length statements ≤ i → length replies ≤ i
+    → Lists (take i statements) (take i replies) refused → Lists statements replies refused
+lists_all statements replies i refused past even h =
+    subst (λ l. Lists l replies refused) (take_all i statements past)
+    (subst (λ l. Lists (take i statements) l refused) (take_all i replies even) h)
 
-  -- after the last reply all are listed
-  pub lists_all : (statements : List Task) (replies : List (Result Received SubmitFault)) (i : ℕ) (refused : List Refusal) → length statements ≤ i → length replies ≤ i
-      → Lists tries state (take i statements) (take i replies) refused → Lists tries state statements replies refused
-  lists_all statements replies i refused past even h =
-      subst (λ l. Lists tries state l replies refused) (take_all i statements past)
-      (subst (λ l. Lists tries state (take i statements) l refused) (take_all i replies even) h)
+-- ---- each answer may be
+
+-- what stands at the place of a name after these entries is found by the name
+found_there : (opening : Opening) (entries : List Entry) (name : List ℕ) (place : ℕ) (held : VersionedText) → place_in opening name ≡ Some place → text_after opening entries place ≡ Some held
+    → find name (replay (start opening) entries) ≡ Some held
+found_there opening entries name place held named there =
+    let stood = standing opening entries name place named in
+    stood.found ∙ sym stood.there ∙ there
+
+refused_then : (v : View) (s : Task) (refused : StatementFault) (entries : List Entry) → Begins entries v.journal → IsRefusedOn v.opening entries s refused → IsRefusedThen v s refused
+refused_then v s refused entries begins on = record {
+  entries = entries;
+  held = on.held;
+  was = record { begins = begins; found = found_there v.opening entries s.text on.place on.held on.named on.there };
+  performed = on.performed;
+}
+
+overtaken : (tries : ℕ) (v : View) (s : Task) (before after : List Entry) (seen now : ℕ) → Begins after v.journal → HasRisen v.opening before after s tries seen now → tries ≤ now
+    → IsOvertaken tries v s seen now
+overtaken tries v s before after seen now begins h lost =
+    let saw : VersionedText = record { name = h.saw.name; text = h.saw.text; version = seen } in
+    let met : VersionedText = record { name = h.versioned.name; text = h.versioned.text; version = now } in
+    let became = found_there v.opening after s.text h.place met h.named h.versioned.there in
+    let left = standing v.opening v.journal s.text h.place h.named in
+    let prefix : IsPrefix (record { opening = v.opening; journal = after }) v = record { opening = refl; more = begins.0; journal = sym begins.1 } in
+    record {
+      earlier = h.between;
+      saw = saw;
+      was = record {
+        begins = prefix_trans h.between after v.journal h.until begins;
+        found = found_there v.opening h.between s.text h.place saw h.named h.saw.there;
+      };
+      at_first = refl;
+      done = h.done;
+      performed = h.performed;
+      later = after;
+      after = h.until;
+      met = met;
+      became = record { begins = begins; found = became };
+      at_last = refl;
+      higher = h.higher;
+      lost = lost;
+      left = left.held;
+      found = left.found;
+      reached = (versions_only_rise (record { opening = v.opening; journal = after }) v prefix s.text met left.held became left.found).version;
+    }
+
+-- what a reply says of its statement may be
+may_answer : (shuts : ℕ → ℕ → Type 0) (tries : ℕ) (book : Book) (s : Task) (r : Result Received SubmitFault) (a : Option Reason) → Answers shuts tries book.opening s r
+    → IsAnsweredWithin tries (view_of book) s r → answer_in r ≡ Some a → MayAnswer tries (view_of book) s a
+may_answer shuts tries book s (Ok receipt) a h w e =
+    let is : None ≡ a = cc in subst (λ (x : Option Reason). MayAnswer tries (view_of book) s x) is (is_named book s.text h.0, tt)
+may_answer shuts tries book s (Err submit.NoText) a h w e =
+    let is : Some reason.NoText ≡ a = cc in subst (λ (x : Option Reason). MayAnswer tries (view_of book) s x) is (is_nowhere book s.text h.0, tt)
+may_answer shuts tries book s (Err submit.TextTooLong) a h w e =
+    let is : Some reason.TextTooLong ≡ a = cc in
+    subst (λ (x : Option Reason). MayAnswer tries (view_of book) s x) is
+    (is_named book s.text h.0, refused_then (view_of book) s statement.TextTooLong w.after w.begins w.at)
+may_answer shuts tries book s (Err submit.TooManyTrials) a h w e =
+    let is : Some reason.TooManyTrials ≡ a = cc in
+    subst (λ (x : Option Reason). MayAnswer tries (view_of book) s x) is
+    (is_named book s.text h.0, refused_then (view_of book) s statement.TooManyTrials w.after w.begins w.at)
+may_answer shuts tries book s (Err (submit.TriesSpent seen now)) a h w e =
+    let is : Some (reason.TriesSpent seen now) ≡ a = cc in
+    subst (λ (x : Option Reason). MayAnswer tries (view_of book) s x) is
+    (is_named book s.text h.0, overtaken tries (view_of book) s w.before w.after seen now w.begins w.at h.1.1)
+may_answer shuts tries book s (Err submit.GateShut) a h w e = absurd cc
+may_answer shuts tries book s (Err submit.Stopped) a h w e = absurd cc
+may_answer shuts tries book s (Err submit.Full) a h w e = absurd cc
+may_answer shuts tries book s (Err submit.Memory) a h w e = absurd cc
+
+are_answers : (shuts : ℕ → ℕ → Type 0) (tries : ℕ) (book : Book) (statements : List Task) (replies : List (Result Received SubmitFault)) (answers : List (Option Reason))
+    → AllAnswer (Answers shuts tries book.opening) statements replies → AllAnswer (IsAnsweredWithin tries (view_of book)) statements replies → map answer_in replies ≡ map Some answers
+    → AreAnswers tries (view_of book) statements answers
+are_answers shuts tries book [] [] [] h w e = tt
+are_answers shuts tries book [] [] (a ∷ answers) h w e = absurd cc
+are_answers shuts tries book [] (r ∷ replies) answers h w e = absurd h
+are_answers shuts tries book (s ∷ statements) [] answers h w e = absurd h
+are_answers shuts tries book (s ∷ statements) (r ∷ replies) [] h w e = absurd cc
+are_answers shuts tries book (s ∷ statements) (r ∷ replies) (a ∷ answers) h w e =
+    let first : answer_in r ≡ Some a = cc in
+    let rest : map answer_in replies ≡ map Some answers = cc in
+    (may_answer shuts tries book s r a h.0 w.0 first, are_answers shuts tries book statements replies answers h.1 w.1 rest)
+
+-- there are as many replies as statements, as the program has them
+pub replied : (shuts : ℕ → ℕ → Type 0) (tries : ℕ) (opening : Opening) (statements : List (Arc Task Global)) (replies : List (Result Received SubmitFault))
+    → AllAnswer (Answers shuts tries opening) (map arc_value statements) replies → length replies ≡ length statements
+replied shuts tries opening statements replies h = sym (as_many (Answers shuts tries opening) (map arc_value statements) replies h) ∙ length-map statements arc_value
 
 -- what is listed beside a book whose entries are all owned
 pub settles : (shuts : ℕ → ℕ → Type 0) (tries : ℕ) (book : Book) (statements : List Task) (replies : List (Result Received SubmitFault))
     (owners : List (Option ℕ)) (refused : List Refusal) → AllAnswer (Answers shuts tries book.opening) statements replies
-    → Owns book.journal replies (length replies) owners → All (λ o. IsSome o) owners → Lists tries (state_of (view_of book)) statements replies refused
-    → Settles tries statements (history_of (view_of book) refused)
-settles shuts tries book statements replies owners refused answered owns all lists =
+    → AllAnswer (IsAnsweredWithin tries (view_of book)) statements replies
+    → Owns book.journal replies (length replies) owners → All (λ o. IsSome o) owners → Lists statements replies refused
+    → Settles tries book.opening statements (history_of (view_of book) refused)
+settles shuts tries book statements replies owners refused answered within owns all lists =
     let filled = fill owners all in
     record {
       answers = lists.answers;
-      answered = lists.may;
+      answered = are_answers shuts tries book statements replies lists.answers answered within lists.given;
       refused = lists.listed;
       order = filled.order;
       ordered = in_order shuts tries book.opening statements replies book.journal owners answered owns filled lists.answers lists.given;
     }
 
 -- what is settled beside a lawful book that began with the document's texts
-pub shares : (tries : ℕ) (d : Document) (book : Book) (before : Opening) (refused : List Refusal) → book.opening ≡ before → before.texts ≡ d.texts
-    → IsLawful (view_of book) → Settles tries d.statements (history_of (view_of book) refused) → IsShared tries d (history_of (view_of book) refused)
-shares tries d book before refused began texts lawful settled =
-    let same : book.opening.texts ≡ d.texts = ap (λ (o : Opening). o.texts) began ∙ texts in
+pub shares : (tries : ℕ) (d : Document) (book : Book) (before : Opening) (refused : List Refusal) → book.opening ≡ before → before.texts ≡ d.texts → before.room ≡ room
+    → IsLawful (view_of book) → Settles tries book.opening d.statements (history_of (view_of book) refused) → IsShared tries d (history_of (view_of book) refused)
+shares tries d book before refused opens texts rooms lawful settled =
+    let began : book.opening ≡ opening_in d = opens ∙ (λ i. record { texts = texts i; room = rooms i }) in
     record {
-      legal = subst (λ t. Legal (start (record { texts = t; room = room })) book.journal) same lawful.legal;
-      replayed = ap (λ (t : List (List ℕ × List ℕ)). replay (start (record { texts = t; room = room })) book.journal) same;
-      settled = settled;
+      legal = subst (λ (o : Opening). Legal (start o) book.journal) began lawful.legal;
+      replayed = ap (λ (o : Opening). replay (start o) book.journal) began;
+      settled = subst (λ (o : Opening). Settles tries o d.statements (history_of (view_of book) refused)) began settled;
     }

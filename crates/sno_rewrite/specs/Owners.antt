@@ -1,10 +1,12 @@
 -- How replies to the statements of a document are checked against a journal.
 use Rattle.std.specs.Prelude.{◌≡◌, ◌⊎◌, ◌<◌, ◌++◌, ℕ, Bool, true, false, List, length, map, slice_get, Option, Some, None, Result, Ok, Err}
 use Rattle.std.specs.Option.{option_map}
+use mathlib.Core.List.{IsPrefix as Begins}
 use Rattle.sno_statement.specs.Task.{Task}
 use Rattle.sno_book.specs.Entries.{Entry}
-use Rattle.sno_book.specs.States.{State}
 use Rattle.sno_book.specs.Proposals.{Received}
+use Rattle.sno_book.specs.Views.{View}
+use Rattle.sno_desk.specs.Answers.{AnswersAt}
 use Rattle.sno_desk.specs.declared.faults.SubmitFault.{SubmitFault}
 use Rattle.sno_desk.specs.declared.faults.SubmitFault.TheVariants as submit
 use Rattle.sno_document.specs.declared.faults.RunFault.{RunFault}
@@ -12,7 +14,7 @@ use Rattle.sno_document.specs.declared.faults.RunFault.TheVariants as fault
 use Rattle.sno_listing.specs.declared.refusals.Reason.{Reason}
 use Rattle.sno_listing.specs.declared.refusals.Reason.TheVariants.{NoText, TextTooLong, TriesSpent, TooManyTrials}
 use Rattle.sno_listing.specs.declared.refusals.Refusal.{Refusal}
-use Rattle.sno_rewrite.specs.Shared.{AreAnswers, MayAnswer, refusal_of, refusals}
+use Rattle.sno_rewrite.specs.Shared.{refusal_of, refusals}
 
 -- the reply at the place is a receipt of the journal's entry at the index
 pub record IsReceipt (journal : List Entry) (replies : List (Result Received SubmitFault)) (index place : ℕ) : Type 0 where
@@ -26,6 +28,14 @@ pub record Owns (journal : List Entry) (replies : List (Result Received SubmitFa
   pub as_many : length owners ≡ length journal
   pub backed : (k p : ℕ) → slice_get owners k ≡ Some (Some p) → (p < before) × IsReceipt journal replies k p
   pub noted : (p : ℕ) (r : Received) → p < before → slice_get replies p ≡ Some (Ok r) → slice_get owners r.index ≡ Some (Some p)
+
+-- the reply is what a submit answers that began and ended at points of the journal: when the first of these entries had been accepted, and when the other ones
+-- had
+pub record IsAnsweredWithin (tries : ℕ) (v : View) (s : Task) (reply : Result Received SubmitFault) : Type 0 where
+  pub before : List Entry
+  pub after : List Entry
+  pub begins : Begins after v.journal
+  pub at : AnswersAt tries v.opening before after s reply
 
 -- the reason for which a statement is listed as refused; the last four faults are none, and end the run
 abbrev pub reason_in : SubmitFault → Option Reason
@@ -51,19 +61,18 @@ IsAuditOrMemory e = (e ≡ fault.Audit) ⊎ (e ≡ fault.Memory)
 abbrev pub IsUnsettled : RunFault → Type 0
 IsUnsettled e = (e ≡ fault.Stopped) ⊎ IsAuditOrMemory e
 
--- the replies to these statements are answers, each one that may be, and what is refused among them is listed
-pub record Lists (tries : ℕ) (state : State) (statements : List Task) (replies : List (Result Received SubmitFault)) (refused : List Refusal) : Type 0 where
+-- the replies to these statements are answers, and what is refused among them is listed
+pub record Lists (statements : List Task) (replies : List (Result Received SubmitFault)) (refused : List Refusal) : Type 0 where
   pub answers : List (Option Reason)
+  pub as_many : length answers ≡ length statements
   pub given : map answer_in replies ≡ map Some answers
   pub listed : refused ≡ refusals statements answers
-  pub may : AreAnswers tries state statements answers
 
--- one reply more: it is an answer, one that may be, and is listed after the others where it is a refusal
-pub record IsListed (tries : ℕ) (state : State) (s : Task) (reply : Result Received SubmitFault) (old new : List Refusal) : Type 0 where
+-- one reply more: it is an answer, and is listed after the others where it is a refusal
+pub record IsListed (s : Task) (reply : Result Received SubmitFault) (old new : List Refusal) : Type 0 where
   pub answer : Option Reason
   pub given : answer_in reply ≡ Some answer
   pub listed : new ≡ old ++ refusal_of s answer
-  pub may : MayAnswer tries state s answer
 
 -- whether memory was refused for a statement
 abbrev pub is_short : Result Received SubmitFault → Bool

@@ -1,13 +1,16 @@
 -- Shared runs: workers perform the statements of a document on its texts, in an order that nobody fixed.
-use Rattle.std.specs.Prelude.{◌≡◌, ◌≢◌, ◌<◌, ◌≤◌, ℕ, Bool, List, [], ◌∷◌, ◌++◌, length, slice_get, Option, Some, None, Ok}
+use Rattle.std.specs.Prelude.{◌≡◌, ◌≢◌, ◌<◌, ◌≤◌, ℕ, Bool, List, [], ◌∷◌, ◌++◌, length, slice_get, Option, Some, None, Ok, Err}
 use Rattle.std.specs.Option.{option_map}
+use mathlib.Core.List.{IsPrefix as Begins}
 use Rattle.sno_statement.specs.Task.{Task}
+use Rattle.sno_statement.specs.Perform.{Done, perform}
+use Rattle.sno_statement.specs.declared.outcomes.StatementFault.{StatementFault}
 use Rattle.sno_statement.specs.declared.outcomes.StatementFault.TheVariants as statement
 use Rattle.sno_book.specs.States.{VersionedText, State, find}
 use Rattle.sno_book.specs.Entries.{Entry}
 use Rattle.sno_book.specs.Journals.{Legal, replay}
-use Rattle.sno_book.specs.Openings.{start}
-use Rattle.sno_desk.specs.Answers.{IsRefusedOnSome}
+use Rattle.sno_book.specs.Openings.{Opening, start}
+use Rattle.sno_book.specs.Views.{View, state_of}
 use Rattle.sno_document.specs.Document.{Document, IsDocument, room}
 use Rattle.sno_document.specs.declared.modes.Mode.{Mode}
 use Rattle.sno_listing.specs.History.{History}
@@ -16,11 +19,37 @@ use Rattle.sno_listing.specs.declared.refusals.Reason.{Reason}
 use Rattle.sno_listing.specs.declared.refusals.Reason.TheVariants.{NoText, TextTooLong, TriesSpent, TooManyTrials}
 use Rattle.sno_listing.specs.declared.refusals.Refusal.{Refusal}
 
--- the text of this name is left at this version or a higher one
-pub record HasReached (state : State) (name : List ℕ) (version : ℕ) : Type 0 where
+-- at some point of the journal, when these entries had been accepted, the text of this name was this one
+pub record HasBeen (v : View) (entries : List Entry) (name : List ℕ) (held : VersionedText) : Type 0 where
+  pub begins : Begins entries v.journal
+  pub found : find name (replay (start v.opening) entries) ≡ Some held
+
+-- performing the statement on its text, as it was at some point of the journal, is refused so
+pub record IsRefusedThen (v : View) (s : Task) (refused : StatementFault) : Type 0 where
+  pub entries : List Entry
   pub held : VersionedText
-  pub found : find name state ≡ Some held
-  pub reached : version ≤ held.version
+  pub was : HasBeen v entries s.text held
+  pub performed : perform s held.text ≡ Err refused
+
+-- the statement's text changed under each of its tries. The last one saw it at the first version, at some point of the journal, where performing the statement is
+-- not refused; later it had the second version, which is higher and at least the number of tries; and it is left at that or a higher one
+pub record IsOvertaken (tries : ℕ) (v : View) (s : Task) (seen now : ℕ) : Type 0 where
+  pub earlier : List Entry
+  pub saw : VersionedText
+  pub was : HasBeen v earlier s.text saw
+  pub at_first : saw.version ≡ seen
+  pub done : Done
+  pub performed : perform s saw.text ≡ Ok done
+  pub later : List Entry
+  pub after : Begins earlier later
+  pub met : VersionedText
+  pub became : HasBeen v later s.text met
+  pub at_last : met.version ≡ now
+  pub higher : seen < now
+  pub lost : tries ≤ now
+  pub left : VersionedText
+  pub found : find s.text (state_of v) ≡ Some left
+  pub reached : now ≤ left.version
 
 -- that there is no text of the statement's name is the reason exactly where there is none
 abbrev pub IsNamed : State → Task → Option Reason → Type 0
@@ -30,28 +59,27 @@ IsNamed state s (Some TextTooLong) = find s.text state ≢ None
 IsNamed state s (Some TooManyTrials) = find s.text state ≢ None
 IsNamed state s (Some (TriesSpent seen now)) = find s.text state ≢ None
 
--- for which other reasons a statement may be refused, on the texts as they are left: there is a text on which performing it is refused so; or its text changed
--- under each of its tries, the last time after the version that the last try began with, and so had been replaced as many times at least
-abbrev pub MayRefuse : ℕ → State → Task → Reason → Type 0
-MayRefuse tries state s NoText = Unit {0}
-MayRefuse tries state s TextTooLong = IsRefusedOnSome s statement.TextTooLong
-MayRefuse tries state s TooManyTrials = IsRefusedOnSome s statement.TooManyTrials
-MayRefuse tries state s (TriesSpent seen now) = (seen < now) × (tries ≤ now) × HasReached state s.text now
+-- the other reasons for which a statement may be refused beside this journal
+abbrev pub MayRefuse : ℕ → View → Task → Reason → Type 0
+MayRefuse tries v s NoText = Unit {0}
+MayRefuse tries v s TextTooLong = IsRefusedThen v s statement.TextTooLong
+MayRefuse tries v s TooManyTrials = IsRefusedThen v s statement.TooManyTrials
+MayRefuse tries v s (TriesSpent seen now) = IsOvertaken tries v s seen now
 
 -- a statement without a reason is accepted
-abbrev pub MayBe : ℕ → State → Task → Option Reason → Type 0
-MayBe tries state s None = Unit {0}
-MayBe tries state s (Some reason) = MayRefuse tries state s reason
+abbrev pub MayBe : ℕ → View → Task → Option Reason → Type 0
+MayBe tries v s None = Unit {0}
+MayBe tries v s (Some reason) = MayRefuse tries v s reason
 
-abbrev pub MayAnswer : ℕ → State → Task → Option Reason → Type 0
-MayAnswer tries state s answer = IsNamed state s answer × MayBe tries state s answer
+abbrev pub MayAnswer : ℕ → View → Task → Option Reason → Type 0
+MayAnswer tries v s answer = IsNamed (state_of v) s answer × MayBe tries v s answer
 
 -- each statement is accepted, or refused for a reason that may be
-abbrev pub AreAnswers : ℕ → State → List Task → List (Option Reason) → Type 0
-AreAnswers tries state [] [] = Unit {0}
-AreAnswers tries state [] (a ∷ answers) = ⊥
-AreAnswers tries state (s ∷ statements) [] = ⊥
-AreAnswers tries state (s ∷ statements) (a ∷ answers) = MayAnswer tries state s a × AreAnswers tries state statements answers
+abbrev pub AreAnswers : ℕ → View → List Task → List (Option Reason) → Type 0
+AreAnswers tries v [] [] = Unit {0}
+AreAnswers tries v [] (a ∷ answers) = ⊥
+AreAnswers tries v (s ∷ statements) [] = ⊥
+AreAnswers tries v (s ∷ statements) (a ∷ answers) = MayAnswer tries v s a × AreAnswers tries v statements answers
 
 -- a reason is listed with the statement's number
 abbrev pub refusal_of : Task → Option Reason → List Refusal
@@ -73,20 +101,24 @@ pub record IsOrder (statements : List Task) (answers : List (Option Reason)) (jo
   pub accepted : (k p : ℕ) → slice_get order k ≡ Some p → slice_get answers p ≡ Some None
   pub all : (p : ℕ) → slice_get answers p ≡ Some None → (k : ℕ) × (slice_get order k ≡ Some p)
 
--- the journal has each statement once, but for the refused ones, which are listed with their reasons
-pub record Settles (tries : ℕ) (statements : List Task) (h : History) : Type 0 where
+-- the journal, which follows this opening, has each statement once, but for the refused ones, which are listed with their reasons
+pub record Settles (tries : ℕ) (opening : Opening) (statements : List Task) (h : History) : Type 0 where
   pub answers : List (Option Reason)
-  pub answered : AreAnswers tries h.state statements answers
+  pub answered : AreAnswers tries (record { opening = opening; journal = h.journal }) statements answers
   pub refused : h.refused ≡ refusals statements answers
   pub order : List ℕ
   pub ordered : IsOrder statements answers h.journal order
 
--- a history that a shared run of the document may have: the journal is legal from the document's texts, and the texts are left as its replay
--- leaves them
+-- the document's texts, with room for as many entries as a journal may have
+abbrev pub opening_in : Document → Opening
+opening_in d = record { texts = d.texts; room = room }
+
+-- a history that a shared run of the document may have: the journal is legal from the document's texts, the texts are left as its replay leaves them, and it
+-- has each statement that isn't refused
 pub record IsShared (tries : ℕ) (d : Document) (h : History) : Type 0 where
-  pub legal : Legal (start (record { texts = d.texts; room = room })) h.journal
-  pub replayed : h.state ≡ replay (start (record { texts = d.texts; room = room })) h.journal
-  pub settled : Settles tries d.statements h
+  pub legal : Legal (start (opening_in d)) h.journal
+  pub replayed : h.state ≡ replay (start (opening_in d)) h.journal
+  pub settled : Settles tries (opening_in d) d.statements h
 
 -- the bytes are a document, the lines are the listing of a shared run of it, and so many of its statements are refused
 pub record IsSharedReport (mode : Mode) (json : Bool) (tries : ℕ) (bytes lines : List ℕ) (refused : ℕ) : Type 0 where

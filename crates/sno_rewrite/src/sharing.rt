@@ -7,6 +7,7 @@ ghost use Rattle.sno_desk.specs.Answers.{Answers};
 ghost use Rattle.sno_desk.specs.Turns.{AllAnswer};
 ghost use Rattle.sno_rewrite.specs.Histories.{history_seen};
 ghost use Rattle.sno_document.specs.Reads.{document_seen, IsReady};
+ghost use Rattle.sno_rewrite.specs.Owners.{IsAnsweredWithin};
 ghost use Rattle.sno_rewrite.specs.Runs.{IsOwn};
 ghost use Rattle.sno_rewrite.specs.Shared.{IsShared};
 
@@ -64,6 +65,7 @@ fn work<L: Naming + Send + Sync, R: Threads + Wait + Sync>(
     ensures opening { IfOk result (λ r. r.0.opening ≡ arc_value desk.opening) }
     ensures lawful { IfOk result (λ r. IsLawful (view_of r.0)) }
     ensures answers { IfOk result (λ r. AllAnswer (Answers (λ _ _. ⊥) tries r.0.opening) (map arc_value statements.now) r.1.items) }
+    ensures within { IfOk result (λ r. AllAnswer (IsAnsweredWithin tries (view_of r.0)) (map arc_value statements.now) r.1.items) }
     ensures fault { IfErr result IsOwn }
 {
     let mut seats = seats;

@@ -1,22 +1,12 @@
 use Rattle.std.proofs.Common.{length, map, refl, add-one}
 use Rattle.std.specs.Arc.{arc_value}
 use Rattle.std.proofs.lemmas.Option.{slice_get_read}
-use Rattle.sno_book.specs.Views.{state_of}
-use Rattle.sno_book.specs.Books.{view_of}
-use Rattle.sno_desk.specs.Answers.{Answers}
-use Rattle.sno_rewrite.proofs.SettlingLemmas.{answer_at, lists_more, seen_at}
+use Rattle.sno_rewrite.proofs.SettlingLemmas.{lists_more, seen_at}
 use Rattle.sno_rewrite.proofs.settling.list_at.Goals as goal
-
-pub list-requires : goal.list-requires
-list-requires c =
-    answer_at (Answers (λ _ _. ⊥) c.args.tries c.args.book.now.opening) (map arc_value c.args.statements.now) c.args.replies.now c.requires.answers c.args.place c.deref.result.now
-    c.index-replies-place.result
-    (seen_at arc_value c.args.statements.now c.args.place c.index-statements-place.result c.deref.result.now c.requires.inside c.index-statements-place.is c.deref.ensures)
-    (slice_get_read c.args.replies.now (length c.args.replies.now) c.args.place c.index-replies-place.result refl c.requires.replied c.index-replies-place.is)
 
 pub returns-clause-lists : goal.returns-clause-lists
 returns-clause-lists c =
-    let more = lists_more c.args.tries (state_of (view_of c.args.book.now)) (map arc_value c.args.statements.now) c.args.replies.now c.args.place
+    let more = lists_more (map arc_value c.args.statements.now) c.args.replies.now c.args.place
     c.deref.result.now c.index-replies-place.result c.args.refused.now.items c.list.new.refused.items c.requires.before
     (seen_at arc_value c.args.statements.now c.args.place c.index-statements-place.result c.deref.result.now c.requires.inside c.index-statements-place.is c.deref.ensures)
     (slice_get_read c.args.replies.now (length c.args.replies.now) c.args.place c.index-replies-place.result refl c.requires.replied c.index-replies-place.is)

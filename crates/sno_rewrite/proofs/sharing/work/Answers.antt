@@ -1,0 +1,25 @@
+-- The replies are those of submits at points of the closed journal.
+use Rattle.std.proofs.Common.{◌≡◌, ℕ, List, ◌++◌, length, map, take, drop, sym, subst, ap, ◌∙◌, arith}
+use Rattle.std.proofs.Math.Seq.{take-append_seam}
+use Rattle.std.specs.Arc.{arc_value}
+use Rattle.std.specs.List.{All}
+use mathlib.Core.List.{IsPrefix as Begins}
+use Rattle.sno_desk.specs.Answers.{Answers}
+use Rattle.sno_desk.specs.declared.seats.Seat.{Seat}
+use Rattle.sno_rewrite.proofs.SettlingLemmas.{as_many}
+use Rattle.sno_rewrite.proofs.WithinLemmas.{within_book}
+use Rattle.sno_rewrite.proofs.sharing.work.Goals as goal
+
+-- the vector of the seats is that of the slice that the workers were given
+restored : {X : Type 0} (n : ℕ) (new more : List X) → n ≡ length new → take n (new ++ more) ≡ new
+restored n new more e = ap (λ k. take k (new ++ more)) e ∙ take-append_seam new more
+
+pub returns-in-Ok-close-clause-within : goal.returns-in-Ok-close-clause-within
+returns-in-Ok-close-clause-within g c =
+    let many = sym (as_many (Answers (λ _ _. ⊥) c.args.tries g.L.Naming.opening) (map arc_value c.args.statements.now) c.in-Ok.replies.items c.in-Ok.ensures.answers) in
+    let new : List (Seat g.row.L.Denot) = c.run_workers.new.seats in
+    let whole = restored c.args.seats.len new (drop (length new) c.args.seats.items) (omega arith) in
+    let seen = subst (λ (l : List (Seat g.row.L.Denot)). All (λ s. Begins s.viewer.seen c.in-Ok-close.book.journal) l) whole c.in-Ok-close.ensures.seen in
+    within_book (λ _ _. ⊥) c.args.tries g.L.Naming.opening c.in-Ok-close.book.opening g.L.Ledger.parts c.in-Ok-close.book.journal (λ s. s.accepted) (λ s. s.viewer.seen)
+    (map arc_value c.args.statements.now) c.in-Ok.replies.items c.deref_mut.result.now new
+    (c.in-Ok-close.ensures.opening ∙ c.requires.opening) (omega arith) (omega arith) many c.in-Ok.ensures.in_turn seen
