@@ -44,7 +44,7 @@ impl Model for Book {
 }
 
 impl Book {
-    /// A book of these texts, each at version 0, with an empty journal that may hold `room` entries.
+    /// A book of these texts, each at version 0, with an empty journal that may hold `room` entries, at most 1,000,000.
     ///
     /// Refused, in this order: `TooMany` for more than 1,024 texts, `Duplicate` with the first place whose name stands earlier, `Memory`.
     /// The texts are dropped then.
@@ -206,7 +206,7 @@ impl Book {
     /// one higher, also where the characters are the same. It takes no memory, and the book keeps memory for one entry less than before.
     ///
     /// The book keeps memory for one entry more ([`Book::has_spare`]), and the proposal fits it: the text at its place has its name and its version,
-    /// and the journal has fewer entries than there is room for. After [`Book::prepare`] both hold until the book is changed. The proposal is of a
+    /// the version can rise, and the journal has fewer entries than there is room for. After [`Book::prepare`] both hold until the book is changed. The proposal is of a
     /// view of the book: of that view and the book's one begins the other.
     pub fn finish(&mut self, ready: Ready) -> Receipt
         requires kept { 0 < self.old.spare }

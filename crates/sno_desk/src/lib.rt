@@ -22,7 +22,7 @@
 //! - **[`Desk::submit`]** (`src/submitting.rt`, `specs/Answers.antt`): a receipt's entry has the statement, and by the receipt's type its outcome
 //!   is what the statement does to the receipt's text. `NoText` comes exactly where the opening has no text of that name. `TriesSpent` comes only where
 //!   the text's version has risen at least as often as the statement was tried, and names a version that the text had on the way. `TextTooLong` and `TooManyTrials` come only where performing the statement on
-//!   the text is refused so. `GateShut` comes only if the gate may be shut for the statement's number at one of its attempts; a [`Gate`] (`src/gates.rt`)
+//!   the text is refused so, and `Full` and `TriesSpent` only where it is not. `GateShut` comes only if the gate may be shut for the statement's number at one of its attempts; a [`Gate`] (`src/gates.rt`)
 //!   says by its ghost member when that is, and for [`OpenGate`] it never is.
 //! - **[`run_workers`]** (`src/workers.rt`, `src/gathering.rt`, `specs/Turns.antt`): there are as many replies as jobs, in the order of the jobs,
 //!   and each is an answer of `submit` to its job. Those of one seat are the answers of its submits one after the other, with all that a submit

@@ -67,7 +67,7 @@ check_names (Err (names.Reserved place)) = Err (fault.PatternReserved (place + 1
 check_names (Err (names.Duplicate place)) = Err (fault.PatternDuplicate (place + 1))
 check_names (Err names.Memory) = Err fault.Memory
 
--- the expressions of the definitions with d before them, which plain names may name
+-- the patterns of the definitions with d before them, which plain names may name
 abbrev pub bodies_from : List (List ℕ) → ℕ → List Tree → List (List ℕ × List ℕ) → Result (List Tree) RunFault
 bodies_from defined d done [] = Ok done
 bodies_from defined d done (row ∷ rows) =

@@ -15,7 +15,7 @@ pub record StatementRow : Type 0 where
   pub anchored : Option Bool
   pub repeat : Option Num
 
--- a document as it is written: names with expressions, names with texts, and statements
+-- a document as it is written: names with patterns, names with texts, and statements
 pub record Rows : Type 0 where
   pub patterns : List (List ℕ × List ℕ)
   pub texts : List (List ℕ × List ℕ)

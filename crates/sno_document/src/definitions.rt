@@ -46,7 +46,7 @@ fn check_names(alloc: Global, names: &[Name]) -> Result<Names, RunFault>
     }
 }
 
-/// The expression of the definition at a place. Its references are to definitions.
+/// The pattern of the definition at a place. Its references are to definitions.
 #[tactic(auto, using(crate::proofs::References::spelled_covered))]
 fn body(alloc: Global, names: &Names, place: usize, text: &str) -> Result<Pattern, RunFault>
     requires { place < 64 }

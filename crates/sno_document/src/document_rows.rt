@@ -13,7 +13,7 @@ use crate::members::{
 use json::Value;
 use std::alloc::Global;
 
-/// Two strings: a name with an expression, or a name with a text.
+/// Two strings: a name with a pattern, or a name with a text.
 pub(crate) type PairRow<'t> = (&'t str, &'t str);
 
 /// A statement as the document writes it.

@@ -25,8 +25,11 @@ pub const MAX_DOCUMENT: usize = 16_777_216;
 /// What a document stands for, with its texts in a book.
 #[derive(Drop)]
 pub struct Document {
+    /// The definitions, admitted.
     pub rules: Arc<Rules>,
+    /// The texts, in a book without an entry.
     pub book: Book,
+    /// The statements, in the document's order, numbered from 1.
     pub statements: Vec<Arc<Statement>>,
 }
 
@@ -52,7 +55,11 @@ fn document_with(
     })
 }
 
-/// The document that the bytes are; `mode` has what its statements don't say themselves, and trials from 1 to 1,000,000,000.
+/// The document that the bytes are, whose book has no entry yet and room for 1,000,000. `mode` has what its statements don't say themselves, and trials
+/// from 1 to 1,000,000,000.
+///
+/// Refused with the first fault, in this order: `DocumentTooLong`, `NotJson`, `Shape`; those of the definitions, `Unguarded` last; those of the texts; those
+/// of the statements; each as `specs/Document.antt` checks them. `Memory` may come in the place of any answer. Nothing is left of the document then.
 pub fn read_document(alloc: Global, bytes: &[u8], mode: Mode) -> Result<Document, RunFault>
     requires { IsLimit mode.trials }
     ensures document { Reads mode bytes.now result }

@@ -31,7 +31,7 @@ pub enum RunFault {
     /// The name of this definition stands earlier, too.
     #[error("pattern {0}: duplicate")]
     PatternDuplicate(usize),
-    /// The expression of this definition is not read.
+    /// The pattern of this definition is not read.
     #[error("pattern {0}: {1}")]
     PatternRead(usize, ReadFault),
     /// Definitions that refer to one another in a cycle without taking a character; this is the first of them.
@@ -76,13 +76,13 @@ pub enum RunFault {
     /// The listing could not be written.
     #[error("write failed")]
     Write,
-    /// A version could not be published.
+    /// A version could not be published, or nothing more was shown to a worker.
     #[error("versions stopped")]
     Stopped,
-    /// There was no reader's place.
+    /// There was no place for a worker's reader.
     #[error("no reader")]
     NoReader,
-    /// A receipt is not in the journal.
+    /// The replies of a shared run don't agree with its journal.
     #[error("audit failed")]
     Audit,
     /// The desk could not be closed.

@@ -35,7 +35,7 @@ abbrev pub Repetition : Type 0
 Repetition = (t : List ℕ) (bodies : List Tree) (k : ℕ) (p : Tree) (c : ℕ) → c ≤ length t
     → results t bodies k (Arbno p) c ≡ End c [] ∷ go_on (results t bodies k p c) (λ e. if nat_lt c e then results t bodies k (Arbno p) e else [])
 
--- Where the definitions are guarded, a depth greater than `depth` gives nothing more, from any cursor of the text ..
+-- Where the definitions are guarded, a depth greater than `enough_depth` gives nothing more, from any cursor of the text ..
 abbrev pub DepthIsEnough : Type 0
 DepthIsEnough = (t : List ℕ) (bodies : List Tree) → Guarded bodies → (k : ℕ) (p : Tree) (c : ℕ) → enough_depth t bodies ≤ k → c ≤ length t
     → results t bodies k p c ≡ results t bodies (enough_depth t bodies) p c

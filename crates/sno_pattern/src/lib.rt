@@ -42,7 +42,7 @@ pub use laws::{
     a_greater_depth_takes_no_more_trials, a_literal_that_stands_nowhere_costs_one_trial_a_start,
     a_missing_literal_costs_one_trial, a_part_that_takes_ends_past_its_cursor,
     a_repetition_is_null_or_goes_on, definitions_with_a_cycle_are_not_guarded,
-    ends_lie_behind_the_cursor,
+    ends_lie_behind_the_cursor, repeats_are_found,
 };
 pub use name_list::{Names, NamesFault};
 pub use text_names::{NameFault, TextName};

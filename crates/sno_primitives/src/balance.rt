@@ -5,7 +5,8 @@ ghost use Rattle.sno_primitives.specs.Depth.{depth_after};
 
 /// The first cursor past `c` up to which the text from `c` on is balanced in parentheses; none where there is none.
 ///
-/// From an end that came back, the next call gives the next end of `BAL` from `c`. It takes no memory, and reads no character past the end.
+/// `c` is at most the text's length. From an end that came back, the next call gives the next end of `BAL` from `c`. It takes no memory, and reads no
+/// character past the end.
 #[inline]
 pub fn first_balanced(text: &[u8], c: usize) -> Option<usize>
     requires { c ≤ length text.now }

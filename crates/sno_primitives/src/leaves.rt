@@ -11,7 +11,7 @@ use sno_pattern::Pattern;
 
 /// Where the primitive ends from the cursor; none where it fails there.
 ///
-/// The end is no cursor before `c` and none behind the text. The call takes no memory.
+/// The primitive has at most one end, and `c` is at most the text's length. The end is no cursor before `c` and none past the end of the text. The call takes no memory.
 #[inline(always)]
 pub fn leaf_end(text: &[u8], pattern: &Pattern, c: usize) -> Option<usize>
     requires within { c ≤ length text.now }

@@ -7,7 +7,7 @@ use sno_pattern::Class;
 
 /// Where the literal ends that stands at the cursor; none where it doesn't stand there.
 ///
-/// The end is no cursor before `c` and none behind the text. The call takes no memory.
+/// `c` is at most the text's length. The end is no cursor before `c` and none past the end of the text. The call takes no memory.
 #[inline(always)]
 pub fn literal_end(text: &[u8], literal: &[u8], c: usize) -> Option<usize>
     requires { c ≤ length text.now }
@@ -24,7 +24,7 @@ pub fn literal_end(text: &[u8], literal: &[u8], c: usize) -> Option<usize>
 
 /// Where `LEN(n)` ends from the cursor: `n` characters on; none where there are fewer.
 ///
-/// The end is no cursor before `c` and none behind the text. The call takes no memory.
+/// `c` is at most the text's length. The end is no cursor before `c` and none past the end of the text. The call takes no memory.
 #[inline(always)]
 pub fn len_end(text: &[u8], n: usize, c: usize) -> Option<usize>
     requires { c ≤ length text.now }
@@ -51,7 +51,7 @@ pub fn pos_end(n: usize, c: usize) -> Option<usize>
 
 /// Where `RPOS(n)` ends from the cursor: there, if `n` characters are left; none otherwise.
 ///
-/// The call takes no memory.
+/// `c` is at most the text's length. The call takes no memory.
 #[inline(always)]
 pub fn rpos_end(text: &[u8], n: usize, c: usize) -> Option<usize>
     requires { c ≤ length text.now }
@@ -61,7 +61,7 @@ pub fn rpos_end(text: &[u8], n: usize, c: usize) -> Option<usize>
     if n == text.len() - c { Some(c) } else { None }
 }
 
-/// Where `TAB(n)` ends from the cursor: at cursor `n`; none where that lies before `c` or behind the text.
+/// Where `TAB(n)` ends from the cursor: at cursor `n`; none where that lies before `c` or past the end of the text.
 ///
 /// The call takes no memory.
 #[inline(always)]
@@ -78,7 +78,7 @@ pub fn tab_end(text: &[u8], n: usize, c: usize) -> Option<usize>
 
 /// Where `RTAB(n)` ends from the cursor: where `n` characters are left; none where that lies before `c`, or there are fewer.
 ///
-/// The call takes no memory.
+/// `c` is at most the text's length. The call takes no memory.
 #[inline(always)]
 pub fn rtab_end(text: &[u8], n: usize, c: usize) -> Option<usize>
     requires { c ≤ length text.now }
@@ -94,7 +94,7 @@ pub fn rtab_end(text: &[u8], n: usize, c: usize) -> Option<usize>
 
 /// Where `ANY(set)` ends from the cursor: one character on, if it is in the set; none if it isn't, or the text ends here.
 ///
-/// The call takes no memory.
+/// `c` is at most the text's length. The call takes no memory.
 #[inline(always)]
 pub fn any_end(text: &[u8], set: &Class, c: usize) -> Option<usize>
     requires { c ≤ length text.now }
@@ -110,7 +110,7 @@ pub fn any_end(text: &[u8], set: &Class, c: usize) -> Option<usize>
 
 /// Where `NOTANY(set)` ends from the cursor: one character on, if it isn't in the set; none if it is, or the text ends here.
 ///
-/// The call takes no memory.
+/// `c` is at most the text's length. The call takes no memory.
 #[inline(always)]
 pub fn notany_end(text: &[u8], set: &Class, c: usize) -> Option<usize>
     requires { c ≤ length text.now }

@@ -64,7 +64,7 @@ pub fn first_in(rest: &[u8], set: &Class) -> Option<usize>
 
 /// Where `SPAN(set)` ends from the cursor: past all characters in a row that are in the set; none where the next one isn't, or the text ends here.
 ///
-/// The end is no cursor before `c` and none behind the text. The call takes no memory.
+/// `c` is at most the text's length. The end is no cursor before `c` and none past the end of the text. The call takes no memory.
 #[inline(always)]
 pub fn span_end(text: &[u8], set: &Class, c: usize) -> Option<usize>
     requires { c ≤ length text.now }
@@ -78,7 +78,7 @@ pub fn span_end(text: &[u8], set: &Class, c: usize) -> Option<usize>
 
 /// Where `BREAK(set)` ends from the cursor: before the first character from here on that is in the set; none where there is no such.
 ///
-/// The end is no cursor before `c` and none behind the text. The call takes no memory.
+/// `c` is at most the text's length. The end is no cursor before `c` and none past the end of the text. The call takes no memory.
 #[inline(always)]
 pub fn break_end(text: &[u8], set: &Class, c: usize) -> Option<usize>
     requires { c ≤ length text.now }

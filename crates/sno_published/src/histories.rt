@@ -49,7 +49,7 @@ impl History {
         &self.front
     }
 
-    /// Adds an entry behind the others, and says whether it did. It waits for nobody and takes no memory.
+    /// Adds an entry after the others, of which there are fewer than 2^62, and says whether it did. It waits for nobody and takes no memory.
     ///
     /// It did not only if the history goes on from what this front had seen, of which the front has seen more then. No lawful run meets this, as nobody
     /// else can add to the history.

@@ -142,7 +142,8 @@ fn show<L: Naming, R: Wait>(
 }
 
 impl<L: Naming> Screen<L> {
-    /// A screen that shows the texts of an opening before the first entry, with room for so many readers at once. The two histories are new.
+    /// A screen that shows the texts of an opening before the first entry, with room for so many readers at once, from 1 to 2^32 - 1. The opening is
+    /// the desk's, `history` the desk's with no entry, and `attempts` the desk's of attempts.
     ///
     /// Refused only where memory is; the histories are dropped then.
     pub fn new(
@@ -182,7 +183,8 @@ impl<L: Naming> Screen<L> {
         self.writer.published()
     }
 
-    /// Publishes an entry behind those that are shown, all at once. It waits for readers that still read what was shown before the last entry.
+    /// Publishes an entry after those that are shown, all at once. It waits for readers that still read what was shown before the last entry. The entry
+    /// has a step from the texts that are shown, and fewer entries are shown than 1,000,000 and than the opening has room for.
     ///
     /// Refused, in this order: `Memory`, where the entry couldn't be shared or put into the log, or 2^61 attempts were made before, and the screen comes
     /// back as it was; `Stopped`, where the publish itself was refused.

@@ -41,7 +41,7 @@ impl<L: Naming> Model for Table<L> {
 }
 
 impl<L: Naming> Table<L> {
-    /// The texts of an opening before the first entry.
+    /// The texts of an opening before the first entry. The opening is the desk's, and the front one of the desk's history with no entry.
     ///
     /// Refused only where memory is.
     pub fn new(alloc: Global, opening: &Arc<Opening>, front: &Front) -> Result<Table<L>, AllocError>

@@ -1,4 +1,4 @@
--- The characters that have a meaning of their own in expressions and objects, by their ASCII codes.
+-- The characters that have a meaning of their own in patterns and objects, by their ASCII codes.
 use Rattle.std.specs.Prelude.{ℕ}
 
 abbrev pub tab : ℕ

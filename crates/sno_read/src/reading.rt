@@ -19,7 +19,7 @@ use sno_pattern::{Names, Pattern, first_non_ascii};
 use std::alloc::Global;
 
 /// The most characters of a pattern's text, and of an object's.
-pub const MAX_EXPRESSION: usize = 4_096;
+pub const MAX_WRITTEN: usize = 4_096;
 
 /// The most parentheses that are open at one place.
 pub const MAX_OPEN: usize = 100;
@@ -34,8 +34,8 @@ fn check(text: &[u8]) -> Result<Piece<'_>, Stop>
     ensures same { IfOk result (λ p. p.characters.now ≡ text.now) }
     ensures late { OnMemory result ⊥ }
 {
-    if text.len() > MAX_EXPRESSION {
-        return Err(Stop::Fault(ReadFault::TooLong(MAX_EXPRESSION)));
+    if text.len() > MAX_WRITTEN {
+        return Err(Stop::Fault(ReadFault::TooLong(MAX_WRITTEN)));
     }
     match first_non_ascii(text) {
         Some(place) => Err(Stop::Fault(ReadFault::NonAscii(place))),

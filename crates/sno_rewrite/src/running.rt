@@ -36,7 +36,7 @@ pub struct Report {
 /// `trials` trials, 1 to 1,000,000,000. It pays no heed to `workers` and `tries`.
 ///
 /// Refused with the first fault of the bytes, in this order: `DocumentTooLong`, `NotJson`, `Shape`; then the definitions, the texts
-/// and the statements, each as `specs/Document.antt` checks them; and with `Memory` where that was refused.
+/// and the statements, each as `specs/Document.antt` of `sno_document` checks them; and with `Memory` where that was refused.
 pub fn run_serial(alloc: Global, bytes: &[u8], options: &Options) -> Result<Report, RunFault>
     requires { IsLimit options.now.trials }
     // The bytes are a document, and the report is that of its serial run.
@@ -116,8 +116,8 @@ fn shared_report_of<T: Threads + Wait + Sync>(
     Ok(Report { bytes, refused })
 }
 
-/// Performs the statements of a document on its texts by as many workers as `workers` says, one where it says none, and lists what they
-/// did, as JSON where `json` is set. Each statement is tried at most `tries` times. Which of two statements on one text comes first is not
+/// Performs the statements of a document on its texts by as many workers as `workers` says, 1 to 16, or one where it says none, and lists what they
+/// did, as JSON where `json` is set. Each statement is tried at most `tries` times, 1 to 1,000, and each match may take `trials` trials, 1 to 1,000,000,000. Which of two statements on one text comes first is not
 /// fixed; the listing has the statements in the order in which they were accepted.
 ///
 /// Refused with the first fault of the bytes, as `run_serial` refuses; with `Memory` where that was refused, also for a single statement;
@@ -131,7 +131,7 @@ pub fn run_shared<T: Threads + Wait + Sync>(
     options: &Options,
 ) -> Result<Report, RunFault>
     requires { AreInLimits options.now }
-    // The bytes are a document, and the report is that of a shared run: each statement is in the journal once or is refused for a reason.
+    // The bytes are a document, and the report is that of a shared run: each statement is in the journal once, or is refused for a reason that has its cause in the journal.
     ensures found { IfOk result (λ report. IsSharedReport (mode_of options.now) options.now.json options.now.tries bytes.now report.bytes.items report.refused) }
     // A document is refused for a fault of the run's own alone.
     ensures only { (d : Document) → IsDocument (mode_of options.now) bytes.now (Ok d) → IfErr result IsOwn }
@@ -169,7 +169,8 @@ fn report_by<T: Threads + Wait + Sync>(
 }
 
 /// Reads a document to its end, performs its statements, in order or by workers where there are any, and writes the listing and nothing
-/// else. It answers the status of a run that did so: 0 where no statement was refused, and 1 otherwise.
+/// else. It answers the status of a run that did so: 0 where no statement was refused, and 1 otherwise. The options are within the limits that `run_shared`
+/// has.
 ///
 /// Refused: `Read` where a read fails, an interrupted one too; a fault of the document as `run_serial` answers it, of which more than
 /// 16,777,216 bytes are one, or of the run as `run_shared` answers it; `Memory`; and `Write` where a write fails, an interrupted one too,
