@@ -7,3 +7,4 @@ pub mod ReadLemmas
 pub mod CommandLineLemmas
 pub mod LimitLemmas
 pub mod WithinLemmas
+pub mod TurnLemmas

@@ -1,5 +1,5 @@
 -- Which statement each entry of a journal is of.
-use Rattle.std.proofs.Common.{◌≡◌, ◌≢◌, ℕ, true, false, zero, suc, ◌+◌, ◌<◌, ◌⊎◌, inl, inr, List, [], ◌∷◌, length, get_or, set, map, replicate, Option, Some, None, Result, Ok, Err, slice_get, refl, ap, sym, ◌∙◌, arith}
+use Rattle.std.proofs.Common.{◌≡◌, ◌≢◌, ℕ, true, false, zero, suc, ◌+◌, ◌*◌, ◌<◌, ◌⊎◌, inl, inr, List, [], ◌∷◌, length, get_or, set, map, replicate, Option, Some, None, Result, Ok, Err, slice_get, refl, ap, sym, ◌∙◌, arith}
 use Rattle.std.specs.Option.{option_map}
 use Rattle.std.specs.List.{All}
 use Rattle.std.specs.Prelude.{IsSome}
@@ -16,7 +16,7 @@ use Rattle.sno_desk.specs.Answers.{Answers}
 use Rattle.sno_desk.specs.Turns.{AllAnswer}
 use Rattle.sno_desk.specs.declared.faults.SubmitFault.{SubmitFault}
 use Rattle.sno_listing.specs.declared.refusals.Reason.{Reason}
-use Rattle.sno_rewrite.specs.Owners.{IsReceipt, Owns, answer_in, reason_in}
+use Rattle.sno_rewrite.specs.Owners.{AreInTurn, IsReceipt, Owns, answer_in, reason_in}
 use Rattle.sno_rewrite.specs.Shared.{IsOrder}
 
 -- what is set stands there, and all else as it stood
@@ -152,7 +152,7 @@ order_at (x ∷ order) (suc k) p h = order_at order k p h
 -- where each entry is owned, the owners are the order of the statements
 module _ (shuts : ℕ → ℕ → Type 0) (tries : ℕ) (opening : Opening) (statements : List Task) (replies : List (Result Received SubmitFault)) (journal : List Entry)
     (owners : List (Option ℕ)) (answered : AllAnswer (Answers shuts tries opening) statements replies) (owns : Owns journal replies (length replies) owners)
-    (filled : Filled owners) (answers : List (Option Reason)) (given : map answer_in replies ≡ map Some answers) where
+    (filled : Filled owners) (answers : List (Option Reason)) (given : map answer_in replies ≡ map Some answers) (workers : ℕ) (turns : AreInTurn workers replies) where
   owned : (k p : ℕ) → slice_get filled.order k ≡ Some p → slice_get owners k ≡ Some (Some p)
   owned k p h = ap (λ (l : List (Option ℕ)). slice_get l k) filled.filled ∙ filled_at filled.order k p h
 
@@ -162,7 +162,7 @@ module _ (shuts : ℕ → ℕ → Type 0) (tries : ℕ) (opening : Opening) (sta
   said : (p : ℕ) → slice_get (map answer_in replies) p ≡ option_map Some (slice_get answers p)
   said p = ap (λ (l : List (Option (Option Reason))). slice_get l p) given ∙ slice_get-map Some answers p
 
-  pub in_order : IsOrder statements answers journal filled.order
+  pub in_order : IsOrder workers statements answers journal filled.order
   in_order = record {
     as_many = sym (length-map filled.order Some) ∙ sym (ap length filled.filled) ∙ owns.as_many;
     once = λ j k p h g.
@@ -181,4 +181,9 @@ module _ (shuts : ℕ → ℕ → Type 0) (tries : ℕ) (opening : Opening) (sta
         let inside = slice_get_within replies p (Ok a.0) a.1 in
         let had = owns.noted p a.0 inside a.1 in
         (a.0.index, order_at filled.order a.0.index p (sym (ap (λ (l : List (Option ℕ)). slice_get l a.0.index) filled.filled) ∙ had));
+    in_turn = λ j k p later h g.
+        let one = its j p h in
+        let other = its k (p + (later + 1) * workers) g in
+        let up : one.receipt.index < other.receipt.index = turns p later one.receipt other.receipt one.there other.there in
+        omega (arith, up, one.indexed, other.indexed);
   }

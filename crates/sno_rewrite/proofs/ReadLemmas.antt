@@ -13,13 +13,13 @@ use Rattle.sno_document.specs.declared.modes.Mode.{Mode}
 no_memory : (workers : Option ℕ) (mode : Mode) (old : Option (List ℕ)) (e : RunFault) → e ≡ Memory → IfSome old (λ bytes. FailsBy workers mode bytes e)
 no_memory workers mode None e is = tt
 no_memory None mode (Some bytes) e is = λ unlike. absurd (unlike is)
-no_memory (Some n) mode (Some bytes) e is = inl (inl is)
+no_memory (Some n) mode (Some bytes) e is = λ unlike. absurd (unlike is)
 
 long_document : (workers : Option ℕ) (mode : Mode) (old : Option (List ℕ)) (e : RunFault) → e ≡ DocumentTooLong → IfSome old (λ all. 16777216 < length all)
     → IfSome old (λ bytes. FailsBy workers mode bytes e)
 long_document workers mode None e is long = tt
 long_document None mode (Some bytes) e is long = λ _. IsDocument.no_value (too_long bytes long ∙ ap (λ f. Err f) (sym is))
-long_document (Some n) mode (Some bytes) e is long = inr (IsDocument.no_value (too_long bytes long ∙ ap (λ f. Err f) (sym is)))
+long_document (Some n) mode (Some bytes) e is long = λ _. inl (IsDocument.no_value (too_long bytes long ∙ ap (λ f. Err f) (sym is)))
 
 -- a reader from which so many bytes were taken had as many
 taken_of : (old new : Option (List ℕ)) (count : ℕ) → Takes count old new → IfSome old (λ all. count ≤ length all)

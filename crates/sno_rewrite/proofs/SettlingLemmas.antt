@@ -27,7 +27,7 @@ use Rattle.sno_desk.specs.Turns.{AllAnswer}
 use Rattle.sno_desk.specs.declared.faults.SubmitFault.{SubmitFault}
 use Rattle.sno_desk.specs.declared.faults.SubmitFault.TheVariants as submit
 use Rattle.sno_listing.specs.History.{history_of}
-use Rattle.sno_rewrite.specs.Owners.{IsAnsweredWithin, IsListed, Lists, Owns, answer_in}
+use Rattle.sno_rewrite.specs.Owners.{AreInTurn, IsAnsweredWithin, IsListed, Lists, Owns, answer_in}
 use Rattle.sno_document.specs.Document.{Document}
 use Rattle.sno_document.specs.Document.{room}
 use Rattle.sno_rewrite.specs.Shared.{AreAnswers, IsOvertaken, IsRefusedThen, IsShared, MayAnswer, Settles, opening_in, refusal_of, refusals}
@@ -127,13 +127,15 @@ refused_then v s refused entries begins on = record {
   performed = on.performed;
 }
 
-overtaken : (tries : ℕ) (v : View) (s : Task) (before after : List Entry) (seen now : ℕ) → Begins after v.journal → HasRisen v.opening before after s tries seen now → tries ≤ now
+overtaken : (tries : ℕ) (v : View) (s : Task) (before after : List Entry) (seen now : ℕ) → Begins after v.journal → HasRisen v.opening before after s tries seen now
     → IsOvertaken tries v s seen now
-overtaken tries v s before after seen now begins h lost =
+overtaken tries v s before after seen now begins h =
     let saw : VersionedText = record { name = h.saw.name; text = h.saw.text; version = seen } in
     let met : VersionedText = record { name = h.versioned.name; text = h.versioned.text; version = now } in
     let became = found_there v.opening after s.text h.place met h.named h.versioned.there in
     let left = standing v.opening v.journal s.text h.place h.named in
+    let first = standing v.opening before s.text h.place h.named in
+    let low = h.risen first.held.version (record { text = first.held.text; name = first.held.name; there = first.there }) in
     let prefix : IsPrefix (record { opening = v.opening; journal = after }) v = record { opening = refl; more = begins.0; journal = sym begins.1 } in
     record {
       earlier = h.between;
@@ -151,7 +153,7 @@ overtaken tries v s before after seen now begins h lost =
       became = record { begins = begins; found = became };
       at_last = refl;
       higher = h.higher;
-      lost = lost;
+      lost = omega (arith, low);
       left = left.held;
       found = left.found;
       reached = (versions_only_rise (record { opening = v.opening; journal = after }) v prefix s.text met left.held became left.found).version;
@@ -175,7 +177,7 @@ may_answer shuts tries book s (Err submit.TooManyTrials) a h w e =
 may_answer shuts tries book s (Err (submit.TriesSpent seen now)) a h w e =
     let is : Some (reason.TriesSpent seen now) ≡ a = cc in
     subst (λ (x : Option Reason). MayAnswer tries (view_of book) s x) is
-    (is_named book s.text h.0, overtaken tries (view_of book) s w.before w.after seen now w.begins w.at h.1.1)
+    (is_named book s.text h.0, overtaken tries (view_of book) s w.before w.after seen now w.begins w.at)
 may_answer shuts tries book s (Err submit.GateShut) a h w e = absurd cc
 may_answer shuts tries book s (Err submit.Stopped) a h w e = absurd cc
 may_answer shuts tries book s (Err submit.Full) a h w e = absurd cc
@@ -204,24 +206,26 @@ pub settles : (shuts : ℕ → ℕ → Type 0) (tries : ℕ) (book : Book) (stat
     (owners : List (Option ℕ)) (refused : List Refusal) → AllAnswer (Answers shuts tries book.opening) statements replies
     → AllAnswer (IsAnsweredWithin tries (view_of book)) statements replies
     → Owns book.journal replies (length replies) owners → All (λ o. IsSome o) owners → Lists statements replies refused
-    → Settles tries book.opening statements (history_of (view_of book) refused)
-settles shuts tries book statements replies owners refused answered within owns all lists =
+    → (workers : ℕ) → AreInTurn workers replies → Settles workers tries book.opening statements (history_of (view_of book) refused)
+settles shuts tries book statements replies owners refused answered within owns all lists workers turns =
     let filled = fill owners all in
     record {
       answers = lists.answers;
       answered = are_answers shuts tries book statements replies lists.answers answered within lists.given;
       refused = lists.listed;
       order = filled.order;
-      ordered = in_order shuts tries book.opening statements replies book.journal owners answered owns filled lists.answers lists.given;
+      ordered = in_order shuts tries book.opening statements replies book.journal owners answered owns filled lists.answers lists.given workers turns;
     }
 
 -- what is settled beside a lawful book that began with the document's texts
-pub shares : (tries : ℕ) (d : Document) (book : Book) (before : Opening) (refused : List Refusal) → book.opening ≡ before → before.texts ≡ d.texts → before.room ≡ room
-    → IsLawful (view_of book) → Settles tries book.opening d.statements (history_of (view_of book) refused) → IsShared tries d (history_of (view_of book) refused)
-shares tries d book before refused opens texts rooms lawful settled =
+pub shares : (tries : ℕ) (d : Document) (book : Book) (before : Opening) (refused : List Refusal) (replies : List (Result Received SubmitFault)) (seats workers : ℕ) → seats ≡ workers
+    → AreInTurn seats replies → book.opening ≡ before → before.texts ≡ d.texts → before.room ≡ room → IsLawful (view_of book)
+    → ((w : ℕ) → AreInTurn w replies → Settles w tries book.opening d.statements (history_of (view_of book) refused)) → IsShared workers tries d (history_of (view_of book) refused)
+shares tries d book before refused replies seats workers all turns opens texts rooms lawful settled =
     let began : book.opening ≡ opening_in d = opens ∙ (λ i. record { texts = texts i; room = rooms i }) in
+    let mine = settled workers (subst (λ (w : ℕ). AreInTurn w replies) all turns) in
     record {
       legal = subst (λ (o : Opening). Legal (start o) book.journal) began lawful.legal;
       replayed = ap (λ (o : Opening). replay (start o) book.journal) began;
-      settled = subst (λ (o : Opening). Settles tries o d.statements (history_of (view_of book) refused)) began settled;
+      settled = subst (λ (o : Opening). Settles workers tries o d.statements (history_of (view_of book) refused)) began mine;
     }

@@ -34,6 +34,7 @@ module _ (shuts : ℕ → ℕ → Type 0) (tries : ℕ) (opening : Opening) (sea
       record {
         before = before.seen;
         after = a.0.seen;
+        grown = a.1.begins;
         begins = prefix_trans a.0.seen after.seen journal (seen_grows a.0 after jobs replies a.2) begins;
         at = a.1.at;
       },

@@ -1,5 +1,5 @@
 -- How replies to the statements of a document are checked against a journal.
-use Rattle.std.specs.Prelude.{◌≡◌, ◌⊎◌, ◌<◌, ◌++◌, ℕ, Bool, true, false, List, length, map, slice_get, Option, Some, None, Result, Ok, Err}
+use Rattle.std.specs.Prelude.{◌≡◌, ◌⊎◌, ◌<◌, ◌+◌, ◌*◌, ◌++◌, ℕ, Bool, true, false, List, length, map, slice_get, Option, Some, None, Result, Ok, Err}
 use Rattle.std.specs.Option.{option_map}
 use mathlib.Core.List.{IsPrefix as Begins}
 use Rattle.sno_statement.specs.Task.{Task}
@@ -34,8 +34,14 @@ pub record Owns (journal : List Entry) (replies : List (Result Received SubmitFa
 pub record IsAnsweredWithin (tries : ℕ) (v : View) (s : Task) (reply : Result Received SubmitFault) : Type 0 where
   pub before : List Entry
   pub after : List Entry
+  pub grown : Begins before after
   pub begins : Begins after v.journal
   pub at : AnswersAt tries v.opening before after s reply
+
+-- of two receipts whose places differ by a multiple of the number of workers, and which so are one worker's, the later one has the higher index
+abbrev pub AreInTurn : ℕ → List (Result Received SubmitFault) → Type 0
+AreInTurn workers replies = (p later : ℕ) (one other : Received) → slice_get replies p ≡ Some (Ok one) → slice_get replies (p + (later + 1) * workers) ≡ Some (Ok other)
+    → one.index < other.index
 
 -- the reason for which a statement is listed as refused; the last four faults are none, and end the run
 abbrev pub reason_in : SubmitFault → Option Reason

@@ -1,5 +1,5 @@
 -- Shared runs: workers perform the statements of a document on its texts, in an order that nobody fixed.
-use Rattle.std.specs.Prelude.{◌≡◌, ◌≢◌, ◌<◌, ◌≤◌, ℕ, Bool, List, [], ◌∷◌, ◌++◌, length, slice_get, Option, Some, None, Ok, Err}
+use Rattle.std.specs.Prelude.{◌≡◌, ◌≢◌, ◌<◌, ◌≤◌, ℕ, ◌+◌, ◌*◌, Bool, List, [], ◌∷◌, ◌++◌, length, slice_get, Option, Some, None, Ok, Err}
 use Rattle.std.specs.Option.{option_map}
 use mathlib.Core.List.{IsPrefix as Begins}
 use Rattle.sno_statement.specs.Task.{Task}
@@ -32,7 +32,8 @@ pub record IsRefusedThen (v : View) (s : Task) (refused : StatementFault) : Type
   pub performed : perform s held.text ≡ Err refused
 
 -- the statement's text changed under each of its tries. The last one saw it at the first version, at some point of the journal, where performing the statement is
--- not refused; later it had the second version, which is higher and at least the number of tries; and it is left at that or a higher one
+-- not refused, and it had been replaced at least as often as there were tries before; later it had the second version, which is higher; and it is left at that
+-- or a higher one
 pub record IsOvertaken (tries : ℕ) (v : View) (s : Task) (seen now : ℕ) : Type 0 where
   pub earlier : List Entry
   pub saw : VersionedText
@@ -46,7 +47,7 @@ pub record IsOvertaken (tries : ℕ) (v : View) (s : Task) (seen now : ℕ) : Ty
   pub became : HasBeen v later s.text met
   pub at_last : met.version ≡ now
   pub higher : seen < now
-  pub lost : tries ≤ now
+  pub lost : tries ≤ seen + 1
   pub left : VersionedText
   pub found : find s.text (state_of v) ≡ Some left
   pub reached : now ≤ left.version
@@ -93,21 +94,23 @@ refusals (s ∷ statements) [] = []
 refusals (s ∷ statements) (a ∷ answers) = refusal_of s a ++ refusals statements answers
 
 -- which statement each entry of the journal is of, by its place in the document: each entry has one, no two have the same, the entry's
--- statement stands at that place, and the places are those of the accepted statements
-pub record IsOrder (statements : List Task) (answers : List (Option Reason)) (journal : List Entry) (order : List ℕ) : Type 0 where
+-- statement stands at that place, and the places are those of the accepted statements. Statements whose places differ by a multiple of the
+-- number of workers are one worker's, and stand in the journal in the document's order
+pub record IsOrder (workers : ℕ) (statements : List Task) (answers : List (Option Reason)) (journal : List Entry) (order : List ℕ) : Type 0 where
   pub as_many : length order ≡ length journal
   pub once : (j k p : ℕ) → slice_get order j ≡ Some p → slice_get order k ≡ Some p → j ≡ k
   pub statement : (k p : ℕ) → slice_get order k ≡ Some p → option_map (λ e. e.statement) (slice_get journal k) ≡ slice_get statements p
   pub accepted : (k p : ℕ) → slice_get order k ≡ Some p → slice_get answers p ≡ Some None
   pub all : (p : ℕ) → slice_get answers p ≡ Some None → (k : ℕ) × (slice_get order k ≡ Some p)
+  pub in_turn : (j k p later : ℕ) → slice_get order j ≡ Some p → slice_get order k ≡ Some (p + (later + 1) * workers) → j < k
 
 -- the journal, which follows this opening, has each statement once, but for the refused ones, which are listed with their reasons
-pub record Settles (tries : ℕ) (opening : Opening) (statements : List Task) (h : History) : Type 0 where
+pub record Settles (workers tries : ℕ) (opening : Opening) (statements : List Task) (h : History) : Type 0 where
   pub answers : List (Option Reason)
   pub answered : AreAnswers tries (record { opening = opening; journal = h.journal }) statements answers
   pub refused : h.refused ≡ refusals statements answers
   pub order : List ℕ
-  pub ordered : IsOrder statements answers h.journal order
+  pub ordered : IsOrder workers statements answers h.journal order
 
 -- the document's texts, with room for as many entries as a journal may have
 abbrev pub opening_in : Document → Opening
@@ -115,16 +118,16 @@ opening_in d = record { texts = d.texts; room = room }
 
 -- a history that a shared run of the document may have: the journal is legal from the document's texts, the texts are left as its replay leaves them, and it
 -- has each statement that isn't refused
-pub record IsShared (tries : ℕ) (d : Document) (h : History) : Type 0 where
+pub record IsShared (workers tries : ℕ) (d : Document) (h : History) : Type 0 where
   pub legal : Legal (start (opening_in d)) h.journal
   pub replayed : h.state ≡ replay (start (opening_in d)) h.journal
-  pub settled : Settles tries (opening_in d) d.statements h
+  pub settled : Settles workers tries (opening_in d) d.statements h
 
--- the bytes are a document, the lines are the listing of a shared run of it, and so many of its statements are refused
-pub record IsSharedReport (mode : Mode) (json : Bool) (tries : ℕ) (bytes lines : List ℕ) (refused : ℕ) : Type 0 where
+-- the bytes are a document, the lines are the listing of a run of it by so many workers, and so many of its statements are refused
+pub record IsSharedReport (mode : Mode) (json : Bool) (workers tries : ℕ) (bytes lines : List ℕ) (refused : ℕ) : Type 0 where
   pub document : Document
   pub is_document : IsDocument mode bytes (Ok document)
   pub history : History
-  pub is_shared : IsShared tries document history
+  pub is_shared : IsShared workers tries document history
   pub listed : lines ≡ listing_by json history
   pub counted : refused ≡ length history.refused

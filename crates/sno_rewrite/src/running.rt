@@ -4,9 +4,9 @@ ghost use Rattle.sno_document.specs.declared.faults.RunFault.TheVariants.{Memory
 ghost use Rattle.sno_statement.specs.Task.{IsLimit};
 ghost use Rattle.sno_document.specs.Document.{Document, IsDocument};
 ghost use Rattle.sno_document.specs.Reads.{document_seen, IsReady};
-ghost use Rattle.sno_rewrite.specs.Modes.{mode_of};
+ghost use Rattle.sno_rewrite.specs.Modes.{mode_of, workers_in};
 ghost use Rattle.sno_rewrite.specs.Reports.{IsReport, IsOutside};
-ghost use Rattle.sno_rewrite.specs.Runs.{AreInLimits, FailsBy, IsBegun, IsOwn, IsRun, Reports};
+ghost use Rattle.sno_rewrite.specs.Runs.{AreInLimits, FailsBy, FailsShared, IsBegun, IsOwn, IsRun, Reports};
 ghost use Rattle.sno_rewrite.specs.Shared.{IsSharedReport};
 ghost use Rattle.sno_rewrite.specs.Histories.{history_seen};
 ghost use Rattle.sno_rewrite.specs.Streams.{RefusesLonger, TakesAtMost};
@@ -77,6 +77,7 @@ fn serial_report_of(
     Ok(Report { bytes, refused })
 }
 
+#[tactic(auto, using(crate::proofs::RunLemmas::read_fails, crate::proofs::RunLemmas::own_fails))]
 fn shared_report<T: Threads + Wait + Sync>(
     rt: &T,
     alloc: Global,
@@ -87,8 +88,8 @@ fn shared_report<T: Threads + Wait + Sync>(
     requires workers { (1 ≤ workers) × (workers ≤ 16) }
     requires tries { (1 ≤ options.now.tries) × (options.now.tries ≤ 1000) }
     requires trials { IsLimit options.now.trials }
-    ensures found { IfOk result (λ report. IsSharedReport (mode_of options.now) options.now.json options.now.tries bytes.now report.bytes.items report.refused) }
-    ensures fault { IfErr result (λ e. IsOwn e ⊎ IsDocument (mode_of options.now) bytes.now (Err e)) }
+    ensures found { IfOk result (λ report. IsSharedReport (mode_of options.now) options.now.json workers options.now.tries bytes.now report.bytes.items report.refused) }
+    ensures fault { IfErr result (FailsShared (mode_of options.now) bytes.now) }
 {
     let document = read_document(alloc, bytes, options.mode())?;
     let report = shared_report_of(rt, alloc, document, workers, options)?;
@@ -107,7 +108,7 @@ fn shared_report_of<T: Threads + Wait + Sync>(
     requires workers { (1 ≤ workers) × (workers ≤ 16) }
     requires tries { (1 ≤ options.now.tries) × (options.now.tries ≤ 1000) }
     ensures found { (mode : Mode) (bytes : List ℕ) → IsDocument mode bytes (Ok (document_seen document))
-        → IfOk result (λ report. IsSharedReport mode options.now.json options.now.tries bytes report.bytes.items report.refused) }
+        → IfOk result (λ report. IsSharedReport mode options.now.json workers options.now.tries bytes report.bytes.items report.refused) }
     ensures own { IfErr result IsOwn }
 {
     let performed = perform_shared(rt, alloc, document, workers, options.tries)?;
@@ -117,10 +118,11 @@ fn shared_report_of<T: Threads + Wait + Sync>(
 }
 
 /// Performs the statements of a document on its texts by as many workers as `workers` says, 1 to 16, or one where it says none, and lists what they
-/// did, as JSON where `json` is set. Each statement is tried at most `tries` times, 1 to 1,000, and each match may take `trials` trials, 1 to 1,000,000,000. Which of two statements on one text comes first is not
-/// fixed; the listing has the statements in the order in which they were accepted.
+/// did, as JSON where `json` is set. Each statement is tried at most `tries` times, 1 to 1,000, and each match may take `trials` trials, 1 to 1,000,000,000.
+/// The listing has the statements in the order in which they were accepted. Those of one worker, whose places differ by a multiple of the number of workers,
+/// stand in the document's order; which of two others on one text comes first is not fixed.
 ///
-/// Refused with the first fault of the bytes, as `run_serial` refuses; with `Memory` where that was refused, also for a single statement;
+/// Refused with the first fault of the bytes, as `run_serial` refuses; with `Memory` where that was refused, also for a single statement; and of a document
 /// with `Stopped` where a statement was answered so and none `Memory`; with `NoReader` where a worker got no reader's place; with `Audit` where the
 /// receipts of the statements don't agree with the journal, and with `Closing` where the desk does not close. No lawful run meets `Stopped`, `Audit` or
 /// `Closing`.
@@ -131,12 +133,13 @@ pub fn run_shared<T: Threads + Wait + Sync>(
     options: &Options,
 ) -> Result<Report, RunFault>
     requires { AreInLimits options.now }
-    // The bytes are a document, and the report is that of a shared run: each statement is in the journal once, or is refused for a reason that has its cause in the journal.
-    ensures found { IfOk result (λ report. IsSharedReport (mode_of options.now) options.now.json options.now.tries bytes.now report.bytes.items report.refused) }
+    // The bytes are a document, and the report is that of a run by so many workers: each statement is in the journal once, those of one worker in their order, or
+    // is refused for a reason that has its cause in the journal.
+    ensures found { IfOk result (λ report. IsSharedReport (mode_of options.now) options.now.json (workers_in options.now.workers) options.now.tries bytes.now report.bytes.items report.refused) }
     // A document is refused for a fault of the run's own alone.
     ensures only { (d : Document) → IsDocument (mode_of options.now) bytes.now (Ok d) → IfErr result IsOwn }
-    // Any fault but the run's own is the first of the bytes.
-    ensures fault { IfErr result (λ e. IsOwn e ⊎ IsDocument (mode_of options.now) bytes.now (Err e)) }
+    // Bytes that are no document are refused with their first fault, or because memory was refused.
+    ensures fault { IfErr result (FailsShared (mode_of options.now) bytes.now) }
 {
     let workers = options.workers.unwrap_or(1);
     let report = shared_report(rt, alloc, bytes, workers, options)?;
@@ -144,6 +147,7 @@ pub fn run_shared<T: Threads + Wait + Sync>(
 }
 
 /// The report of the bytes, with workers or without. The bytes are dropped once they are read.
+#[tactic(auto, using(crate::proofs::RunLemmas::read_fails_by, crate::proofs::RunLemmas::own_fails_by, crate::proofs::RunLemmas::memory_fails_by))]
 fn report_by<T: Threads + Wait + Sync>(
     rt: &T,
     alloc: Global,

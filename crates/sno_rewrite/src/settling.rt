@@ -1,12 +1,12 @@
 //! What the replies to the statements of a document come to.
-ghost use Rattle.std.specs.Prelude.{◌≡◌, ◌<◌, ◌+◌, length, map, take, IfOk, IfErr, OnOk, Some, true, false};
+ghost use Rattle.std.specs.Prelude.{◌≡◌, ◌<◌, ◌+◌, ℕ, length, map, take, IfOk, IfErr, OnOk, Some, true, false};
 ghost use Rattle.std.specs.List.{list_any};
 ghost use Rattle.std.specs.Arc.{arc_value};
 ghost use Rattle.sno_book.specs.Books.{view_of};
 ghost use Rattle.sno_desk.specs.Answers.{Answers};
 ghost use Rattle.sno_desk.specs.Turns.{AllAnswer};
 ghost use Rattle.sno_rewrite.specs.Histories.{history_seen};
-ghost use Rattle.sno_rewrite.specs.Owners.{IsAnsweredWithin, IsListed, IsUnsettled, Lists, is_short, is_stopped, reason_in};
+ghost use Rattle.sno_rewrite.specs.Owners.{AreInTurn, IsAnsweredWithin, IsListed, IsUnsettled, Lists, is_short, is_stopped, reason_in};
 ghost use Rattle.sno_rewrite.specs.Shared.{Settles};
 ghost use Rattle.sno_document.specs.declared.faults.RunFault.TheVariants.{Audit as AuditFailed, Memory as MemoryRefused, Stopped as StoppedThere};
 
@@ -129,7 +129,7 @@ pub(crate) fn settle_replies(
     requires answers { AllAnswer (Answers (λ _ _. ⊥) tries book.opening) (map arc_value statements.now) replies.now }
     requires within { AllAnswer (IsAnsweredWithin tries (view_of book)) (map arc_value statements.now) replies.now }
     ensures book { IfOk result (λ p. p.book ≡ book) }
-    ensures settles { IfOk result (λ p. Settles tries book.opening (map arc_value statements.now) (history_seen p)) }
+    ensures settles { IfOk result (λ p. (workers : ℕ) → AreInTurn workers replies.now → Settles workers tries book.opening (map arc_value statements.now) (history_seen p)) }
     ensures memory { list_any is_short replies.now ≡ true → IfErr result (λ e. e ≡ MemoryRefused) }
     ensures stopped { list_any is_short replies.now ≡ false → list_any is_stopped replies.now ≡ true → IfErr result (λ e. e ≡ StoppedThere) }
     ensures fault { IfErr result IsUnsettled }

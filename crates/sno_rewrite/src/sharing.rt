@@ -7,7 +7,7 @@ ghost use Rattle.sno_desk.specs.Answers.{Answers};
 ghost use Rattle.sno_desk.specs.Turns.{AllAnswer};
 ghost use Rattle.sno_rewrite.specs.Histories.{history_seen};
 ghost use Rattle.sno_document.specs.Reads.{document_seen, IsReady};
-ghost use Rattle.sno_rewrite.specs.Owners.{IsAnsweredWithin};
+ghost use Rattle.sno_rewrite.specs.Owners.{AreInTurn, IsAnsweredWithin};
 ghost use Rattle.sno_rewrite.specs.Runs.{IsOwn};
 ghost use Rattle.sno_rewrite.specs.Shared.{IsShared};
 
@@ -66,6 +66,7 @@ fn work<L: Naming + Send + Sync, R: Threads + Wait + Sync>(
     ensures lawful { IfOk result (λ r. IsLawful (view_of r.0)) }
     ensures answers { IfOk result (λ r. AllAnswer (Answers (λ _ _. ⊥) tries r.0.opening) (map arc_value statements.now) r.1.items) }
     ensures within { IfOk result (λ r. AllAnswer (IsAnsweredWithin tries (view_of r.0)) (map arc_value statements.now) r.1.items) }
+    ensures in_turn { IfOk result (λ r. AreInTurn (length seats.items) r.1.items) }
     ensures fault { IfErr result IsOwn }
 {
     let mut seats = seats;
@@ -100,7 +101,7 @@ fn perform_at_desk<L: Naming + Send + Sync, R: Threads + Wait + Sync>(
     requires few { (1 ≤ workers) × (workers ≤ 16) }
     requires lawful { (1 ≤ tries) × (tries ≤ 1000) }
     requires ready { IsReady document }
-    ensures shared { IfOk result (λ p. IsShared tries (document_seen document) (history_seen p)) }
+    ensures shared { IfOk result (λ p. IsShared workers tries (document_seen document) (history_seen p)) }
     ensures fault { IfErr result IsOwn }
 {
     let Document {
@@ -128,7 +129,7 @@ pub(crate) fn perform_shared<R: Threads + Wait + Sync>(
     requires few { (1 ≤ workers) × (workers ≤ 16) }
     requires lawful { (1 ≤ tries) × (tries ≤ 1000) }
     requires ready { IsReady document }
-    ensures shared { IfOk result (λ p. IsShared tries (document_seen document) (history_seen p)) }
+    ensures shared { IfOk result (λ p. IsShared workers tries (document_seen document) (history_seen p)) }
     ensures fault { IfErr result IsOwn }
 {
     let blank = Blank::new(u64::from(workers));

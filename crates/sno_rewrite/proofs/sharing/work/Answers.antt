@@ -6,7 +6,9 @@ use Rattle.std.specs.List.{All}
 use mathlib.Core.List.{IsPrefix as Begins}
 use Rattle.sno_desk.specs.Answers.{Answers}
 use Rattle.sno_desk.specs.declared.seats.Seat.{Seat}
+use Rattle.sno_rewrite.specs.Owners.{AreInTurn}
 use Rattle.sno_rewrite.proofs.SettlingLemmas.{as_many}
+use Rattle.sno_rewrite.proofs.TurnLemmas.{turns_all}
 use Rattle.sno_rewrite.proofs.WithinLemmas.{within_book}
 use Rattle.sno_rewrite.proofs.sharing.work.Goals as goal
 
@@ -23,3 +25,10 @@ returns-in-Ok-close-clause-within g c =
     within_book (λ _ _. ⊥) c.args.tries g.L.Naming.opening c.in-Ok-close.book.opening g.L.Ledger.parts c.in-Ok-close.book.journal (λ s. s.accepted) (λ s. s.viewer.seen)
     (map arc_value c.args.statements.now) c.in-Ok.replies.items c.deref_mut.result.now new
     (c.in-Ok-close.ensures.opening ∙ c.requires.opening) (omega arith) (omega arith) many c.in-Ok.ensures.in_turn seen
+
+pub returns-in-Ok-close-clause-in_turn : goal.returns-in-Ok-close-clause-in_turn
+returns-in-Ok-close-clause-in_turn g c =
+    let old = c.deref_mut.result.now in
+    let turns = turns_all (λ _ _. ⊥) c.args.tries g.L.Naming.opening g.L.Ledger.parts (λ s. s.accepted) (λ s. s.viewer.seen) (map arc_value c.args.statements.now) c.in-Ok.replies.items
+    old c.run_workers.new.seats (omega arith) c.in-Ok.ensures.in_turn in
+    subst (λ (n : ℕ). AreInTurn n c.in-Ok.replies.items) (omega arith) turns
