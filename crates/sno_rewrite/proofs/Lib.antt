@@ -8,3 +8,4 @@ pub mod CommandLineLemmas
 pub mod LimitLemmas
 pub mod WithinLemmas
 pub mod TurnLemmas
+pub mod AloneLemmas

@@ -30,7 +30,8 @@ use Rattle.sno_listing.specs.History.{history_of}
 use Rattle.sno_rewrite.specs.Owners.{AreInTurn, IsAnsweredWithin, IsListed, Lists, Owns, answer_in}
 use Rattle.sno_document.specs.Document.{Document}
 use Rattle.sno_document.specs.Document.{room}
-use Rattle.sno_rewrite.specs.Shared.{AreAnswers, IsOvertaken, IsRefusedThen, IsShared, MayAnswer, Settles, opening_in, refusal_of, refusals}
+use Rattle.sno_rewrite.specs.Serial.{opening_in, run_from}
+use Rattle.sno_rewrite.specs.Shared.{AreAnswers, IsOvertaken, IsRefusedThen, IsShared, MayAnswer, Settles, refusal_of, refusals}
 use Rattle.sno_listing.specs.declared.refusals.Reason.{Reason}
 use Rattle.sno_listing.specs.declared.refusals.Reason.TheVariants as reason
 use Rattle.sno_listing.specs.declared.refusals.Refusal.{Refusal}
@@ -113,7 +114,7 @@ lists_all statements replies i refused past even h =
 -- ---- each answer may be
 
 -- what stands at the place of a name after these entries is found by the name
-found_there : (opening : Opening) (entries : List Entry) (name : List ℕ) (place : ℕ) (held : VersionedText) → place_in opening name ≡ Some place → text_after opening entries place ≡ Some held
+pub found_there : (opening : Opening) (entries : List Entry) (name : List ℕ) (place : ℕ) (held : VersionedText) → place_in opening name ≡ Some place → text_after opening entries place ≡ Some held
     → find name (replay (start opening) entries) ≡ Some held
 found_there opening entries name place held named there =
     let stood = standing opening entries name place named in
@@ -220,12 +221,14 @@ settles shuts tries book statements replies owners refused answered within owns 
 -- what is settled beside a lawful book that began with the document's texts
 pub shares : (tries : ℕ) (d : Document) (book : Book) (before : Opening) (refused : List Refusal) (replies : List (Result Received SubmitFault)) (seats workers : ℕ) → seats ≡ workers
     → AreInTurn seats replies → book.opening ≡ before → before.texts ≡ d.texts → before.room ≡ room → IsLawful (view_of book)
-    → ((w : ℕ) → AreInTurn w replies → Settles w tries book.opening d.statements (history_of (view_of book) refused)) → IsShared workers tries d (history_of (view_of book) refused)
-shares tries d book before refused replies seats workers all turns opens texts rooms lawful settled =
+    → ((w : ℕ) → AreInTurn w replies → Settles w tries book.opening d.statements (history_of (view_of book) refused))
+    → (seats ≡ 1 → run_from book.opening d.statements ≡ Some (history_of (view_of book) refused)) → IsShared workers tries d (history_of (view_of book) refused)
+shares tries d book before refused replies seats workers all turns opens texts rooms lawful settled alone =
     let began : book.opening ≡ opening_in d = opens ∙ (λ i. record { texts = texts i; room = rooms i }) in
     let mine = settled workers (subst (λ (w : ℕ). AreInTurn w replies) all turns) in
     record {
       legal = subst (λ (o : Opening). Legal (start o) book.journal) began lawful.legal;
       replayed = ap (λ (o : Opening). replay (start o) book.journal) began;
       settled = subst (λ (o : Opening). Settles workers tries o d.statements (history_of (view_of book) refused)) began mine;
+      alone = λ one. ap (λ (o : Opening). run_from o d.statements) (sym began) ∙ alone (all ∙ one);
     }

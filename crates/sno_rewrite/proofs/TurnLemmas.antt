@@ -44,6 +44,11 @@ turn_of : (count place : ℕ) → 1 ≤ count → IsTurn count place
 turn_of count zero some = record { first = 0; turn = 0; inside = omega arith; is = omega arith }
 turn_of count (suc place) some = let before = turn_of count place some in next_turn count place before (cases_lt (before.first + 1) count)
 
+-- an element of a list that has one
+pub first_of : {X : Type 0} (xs : List X) (k : ℕ) → k < length xs → X
+first_of [] k h = absurd (omega arith)
+first_of (x ∷ xs) k h = x
+
 -- ---- the receipts of one seat
 
 module _ (shuts : ℕ → ℕ → Type 0) (tries : ℕ) (opening : Opening) (seats : ℕ) where
@@ -82,10 +87,6 @@ module _ (shuts : ℕ → ℕ → Type 0) (tries : ℕ) (opening : Opening) (sea
   rises before after (s ∷ jobs) (x ∷ replies) a (suc turn) later (suc at) one other e h g = rises a.0 after jobs replies a.2 turn later at one other (omega arith) h g
 
   -- ---- the receipts of all seats
-
-  first_of : {X : Type 0} (xs : List X) (k : ℕ) → k < length xs → X
-  first_of [] k h = absurd (omega arith)
-  first_of (x ∷ xs) k h = x
 
   pub turns_all : {X : Type 0} (share : X → ℕ) (view : X → List Entry) (jobs : List Task) (replies : List Answer) (old new : List X) → 1 ≤ length old
       → ((k : ℕ) (d : X) → k < length old → InTurn (IsSubmitted shuts tries opening seats) (position (share (get_or old k d)) (view (get_or old k d))) (position (share (get_or new k d)) (view (get_or new k d)))

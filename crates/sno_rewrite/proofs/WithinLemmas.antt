@@ -11,6 +11,7 @@ use Rattle.sno_desk.specs.Answers.{Answer}
 use Rattle.sno_desk.specs.Turns.{AllAnswer, InTurn, IsSubmitted, Position, every, position}
 use Rattle.sno_desk.proofs.Turns.{answer_all}
 use Rattle.sno_rewrite.specs.Owners.{IsAnsweredWithin}
+use Rattle.sno_rewrite.proofs.TurnLemmas.{first_of}
 
 module _ (shuts : ℕ → ℕ → Type 0) (tries : ℕ) (opening : Opening) (seats : ℕ) where
   -- over the replies of a seat, what it has seen only grows
@@ -40,10 +41,6 @@ module _ (shuts : ℕ → ℕ → Type 0) (tries : ℕ) (opening : Opening) (sea
       },
       within_turns a.0 after jobs replies a.2 begins,
     )
-
-    first_of : {X : Type 0} (xs : List X) (k : ℕ) → k < length xs → X
-    first_of [] k h = absurd (omega arith)
-    first_of (x ∷ xs) k h = x
 
     -- the replies of all seats
     within_all : {X : Type 0} (share : X → ℕ) (view : X → List Entry) (jobs : List Task) (replies : List Answer) (old new : List X)

@@ -1,5 +1,5 @@
 -- How replies to the statements of a document are checked against a journal.
-use Rattle.std.specs.Prelude.{◌≡◌, ◌⊎◌, ◌<◌, ◌+◌, ◌*◌, ◌++◌, ℕ, Bool, true, false, List, length, map, slice_get, Option, Some, None, Result, Ok, Err}
+use Rattle.std.specs.Prelude.{◌≡◌, ◌⊎◌, ◌<◌, ◌+◌, ◌*◌, ◌++◌, ℕ, Bool, true, false, List, [], length, map, slice_get, Option, Some, None, Result, Ok, Err}
 use Rattle.std.specs.Option.{option_map}
 use mathlib.Core.List.{IsPrefix as Begins}
 use Rattle.sno_statement.specs.Task.{Task}
@@ -7,6 +7,7 @@ use Rattle.sno_book.specs.Entries.{Entry}
 use Rattle.sno_book.specs.Proposals.{Received}
 use Rattle.sno_book.specs.Views.{View}
 use Rattle.sno_desk.specs.Answers.{AnswersAt}
+use Rattle.sno_desk.specs.Turns.{InTurn, IsSubmitted, Position, position}
 use Rattle.sno_desk.specs.declared.faults.SubmitFault.{SubmitFault}
 use Rattle.sno_desk.specs.declared.faults.SubmitFault.TheVariants as submit
 use Rattle.sno_document.specs.declared.faults.RunFault.{RunFault}
@@ -42,6 +43,14 @@ pub record IsAnsweredWithin (tries : ℕ) (v : View) (s : Task) (reply : Result 
 abbrev pub AreInTurn : ℕ → List (Result Received SubmitFault) → Type 0
 AreInTurn workers replies = (p later : ℕ) (one other : Received) → slice_get replies p ≡ Some (Ok one) → slice_get replies (p + (later + 1) * workers) ≡ Some (Ok other)
     → one.index < other.index
+
+-- one worker answered all: the replies are those of its submits one after the other, before which it had accepted and seen nothing; what it has seen begins the
+-- journal, which has as many entries as it accepted
+pub record IsAlone (tries : ℕ) (v : View) (statements : List Task) (replies : List (Result Received SubmitFault)) : Type 0 where
+  pub after : Position
+  pub in_turn : InTurn (IsSubmitted (λ _ _. ⊥) tries v.opening 1) (position 0 []) after statements replies
+  pub begins : Begins after.seen v.journal
+  pub counted : length v.journal ≡ after.accepted
 
 -- the reason for which a statement is listed as refused; the last four faults are none, and end the run
 abbrev pub reason_in : SubmitFault → Option Reason

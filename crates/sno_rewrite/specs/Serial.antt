@@ -8,7 +8,7 @@ use Rattle.sno_statement.specs.declared.outcomes.StatementFault.TheVariants as s
 use Rattle.sno_book.specs.States.{VersionedText, find}
 use Rattle.sno_book.specs.Entries.{Entry}
 use Rattle.sno_book.specs.Journals.{step}
-use Rattle.sno_book.specs.Openings.{start}
+use Rattle.sno_book.specs.Openings.{Opening, start}
 use Rattle.sno_document.specs.Document.{Document, room}
 use Rattle.sno_listing.specs.History.{History}
 use Rattle.sno_listing.specs.declared.refusals.Reason.{Reason}
@@ -46,9 +46,17 @@ abbrev pub run : History → List Task → Option History
 run h [] = Some h
 run h (s ∷ statements) = option_and_then (λ g. run g statements) (advance h s)
 
--- all texts at version 0, and then the statements; each document has a serial run (`HasSerial`)
+-- all texts at version 0, and then the statements
+abbrev pub run_from : Opening → List Task → Option History
+run_from opening statements = run (record { state = start opening; journal = []; refused = [] }) statements
+
+-- the document's texts, with room for as many entries as a journal may have
+abbrev pub opening_in : Document → Opening
+opening_in d = record { texts = d.texts; room = room }
+
+-- the document's statements on its texts; each document has a serial run (`HasSerial`)
 abbrev pub serial : Document → Option History
-serial d = run (record { state = start (record { texts = d.texts; room = room }); journal = []; refused = [] }) d.statements
+serial d = run_from (opening_in d) d.statements
 
 -- a document has a serial run: none of its statements is without an outcome and without a reason
 abbrev pub HasSerial : Type 0

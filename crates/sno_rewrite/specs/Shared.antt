@@ -11,13 +11,14 @@ use Rattle.sno_book.specs.Entries.{Entry}
 use Rattle.sno_book.specs.Journals.{Legal, replay}
 use Rattle.sno_book.specs.Openings.{Opening, start}
 use Rattle.sno_book.specs.Views.{View, state_of}
-use Rattle.sno_document.specs.Document.{Document, IsDocument, room}
+use Rattle.sno_document.specs.Document.{Document, IsDocument}
 use Rattle.sno_document.specs.declared.modes.Mode.{Mode}
 use Rattle.sno_listing.specs.History.{History}
 use Rattle.sno_listing.specs.Forms.{listing_by}
 use Rattle.sno_listing.specs.declared.refusals.Reason.{Reason}
 use Rattle.sno_listing.specs.declared.refusals.Reason.TheVariants.{NoText, TextTooLong, TriesSpent, TooManyTrials}
 use Rattle.sno_listing.specs.declared.refusals.Refusal.{Refusal}
+use Rattle.sno_rewrite.specs.Serial.{opening_in, serial}
 
 -- at some point of the journal, when these entries had been accepted, the text of this name was this one
 pub record HasBeen (v : View) (entries : List Entry) (name : List ℕ) (held : VersionedText) : Type 0 where
@@ -112,16 +113,13 @@ pub record Settles (workers tries : ℕ) (opening : Opening) (statements : List 
   pub order : List ℕ
   pub ordered : IsOrder workers statements answers h.journal order
 
--- the document's texts, with room for as many entries as a journal may have
-abbrev pub opening_in : Document → Opening
-opening_in d = record { texts = d.texts; room = room }
-
 -- a history that a shared run of the document may have: the journal is legal from the document's texts, the texts are left as its replay leaves them, and it
--- has each statement that isn't refused
+-- has each statement that isn't refused. One worker does what the serial run does
 pub record IsShared (workers tries : ℕ) (d : Document) (h : History) : Type 0 where
   pub legal : Legal (start (opening_in d)) h.journal
   pub replayed : h.state ≡ replay (start (opening_in d)) h.journal
   pub settled : Settles workers tries (opening_in d) d.statements h
+  pub alone : workers ≡ 1 → serial d ≡ Some h
 
 -- the bytes are a document, the lines are the listing of a run of it by so many workers, and so many of its statements are refused
 pub record IsSharedReport (mode : Mode) (json : Bool) (workers tries : ℕ) (bytes lines : List ℕ) (refused : ℕ) : Type 0 where

@@ -120,7 +120,7 @@ fn shared_report_of<T: Threads + Wait + Sync>(
 /// Performs the statements of a document on its texts by as many workers as `workers` says, 1 to 16, or one where it says none, and lists what they
 /// did, as JSON where `json` is set. Each statement is tried at most `tries` times, 1 to 1,000, and each match may take `trials` trials, 1 to 1,000,000,000.
 /// The listing has the statements in the order in which they were accepted. Those of one worker, whose places differ by a multiple of the number of workers,
-/// stand in the document's order; which of two others on one text comes first is not fixed.
+/// stand in the document's order; which of two others on one text comes first is not fixed. One worker lists what [`run_serial`] lists.
 ///
 /// Refused with the first fault of the bytes, as `run_serial` refuses; with `Memory` where that was refused, also for a single statement; and of a document
 /// with `Stopped` where a statement was answered so and none `Memory`; with `NoReader` where a worker got no reader's place; with `Audit` where the
@@ -134,7 +134,7 @@ pub fn run_shared<T: Threads + Wait + Sync>(
 ) -> Result<Report, RunFault>
     requires { AreInLimits options.now }
     // The bytes are a document, and the report is that of a run by so many workers: each statement is in the journal once, those of one worker in their order, or
-    // is refused for a reason that has its cause in the journal.
+    // is refused for a reason that has its cause in the journal; and one worker does what the serial run does.
     ensures found { IfOk result (λ report. IsSharedReport (mode_of options.now) options.now.json (workers_in options.now.workers) options.now.tries bytes.now report.bytes.items report.refused) }
     // A document is refused for a fault of the run's own alone.
     ensures only { (d : Document) → IsDocument (mode_of options.now) bytes.now (Ok d) → IfErr result IsOwn }

@@ -6,7 +6,8 @@ ghost use Rattle.sno_book.specs.Books.{view_of};
 ghost use Rattle.sno_desk.specs.Answers.{Answers};
 ghost use Rattle.sno_desk.specs.Turns.{AllAnswer};
 ghost use Rattle.sno_rewrite.specs.Histories.{history_seen};
-ghost use Rattle.sno_rewrite.specs.Owners.{AreInTurn, IsAnsweredWithin, IsListed, IsUnsettled, Lists, is_short, is_stopped, reason_in};
+ghost use Rattle.sno_rewrite.specs.Owners.{AreInTurn, IsAlone, IsAnsweredWithin, IsListed, IsUnsettled, Lists, is_short, is_stopped, reason_in};
+ghost use Rattle.sno_rewrite.specs.Serial.{run_from};
 ghost use Rattle.sno_rewrite.specs.Shared.{Settles};
 ghost use Rattle.sno_document.specs.declared.faults.RunFault.TheVariants.{Audit as AuditFailed, Memory as MemoryRefused, Stopped as StoppedThere};
 
@@ -130,6 +131,7 @@ pub(crate) fn settle_replies(
     requires within { AllAnswer (IsAnsweredWithin tries (view_of book)) (map arc_value statements.now) replies.now }
     ensures book { IfOk result (λ p. p.book ≡ book) }
     ensures settles { IfOk result (λ p. (workers : ℕ) → AreInTurn workers replies.now → Settles workers tries book.opening (map arc_value statements.now) (history_seen p)) }
+    ensures alone { IfOk result (λ p. IsAlone tries (view_of book) (map arc_value statements.now) replies.now → run_from book.opening (map arc_value statements.now) ≡ Some (history_seen p)) }
     ensures memory { list_any is_short replies.now ≡ true → IfErr result (λ e. e ≡ MemoryRefused) }
     ensures stopped { list_any is_short replies.now ≡ false → list_any is_stopped replies.now ≡ true → IfErr result (λ e. e ≡ StoppedThere) }
     ensures fault { IfErr result IsUnsettled }

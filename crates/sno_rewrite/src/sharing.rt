@@ -1,13 +1,14 @@
 //! The shared run of a document.
 ghost use Rattle.std.specs.Prelude.{◌≡◌, ◌≤◌, [], length, map, IfOk, IfErr};
 ghost use Rattle.std.specs.Arc.{arc_value};
+ghost use Rattle.std.specs.List.{All};
 ghost use Rattle.sno_book.specs.Views.{IsLawful};
 ghost use Rattle.sno_book.specs.Books.{view_of};
 ghost use Rattle.sno_desk.specs.Answers.{Answers};
 ghost use Rattle.sno_desk.specs.Turns.{AllAnswer};
 ghost use Rattle.sno_rewrite.specs.Histories.{history_seen};
 ghost use Rattle.sno_document.specs.Reads.{document_seen, IsReady};
-ghost use Rattle.sno_rewrite.specs.Owners.{AreInTurn, IsAnsweredWithin};
+ghost use Rattle.sno_rewrite.specs.Owners.{AreInTurn, IsAlone, IsAnsweredWithin};
 ghost use Rattle.sno_rewrite.specs.Runs.{IsOwn};
 ghost use Rattle.sno_rewrite.specs.Shared.{IsShared};
 
@@ -40,6 +41,7 @@ fn open_desk<L: Naming, R: Wait>(
     requires empty { book.journal ≡ [] }
     ensures opening { IfOk result (λ d. arc_value d.0.opening ≡ book.opening) }
     ensures count { IfOk result (λ d. length d.1.items ≡ workers) }
+    ensures none { IfOk result (λ d. All (λ s. (s.accepted ≡ 0) × (s.viewer.seen ≡ [])) d.1.items) }
     ensures fault { IfErr result IsOwn }
 {
     match Desk::new(rt, alloc, blank, book, workers) {
@@ -61,12 +63,14 @@ fn work<L: Naming + Send + Sync, R: Threads + Wait + Sync>(
     requires opening { arc_value desk.opening ≡ L.opening }
     requires all { length seats.items ≡ L.parts }
     requires few { (1 ≤ length seats.items) × (length seats.items ≤ 16) }
+    requires none { All (λ s. (s.accepted ≡ 0) × (s.viewer.seen ≡ [])) seats.items }
     requires lawful { (1 ≤ tries) × (tries ≤ 1000) }
     ensures opening { IfOk result (λ r. r.0.opening ≡ arc_value desk.opening) }
     ensures lawful { IfOk result (λ r. IsLawful (view_of r.0)) }
     ensures answers { IfOk result (λ r. AllAnswer (Answers (λ _ _. ⊥) tries r.0.opening) (map arc_value statements.now) r.1.items) }
     ensures within { IfOk result (λ r. AllAnswer (IsAnsweredWithin tries (view_of r.0)) (map arc_value statements.now) r.1.items) }
     ensures in_turn { IfOk result (λ r. AreInTurn (length seats.items) r.1.items) }
+    ensures alone { IfOk result (λ r. length seats.items ≡ 1 → IsAlone tries (view_of r.0) (map arc_value statements.now) r.1.items) }
     ensures fault { IfErr result IsOwn }
 {
     let mut seats = seats;
