@@ -1,4 +1,4 @@
-//! Worked examples of matches.
+//! The plain evaluator, on patterns made by hand: all that is assigned, one assignment after the other.
 use sno_eval::{Found, What, first};
 use sno_pattern::{Class, Name, Names, Pattern, Rules, Text};
 use std::alloc::Global;
@@ -42,34 +42,6 @@ fn place(found: &Found) -> Option<(usize, usize)> {
     }
 }
 
-// 'b' on ab
-#[test]
-fn a_literal_is_found_at_a_later_start(rt: HostRuntime) -> Result<(), Fail> {
-    let pattern = literal(rt.alloc(), b"b")?;
-    assert_eq!(rt; place(&found(&rt, &pattern, b"ab", false)?), Some((1, 2)));
-    assert_eq!(rt; place(&found(&rt, &pattern, b"ab", true)?), None);
-    Ok(())
-}
-
-// SPAN('a') 'a' on aaab
-#[test]
-fn a_span_gives_nothing_back(rt: HostRuntime) -> Result<(), Fail> {
-    let alloc = rt.alloc();
-    let span = Pattern::Span(Class::new(Vec::from_slice(alloc, b"a")?).ok_or("no set")?);
-    let pattern = seq(alloc, span, literal(alloc, b"a")?)?;
-    assert_eq!(rt; place(&found(&rt, &pattern, b"aaab", false)?), None);
-    Ok(())
-}
-
-// FENCE 'b' on ab
-#[test]
-fn a_fence_fails_the_starts_that_are_left(rt: HostRuntime) -> Result<(), Fail> {
-    let alloc = rt.alloc();
-    let pattern = seq(alloc, Pattern::Fence, literal(alloc, b"b")?)?;
-    assert_eq!(rt; place(&found(&rt, &pattern, b"ab", false)?), None);
-    Ok(())
-}
-
 // anchored, ARBNO(LEN(1) . Y | LEN(2) . Y) RPOS(0) on abc
 #[test]
 fn rounds_are_tried_in_depth(rt: HostRuntime) -> Result<(), Fail> {
@@ -109,27 +81,5 @@ fn an_immediate_assignment_stays_though_the_match_fails(rt: HostRuntime) -> Resu
         parts.as_slice(),
         [What::Part(0, 1), What::Part(1, 2), What::Part(2, 3)].as_slice()
     );
-    Ok(())
-}
-
-// P is '(' *P ')' | 'x'; anchored, *P RPOS(0) on ((x))
-#[test]
-fn a_definition_refers_to_itself(rt: HostRuntime) -> Result<(), Fail> {
-    let alloc = rt.alloc();
-    let inner = seq(alloc, Pattern::Ref(0), literal(alloc, b")")?)?;
-    let nested = seq(alloc, literal(alloc, b"(")?, inner)?;
-    let body = Pattern::Alt(
-        Box::new(alloc, nested)?,
-        Box::new(alloc, literal(alloc, b"x")?)?,
-    );
-    let mut bodies = Vec::new(alloc);
-    bodies.push(body)?;
-    let names = Names::new(alloc, &[name(b"P")?])?;
-    assert_eq!(rt; names.len(), bodies.len());
-    let rules = Rules::admit(alloc, names, bodies)?;
-    let pattern = seq(alloc, Pattern::Ref(0), Pattern::Rpos(0))?;
-    assert!(rt; rules.covers(&pattern));
-    let found = first(alloc, &rules, &pattern, &text(alloc, b"((x))")?, true)?;
-    assert_eq!(rt; place(&found), Some((0, 5)));
     Ok(())
 }

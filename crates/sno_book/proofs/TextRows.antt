@@ -1,4 +1,4 @@
--- Texts behind one another, no two of one name.
+-- Texts one after another, no two of one name.
 use Rattle.std.proofs.Common.{◌≡◌, ℕ, ◌+◌, ◌≤◌, Bool, true, false, cond, not, List, [], ◌∷◌, ◌++◌, length, Option, Some, None, Ok, Err, refl, ap, sym, ◌∙◌, arith, append_assoc, append-nil, ◌||◌, nat_lt}
 use Rattle.std.proofs.Common.{Global}
 use Rattle.std.specs.Option.{is_some}
@@ -33,7 +33,7 @@ insert_if : (b : Bool) (k : List ℕ) (v : Arc (List ℕ) Global) (e : List ℕ 
 insert_if true k v e es more later h rest = cc
 insert_if false k v e es more later h rest = ap (λ (l : List (List ℕ × List ℕ)). (e.0, arc_value e.1) ∷ l) (rest h)
 
--- a text of a new name stands behind the others
+-- a text of a new name stands after the others
 pub insert_seen : (k : List ℕ) (v : Arc (List ℕ) Global) (es : Shared) → list_any (same k) (names_in (texts_seen es)) ≡ false
     → texts_seen (insert_entry same es k v) ≡ texts_seen es ++ (k, arc_value v) ∷ []
 insert_seen k v [] h = refl

@@ -186,7 +186,7 @@ version_counts before after p given a law =
     let index : given.index ≡ length before.journal = a.index in
     omega arith
 
--- the receipt stands behind all that the seat had accepted
+-- the receipt stands after all that the seat had accepted
 pub stands : (before after : View) (p : Proposed) (given : Received) (seats accepted total : ℕ) → IsAccepted before after p given → VersionsCountEntries → accepted ≤ total
     → (seats ≡ 1 → accepted ≡ total) → length before.journal ≡ total → length before.journal < before.opening.room → before.opening.room ≤ 1000000
     → StandsAfter seats accepted given

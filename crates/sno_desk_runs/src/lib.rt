@@ -1,7 +1,9 @@
-//! Desks at work, tested: each answer of a submit, workers that overlap, a reader beside a submit, replies in order, shut gates, many seats over few texts, and what each
-//! fault prints.
+//! Desks at work, tested: each answer of a submit, tries that are overtaken, workers that overlap, a reader beside a submit, replies in order, shut gates, many seats
+//! over few texts, and what each fault prints.
 #![tactic(auto)]
 
+#[cfg(test)]
+mod answers;
 #[cfg(test)]
 mod beside;
 #[cfg(test)]
@@ -24,9 +26,5 @@ mod overtaking;
 mod printing;
 #[cfg(test)]
 mod soak;
-#[cfg(test)]
-mod spent;
-#[cfg(test)]
-mod submits;
 #[cfg(test)]
 mod viewers;

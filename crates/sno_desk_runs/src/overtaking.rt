@@ -90,32 +90,20 @@ fn overtake_each<R: Wait + Abort>(
     overtake::<Brand, R>(rt, alloc, Blank::new(2), book, &[first, second], tries)
 }
 
-#[test]
-fn one_try_is_overtaken(rt: HostRuntime) -> Result<(), Fail> {
-    let (fault, book) = overtake_each(&rt, rt.alloc(), 1)?;
-    assert_eq!(rt; fault, SubmitFault::TriesSpent { seen: 0, now: 1 });
-    assert_eq!(rt; book.journal().len(), 1);
-    check_entry(&rt, &book, 0, 2, 0);
-    check_text(&rt, &book, 0, "xx", 1);
-    Ok(())
-}
+/// How many tries there are, and the text that the second job leaves.
+static TRIES: [(u32, &str); 3] = [(1, "xx"), (2, "xxx"), (5, "xxxxxx")];
 
 #[test]
-fn each_of_two_tries_is_overtaken(rt: HostRuntime) -> Result<(), Fail> {
-    let (fault, book) = overtake_each(&rt, rt.alloc(), 2)?;
-    assert_eq!(rt; fault, SubmitFault::TriesSpent { seen: 1, now: 2 });
-    assert_eq!(rt; book.journal().len(), 2);
-    check_entry(&rt, &book, 1, 2, 1);
-    check_text(&rt, &book, 0, "xxx", 2);
-    Ok(())
-}
-
-#[test]
-fn each_of_five_tries_is_overtaken(rt: HostRuntime) -> Result<(), Fail> {
-    let (fault, book) = overtake_each(&rt, rt.alloc(), 5)?;
-    assert_eq!(rt; fault, SubmitFault::TriesSpent { seen: 4, now: 5 });
-    assert_eq!(rt; book.journal().len(), 5);
-    check_entry(&rt, &book, 4, 2, 4);
-    check_text(&rt, &book, 0, "xxxxxx", 5);
+fn each_try_is_overtaken(rt: HostRuntime) -> Result<(), Fail> {
+    for (tries, text) in TRIES {
+        assert!(rt; 1 <= tries && tries <= 5);
+        let (fault, book) = overtake_each(&rt, rt.alloc(), tries)?;
+        let now = u64::from(tries);
+        let seen = now - 1;
+        assert_eq!(rt; fault, SubmitFault::TriesSpent { seen, now });
+        assert_eq!(rt; book.journal().len(), tries as usize);
+        check_entry(&rt, &book, tries as usize - 1, 2, seen);
+        check_text(&rt, &book, 0, text, now);
+    }
     Ok(())
 }

@@ -15,7 +15,7 @@ cut_unhalted (Set t ∷ l) m h = ap (λ r. Set t ∷ r) (cut_unhalted l m h)
 cut_unhalted (End e a ∷ l) m h = ap (λ r. End e a ∷ r) (cut_unhalted l m h)
 cut_unhalted (Halt ∷ l) m h = cc
 
--- what stands behind a Halt is cut off
+-- what stands after a Halt is cut off
 pub cut_halted : (l m : List Event) → list_any is_halt l ≡ true → cut (l ++ m) ≡ cut l
 cut_halted [] m h = cc
 cut_halted (Try ∷ l) m h = ap (λ r. Try ∷ r) (cut_halted l m h)
@@ -31,7 +31,7 @@ halts_before a (Set t ∷ l) = halts_before a l
 halts_before a (End e b ∷ l) = halts_before a l
 halts_before a (Halt ∷ l) = refl
 
--- where a Halt is found the list is cut behind it
+-- where a Halt is found the list is cut after it
 found_from : (i : ℕ) (l : List Event) (p : ℕ) → position_from is_halt i l ≡ Some p → (i ≤ p) × (take (suc p - i) l ≡ cut l)
 found_from i [] p h = cc
 found_from i (Try ∷ l) p h =

@@ -57,7 +57,7 @@ module _ (f : ℕ → List Event) (total : List Event) where
   pub go_on_all : (all l : List Event) (i : ℕ) → length l ≤ i → all ++ go_on (drop i l) f ≡ total → all ≡ total
   go_on_all all l i h e = sym (append-nil all) ∙ sym (ap (λ m. all ++ go_on m f) (drop_all i l h)) ∙ e
 
--- the events behind the first
+-- the events after the first
 pub AllEnds-tail : (P : ℕ → Type 0) (l rest : List Event) (x : Event) → l ≡ x ∷ rest → AllEnds P l → AllEnds P rest
 AllEnds-tail P l rest x is h = tail x (subst (AllEnds P) is h)
   where

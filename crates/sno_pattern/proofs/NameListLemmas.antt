@@ -10,7 +10,7 @@ appended : (seen : Bool) (keys more : List (List ℕ)) (name : List ℕ) → see
 appended true keys more name absent is = cc
 appended false keys more name absent is = is
 
--- what repeats in the names that are left, behind one that isn't there yet
+-- what repeats in the names that are left, after one that isn't there yet
 repeat-next : (seen : Bool) (i : ℕ) (o : Option ℕ) → seen ≡ false → cond seen (Some i) o ≡ o
 repeat-next true i o absent = cc
 repeat-next false i o absent = refl

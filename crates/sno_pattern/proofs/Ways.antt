@@ -34,7 +34,7 @@ among_right : (l m : List ℕ) (j : ℕ) → Among m j → Among (l ++ m) j
 among_right l m j h = (length l + h.0, omega (arith, h.1, length-append l m), get_or-append-add l m h.0 0 ∙ h.2)
 
 module _ (bodies : List Tree) (marks : List Bool) (exact : AreExact bodies marks) where
-  -- what stands behind a part that doesn't take
+  -- what stands after a part that doesn't take
   behind : (p q : Tree) (b : Bool) → takes_by marks p ≡ b → AllByRecursion (Unguarded bodies q) (unguarded_by marks q)
       → AllByRecursion (λ j. (Takes bodies p → ⊥) × Unguarded bodies q j) (cond b [] (unguarded_by marks q))
   behind p q true is h = tt

@@ -1,4 +1,4 @@
--- Every End lies at the cursor or behind it, and within the text.
+-- Every End lies at the cursor or after it, and within the text.
 use Rattle.std.proofs.Common.{◌≡◌, ℕ, zero, suc, ◌+◌, ◌-◌, ◌<◌, ◌≤◌, Bool, true, false, not, ◌&&◌, cond, List, [], ◌∷◌, ◌++◌, length, drop, Option, Some, None, slice_get, nat_eq, nat_lt, nat_le, arith, length-drop}
 use Rattle.std.specs.List.{starts_with, take_while, range_with_len, prefix_len}
 use Rattle.std.proofs.lemmas.Bool.{leb-true, and_parts}
@@ -72,7 +72,7 @@ module _ (t : List ℕ) (c : ℕ) (inside : c ≤ length t) where
 abbrev pub IsWithin : List ℕ → (ℕ → List Event) → Type 0
 IsWithin t does = (c : ℕ) → c ≤ length t → AllEnds (Within t c) (does c)
 
--- going on behind a cursor
+-- going on after a cursor
 pub further : (t : List ℕ) (does : ℕ → List Event) → IsWithin t does → (c e : ℕ) → Within t c e → AllEnds (Within t c) (does e)
 further t does h c e w = AllEnds-map (Within t e) (Within t c) (λ x v. (omega arith, v.1)) (does e) (h e w.1)
 

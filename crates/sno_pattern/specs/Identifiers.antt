@@ -4,7 +4,7 @@ use Rattle.std.specs.List.{list_any, list_all}
 use Rattle.std.specs.Cmp.Lexicographic.{pointwise}
 use Rattle.std.specs.Char.{is_ascii_alphabetic, is_ascii_alphanumeric}
 
--- what may stand in a name behind its first letter: a letter, a digit, a period or an underscore
+-- what may stand in a name after its first letter: a letter, a digit, a period or an underscore
 unfoldable pub is_name_char : ℕ → Bool
 is_name_char c = is_ascii_alphanumeric c || (nat_eq c 46 || nat_eq c 95)
 

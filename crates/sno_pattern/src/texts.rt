@@ -13,7 +13,7 @@ use thiserror::Error;
 /// The most characters that a text has.
 pub const MAX_TEXT: usize = 65_536;
 
-/// A text: at most 65,536 ASCII characters, with a cursor before, between and behind them.
+/// A text: at most 65,536 ASCII characters, with a cursor before, between and after them.
 #[derive(Drop)]
 pub struct Text {
     characters: Vec<u8>,

@@ -11,7 +11,7 @@ abbrev pub past : Option ℕ → ℕ → (ℕ → List ℕ) → List ℕ
 past None place others = []
 past (Some depth) place others = cond (nat_eq depth 0) (place ∷ others depth) (others depth)
 
--- the ends behind a place, where so many are open
+-- the ends after a place, where so many are open
 abbrev pub walk : List ℕ → ℕ → ℕ → List ℕ
 walk [] depth place = []
 walk (x ∷ rest) depth place = past (depth_after depth x) (place + 1) (λ n. walk rest n (place + 1))
@@ -27,7 +27,7 @@ no_tests : (es : List ℕ) → filter (λ e. false) es ≡ []
 no_tests [] = refl
 no_tests (e ∷ es) = no_tests es
 
--- whether the rest is balanced, behind a character
+-- whether the rest is balanced, after a character
 abbrev still : Option ℕ → List ℕ → Bool
 still None rest = false
 still (Some depth) rest = balanced depth rest
@@ -55,7 +55,7 @@ by_depth : (after : Option ℕ) (rest : List ℕ) (place : ℕ) → ((n : ℕ) �
 by_depth None rest place h = no_tests (range_with_len (place + 1) (length rest))
 by_depth (Some n) rest place h = ap (λ l. cond (nat_eq n 0) (place ∷ l) l) (h n)
 
--- the first test, and the others, behind a character
+-- the first test, and the others, after a character
 first_test : (depth x : ℕ) (rest : List ℕ) (place : ℕ) → balanced depth (take (place + 1 - place) (x ∷ rest)) ≡ still (depth_after depth x) []
 first_test depth x rest place =
     let one : place + 1 - place ≡ suc zero = omega arith in

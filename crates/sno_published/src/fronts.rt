@@ -55,7 +55,7 @@ impl Front {
         both.learn(&other.seen);
     }
 
-    /// Adds an entry behind all that was seen, by the history's word, and says whether it did. It did not where the history has gone on.
+    /// Adds an entry after all that was seen, by the history's word, and says whether it did. It did not where the history has gone on.
     pub(crate) fn grow(&mut self, word: &Word<Entry, u64, Law>, entry: &Entry) -> bool
         requires history { word.now ≡ length_of self.old.history }
         requires room { length self.old.entries < 2 ^ 62 }

@@ -21,7 +21,7 @@
 //!
 //! - **What is shown is lawful and is a replay.** By its type the entries of a [`Table`] (`src/tables.rt`, `specs/StoredTexts.antt`) are legal from the
 //!   opening, and its texts and versions are what these entries leave. [`Table::text`] and [`Viewer::text`] answer exactly these.
-//! - **A publish is one step, a refusal none.** [`Screen::publish`] (`src/screens.rt`): on `Ok` the screen shows the entry behind those that it showed.
+//! - **A publish is one step, a refusal none.** [`Screen::publish`] (`src/screens.rt`): on `Ok` the screen shows the entry after those that it showed.
 //!   After each refusal it shows what it showed; after `Memory` it can be used as before.
 //! - **A view never goes back.** The rule over the two copies (`src/keeping.rt`, `specs/Keeping.antt`) is that what each reader has seen begins what is
 //!   shown. [`Viewer::enter`] and [`Viewer::text`] (`src/viewers.rt`, `specs/Viewings.antt`) on `Ok` leave a view that is what is shown, and that begins with

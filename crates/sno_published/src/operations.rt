@@ -47,7 +47,7 @@ impl<L: Naming> Given<L> {
         }
     }
 
-    /// The history with the entry of this attempt behind these entries, if that is what is known.
+    /// The history with the entry of this attempt after these entries, if that is what is known.
     fn front_after(&self, before: &Front, tried: &Front) -> Option<Front>
         requires { (before.now.history ≡ L.book) × (tried.now.history ≡ L.tries) }
         ensures history { IfSome result (λ front. front.history ≡ L.book) }

@@ -78,7 +78,7 @@ pub enum Unpublished<L: Naming> {
     Stopped(Spent<L>),
 }
 
-/// Puts an entry behind those that are shown into the writer's log, as one more attempt, with a slot for what is known later.
+/// Puts an entry after those that are shown into the writer's log, as one more attempt, with a slot for what is known later.
 fn append<L: Naming>(
     alloc: Global,
     writer: &mut Writer<Table<L>, Operation<L>, Seeing, Kept<L>>,

@@ -24,7 +24,7 @@ use Rattle.sno_read.proofs.Reserved.{keyword_none, keyword_name}
 use Rattle.sno_read.proofs.Marks.{digit_no_blank, name_starts, named_starts, literal_starts, concatenation_starts, alternation_starts, starts_no_blank, starts_item, blanks_stop, blanks_or, skip_blanks, follows_blanks, follows_closing, letter_begins}
 use Rattle.sno_read.proofs.TokensAgain.{literal_again, set_again, number_again, name_again, variable_again, opened_again, closed_paren_again, signed_again}
 
--- behind a part in parentheses stand blanks and the closing parenthesis
+-- after a part in parentheses stand blanks and the closing parenthesis
 abbrev pub InnerAgain : Env → ℕ → (List ℕ → Read Tree) → Type 0
 InnerAgain env room inner = (k : ℕ) → room ≡ suc k → (x : List ℕ) (t : Tree) (c r : List ℕ) → IsAlternation env.names env.earlier k x t → AreBlanks c → inner (x ++ (c ++ (41 ∷ r))) ≡ Ok (t, c ++ (41 ∷ r))
 
@@ -69,7 +69,7 @@ pub quoted_starts : (x r : List ℕ) (s : List ℕ) → IsLiteral x s → start_
 unfolding start_of
 quoted_starts x r s l = rw (l.spelled, l.is_quote) refl
 
--- a call, behind its name
+-- a call, after its name
 called_again : (env : Env) (room : ℕ) (inner : List ℕ → Read Tree) (w p r : List ℕ) (key : Keyword) (t : Tree) → keyword_of w ≡ Some key → begins is_name_char (p ++ r) ≡ false → from_name env room inner (fault.UnknownName (place env (w ++ (p ++ r)))) (w, p ++ r) (Some key) ≡ Ok (t, r) → element_at env room inner ((w ++ p) ++ r) ≡ Ok (t, r)
 unfolding from_name_at
 called_again env room inner w p r key t k h g =
@@ -118,7 +118,7 @@ at_once_again env n u b c v r m l bb cb i h =
     let e : what_follows (b ++ (36 ∷ (c ++ (v ++ r)))) ≡ follows.Dollar = follows_blanks b (36 ∷ (c ++ (v ++ r))) bb refl in
     targets_step env n u (b ++ (36 ∷ (c ++ (v ++ r)))) m l ∙ rw (e, signed_again env 36 b c (v ++ r) refl bb cb (starts_no_blank v r (named_starts v i.is_name)), variable_again env v r i h) refl
 
--- what is left behind a target is shorter
+-- what is left after a target is shorter
 signed_longer : (sign : ℕ) (b c v r : List ℕ) → suc (length r) ≤ length (b ++ (sign ∷ (c ++ (v ++ r))))
 signed_longer sign b c v r = simp length-append (omega arith)
 
@@ -162,7 +162,7 @@ concatenation_again env room x t (grammar.followed y s z u v i bb j) inner again
     ap (λ k. items_at env (item_at env room inner) n k) split ∙ items_step env (item_at env room inner) n (y ++ (s ++ (z ++ r))) _ l
     ∙ rw (item_alone env room y u i inner again (s ++ (z ++ r)) (blank_ends_name s _ bb) no_target, e, skip_blanks s (z ++ r) bb.0 blank, concatenation_again env room z v j inner again r h a b (n - 1) less) refl
 
--- what is left behind a bar is shorter
+-- what is left after a bar is shorter
 bar_longer : (y s c k : List ℕ) → suc (length k) ≤ length (y ++ (s ++ (124 ∷ (c ++ k))))
 bar_longer y s c k = simp length-append (omega arith)
 

@@ -35,7 +35,7 @@ stops_more : (p : ℕ → Bool) (c : ℕ) (cs : List ℕ) (n : ℕ) (v : Bool) �
 stops_more p c cs n true e h = rw (one-add n) h
 stops_more p c cs n false e h = e
 
--- what stands behind doesn't pass
+-- what stands after doesn't pass
 pub behind_stops : (p : ℕ → Bool) (text : List ℕ) → begins p (behind p text) ≡ false
 behind_stops p [] = refl
 behind_stops p (c ∷ cs) = stops_more p c cs _ (p c) refl (behind_stops p cs)

@@ -55,7 +55,7 @@ no_parts names x ps grammar.none h = refl
 no_parts names x ps (grammar.last y b p i bb) h = absurd (omega arith)
 no_parts names x ps (grammar.more y b z p q qs i bb r) h = absurd (omega arith)
 
--- nothing, or blanks with something behind them
+-- nothing, or blanks with something after them
 gap_sound : (env : Env) (text rest : List ℕ) → gap_at env text ≡ Ok rest → (b : List ℕ) × AreBlanks b × (text ≡ b ++ rest) × (0 < length rest → 0 < length b)
 unfolding gap_at
 gap_sound env text rest h = by_case (nat_eq (length text) 0) refl h

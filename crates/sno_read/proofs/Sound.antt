@@ -25,7 +25,7 @@ use Rattle.sno_read.proofs.Results.{bind_ok, found_ok, if_some, pair_ok}
 use Rattle.sno_read.proofs.Reserved.{reserved_not}
 use Rattle.sno_read.proofs.TokensRead.{literal_sound, set_sound, number_sound, name_sound, variable_sound, opened_sound, closed_sound, Signed, dot_sound, dollar_sound, bar_sound, follows_shape}
 
--- a text in parentheses, and what stands behind it
+-- a text in parentheses, and what stands after it
 pub paren_split : (b x c rest : List ℕ) → parenthesized b x c ++ rest ≡ 40 ∷ (b ++ (x ++ (c ++ (41 ∷ rest))))
 paren_split b x c rest = simp append_assoc
 
@@ -123,7 +123,7 @@ module _ (env : Env) (room : ℕ) (inner : List ℕ → Read Tree) where
       let e : j ≡ i = cc in
       (p.1, rw (← e) (ltb-true j n p.0))
 
-  -- what was read in parentheses behind a name
+  -- what was read in parentheses after a name
   called : (text w m rest : List ℕ) (t u : Tree) (P : ℕ → List ℕ → Type 0) → text ≡ w ++ m → u ≡ t → Inside room m rest P → ((k : ℕ) (b x c : List ℕ) → AreBlanks b → P k x → AreBlanks c → IsElement env.names env.earlier (suc k) (w ++ parenthesized b x c) u) → Element text t rest
   called text w m rest t u P split same p make =
       let d = make p.0 p.2 p.4 p.6 p.3 p.5 p.7 in

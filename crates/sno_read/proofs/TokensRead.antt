@@ -179,7 +179,7 @@ blank_first : (b : Bool) (x f : Following) → cond b x follows.Nothing ≡ f �
 blank_first true x f h n = (refl, h)
 blank_first false x f h n = absurd (n (sym h))
 
--- what follows an item stands behind blanks
+-- what follows an item stands after blanks
 pub follows_shape : (text : List ℕ) (f : Following) → what_follows text ≡ f → (f ≡ follows.Nothing → ⊥) → SomeBlanks (front is_blank text) × (text ≡ front is_blank text ++ skip text) × (sign_of (skip text) ≡ f)
 unfolding what_follows
 follows_shape text f h n =

@@ -25,14 +25,14 @@ quote_of (c ∷ cs) = if is_quote c then Some c else None
 abbrev pub is_other : ℕ → ℕ → Bool
 is_other q c = not (nat_eq c q)
 
--- the longest run of characters that pass, from the start of the text, and the text behind it
+-- the longest run of characters that pass, from the start of the text, and the text after it
 abbrev pub front : (ℕ → Bool) → List ℕ → List ℕ
 front p text = take (prefix_len p text) text
 
 abbrev pub behind : (ℕ → Bool) → List ℕ → List ℕ
 behind p text = drop (prefix_len p text) text
 
--- the text behind its blanks
+-- the text after its blanks
 abbrev pub skip : List ℕ → List ℕ
 skip text = behind is_blank text
 

@@ -19,7 +19,7 @@ part_by env text _ = Err (fault.Unexpected (place env text))
 unfoldable pub part_at : Env → List ℕ → Read Part
 part_at env text = part_by env text (start_of text)
 
--- what stands behind a part: nothing, or blanks and more
+-- what stands after a part: nothing, or blanks and more
 unfoldable pub gap_at : Env → List ℕ → Result (List ℕ) ReadFault
 gap_at env text = if nat_eq (length text) 0 then Ok text else blanks_at env text
 

@@ -30,7 +30,7 @@ pub record Env : Type 0 where
   pub earlier : ℕ
   pub total : ℕ
 
--- what was read, and the text behind it; or the first fault
+-- what was read, and the text after it; or the first fault
 abbrev pub Read : Type 0 → Type 0
 Read A = Result (A × List ℕ) ReadFault
 
@@ -38,7 +38,7 @@ Read A = Result (A × List ℕ) ReadFault
 abbrev pub place : Env → List ℕ → ℕ
 place env text = env.total - length text
 
--- what stands up to the closing quote, and behind it
+-- what stands up to the closing quote, and after it
 abbrev pub literal_by : ReadFault → ℕ → List ℕ → Read (List ℕ)
 literal_by unclosed q text = if nat_lt (prefix_len (is_other q) text) (length text) then Ok (front (is_other q) text, drop 1 (behind (is_other q) text)) else Err unclosed
 
@@ -112,7 +112,7 @@ below n (Some i) = if nat_lt i n then Some i else None
 unfoldable pub plain_of : Env → ReadFault → List ℕ → Result ℕ ReadFault
 plain_of env unknown name = found_or unknown (below env.earlier (place_of env.names name))
 
--- a number in parentheses, behind the name of its call
+-- a number in parentheses, after the name of its call
 unfoldable pub number_call_at : Env → ℕ → NumberCall → List ℕ → Read Tree
 number_call_at env room call text = do
   a ← opening_at env room text
@@ -120,7 +120,7 @@ number_call_at env room call text = do
   b ← closing_at env n.1
   Ok (number_tree call n.0, b)
 
--- a set in parentheses, behind the name of its call
+-- a set in parentheses, after the name of its call
 unfoldable pub set_call_at : Env → ℕ → SetCall → List ℕ → Read Tree
 set_call_at env room call text = do
   a ← opening_at env room text
@@ -171,7 +171,7 @@ element_by env room inside text start.Other = Err (fault.Unexpected (place env t
 unfoldable pub element_at : Env → ℕ → (List ℕ → Read Tree) → List ℕ → Read Tree
 element_at env room inside text = element_by env room inside text (start_of text)
 
--- what stands behind blanks, a sign and blanks again
+-- what stands after blanks, a sign and blanks again
 unfoldable pub sign_at : Env → List ℕ → Result (List ℕ) ReadFault
 sign_at env text = blanks_at env (drop 1 (skip text))
 
@@ -191,7 +191,7 @@ item_at env room inside text = do
   x ← element_at env room inside text
   targets_at env (suc (length x.1)) x.0 x.1
 
--- one item, and the items behind it if there are more
+-- one item, and the items after it if there are more
 abbrev pub item_by : (List ℕ → Read Tree) → Tree × List ℕ → Following → Read Tree
 item_by more x follows.Item = more (skip x.1) >>= λ y. Ok (tree.Seq x.0 y.0, y.1)
 item_by more x _ = Ok x
@@ -201,7 +201,7 @@ unfoldable pub items_at : Env → (List ℕ → Read Tree) → ℕ → List ℕ 
 items_at env item zero text = Err (fault.Unexpected (place env text))
 items_at env item (suc n) text = item text >>= λ x. item_by (items_at env item n) x (what_follows x.1)
 
--- one part, and the parts behind it if there are more
+-- one part, and the parts after it if there are more
 abbrev pub next_part_by : Env → (List ℕ → Read Tree) → Tree × List ℕ → Following → Read Tree
 next_part_by env more x follows.Bar = sign_at env x.1 >>= λ a. more a >>= λ y. Ok (tree.Alt x.0 y.0, y.1)
 next_part_by env more x _ = Ok x

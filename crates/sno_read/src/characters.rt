@@ -166,7 +166,7 @@ pub fn start_of(text: &[u8]) -> Start
     }
 }
 
-// What the first character behind blanks says of what follows.
+// What the first character after blanks says of what follows.
 #[tactic(auto, unfolding(crate::specs::Characters::sign_of))]
 fn sign_of(text: &[u8]) -> Following
     ensures value { result ≡ sign_of text.now }

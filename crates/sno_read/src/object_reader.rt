@@ -31,7 +31,7 @@ impl<'a> Reader<'a> {
         }
     }
 
-    // What stands behind a part: nothing, or blanks and more.
+    // What stands after a part: nothing, or blanks and more.
     #[tactic(auto, unfolding(crate::specs::Objects::gap_at))]
     fn gap(&self, rest: Piece<'a>) -> Result<Piece<'a>, Stop>
         ensures read { Gives (λ p. p.characters.now) result (gap_at (env_of self.now) rest.entry.characters.now) }

@@ -27,7 +27,7 @@ impl<'a> Piece<'a> {
         (Piece { characters: front }, Piece { characters: back })
     }
 
-    /// What stands behind the blanks.
+    /// What stands after the blanks.
     #[tactic(auto, using(crate::proofs::Runs::runs))]
     pub fn after_blanks(self) -> Piece<'a>
         ensures value { result.characters.now ≡ skip self.entry.characters.now }
@@ -37,7 +37,7 @@ impl<'a> Piece<'a> {
         rest
     }
 
-    /// What stands behind the characters of names.
+    /// What stands after the characters of names.
     #[tactic(auto, using(crate::proofs::Runs::runs))]
     pub fn after_name(self) -> Piece<'a>
         ensures value { result.characters.now ≡ behind is_name_char self.entry.characters.now }

@@ -26,7 +26,7 @@ pub struct Reader<'a> {
 }
 
 impl<'a> Reader<'a> {
-    // A number in parentheses, behind the name of its call.
+    // A number in parentheses, after the name of its call.
     #[tactic(auto, unfolding(crate::specs::Reading::number_call_at))]
     fn number_call(
         &self,
@@ -43,7 +43,7 @@ impl<'a> Reader<'a> {
         Ok((call.pattern(number), rest))
     }
 
-    // A set in parentheses, behind the name of its call.
+    // A set in parentheses, after the name of its call.
     #[tactic(auto, unfolding(crate::specs::Reading::set_call_at))]
     fn set_call(
         &self,
@@ -186,7 +186,7 @@ impl<'a> Reader<'a> {
         Ok((pattern, rest))
     }
 
-    // What `ARBNO` repeats, behind its name.
+    // What `ARBNO` repeats, after its name.
     #[cycle(grammar)]
     #[tactic(auto, unfolding(crate::specs::Reading::repetition_at))]
     fn repetition(&self, room: usize, rest: Piece<'a>) -> Result<(Pattern, Piece<'a>), Stop>

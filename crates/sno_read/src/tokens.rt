@@ -168,7 +168,7 @@ impl<'a> Reader<'a> {
         Ok(rest.after_blanks())
     }
 
-    /// What stands behind blanks, a sign and blanks again.
+    /// What stands after blanks, a sign and blanks again.
     #[tactic(auto, using(crate::proofs::Runs::runs), unfolding(crate::specs::Reading::sign_at))]
     pub fn sign(&self, rest: Piece<'a>) -> Result<Piece<'a>, Stop>
         requires { 0 < length (skip rest.characters.now) }

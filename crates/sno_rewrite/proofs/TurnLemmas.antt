@@ -59,7 +59,7 @@ module _ (shuts : ℕ → ℕ → Type 0) (tries : ℕ) (opening : Opening) (sea
       let grown = length-append told.front (receipt.entry ∷ []) in
       let inside = prefix_length (told.front ++ receipt.entry ∷ []) seen told.begins in omega (arith, many, grown, inside)
 
-  -- and behind all that the seat had seen before
+  -- and after all that the seat had seen before
   index_after : (before after : Position) (jobs : List Task) (replies : List Answer) → InTurn (IsSubmitted shuts tries opening seats) before after jobs replies
       → (turn : ℕ) (receipt : Received) → slice_get replies turn ≡ Some (Ok receipt) → length before.seen ≤ receipt.index
   index_after before after [] [] a turn receipt h = absurd cc

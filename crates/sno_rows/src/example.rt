@@ -1,22 +1,28 @@
-//! How an example of `docs/LANGUAGE.md` is read and checked.
+//! How an example is read.
 //!
-//! An example is a line: `- `, then definitions where it has them, the text, the pattern, the object where it has one, and what comes of it,
-//! each between two backquotes, as in ``- `banana` with `'nan'`: `matched 2 5` ``. Before the colon it may say that the match is anchored,
-//! within how many trials it has to be, or how often it is replaced at most.
-use crate::row::Task::{Match, MatchAnchored, MatchWithin, Repeat, Replace};
-use crate::row::{Row, Task, check};
-use std::process::Abort;
+//! It is a line of pieces, each between two backquotes, with words before and after them:
+//!
+//! - ``- `banana` with `'nan'`: `matched 2 5` ``: a text, a pattern, and what comes of the match. Before the colon it may say that the match
+//!   is anchored, or within how many trials it has to be; after the text, how many times the text is written one after the other; and at the
+//!   end, how many trials the match takes.
+//! - ``- `banana` with `'nan'`, replaced by `''`: `matched 2 5 -> |baa|` ``: with an object; before the colon it may say how often at most.
+//! - ``- `'a' | 'b' 'c'` is read as `('a' | ('b' 'c'))` ``: a pattern, and its tree.
+//! - ``- where `A` is `*B` and `B` is `*A`: `unguarded 0 1` ``: definitions, and whether they are admitted. Each example may begin with
+//!   definitions.
+use crate::row::{Definition, Row, Task};
+use std::alloc::Global;
 use std::test::Fail;
 
 /// What stands before two backquotes, between them, and after them.
 #[derive(Clone, Copy)]
-struct Quoted {
-    before: &'static str,
-    inside: &'static str,
-    after: &'static str,
+pub(crate) struct Quoted<'l> {
+    pub before: &'l str,
+    pub inside: &'l str,
+    pub after: &'l str,
 }
 
-fn cut(line: &'static str) -> Result<Quoted, Fail> {
+/// The first piece of the line.
+pub(crate) fn cut(line: &str) -> Result<Quoted<'_>, Fail> {
     let (before, rest) = line.split_once('`').ok_or("no backquote")?;
     let (inside, after) = rest.split_once('`').ok_or("no second backquote")?;
     Ok(Quoted {
@@ -27,7 +33,7 @@ fn cut(line: &'static str) -> Result<Quoted, Fail> {
 }
 
 /// The definition that begins with this name, and what stands after it.
-fn definition(name: Quoted) -> Result<((&'static str, &'static str), &'static str), Fail> {
+fn definition(name: Quoted<'_>) -> Result<(Definition<'_>, &str), Fail> {
     let pattern = cut(name.after)?;
     if pattern.before == " is " {
         Ok(((name.inside, pattern.inside), pattern.after))
@@ -36,48 +42,15 @@ fn definition(name: Quoted) -> Result<((&'static str, &'static str), &'static st
     }
 }
 
-/// The limit that the words name.
-fn limit(words: &str) -> Result<u32, Fail> {
-    let words = words.strip_prefix(", within ").ok_or("no example")?;
-    let digits = words.strip_suffix(" trials: ").ok_or("no example")?;
-    Ok(digits.parse::<u32>()?)
-}
-
-/// How often the words say.
-fn rounds(words: &str) -> Result<u32, Fail> {
-    let words = words.strip_prefix(", at most ").ok_or("no example")?;
-    let digits = words.strip_suffix(" times: ").ok_or("no example")?;
-    Ok(digits.parse::<u32>()?)
-}
-
-/// The replacement by this object, and what comes of it.
-fn replacement(pattern: &'static str, object: Quoted) -> Result<(Task, Quoted), Fail> {
-    let told = cut(object.after)?;
-    let task = match told.before {
-        ": " => Replace(pattern, object.inside),
-        words => Repeat(pattern, object.inside, rounds(words)?),
-    };
-    Ok((task, told))
-}
-
-/// The row of this text, in the words after it.
-fn row(line: &'static str, text: Quoted) -> Result<Row, Fail> {
-    let pattern = cut(text.after)?;
-    let next = cut(pattern.after)?;
-    let (task, told) = match next.before {
-        ": " => (Match(pattern.inside), next),
-        ", anchored: " => (MatchAnchored(pattern.inside), next),
-        ", replaced by " => replacement(pattern.inside, next)?,
-        words => (MatchWithin(pattern.inside, limit(words)?), next),
-    };
-    Ok(Row(line, text.inside, task, told.inside))
-}
-
 /// The most definitions that an example has.
 const MOST_DEFINITIONS: usize = 4;
 
-fn check_line(rt: &(impl Abort + AllocGlobal), line: &'static str) -> Result<(), Fail> {
-    let mut definitions = Vec::new(rt.alloc());
+/// The definitions with which the line begins, and the piece after them.
+pub(crate) fn definitions(
+    alloc: Global,
+    line: &str,
+) -> Result<(Vec<Definition<'_>>, Quoted<'_>), Fail> {
+    let mut definitions = Vec::new(alloc);
     let mut next = cut(line)?;
     for _ in 0..MOST_DEFINITIONS {
         if next.before == "- where " || next.before == " and " {
@@ -86,18 +59,63 @@ fn check_line(rt: &(impl Abort + AllocGlobal), line: &'static str) -> Result<(),
             next = cut(after)?;
         }
     }
-    check(rt, &definitions, &row(line, next)?)
+    Ok((definitions, next))
 }
 
-/// Checks the examples, of which there are `count`.
-pub(crate) fn check_all(
-    rt: &(impl Abort + AllocGlobal),
-    examples: &'static str,
-    count: usize,
-) -> Result<(), Fail> {
-    for line in examples.lines() {
-        check_line(rt, line)?;
+/// The number between these words.
+fn number(words: &str, before: &str, after: &str) -> Result<u32, Fail> {
+    let words = words.strip_prefix(before).ok_or("no example")?;
+    let digits = words.strip_suffix(after).ok_or("no example")?;
+    Ok(digits.parse::<u32>()?)
+}
+
+/// The replacement by this object, and the piece after it.
+fn replacement<'l>(pattern: &'l str, object: Quoted<'l>) -> Result<(Task<'l>, Quoted<'l>), Fail> {
+    let told = cut(object.after)?;
+    let task = match told.before {
+        ": " => Task::Replace(pattern, object.inside),
+        words => Task::Repeat(
+            pattern,
+            object.inside,
+            number(words, ", at most ", " times: ")?,
+        ),
+    };
+    Ok((task, told))
+}
+
+/// How often the text is written.
+fn times(words: &str) -> Result<u32, Fail> {
+    match words {
+        " with " => Ok(1),
+        words => number(words, " ", " times with "),
     }
-    assert_eq!(rt; examples.lines().count(), count);
-    Ok(())
+}
+
+/// How many trials the words after an example name, if they do.
+fn trials(words: &str) -> Result<Option<u32>, Fail> {
+    match words {
+        "" => Ok(None),
+        words => Ok(Some(number(words, " in ", " trials")?)),
+    }
+}
+
+/// The row of this text and this pattern.
+pub(crate) fn row<'l>(text: Quoted<'l>, pattern: Quoted<'l>) -> Result<Row<'l>, Fail> {
+    let next = cut(pattern.after)?;
+    let (task, told) = match next.before {
+        ": " => (Task::Match(pattern.inside), next),
+        ", anchored: " => (Task::MatchAnchored(pattern.inside), next),
+        ", replaced by " => replacement(pattern.inside, next)?,
+        words => {
+            let limit = number(words, ", within ", " trials: ")?;
+            (Task::MatchWithin(pattern.inside, limit), next)
+        }
+    };
+    Ok(Row {
+        text: text.inside,
+        times: times(pattern.before)?,
+        task,
+        outcome: told.inside,
+        trials: trials(told.after)?,
+    })
 }

@@ -1,4 +1,4 @@
--- The list is cut behind its first Halt.
+-- The list is cut after its first Halt.
 use Rattle.std.proofs.Common.{sym, ap, ◌∙◌}
 use Rattle.std.specs.List.{position}
 use Rattle.sno_eval.specs.Steps.{is_halt}

@@ -3,9 +3,8 @@ ghost use Rattle.std.specs.Prelude.{◌≡◌, IfOk, OnOk};
 ghost use Rattle.sno_book.specs.Books.{view_of};
 ghost use Rattle.sno_book.specs.Views.{IsPrefix, View};
 
-use crate::row;
-use crate::row::Task;
-use crate::row::Task::{Match, Repeat, Replace};
+use crate::statements::Task::{Match, Repeat, Replace};
+use crate::statements::{Task, written_as};
 use sno_book::{
     Book, BookFault, CommitFault, Entry, Opening, Proposal, Receipt, Snapshot, SnapshotFault,
     propose,
@@ -26,9 +25,7 @@ type Texts = &'static [(&'static str, &'static str)];
 
 fn statement(rt: &(impl Abort + AllocGlobal), written: Written) -> Result<Arc<Statement>, Fail> {
     let Written(number, text, task) = written;
-    let rules = row::admit(rt, &[])??;
-    let statement = row::statement(rt, rules, number, text, task)??;
-    Ok(Arc::new(rt.alloc(), statement)?)
+    Ok(Arc::new(rt.alloc(), written_as(rt, number, text, task)?)?)
 }
 
 fn named_text(alloc: Global, name: &str, characters: &[u8]) -> Result<(TextName, Text), Fail> {

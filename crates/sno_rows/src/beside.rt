@@ -1,0 +1,76 @@
+//! The matcher beside the plain evaluator.
+use sno_machine::{Code, Found, MatchFault, compile};
+use sno_pattern::{Name, Text};
+use sno_statement::Statement;
+use std::alloc::Global;
+use std::test::Fail;
+
+/// Where the match begins and ends, if there is one.
+fn extent(found: &Found) -> Option<(usize, usize)> {
+    let hit = found.end.as_ref()?;
+    Some((hit.start, hit.end))
+}
+
+/// The conditional assignments of the match, if there is one.
+fn conditions(found: &Found) -> Option<&[(Name, usize, usize)]> {
+    let hit = found.end.as_ref()?;
+    Some(hit.conds.as_slice())
+}
+
+/// Both found the same: its place, and all that was assigned.
+fn is_same(found: &Found, plain: &Found) -> bool {
+    extent(found) == extent(plain)
+        && found.sets.as_slice() == plain.sets.as_slice()
+        && conditions(found) == conditions(plain)
+}
+
+fn is_refused(code: &Code, alloc: Global, text: &Text, anchored: bool, limit: u32) -> bool {
+    match code.first(alloc, text, anchored, limit) {
+        Ok(_) => false,
+        Err(fault) => fault == MatchFault::TooManyTrials,
+    }
+}
+
+/// The matcher answers as the evaluator does within as many trials as the evaluator counts, and within one less, where there are any, refuses the
+/// match. Gives how many there are.
+fn check_matcher(
+    alloc: Global,
+    code: &Code,
+    statement: &Statement,
+    text: &Text,
+    anchored: bool,
+) -> Result<u32, Fail> {
+    let (rules, pattern) = (statement.rules(), statement.pattern());
+    let trials = u32::try_from(sno_eval::trials(alloc, rules, pattern, text, anchored)?)?;
+    let plain = sno_eval::first(alloc, rules, pattern, text, anchored)?;
+    if !is_same(&code.first(alloc, text, anchored, trials)?, &plain) {
+        return Err("the matcher doesn't find what the plain evaluator does".into());
+    }
+    if trials == 0 || is_refused(code, alloc, text, anchored, trials - 1) {
+        Ok(trials)
+    } else {
+        Err("the matcher needs fewer trials than the plain evaluator counts".into())
+    }
+}
+
+/// Compares the matcher with the evaluator, anchored and not, and the trials of a match that isn't repeated with those expected, if any are.
+pub(crate) fn check_beside(
+    alloc: Global,
+    statement: &Statement,
+    text: &Text,
+    expected: Option<u32>,
+) -> Result<(), Fail> {
+    let code = compile(alloc, statement.rules(), statement.pattern())?;
+    let anchored = check_matcher(alloc, &code, statement, text, true)?;
+    let floating = check_matcher(alloc, &code, statement, text, false)?;
+    let trials = if statement.anchored() {
+        anchored
+    } else {
+        floating
+    };
+    if statement.repeat().is_some() || expected.unwrap_or(trials) == trials {
+        Ok(())
+    } else {
+        Err(Fail::new(format_args!("the match takes {trials} trials")))
+    }
+}

@@ -1,0 +1,122 @@
+//! What is compared for each kind of example.
+use crate::beside::check_beside;
+use crate::example::{cut, definitions, row};
+use crate::row::{
+    Definition, Row, admit, limited, names_of, performance_line, refusal_line, statement, text_of,
+};
+use crate::trees::tree;
+use sno_pattern::Text;
+use sno_read::read_pattern;
+use sno_statement::Statement;
+use std::process::Abort;
+use std::test::Fail;
+
+/// The line is the one that was expected.
+fn check_equal(found: &str, expected: &str) -> Result<(), Fail> {
+    if found == expected {
+        Ok(())
+    } else {
+        Err(Fail::new(format_args!("it is {found}, and not {expected}")))
+    }
+}
+
+/// The definitions are admitted, or refused as the words say.
+fn check_definitions(
+    rt: &(impl Abort + AllocGlobal),
+    written: &[Definition<'_>],
+    expected: &str,
+) -> Result<(), Fail> {
+    match admit(rt, written)? {
+        Ok(_) => check_equal("admitted", expected),
+        Err(refused) => check_equal(refusal_line(rt.alloc(), &refused)?.as_str(), expected),
+    }
+}
+
+/// The pattern is read as this tree.
+fn check_tree(
+    rt: &(impl Abort + AllocGlobal),
+    written: &[Definition<'_>],
+    pattern: &str,
+    expected: &str,
+) -> Result<(), Fail> {
+    let names = names_of(rt.alloc(), written)?;
+    let pattern = read_pattern(rt.alloc(), &names, names.len(), pattern.as_bytes())?;
+    check_equal(tree(rt.alloc(), &names, &pattern)?.as_str(), expected)
+}
+
+/// The statement within this limit comes to the line, and comes back.
+fn check_limited(
+    rt: &(impl Abort + AllocGlobal),
+    statement: Statement,
+    text: &Text,
+    limit: u32,
+    expected: &str,
+) -> Result<Statement, Fail> {
+    let limited = limited(rt, statement, limit);
+    let line = performance_line(rt.alloc(), &limited, text)?;
+    check_equal(line.as_str(), expected)?;
+    Ok(limited)
+}
+
+/// The statement comes to the line within so many trials, and within one less it is refused. No statement has a limit of no trials.
+fn check_trials(
+    rt: &(impl Abort + AllocGlobal),
+    statement: Statement,
+    text: &Text,
+    trials: u32,
+    expected: &str,
+) -> Result<(), Fail> {
+    let statement = check_limited(rt, statement, text, trials, expected)?;
+    if 1 < trials {
+        check_limited(rt, statement, text, trials - 1, "too many trials")?;
+    }
+    Ok(())
+}
+
+/// What comes of the statement is what the row says. A text that is written more than once, or a match that takes too many trials, would take
+/// the plain evaluator too long.
+fn check_statement(
+    rt: &(impl Abort + AllocGlobal),
+    statement: Statement,
+    row: &Row<'_>,
+) -> Result<(), Fail> {
+    let text = text_of(rt.alloc(), row.text, row.times)?;
+    let line = performance_line(rt.alloc(), &statement, &text)?;
+    check_equal(line.as_str(), row.outcome)?;
+    if row.times == 1 && row.outcome != "too many trials" {
+        check_beside(rt.alloc(), &statement, &text, row.trials)?;
+    }
+    match row.trials {
+        None => Ok(()),
+        Some(trials) => check_trials(rt, statement, &text, trials, row.outcome),
+    }
+}
+
+fn check_row(
+    rt: &(impl Abort + AllocGlobal),
+    written: &[Definition<'_>],
+    row: &Row<'_>,
+) -> Result<(), Fail> {
+    let made = match admit(rt, written)? {
+        Ok(rules) => statement(rt, rules, row.task)?,
+        Err(refused) => Err(refused),
+    };
+    match made {
+        Ok(statement) => check_statement(rt, statement, row),
+        Err(refused) => check_equal(refusal_line(rt.alloc(), &refused)?.as_str(), row.outcome),
+    }
+}
+
+/// Checks the example of this line.
+pub(crate) fn check_line(rt: &(impl Abort + AllocGlobal), line: &str) -> Result<(), Fail> {
+    let (written, next) = definitions(rt.alloc(), line)?;
+    if next.after.is_empty() {
+        return check_definitions(rt, &written, next.inside);
+    }
+    let second = cut(next.after)?;
+    if second.before == " is read as " {
+        check_tree(rt, &written, next.inside, second.inside)
+    } else {
+        check_row(rt, &written, &row(next, second)?)
+    }
+}

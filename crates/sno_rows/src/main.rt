@@ -1,0 +1,63 @@
+//! Checks the examples of its standard input, and prints how many hold.
+//!
+//! An example is a line that begins with `- `; the lines between them say what they show. Each was worked out by hand from the language,
+//! and never taken from what the program answers: the contracts of the crates below can't say that they mean what the language means. The
+//! examples of `docs/LANGUAGE.md` are among them.
+//!
+//! An example is read, admitted and performed by the public calls, and what comes of it is compared with one line. Where its text is written
+//! out, its match is compared with the plain evaluator's besides, anchored and not, with the assignments and the number of trials. The program
+//! stops at the first example that doesn't hold, and says what came of it.
+//!
+//! | File | What it does |
+//! |---|---|
+//! | `example` | how a line is read |
+//! | `row` | how a statement is made of its parts, performed and told |
+//! | `checks` | what is compared for each kind of example |
+//! | `beside` | the matcher beside the plain evaluator |
+//! | `trees` | how a pattern is written so that its tree shows |
+#![tactic(auto)]
+
+mod beside;
+mod checks;
+mod example;
+mod row;
+mod trees;
+
+use crate::checks::check_line;
+use std::alloc::Global;
+use std::io::Read;
+use std::process::Abort;
+use std::test::Fail;
+
+/// All bytes of the reader.
+fn read_all<R: Read + Drop>(alloc: Global, mut reader: R) -> Result<Vec<u8>, Fail> {
+    let mut bytes = Vec::new(alloc);
+    reader.read_to_end(&mut bytes)?;
+    Ok(bytes)
+}
+
+/// Checks the line, where it is an example, and says whether it is.
+fn check(rt: &(impl Abort + AllocGlobal + Eprint), line: &str) -> Result<bool, Fail> {
+    if !line.starts_with("- ") {
+        return Ok(false);
+    }
+    match check_line(rt, line) {
+        Ok(()) => Ok(true),
+        Err(fail) => {
+            let _told = eprintln!(rt; "{line}");
+            Err(fail)
+        }
+    }
+}
+
+fn main(rt: HostRuntime) -> Result<(), Fail> {
+    let bytes = read_all(rt.alloc(), rt.stdin())?;
+    let mut count = 0_u64;
+    for line in str::from_utf8(&bytes)?.lines() {
+        if check(&rt, line)? {
+            count = count.saturating_add(1);
+        }
+    }
+    println!(rt; "{count} examples hold")?;
+    Ok(())
+}
