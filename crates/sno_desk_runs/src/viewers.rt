@@ -3,10 +3,9 @@ ghost use Rattle.std.specs.Prelude.{◌≡◌, [], IfOk, IfSome};
 ghost use Rattle.sno_book.specs.Books.{view_of};
 ghost use Rattle.sno_book.specs.Views.{IsPrefix};
 
-use sno_book::{Book, Proposal, Statement, Text, TextName, propose};
-use sno_pattern::{Names, Rules};
+use crate::jobs::{book, rules, statement};
+use sno_book::{Book, Proposal, Statement, Text, propose};
 use sno_published::{History, Naming, Screen, Unpublished, ViewFault, Viewer};
-use sno_read::{read_object, read_pattern};
 use std::alloc::Global;
 use std::marker::Brand;
 use std::process::Abort;
@@ -16,26 +15,16 @@ use std::thread;
 use std::thread::Threads;
 
 /// A book with one text, `x`, whose name is `T`.
-fn book(alloc: Global) -> Result<Book, Fail>
+fn one_text(alloc: Global) -> Result<Book, Fail>
     ensures { IfOk result (λ b. b.journal ≡ []) }
 {
-    let text = Text::new(Vec::from_slice(alloc, b"x".as_slice())?)?;
-    let mut texts = Vec::new(alloc);
-    texts.push((TextName::new(alloc, b"T".as_slice())?, text))?;
-    let book = Book::new(alloc, texts, 10)?;
+    let book = book(alloc, &[("T", b"x")], 10)?;
     Ok(book)
 }
 
-/// A statement that adds a `y` to the text in place of its null string.
-fn statement(rt: &impl Abort, alloc: Global) -> Result<Arc<Statement>, Fail> {
-    let rules = Rules::admit(alloc, Names::new(alloc, &[])?, Vec::new(alloc))?;
-    let pattern = read_pattern(alloc, rules.names(), 0, b"''".as_slice())?;
-    let object = read_object(alloc, rules.names(), b"'y'".as_slice())?;
-    assert!(rt; rules.covers(&pattern));
-    let name = TextName::new(alloc, b"T".as_slice())?;
-    let rules = Arc::new(alloc, rules)?;
-    let statement = Statement::new(1, rules, pattern, Some(object), name, true);
-    Ok(Arc::new(alloc, statement)?)
+/// A statement that puts a `y` before the text.
+fn adding(rt: &impl Abort, alloc: Global) -> Result<Arc<Statement>, Fail> {
+    statement(rt, alloc, &rules(rt, alloc)?, 1, "T", "''", "'y'")
 }
 
 /// The statement on the text as it stands.
@@ -88,8 +77,8 @@ fn follow<L: Naming, R: Wait>(
 #[tactic(auto, using(sno_book::proofs::Kinship::is_kin))]
 fn a_history_grows(rt: HostRuntime) -> Result<(), Fail> {
     let alloc = rt.alloc();
-    let mut book = book(alloc)?;
-    let proposal = proposal(alloc, &book, &statement(&rt, alloc)?)?;
+    let mut book = one_text(alloc)?;
+    let proposal = proposal(alloc, &book, &adding(&rt, alloc)?)?;
     let receipt = book.commit(proposal).map_err(|(fault, _)| fault)?;
     let mut history = History::new();
     let first = history.front().again();
@@ -124,7 +113,7 @@ fn watch<L: Naming, R: Wait + Abort>(
     requires attempts { attempts.history ≡ L.tries }
     requires book { (book.old.opening ≡ L.opening) × (book.old.journal ≡ []) }
 {
-    let job = statement(rt, alloc)?;
+    let job = adding(rt, alloc)?;
     let proposal = proposal(alloc, book, &job)?;
     let screen = Screen::<L>::new(alloc, book.opening(), history, attempts, 2)?;
     let Ok(mut viewer) = screen.viewer() else {
@@ -168,7 +157,7 @@ fn watched_beside<R: Threads + Wait + Abort>(
 #[test]
 fn a_viewer_sees_what_is_published(rt: HostRuntime) -> Result<(), Fail> {
     let alloc = rt.alloc();
-    let mut book = book(alloc)?;
+    let mut book = one_text(alloc)?;
     watched(&rt, alloc, &mut book)?;
     assert_eq!(rt; book.journal().len(), 1);
     Ok(())
@@ -199,7 +188,7 @@ fn watch_beside<L: Naming + Send + Sync + 'static, R: Threads + Wait + Abort>(
     requires attempts { attempts.history ≡ L.tries }
     requires book { (book.old.opening ≡ L.opening) × (book.old.journal ≡ []) }
 {
-    let job = statement(rt, alloc)?;
+    let job = adding(rt, alloc)?;
     let proposal = proposal(alloc, book, &job)?;
     let screen = Screen::<L>::new(alloc, book.opening(), history, attempts, 2)?;
     let Ok(viewer) = screen.viewer() else {
@@ -225,7 +214,7 @@ fn watch_beside<L: Naming + Send + Sync + 'static, R: Threads + Wait + Abort>(
 #[test]
 fn a_viewer_reads_while_entries_are_published(rt: HostRuntime) -> Result<(), Fail> {
     let alloc = rt.alloc();
-    let mut book = book(alloc)?;
+    let mut book = one_text(alloc)?;
     watched_beside(&rt, alloc, &mut book)?;
     assert_eq!(rt; book.journal().len(), 1);
     Ok(())
