@@ -8,7 +8,7 @@ use crate::trees::tree;
 use sno_pattern::Text;
 use sno_read::read_pattern;
 use sno_statement::Statement;
-use std::process::Abort;
+use std::alloc::Global;
 use std::test::Fail;
 
 /// The line is the one that was expected.
@@ -22,101 +22,93 @@ fn check_equal(found: &str, expected: &str) -> Result<(), Fail> {
 
 /// The definitions are admitted, or refused as the words say.
 fn check_definitions(
-    rt: &(impl Abort + AllocGlobal),
+    alloc: Global,
     written: &[Definition<'_>],
     expected: &str,
 ) -> Result<(), Fail> {
-    match admit(rt, written)? {
+    match admit(alloc, written)? {
         Ok(_) => check_equal("admitted", expected),
-        Err(refused) => check_equal(refusal_line(rt.alloc(), &refused)?.as_str(), expected),
+        Err(refused) => check_equal(refusal_line(alloc, &refused)?.as_str(), expected),
     }
 }
 
 /// The pattern is read as this tree.
 fn check_tree(
-    rt: &(impl Abort + AllocGlobal),
+    alloc: Global,
     written: &[Definition<'_>],
     pattern: &str,
     expected: &str,
 ) -> Result<(), Fail> {
-    let names = names_of(rt.alloc(), written)?;
-    let pattern = read_pattern(rt.alloc(), &names, names.len(), pattern.as_bytes())?;
-    check_equal(tree(rt.alloc(), &names, &pattern)?.as_str(), expected)
+    let names = names_of(alloc, written)?;
+    let pattern = read_pattern(alloc, &names, names.len(), pattern.as_bytes())?;
+    check_equal(tree(alloc, &names, &pattern)?.as_str(), expected)
 }
 
 /// The statement within this limit comes to the line, and comes back.
 fn check_limited(
-    rt: &(impl Abort + AllocGlobal),
+    alloc: Global,
     statement: Statement,
     text: &Text,
     limit: u32,
     expected: &str,
 ) -> Result<Statement, Fail> {
-    let limited = limited(rt, statement, limit);
-    let line = performance_line(rt.alloc(), &limited, text)?;
+    let limited = limited(statement, limit)?;
+    let line = performance_line(alloc, &limited, text)?;
     check_equal(line.as_str(), expected)?;
     Ok(limited)
 }
 
 /// The statement comes to the line within so many trials, and within one less it is refused. No statement has a limit of no trials.
 fn check_trials(
-    rt: &(impl Abort + AllocGlobal),
+    alloc: Global,
     statement: Statement,
     text: &Text,
     trials: u32,
     expected: &str,
 ) -> Result<(), Fail> {
-    let statement = check_limited(rt, statement, text, trials, expected)?;
+    let statement = check_limited(alloc, statement, text, trials, expected)?;
     if 1 < trials {
-        check_limited(rt, statement, text, trials - 1, "too many trials")?;
+        check_limited(alloc, statement, text, trials - 1, "too many trials")?;
     }
     Ok(())
 }
 
 /// What comes of the statement is what the row says. A text that is written more than once, or a match that takes too many trials, would take
 /// the plain evaluator too long.
-fn check_statement(
-    rt: &(impl Abort + AllocGlobal),
-    statement: Statement,
-    row: &Row<'_>,
-) -> Result<(), Fail> {
-    let text = text_of(rt.alloc(), row.text, row.times)?;
-    let line = performance_line(rt.alloc(), &statement, &text)?;
+fn check_statement(alloc: Global, statement: Statement, row: &Row<'_>) -> Result<(), Fail> {
+    let text = text_of(alloc, row.text, row.times)?;
+    let line = performance_line(alloc, &statement, &text)?;
     check_equal(line.as_str(), row.outcome)?;
     if row.times == 1 && row.outcome != "too many trials" {
-        check_beside(rt.alloc(), &statement, &text, row.trials)?;
+        check_beside(alloc, &statement, &text, row.trials)?;
     }
     match row.trials {
         None => Ok(()),
-        Some(trials) => check_trials(rt, statement, &text, trials, row.outcome),
+        Some(trials) => check_trials(alloc, statement, &text, trials, row.outcome),
     }
 }
 
-fn check_row(
-    rt: &(impl Abort + AllocGlobal),
-    written: &[Definition<'_>],
-    row: &Row<'_>,
-) -> Result<(), Fail> {
-    let made = match admit(rt, written)? {
-        Ok(rules) => statement(rt, rules, row.task)?,
+fn check_row(alloc: Global, written: &[Definition<'_>], row: &Row<'_>) -> Result<(), Fail> {
+    let made = match admit(alloc, written)? {
+        Ok(rules) => statement(alloc, rules, row.task)?,
         Err(refused) => Err(refused),
     };
     match made {
-        Ok(statement) => check_statement(rt, statement, row),
-        Err(refused) => check_equal(refusal_line(rt.alloc(), &refused)?.as_str(), row.outcome),
+        Ok(statement) => check_statement(alloc, statement, row),
+        Err(refused) => check_equal(refusal_line(alloc, &refused)?.as_str(), row.outcome),
     }
 }
 
 /// Checks the example of this line.
-pub(crate) fn check_line(rt: &(impl Abort + AllocGlobal), line: &str) -> Result<(), Fail> {
-    let (written, next) = definitions(rt.alloc(), line)?;
+pub(crate) fn check_line(alloc: Global, line: &str) -> Result<(), Fail> {
+    let (written, next) = definitions(alloc, line)?;
     if next.after.is_empty() {
-        return check_definitions(rt, &written, next.inside);
+        return check_definitions(alloc, &written, next.inside);
     }
     let second = cut(next.after)?;
     if second.before == " is read as " {
-        check_tree(rt, &written, next.inside, second.inside)
+        check_tree(alloc, &written, next.inside, second.inside)
     } else {
-        check_row(rt, &written, &row(next, second)?)
+        check_row(alloc, &written, &row(next, second)?)
     }
 }

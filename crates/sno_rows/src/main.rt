@@ -26,7 +26,6 @@ mod trees;
 use crate::checks::check_line;
 use std::alloc::Global;
 use std::io::Read;
-use std::process::Abort;
 use std::test::Fail;
 
 /// All bytes of the reader.
@@ -37,11 +36,11 @@ fn read_all<R: Read + Drop>(alloc: Global, mut reader: R) -> Result<Vec<u8>, Fai
 }
 
 /// Checks the line, where it is an example, and says whether it is.
-fn check(rt: &(impl Abort + AllocGlobal + Eprint), line: &str) -> Result<bool, Fail> {
+fn check(rt: &(impl AllocGlobal + Eprint), line: &str) -> Result<bool, Fail> {
     if !line.starts_with("- ") {
         return Ok(false);
     }
-    match check_line(rt, line) {
+    match check_line(rt.alloc(), line) {
         Ok(()) => Ok(true),
         Err(fail) => {
             let _told = eprintln!(rt; "{line}");

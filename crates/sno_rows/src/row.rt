@@ -3,7 +3,6 @@ use sno_pattern::{Name, Names, Pattern, Rules, RulesFault, Text, TextName};
 use sno_read::{Object, ReadFault, read_object, read_pattern};
 use sno_statement::{Bindings, Datum, Outcome, Statement, perform};
 use std::alloc::Global;
-use std::process::Abort;
 use std::sync::Arc;
 use std::test::Fail;
 use thiserror::Error;
@@ -70,11 +69,11 @@ impl<'l> Task<'l> {
     }
 
     // The statement with the limit or the number of rounds that the task names.
-    fn bound(self, rt: &impl Abort, statement: Statement) -> Statement {
+    fn bound(self, statement: Statement) -> Result<Statement, Fail> {
         match self {
-            Task::MatchWithin(_, limit) => limited(rt, statement, limit),
-            Task::Repeat(_, _, rounds) => repeated(rt, statement, rounds),
-            Task::Match(_) | Task::MatchAnchored(_) | Task::Replace(_, _) => statement,
+            Task::MatchWithin(_, limit) => limited(statement, limit),
+            Task::Repeat(_, _, rounds) => repeated(statement, rounds),
+            Task::Match(_) | Task::MatchAnchored(_) | Task::Replace(_, _) => Ok(statement),
         }
     }
 }
@@ -111,33 +110,39 @@ fn bodies_of(
 
 /// Definitions that are admitted, or why they are refused.
 pub(crate) fn admit(
-    rt: &(impl Abort + AllocGlobal),
+    alloc: Global,
     written: &[Definition<'_>],
 ) -> Result<Result<Rules, Refused>, Fail> {
-    let names = names_of(rt.alloc(), written)?;
-    let bodies = match bodies_of(rt.alloc(), &names, written)? {
+    let names = names_of(alloc, written)?;
+    let bodies = match bodies_of(alloc, &names, written)? {
         Ok(bodies) => bodies,
         Err(fault) => return Ok(Err(Refused::Read(fault))),
     };
-    assert_eq!(rt; names.len(), bodies.len());
-    Ok(Rules::admit(rt.alloc(), names, bodies).map_err(|fault| Refused::Rules(fault)))
+    if names.len() == bodies.len() {
+        Ok(Rules::admit(alloc, names, bodies).map_err(|fault| Refused::Rules(fault)))
+    } else {
+        Err("as many names as patterns are wanted".into())
+    }
 }
 
 /// The statement that does the task, if its pattern and its object are read.
 pub(crate) fn statement(
-    rt: &(impl Abort + AllocGlobal),
+    alloc: Global,
     rules: Rules,
     task: Task<'_>,
 ) -> Result<Result<Statement, Refused>, Fail> {
-    let (pattern, object) = match parts(rt.alloc(), &rules, task) {
+    let (pattern, object) = match parts(alloc, &rules, task) {
         Ok(parts) => parts,
         Err(fault) => return Ok(Err(Refused::Read(fault))),
     };
-    assert!(rt; rules.covers(&pattern));
-    let rules = Arc::new(rt.alloc(), rules)?;
-    let text = TextName::new(rt.alloc(), b"T".as_slice())?;
-    let statement = Statement::new(1, rules, pattern, object, text, task.is_anchored());
-    Ok(Ok(task.bound(rt, statement)))
+    if rules.covers(&pattern) {
+        let rules = Arc::new(alloc, rules)?;
+        let text = TextName::new(alloc, b"T".as_slice())?;
+        let statement = Statement::new(1, rules, pattern, object, text, task.is_anchored());
+        Ok(Ok(task.bound(statement)?))
+    } else {
+        Err("the definitions don't cover the pattern".into())
+    }
 }
 
 fn parts(
@@ -156,16 +161,21 @@ fn parts(
 }
 
 /// The statement in at most so many rounds, 1 to 1,000. It has to have an object.
-fn repeated(rt: &impl Abort, statement: Statement, rounds: u32) -> Statement {
-    assert!(rt; statement.object().is_some());
-    assert!(rt; 1 <= rounds && rounds <= 1_000);
-    statement.repeated(rounds)
+fn repeated(statement: Statement, rounds: u32) -> Result<Statement, Fail> {
+    if statement.object().is_some() && 1 <= rounds && rounds <= 1_000 {
+        Ok(statement.repeated(rounds))
+    } else {
+        Err("1 to 1000 rounds are wanted".into())
+    }
 }
 
 /// The statement with this limit, which has to be 1 to 1,000,000,000.
-pub(crate) fn limited(rt: &impl Abort, statement: Statement, limit: u32) -> Statement {
-    assert!(rt; 1 <= limit && limit <= 1_000_000_000);
-    statement.limited(limit)
+pub(crate) fn limited(statement: Statement, limit: u32) -> Result<Statement, Fail> {
+    if 1 <= limit && limit <= 1_000_000_000 {
+        Ok(statement.limited(limit))
+    } else {
+        Err("1 to 1000000000 trials are wanted".into())
+    }
 }
 
 /// Why there is no statement, in one line: of a cycle of definitions their numbers, too.
