@@ -62,7 +62,7 @@ fn rules_cover_references_to_their_definitions(rt: HostRuntime) -> Result<(), Fa
     assert_eq!(rt; rules.len(), 1);
     assert!(rt; rules.covers(&Pattern::Ref(0)));
     assert!(rt; !rules.covers(&Pattern::Ref(1)));
-    let refused = only(rt.alloc(), 1)?;
+    let refused = only(rt.alloc(), 3)?;
     assert!(rt; matches!(&refused, Err(RulesFault::BadRef(0))));
     Ok(())
 }

@@ -113,17 +113,6 @@ fn refuse(book: &mut Book, proposal: Proposal) -> Result<(CommitFault, Proposal)
     }
 }
 
-// Why the proposal can't be prepared, and the proposal that came back.
-#[tactic(auto, using(sno_book::proofs::Kinship::is_kin))]
-fn refuse_to_prepare(book: &mut Book, proposal: Proposal) -> Result<(CommitFault, Proposal), Fail>
-    requires { IsPrefix proposal.origin (view_of book.old) }
-{
-    match book.prepare(proposal) {
-        Ok(_) => Err("prepared".into()),
-        Err(refusal) => Ok(refusal),
-    }
-}
-
 // The proposal prepared, and taken back again.
 #[tactic(auto, using(sno_book::proofs::Kinship::is_kin))]
 fn prepare_and_take_back(book: &mut Book, proposal: Proposal) -> Result<Proposal, Fail>
@@ -261,16 +250,6 @@ fn a_snapshot_of_another_text_is_no_text(rt: HostRuntime) -> Result<(), Fail> {
 }
 
 #[test]
-fn failures_of_one_version_are_all_accepted(rt: HostRuntime) -> Result<(), Fail> {
-    let mut book = new_book(rt.alloc(), &[("T", "a")])?;
-    let first = proposal(&rt, &book, "T", Written(1, "T", Replace("'b'", "'c'")))?;
-    let second = proposal(&rt, &book, "T", Written(2, "T", Match("'c'")))?;
-    check_accepted(&rt, &mut book, first, 0)?;
-    check_accepted(&rt, &mut book, second, 1)?;
-    check_line(&rt, &book, "T a 0, 2")
-}
-
-#[test]
 fn a_prepared_proposal_changes_nothing(rt: HostRuntime) -> Result<(), Fail> {
     let mut book = new_book(rt.alloc(), &[("T", "a")])?;
     let proposed = proposal(&rt, &book, "T", A_TO_B)?;
@@ -293,17 +272,6 @@ fn a_prepared_proposal_is_accepted(rt: HostRuntime) -> Result<(), Fail> {
     check_audit(&rt, &book, &[receipt], Ok(()))
 }
 
-#[test]
-fn an_older_match_cannot_be_prepared(rt: HostRuntime) -> Result<(), Fail> {
-    let mut book = new_book(rt.alloc(), &[("T", "a")])?;
-    let kept = proposal(&rt, &book, "T", A_TO_B)?;
-    perform(&rt, &mut book, A_TO_B)?;
-    let (fault, back) = refuse_to_prepare(&mut book, kept)?;
-    assert_eq!(rt; fault, CommitFault::Changed { seen: 0, now: 1 });
-    assert_eq!(rt; back.statement().number(), 1);
-    check_line(&rt, &book, "T b 1, 1")
-}
-
 fn check_audit(
     rt: &impl Abort,
     book: &Book,
@@ -312,26 +280,6 @@ fn check_audit(
 ) -> Result<(), Fail> {
     assert_eq!(rt; book.audit(receipts), wanted);
     Ok(())
-}
-
-#[test]
-fn a_receipt_of_another_book_is_found_out(rt: HostRuntime) -> Result<(), Fail> {
-    let mut first = new_book(rt.alloc(), &[("T", "a")])?;
-    let mut second = new_book(rt.alloc(), &[("T", "a")])?;
-    let receipt = perform(&rt, &mut first, Written(1, "T", Match("'a'")))?;
-    let other = perform(&rt, &mut second, Written(2, "T", Match("'a'")))?;
-    check_audit(&rt, &second, &[receipt], Err(0))?;
-    check_audit(&rt, &second, &[other], Ok(()))?;
-    check_audit(&rt, &second, &[], Ok(()))
-}
-
-#[test]
-fn the_same_characters_raise_the_version(rt: HostRuntime) -> Result<(), Fail> {
-    let mut book = new_book(rt.alloc(), &[("T", "aXa")])?;
-    let receipt = perform(&rt, &mut book, Written(1, "T", Replace("REM . R", "R")))?;
-    assert_eq!(rt; receipt.text.bytes(), b"aXa".as_slice());
-    assert_eq!(rt; extent(&receipt), Some((0, 3)));
-    check_line(&rt, &book, "T aXa 1, 1")
 }
 
 #[test]
@@ -375,23 +323,6 @@ fn a_refused_repetition_keeps_none_of_its_matches(rt: HostRuntime) -> Result<(),
     assert_eq!(rt; text.bytes().len(), 65_000);
     assert_eq!(rt; version, 0);
     assert_eq!(rt; book.journal().len(), 0);
-    Ok(())
-}
-
-#[test]
-fn receipts_of_repetitions_differ_by_their_rounds(rt: HostRuntime) -> Result<(), Fail> {
-    let mut first = new_book(rt.alloc(), &[("T", "aa")])?;
-    let mut second = new_book(rt.alloc(), &[("T", "aa")])?;
-    let receipt = perform(&rt, &mut first, Written(1, "T", Repeat("'a'", "'b'", 2)))?;
-    let other = perform(&rt, &mut second, Written(1, "T", Repeat("'a'", "'b'", 3)))?;
-    check_audit(&rt, &second, &[receipt], Err(0))?;
-    check_audit(&rt, &second, &[other], Ok(()))
-}
-
-#[test]
-fn texts_of_one_name_are_no_book(rt: HostRuntime) -> Result<(), Fail> {
-    let texts: Texts = &[("A", "x"), ("B", "y"), ("A", "z"), ("B", "w")];
-    assert!(rt; matches!(book(rt.alloc(), texts, 10)?, Err(BookFault::Duplicate(2))));
     Ok(())
 }
 
@@ -439,4 +370,25 @@ fn an_opening_is_what_was_given(rt: HostRuntime) -> Result<(), Fail> {
         )
     );
     Ok(())
+}
+
+#[test]
+fn failures_of_one_version_are_all_accepted(rt: HostRuntime) -> Result<(), Fail> {
+    let mut book = new_book(rt.alloc(), &[("T", "a")])?;
+    let first = proposal(&rt, &book, "T", Written(1, "T", Replace("'b'", "'c'")))?;
+    let second = proposal(&rt, &book, "T", Written(2, "T", Match("'c'")))?;
+    check_accepted(&rt, &mut book, first, 0)?;
+    check_accepted(&rt, &mut book, second, 1)?;
+    check_line(&rt, &book, "T a 0, 2")
+}
+
+#[test]
+fn a_receipt_of_another_book_is_found_out(rt: HostRuntime) -> Result<(), Fail> {
+    let mut first = new_book(rt.alloc(), &[("T", "a")])?;
+    let mut second = new_book(rt.alloc(), &[("T", "a")])?;
+    let receipt = perform(&rt, &mut first, Written(1, "T", Match("'a'")))?;
+    let other = perform(&rt, &mut second, Written(2, "T", Match("'a'")))?;
+    check_audit(&rt, &second, &[receipt], Err(0))?;
+    check_audit(&rt, &second, &[other], Ok(()))?;
+    check_audit(&rt, &second, &[], Ok(()))
 }

@@ -96,6 +96,17 @@ fn longest_name(rt: HostRuntime) -> Result<(), Fail> {
     Ok(())
 }
 
+// P may be named as it is by what comes after its definition, and Q after a star alone.
+#[test]
+fn names_of_definitions(rt: HostRuntime) -> Result<(), Fail> {
+    let names = Names::new(rt.alloc(), &[name_of(b"P")?, name_of(b"Q")?])?;
+    assert!(rt; read_pattern(rt.alloc(), &names, 1, b"P")? == Pattern::Ref(0));
+    assert!(rt; read_pattern(rt.alloc(), &names, 1, b"*Q")? == Pattern::Ref(1));
+    let fault = read_pattern(rt.alloc(), &names, 1, b"Q").err();
+    assert_eq!(rt; fault, Some(ReadFault::UnknownName(0)));
+    Ok(())
+}
+
 #[test]
 fn longest_object(rt: HostRuntime) -> Result<(), Fail> {
     let names = Names::new(rt.alloc(), &[])?;

@@ -4,10 +4,11 @@ ghost use Rattle.sno_book.specs.Views.{IsPrefix};
 ghost use Rattle.sno_desk.specs.Seen.{view_after};
 
 use crate::day::{check_entry, check_text};
-use crate::jobs::{book, rules, statement};
+use crate::jobs::{book, matching, rules, statement};
 use sno_book::Book;
 use sno_desk::{
-    Blank, CommitFault, Desk, Naming, OpenGate, Proposal, Receipt, Seat, TextName, close, propose,
+    Blank, CommitFault, Desk, Naming, OpenGate, Outcome, Proposal, Receipt, Seat, SnapshotFault,
+    TextName, close, propose,
 };
 use sno_statement::Statement;
 use std::alloc::Global;
@@ -140,6 +141,36 @@ impl Turns for Interleaves {
     }
 }
 
+/// The first seat's statement fails, which is an entry that changes nothing; a text that isn't there no seat sees.
+#[derive(Drop)]
+struct Fails {
+    unmatched: Arc<Statement>,
+    elsewhere: TextName,
+}
+
+impl Turns for Fails {
+    fn take<L: Naming, R: Wait + Abort>(
+        &self,
+        rt: &R,
+        alloc: Global,
+        desk: &Desk<L>,
+        first: &mut Seat<L>,
+        second: &mut Seat<L>,
+        _third: &mut Seat<L>,
+    ) -> Result<(), Fail> {
+        let job = Arc::try_clone(&self.unmatched)?;
+        let receipt = desk.submit(rt, alloc, first, job, 1, &OpenGate)?;
+        assert_eq!(rt; receipt.index, 0);
+        assert!(rt; matches!(&*receipt.entry.outcome, Outcome::Failed { .. }));
+        check_seen(rt, first, self.unmatched.text(), "x", 0)?;
+        let missing = second.snapshot(&self.elsewhere).err();
+        assert_eq!(rt; missing, Some(SnapshotFault::NoText));
+        assert_eq!(rt; (first.accepted(), first.seen()), (1, 1));
+        assert_eq!(rt; (second.accepted(), second.seen()), (0, 0));
+        Ok(())
+    }
+}
+
 fn three_seats<L: Naming, T: Turns, R: Wait + Abort>(
     rt: &R,
     alloc: Global,
@@ -216,5 +247,20 @@ fn a_seat_commits_at_a_later_version(rt: HostRuntime) -> Result<(), Fail> {
     check_entry(&rt, &book, 3, 4, 1);
     check_text(&rt, &book, 0, "zz", 2);
     check_text(&rt, &book, 1, "v", 1);
+    Ok(())
+}
+
+#[test]
+fn a_failure_is_an_entry_and_changes_no_text(rt: HostRuntime) -> Result<(), Fail> {
+    let alloc = rt.alloc();
+    let turns = Fails {
+        unmatched: matching(&rt, alloc, &rules(&rt, alloc)?, 1, "T", "'q'")?,
+        elsewhere: TextName::new(alloc, b"U".as_slice())?,
+    };
+    let book = book(alloc, &[("T", b"x")], 1_000_000)?;
+    let book = share(&rt, alloc, book, &turns)?;
+    assert_eq!(rt; book.journal().len(), 1);
+    check_entry(&rt, &book, 0, 1, 0);
+    check_text(&rt, &book, 0, "x", 0);
     Ok(())
 }

@@ -27,4 +27,6 @@ mod printing;
 #[cfg(test)]
 mod soak;
 #[cfg(test)]
+mod spent;
+#[cfg(test)]
 mod viewers;

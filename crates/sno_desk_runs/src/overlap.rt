@@ -1,8 +1,10 @@
 //! Two statements on one text, of which a gate holds one back until the other is accepted.
+ghost use Rattle.std.specs.Prelude.{◌≤◌};
+
 use crate::day::{Day, check_entry, check_text, run_day};
 use crate::flags::Flag;
 use crate::jobs::{book, rules, statement};
-use sno_desk::Gate;
+use sno_desk::{Gate, SubmitFault};
 use sno_statement::{Datum, Outcome};
 use std::alloc::Global;
 use std::process::Abort;
@@ -81,11 +83,14 @@ impl<C: Clock> Gate for Hold<'_, C> {
     }
 }
 
-/// Both statements submitted by two seats, with two tries, and what the gate noted.
+/// Both statements submitted by two seats, and what the gate noted.
 fn overlap<R: Threads + Wait + Clock + Abort + Sync>(
     rt: &R,
     alloc: Global,
-) -> Result<(Day, Notes), Fail> {
+    tries: u32,
+) -> Result<(Day, Notes), Fail>
+    requires { (1 ≤ tries) × (tries ≤ 1000) }
+{
     let rules = rules(rt, alloc)?;
     let mut jobs = Vec::new(alloc);
     jobs.push(statement(rt, alloc, &rules, 1, "T", "LEN(1) . C", "C C")?)?;
@@ -99,7 +104,7 @@ fn overlap<R: Threads + Wait + Clock + Abort + Sync>(
         refused: AtomicU32::new(0),
     };
     let book = book(alloc, &[("T", b"x")], 1_000_000)?;
-    let day = run_day(rt, alloc, book, 2, jobs.as_slice(), 2, &gate)?;
+    let day = run_day(rt, alloc, book, 2, jobs.as_slice(), tries, &gate)?;
     Ok((day, gate.notes()))
 }
 
@@ -112,7 +117,7 @@ fn check_bound(rt: &impl Abort, datum: Option<&Datum>, wanted: &str) {
 
 #[test]
 fn a_text_that_changed_is_matched_again(rt: HostRuntime) -> Result<(), Fail> {
-    let (day, notes) = overlap(&rt, rt.alloc())?;
+    let (day, notes) = overlap(&rt, rt.alloc(), 2)?;
     assert_eq!(rt; day.replies.len(), 2);
     assert!(rt; day.replies[0].is_ok() && day.replies[1].is_ok());
     assert_eq!(rt; notes.attempts, 12);
@@ -130,5 +135,24 @@ fn a_text_that_changed_is_matched_again(rt: HostRuntime) -> Result<(), Fail> {
         Outcome::Failed { .. } => assert!(rt; false, "it failed"),
         Outcome::Repeated { .. } => assert!(rt; false, "it was repeated"),
     }
+    Ok(())
+}
+
+#[test]
+fn tries_are_spent(rt: HostRuntime) -> Result<(), Fail> {
+    let (day, notes) = overlap(&rt, rt.alloc(), 1)?;
+    assert_eq!(rt; day.replies.len(), 2);
+    match &day.replies[0] {
+        Ok(_) => assert!(rt; false, "it was accepted"),
+        Err(fault) => assert_eq!(rt; *fault, SubmitFault::TriesSpent { seen: 0, now: 1 }),
+    }
+    assert!(rt; day.replies[1].is_ok());
+    assert_eq!(rt; notes.attempts, 1);
+    assert_eq!(rt; notes.accepted, 100);
+    assert_eq!(rt; notes.refused, 1);
+    assert_eq!(rt; day.shares.as_slice(), [0u64, 1].as_slice());
+    check_text(&rt, &day.book, 0, "z", 1);
+    assert_eq!(rt; day.book.journal().len(), 1);
+    check_entry(&rt, &day.book, 0, 2, 0);
     Ok(())
 }

@@ -1,0 +1,89 @@
+//! A statement that is overtaken at each of its two tries, by workers in threads.
+use crate::day::{Day, check_entry, check_text, run_day};
+use crate::flags::Flag;
+use crate::jobs::{book, matching, rules, statement};
+use sno_desk::{Gate, SubmitFault};
+use std::alloc::Global;
+use std::process::Abort;
+use std::sync::Wait;
+use std::test::Fail;
+use std::thread::Threads;
+use std::time::Clock;
+
+/// Holds statement 1 at its first attempt until statement 2 is accepted, and at its second until statement 4 is; and these two until statement 1
+/// has come to that attempt.
+#[derive(Drop)]
+struct TwoOvertake<'a, C: Clock> {
+    clock: &'a C,
+    first_attempt: Flag,
+    second_attempt: Flag,
+    second_done: Flag,
+    fourth_done: Flag,
+}
+
+impl<C: Clock> Gate for TwoOvertake<'_, C> {
+    ghost shuts = { λ _ _ attempt. Unit {0} };
+
+    fn pass<R: Wait>(&self, _rt: &R, number: u32, attempt: u32) -> bool {
+        match (number, attempt) {
+            (1, 1) => {
+                self.first_attempt.raise();
+                self.second_done.wait(self.clock)
+            }
+            (1, 2) => {
+                self.second_attempt.raise();
+                self.fourth_done.wait(self.clock)
+            }
+            (2, 1) => self.first_attempt.wait(self.clock),
+            (4, 1) => self.second_attempt.wait(self.clock),
+            _ => true,
+        }
+    }
+
+    fn done<R: Wait>(&self, _rt: &R, number: u32, _accepted: bool) {
+        match number {
+            2 => self.second_done.raise(),
+            4 => self.fourth_done.raise(),
+            _ => {}
+        }
+    }
+}
+
+/// Four statements of two seats, with two tries each: the first and the third go to the first seat, the others to the second.
+fn overtake<R: Threads + Wait + Clock + Abort + Sync>(rt: &R, alloc: Global) -> Result<Day, Fail> {
+    let rules = rules(rt, alloc)?;
+    let mut jobs = Vec::new(alloc);
+    jobs.push(statement(rt, alloc, &rules, 1, "T", "LEN(1)", "'w'")?)?;
+    jobs.push(statement(rt, alloc, &rules, 2, "T", "'x'", "'y'")?)?;
+    jobs.push(matching(rt, alloc, &rules, 3, "U", "'u'")?)?;
+    jobs.push(statement(rt, alloc, &rules, 4, "T", "'y'", "'x'")?)?;
+    let gate = TwoOvertake {
+        clock: rt,
+        first_attempt: Flag::new(),
+        second_attempt: Flag::new(),
+        second_done: Flag::new(),
+        fourth_done: Flag::new(),
+    };
+    let book = book(alloc, &[("T", b"x"), ("U", b"u")], 1_000_000)?;
+    let day = run_day(rt, alloc, book, 2, jobs.as_slice(), 2, &gate)?;
+    Ok(day)
+}
+
+#[test]
+fn the_versions_are_those_of_the_last_try(rt: HostRuntime) -> Result<(), Fail> {
+    let day = overtake(&rt, rt.alloc())?;
+    assert_eq!(rt; day.replies.len(), 4);
+    match &day.replies[0] {
+        Ok(_) => assert!(rt; false, "it was accepted"),
+        Err(fault) => assert_eq!(rt; *fault, SubmitFault::TriesSpent { seen: 1, now: 2 }),
+    }
+    assert!(rt; day.replies[1].is_ok() && day.replies[2].is_ok() && day.replies[3].is_ok());
+    assert_eq!(rt; day.shares.as_slice(), [1u64, 2].as_slice());
+    assert_eq!(rt; day.book.journal().len(), 3);
+    check_entry(&rt, &day.book, 0, 2, 0);
+    check_entry(&rt, &day.book, 1, 4, 1);
+    check_entry(&rt, &day.book, 2, 3, 0);
+    check_text(&rt, &day.book, 0, "x", 2);
+    check_text(&rt, &day.book, 1, "u", 0);
+    Ok(())
+}
