@@ -1,68 +1,75 @@
 //! Names and definitions made by hand.
+use crate::written::{check_eq, name_of, rules_of};
 use sno_pattern::{Name, Names, NamesFault, Pattern, Rules, RulesFault};
 use std::alloc::Global;
 use std::test::Fail;
 
-fn name_of(letters: &str) -> Result<Name, Fail> {
-    Ok(Name::read(letters.as_bytes()).ok_or("no name")?)
-}
-
 #[test]
 fn a_name_is_printed_as_it_is_written(rt: HostRuntime) -> Result<(), Fail> {
     let printed = name_of("Item_1.b")?.to_string(rt.alloc())?;
-    assert_eq!(rt; printed.as_str(), "Item_1.b");
+    check_eq(&rt, &printed.as_str(), &"Item_1.b");
     Ok(())
 }
 
 #[test]
 fn a_name_has_at_most_64_characters(rt: HostRuntime) -> Result<(), Fail> {
     let letters = vec![in rt.alloc(); b'N'; 65]?;
-    assert!(rt; Name::read(&letters[..64]).is_some());
-    assert!(rt; Name::read(letters.as_slice()).is_none());
+    let are_names = [
+        Name::read(&letters[..64]).is_some(),
+        Name::read(&letters).is_some(),
+    ];
+    check_eq(&rt, &are_names.as_slice(), &[true, false].as_slice());
     Ok(())
 }
 
-// So many names: A0, A1 and so on.
-fn numbered_names(alloc: Global, count: usize) -> Result<Result<Names, NamesFault>, Fail> {
+// How many names there are where these are so many: A0, A1 and so on.
+fn numbered_names(alloc: Global, count: usize) -> Result<Result<usize, NamesFault>, Fail> {
     let mut names = Vec::new(alloc);
     for number in 0..count {
         let letters = format!(in alloc; "A{number}")?;
         names.push(name_of(letters.as_str())?)?;
     }
-    Ok(Names::new(alloc, names.as_slice()))
+    Ok(Names::new(alloc, names.as_slice()).map(|names| names.len()))
 }
 
 #[test]
 fn there_are_at_most_64_definitions(rt: HostRuntime) -> Result<(), Fail> {
-    let names = numbered_names(rt.alloc(), 64)??;
-    assert_eq!(rt; names.len(), 64);
-    let refused = numbered_names(rt.alloc(), 65)?;
-    assert!(rt; matches!(&refused, Err(NamesFault::TooMany)));
+    let counts = [
+        numbered_names(rt.alloc(), 64)?,
+        numbered_names(rt.alloc(), 65)?,
+    ];
+    let expected = [Ok(64), Err(NamesFault::TooMany)];
+    check_eq(&rt, &counts.as_slice(), &expected.as_slice());
     Ok(())
 }
 
-// A reference to the definition of this number, as the only definition, A0.
-fn only(alloc: Global, number: usize) -> Result<Result<Rules, RulesFault>, Fail> {
-    let names = Names::new(alloc, &[name_of("A0")?])?;
-    let mut bodies = Vec::new(alloc);
-    bodies.push(Pattern::Seq(
-        Box::new(alloc, Pattern::Len(1))?,
-        Box::new(alloc, Pattern::Ref(number))?,
-    ))?;
-    if names.len() == bodies.len() {
-        Ok(Rules::admit(alloc, names, bodies))
-    } else {
-        Err("more names than definitions".into())
-    }
+// How many definitions there are, and whether they cover a reference to this one.
+fn covered(rules: &Rules, number: usize) -> (usize, bool) {
+    (rules.len(), rules.covers(&Pattern::Ref(number)))
 }
 
 #[test]
 fn rules_cover_references_to_their_definitions(rt: HostRuntime) -> Result<(), Fail> {
-    let rules = only(rt.alloc(), 0)??;
-    assert_eq!(rt; rules.len(), 1);
-    assert!(rt; rules.covers(&Pattern::Ref(0)));
-    assert!(rt; !rules.covers(&Pattern::Ref(1)));
-    let refused = only(rt.alloc(), 3)?;
-    assert!(rt; matches!(&refused, Err(RulesFault::BadRef(0))));
+    let rules = rules_of(rt.alloc(), "P", "LEN(1) *P")?;
+    let found = [covered(&rules, 0), covered(&rules, 1)];
+    check_eq(&rt, &found.as_slice(), &[(1, true), (1, false)].as_slice());
+    Ok(())
+}
+
+// The only definition, P, is a reference to the definition of this number.
+fn fault_of(alloc: Global, number: usize) -> Result<Option<RulesFault>, Fail> {
+    let names = Names::new(alloc, &[name_of("P")?])?;
+    let mut bodies = Vec::new(alloc);
+    bodies.push(Pattern::Ref(number))?;
+    if names.len() == bodies.len() {
+        Ok(Rules::admit(alloc, names, bodies).err())
+    } else {
+        Err("as many names as definitions are wanted".into())
+    }
+}
+
+#[test]
+fn a_reference_to_no_definition_is_refused(rt: HostRuntime) -> Result<(), Fail> {
+    check_eq(&rt, &fault_of(rt.alloc(), 3)?, &Some(RulesFault::BadRef(0)));
     Ok(())
 }

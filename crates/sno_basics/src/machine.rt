@@ -1,57 +1,55 @@
 //! What is compiled matches many texts, references nest as deep as the longest text, and a match within the longest text is found by its limit.
-use sno_machine::{MatchFault, What, compile};
-use sno_pattern::{Name, Names, Rules, Text};
-use sno_read::read_pattern;
+use crate::written::{check_eq, no_rules, pattern_of, rules_of, text_of};
+use sno_machine::{Code, MatchFault, What, compile};
+use sno_pattern::{Rules, Text};
 use std::alloc::Global;
-use std::process::Abort;
 use std::test::Fail;
 
 // More trials than the matches here take.
 const LIMIT: u32 = 1_000_000;
 
-// The only definition: P is `'(' *P ')' | 'x'`.
-fn nested_rules(alloc: Global) -> Result<Rules, Fail> {
-    let names = Names::new(alloc, &[Name::read(b"P").ok_or("no name")?])?;
-    let mut bodies = Vec::new(alloc);
-    bodies.push(read_pattern(alloc, &names, 0, b"'(' *P ')' | 'x'")?)?;
-    if names.len() == bodies.len() {
-        Ok(Rules::admit(alloc, names, bodies)?)
-    } else {
-        Err("more names than definitions".into())
+// Where a match begins and ends.
+type Extent = (usize, usize);
+
+// Where the first match on the text begins and ends, if there is one, or why none is found within this limit.
+fn extent(
+    alloc: Global,
+    code: &Code,
+    text: &Text,
+    limit: u32,
+) -> Result<Option<Extent>, MatchFault> {
+    let found = code.first(alloc, text, false, limit)?;
+    match &found.end {
+        None => Ok(None),
+        Some(hit) => Ok(Some((hit.start, hit.end))),
     }
 }
 
-// Where the first match of the pattern on each text begins and ends.
+// The same for each of the texts, by one code.
 fn extents(
-    rt: &(impl Abort + AllocGlobal),
+    alloc: Global,
+    rules: &Rules,
     pattern: &str,
     texts: &[Text],
-) -> Result<Vec<(usize, usize)>, Fail> {
-    let alloc = rt.alloc();
-    let rules = nested_rules(alloc)?;
-    let pattern = read_pattern(alloc, rules.names(), rules.len(), pattern.as_bytes())?;
-    assert!(rt; rules.covers(&pattern));
-    let code = compile(alloc, &rules, &pattern)?;
+) -> Result<Vec<Option<Extent>>, Fail> {
+    let pattern = pattern_of(alloc, rules, pattern)?;
+    let code = compile(alloc, rules, &pattern)?;
     let mut extents = Vec::new(alloc);
     for text in texts {
-        let found = code.first(alloc, text, false, LIMIT)?;
-        if let Some(hit) = &found.end {
-            extents.push((hit.start, hit.end))?;
-        }
+        extents.push(extent(alloc, &code, text, LIMIT)?)?;
     }
     Ok(extents)
 }
 
-fn text(alloc: Global, characters: &[u8]) -> Result<Text, Fail> {
-    Ok(Text::new(Vec::from_slice(alloc, characters)?)?)
-}
-
 #[test]
 fn one_code_matches_many_texts(rt: HostRuntime) -> Result<(), Fail> {
-    let alloc = rt.alloc();
-    let texts = [text(alloc, b"xa")?, text(alloc, b"c")?, text(alloc, b"b")?];
-    let found = extents(&rt, "'a' | 'b'", texts.as_slice())?;
-    assert_eq!(rt; found.as_slice(), [(1, 2), (0, 1)].as_slice());
+    let mut texts = Vec::new(rt.alloc());
+    for text in ["xa", "c", "b"] {
+        texts.push(text_of(rt.alloc(), text)?)?;
+    }
+    let found = extents(rt.alloc(), &no_rules(rt.alloc())?, "'a' | 'b'", &texts)?;
+    let expected = [Some((1, 2)), None, Some((0, 1))];
+    check_eq(&rt, &found.as_slice(), &expected.as_slice());
     Ok(())
 }
 
@@ -65,9 +63,10 @@ fn nested(alloc: Global, depth: usize) -> Result<Text, Fail> {
 
 #[test]
 fn references_nest_as_deep_as_the_longest_text(rt: HostRuntime) -> Result<(), Fail> {
+    let rules = rules_of(rt.alloc(), "P", "'(' *P ')' | 'x'")?;
     let texts = [nested(rt.alloc(), 32_767)?];
-    let found = extents(&rt, "*P RPOS(0)", texts.as_slice())?;
-    assert_eq!(rt; found.as_slice(), [(0, 65_535)].as_slice());
+    let found = extents(rt.alloc(), &rules, "*P RPOS(0)", texts.as_slice())?;
+    check_eq(&rt, &found.as_slice(), &[Some((0, 65_535))].as_slice());
     Ok(())
 }
 
@@ -78,57 +77,33 @@ fn ended_by_b(alloc: Global) -> Result<Text, Fail> {
     Ok(Text::new(text)?)
 }
 
-// Where the first `'b'` of the text begins and ends, or why it isn't found within this limit.
-fn place_of_b(
-    rt: &(impl Abort + AllocGlobal),
+// The first `'b'` on the text, within 65,536 and within 65,535 trials.
+fn limited(
+    alloc: Global,
+    rules: &Rules,
     text: &Text,
-    limit: u32,
-) -> Result<Result<Option<(usize, usize)>, MatchFault>, Fail> {
-    let alloc = rt.alloc();
-    let rules = nested_rules(alloc)?;
-    let pattern = read_pattern(alloc, rules.names(), rules.len(), b"'b'")?;
-    assert!(rt; rules.covers(&pattern));
-    let code = compile(alloc, &rules, &pattern)?;
-    match code.first(alloc, text, false, limit) {
-        Err(fault) => Ok(Err(fault)),
-        Ok(found) => match &found.end {
-            None => Ok(Ok(None)),
-            Some(hit) => Ok(Ok(Some((hit.start, hit.end)))),
-        },
-    }
+) -> Result<[Result<Option<Extent>, MatchFault>; 2], Fail> {
+    let pattern = pattern_of(alloc, rules, "'b'")?;
+    let code = compile(alloc, rules, &pattern)?;
+    Ok([
+        extent(alloc, &code, text, 65_536),
+        extent(alloc, &code, text, 65_535),
+    ])
 }
 
 #[test]
 fn each_start_that_is_passed_over_costs_a_trial(rt: HostRuntime) -> Result<(), Fail> {
     let text = ended_by_b(rt.alloc())?;
-    assert_eq!(rt; place_of_b(&rt, &text, 65_536)?, Ok(Some((65_535, 65_536))));
-    assert_eq!(rt;
-        place_of_b(&rt, &text, 65_535)?,
-        Err(MatchFault::TooManyTrials)
-    );
+    let found = limited(rt.alloc(), &no_rules(rt.alloc())?, &text)?;
+    let expected = [Ok(Some((65_535, 65_536))), Err(MatchFault::TooManyTrials)];
+    check_eq(&rt, &found.as_slice(), &expected.as_slice());
     Ok(())
 }
 
-// The only definition: S is `LEN(1) $ C *S | ''`.
-fn assigning_rules(alloc: Global) -> Result<Rules, Fail> {
-    let names = Names::new(alloc, &[Name::read(b"S").ok_or("no name")?])?;
-    let mut bodies = Vec::new(alloc);
-    bodies.push(read_pattern(alloc, &names, 0, b"LEN(1) $ C *S | ''")?)?;
-    if names.len() == bodies.len() {
-        Ok(Rules::admit(alloc, names, bodies)?)
-    } else {
-        Err("more names than definitions".into())
-    }
-}
-
 // What is assigned at once where `*S 'c'` is anchored on the text, one after the other.
-fn assigned(rt: &(impl Abort + AllocGlobal), text: &Text) -> Result<Vec<What>, Fail> {
-    let alloc = rt.alloc();
-    let rules = assigning_rules(alloc)?;
-    let pattern = read_pattern(alloc, rules.names(), rules.len(), b"*S 'c'")?;
-    assert!(rt; rules.covers(&pattern));
-    let code = compile(alloc, &rules, &pattern)?;
-    let found = code.first(alloc, text, true, LIMIT)?;
+fn assigned(alloc: Global, rules: &Rules, text: &Text) -> Result<Vec<What>, Fail> {
+    let pattern = pattern_of(alloc, rules, "*S 'c'")?;
+    let found = compile(alloc, rules, &pattern)?.first(alloc, text, true, LIMIT)?;
     let mut parts = Vec::new(alloc);
     for set in found.sets.as_slice() {
         parts.push(set.what)?;
@@ -138,10 +113,9 @@ fn assigned(rt: &(impl Abort + AllocGlobal), text: &Text) -> Result<Vec<What>, F
 
 #[test]
 fn assignments_that_are_backed_over_stay(rt: HostRuntime) -> Result<(), Fail> {
-    let parts = assigned(&rt, &text(rt.alloc(), b"abc")?)?;
-    assert_eq!(rt;
-        parts.as_slice(),
-        [What::Part(0, 1), What::Part(1, 2), What::Part(2, 3)].as_slice()
-    );
+    let rules = rules_of(rt.alloc(), "S", "LEN(1) $ C *S | ''")?;
+    let found = assigned(rt.alloc(), &rules, &text_of(rt.alloc(), "abc")?)?;
+    let parts = [What::Part(0, 1), What::Part(1, 2), What::Part(2, 3)];
+    check_eq(&rt, &found.as_slice(), &parts.as_slice());
     Ok(())
 }

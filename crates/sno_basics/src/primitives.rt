@@ -1,57 +1,96 @@
-//! Each call once; the ends are read off the texts.
-use sno_pattern::{Class, Pattern, Text};
+//! Where primitives end; the ends are read off the texts.
+ghost use Rattle.std.specs.Prelude.{◌≡◌};
+ghost use Rattle.sno_pattern.specs.Tree.{tree_of};
+ghost use Rattle.sno_primitives.specs.Leaves.{is_single};
+
+use crate::written::{check_eq, no_rules, pattern_of};
+use sno_pattern::{Class, Pattern};
 use sno_primitives::{
     any_end, break_end, first_balanced, leaf_end, len_end, literal_end, notany_end, pos_end,
     rpos_end, rtab_end, span_end, tab_end,
 };
-use std::process::Abort;
+use std::alloc::Global;
 use std::test::Fail;
 
-// BAL on (a)b
-#[test]
-fn balanced_parts_come_the_shortest_first(rt: HostRuntime) -> Result<(), Fail> {
-    assert_eq!(rt; first_balanced(b"(a)b", 0), Some(3));
-    assert_eq!(rt; first_balanced(b"(a)b", 3), Some(4));
-    assert_eq!(rt; first_balanced(b"(a)b", 4), None);
-    Ok(())
+// A pattern, a text, a cursor, and where the pattern ends from there.
+static ENDS: [(&str, &str, usize, Option<usize>); 18] = [
+    ("SPAN('ab')", "xabac", 0, None),
+    ("SPAN('ab')", "xabac", 1, Some(4)),
+    ("BREAK('c')", "xabac", 0, Some(4)),
+    ("BREAK('c')", "xabac", 5, None),
+    ("'ba'", "xabac", 2, Some(4)),
+    ("'ba'", "xabac", 1, None),
+    // Members of a low code and of a high one: 63 and 64.
+    ("ANY('?@')", "?@Aé", 0, Some(1)),
+    ("ANY('?@')", "?@Aé", 1, Some(2)),
+    ("ANY('?@')", "?@Aé", 2, None),
+    ("ANY('?@')", "?@Aé", 3, None),
+    // One to four members.
+    ("BREAK(';')", "the first of many characters;", 4, Some(28)),
+    ("BREAK('1;')", "the first of many characters;", 4, Some(28)),
+    ("BREAK('12;')", "the first of many characters;", 4, Some(28)),
+    (
+        "BREAK('123;')",
+        "the first of many characters;",
+        4,
+        Some(28),
+    ),
+    ("BREAK('123;')", "the first of many characters;", 29, None),
+    ("NOTANY('ab')", "xabac", 0, Some(1)),
+    ("LEN(2)", "xabac", 2, Some(4)),
+    ("RTAB(1)", "xabac", 2, Some(4)),
+];
+
+// Whether the pattern is a primitive that has one end at most.
+fn is_single(pattern: &Pattern) -> bool
+    ensures { result ≡ is_single (tree_of pattern.now) }
+{
+    match pattern {
+        Pattern::Lit(_)
+        | Pattern::Len(_)
+        | Pattern::Pos(_)
+        | Pattern::Rpos(_)
+        | Pattern::Tab(_)
+        | Pattern::Rtab(_)
+        | Pattern::AnyOf(_)
+        | Pattern::NoneOf(_)
+        | Pattern::Span(_)
+        | Pattern::Break(_)
+        | Pattern::Rem => true,
+        _ => false,
+    }
 }
 
-#[test]
-fn parentheses_that_do_not_match_are_not_balanced(rt: HostRuntime) -> Result<(), Fail> {
-    assert_eq!(rt; first_balanced(b"(()", 0), None);
-    assert_eq!(rt; first_balanced(b")(", 0), None);
-    assert_eq!(rt; first_balanced(b"a)b", 1), None);
-    Ok(())
+fn end_of(alloc: Global, pattern: &str, text: &str, cursor: usize) -> Result<Option<usize>, Fail> {
+    let pattern = pattern_of(alloc, &no_rules(alloc)?, pattern)?;
+    if cursor <= text.len() && is_single(&pattern) {
+        Ok(leaf_end(text.as_bytes(), &pattern, cursor))
+    } else {
+        Err("a cursor within the text and a primitive with one end are wanted".into())
+    }
 }
 
-// SPAN('ab'), BREAK('c') and 'ba' on xabac
 #[test]
 fn a_primitive_has_one_end(rt: HostRuntime) -> Result<(), Fail> {
-    let alloc = rt.alloc();
-    let text = b"xabac".as_slice();
-    let span = Pattern::Span(Class::new(Vec::from_slice(alloc, b"ab")?).ok_or("no set")?);
-    assert_eq!(rt; leaf_end(text, &span, 0), None);
-    assert_eq!(rt; leaf_end(text, &span, 1), Some(4));
-    let stop = Pattern::Break(Class::new(Vec::from_slice(alloc, b"c")?).ok_or("no set")?);
-    assert_eq!(rt; leaf_end(text, &stop, 0), Some(4));
-    assert_eq!(rt; leaf_end(text, &stop, 5), None);
-    let literal = Pattern::Lit(Text::new(Vec::from_slice(alloc, b"ba")?)?);
-    assert_eq!(rt; leaf_end(text, &literal, 2), Some(4));
-    assert_eq!(rt; leaf_end(text, &literal, 1), None);
+    for (pattern, text, cursor, end) in &ENDS {
+        check_eq(&rt, &end_of(rt.alloc(), pattern, text, *cursor)?, end);
+    }
     Ok(())
 }
 
-// ANY('?@'), the characters 63 and 64, on ?@A
+// BAL on (a)b, and parentheses that don't match
 #[test]
-fn members_of_low_and_high_codes_are_found(rt: HostRuntime) -> Result<(), Fail> {
-    let alloc = rt.alloc();
-    let text = b"?@A\xe1".as_slice();
-    let set = Class::new(Vec::from_slice(alloc, b"?@")?).ok_or("no set")?;
-    let any = Pattern::AnyOf(set);
-    assert_eq!(rt; leaf_end(text, &any, 0), Some(1));
-    assert_eq!(rt; leaf_end(text, &any, 1), Some(2));
-    assert_eq!(rt; leaf_end(text, &any, 2), None);
-    assert_eq!(rt; leaf_end(text, &any, 3), None);
+fn balanced_parts_come_the_shortest_first(rt: HostRuntime) -> Result<(), Fail> {
+    let ends = [
+        first_balanced(b"(a)b", 0),
+        first_balanced(b"(a)b", 3),
+        first_balanced(b"(a)b", 4),
+        first_balanced(b"(()", 0),
+        first_balanced(b")(", 0),
+        first_balanced(b"a)b", 1),
+    ];
+    let expected = [Some(3), Some(4), None, None, None, None];
+    check_eq(&rt, &ends.as_slice(), &expected.as_slice());
     Ok(())
 }
 
@@ -59,47 +98,36 @@ fn members_of_low_and_high_codes_are_found(rt: HostRuntime) -> Result<(), Fail> 
 #[test]
 fn places_and_lengths_have_one_end(rt: HostRuntime) -> Result<(), Fail> {
     let text = b"xabac".as_slice();
-    assert_eq!(rt; literal_end(text, b"ba", 2), Some(4));
-    assert_eq!(rt; len_end(text, 2, 2), Some(4));
-    assert_eq!(rt; pos_end(2, 2), Some(2));
-    assert_eq!(rt; rpos_end(text, 3, 2), Some(2));
-    assert_eq!(rt; tab_end(text, 4, 2), Some(4));
-    assert_eq!(rt; rtab_end(text, 1, 2), Some(4));
+    let ends = [
+        literal_end(text, b"ba", 2),
+        len_end(text, 2, 2),
+        pos_end(2, 2),
+        rpos_end(text, 3, 2),
+        tab_end(text, 4, 2),
+        rtab_end(text, 1, 2),
+    ];
+    let expected = [Some(4), Some(4), Some(2), Some(2), Some(4), Some(4)];
+    check_eq(&rt, &ends.as_slice(), &expected.as_slice());
     Ok(())
 }
 
-// ANY('ab'), NOTANY('ab') and SPAN('ab') on xabac
+// ANY, NOTANY, SPAN and BREAK of the set, from 1, 0, 1 and 0 on xabac
+fn ends_of(set: &Class) -> [Option<usize>; 4] {
+    let text = b"xabac".as_slice();
+    [
+        any_end(text, set, 1),
+        notany_end(text, set, 0),
+        span_end(text, set, 1),
+        break_end(text, set, 0),
+    ]
+}
+
+// the members come back as they stood
 #[test]
 fn sets_have_one_end(rt: HostRuntime) -> Result<(), Fail> {
-    let text = b"xabac".as_slice();
-    let set = Class::new(Vec::from_slice(rt.alloc(), b"ab")?).ok_or("no set")?;
-    assert_eq!(rt; any_end(text, &set, 1), Some(2));
-    assert_eq!(rt; notany_end(text, &set, 0), Some(1));
-    assert_eq!(rt; span_end(text, &set, 1), Some(4));
-    Ok(())
-}
-
-// BREAK of one to four members on a text of which the last character alone is in each
-#[test]
-fn few_and_many_members_stop_alike(rt: HostRuntime) -> Result<(), Fail> {
-    let alloc = rt.alloc();
-    let text = b"the first of many characters;".as_slice();
-    let one = Class::new(Vec::from_slice(alloc, b";")?).ok_or("no set")?;
-    let two = Class::new(Vec::from_slice(alloc, b"1;")?).ok_or("no set")?;
-    let three = Class::new(Vec::from_slice(alloc, b"12;")?).ok_or("no set")?;
-    let four = Class::new(Vec::from_slice(alloc, b"123;")?).ok_or("no set")?;
-    assert_eq!(rt; break_end(text, &one, 4), Some(28));
-    assert_eq!(rt; break_end(text, &two, 4), Some(28));
-    assert_eq!(rt; break_end(text, &three, 4), Some(28));
-    assert_eq!(rt; break_end(text, &four, 4), Some(28));
-    assert_eq!(rt; break_end(text, &four, 29), None);
-    Ok(())
-}
-
-// the members of a set, as they were given
-#[test]
-fn members_come_back_as_they_stood(rt: HostRuntime) -> Result<(), Fail> {
-    let set = Class::new(Vec::from_slice(rt.alloc(), b"cabc")?).ok_or("no set")?;
-    assert_eq!(rt; set.members(), b"cabc".as_slice());
+    let set = Class::new(Vec::from_slice(rt.alloc(), b"bab")?).ok_or("no set")?;
+    check_eq(&rt, &set.members(), &b"bab".as_slice());
+    let expected = [Some(2), Some(1), Some(4), Some(1)];
+    check_eq(&rt, &ends_of(&set).as_slice(), &expected.as_slice());
     Ok(())
 }

@@ -1,12 +1,9 @@
 //! Limits of patterns and objects as they are written, from both sides, and the parts of an object.
-use sno_pattern::{Name, Names, Pattern, Text};
+use crate::written::{check_eq, name_of};
+use sno_pattern::{Names, Pattern};
 use sno_read::{Part, ReadFault, read_object, read_pattern};
 use std::alloc::Global;
 use std::test::Fail;
-
-fn name_of(characters: &[u8]) -> Result<Name, Fail> {
-    Ok(Name::read(characters).ok_or("no name")?)
-}
 
 /// A pattern as it is written: the first piece, the second and the last of them so many times, with the third between those two.
 #[derive(Clone, Copy)]
@@ -46,11 +43,15 @@ fn depth_of(pattern: &Pattern) -> usize {
     }
 }
 
-// The depth of the tree that the text is read as, or why it isn't read.
+// The depth of the tree that the text is read as, without definitions.
+fn depth_read(alloc: Global, names: &Names, text: &[u8]) -> Result<usize, ReadFault> {
+    Ok(depth_of(&read_pattern(alloc, names, 0, text)?))
+}
+
+// That depth, or why the text isn't read.
 fn line_of(alloc: Global, text: &[u8]) -> Result<String, Fail> {
-    let names = Names::new(alloc, &[])?;
-    match read_pattern(alloc, &names, 0, text) {
-        Ok(pattern) => Ok(format!(in alloc; "depth {}", depth_of(&pattern))?),
+    match depth_read(alloc, &Names::new(alloc, &[])?, text) {
+        Ok(depth) => Ok(format!(in alloc; "depth {depth}")?),
         Err(fault) => Ok(fault.to_string(alloc)?),
     }
 }
@@ -82,52 +83,93 @@ static LIMITS: [(Written, &str); 19] = [
 fn limits(rt: HostRuntime) -> Result<(), Fail> {
     for (written, expected) in &LIMITS {
         let text = text_of(rt.alloc(), *written)?;
-        assert_eq!(&rt; line_of(rt.alloc(), &text)?.as_str(), *expected);
+        check_eq(&rt, &line_of(rt.alloc(), &text)?.as_str(), expected);
     }
     Ok(())
+}
+
+fn names_of(alloc: Global, names: &[&str]) -> Result<Names, Fail> {
+    let mut read = Vec::new(alloc);
+    for name in names {
+        read.push(name_of(name)?)?;
+    }
+    Ok(Names::new(alloc, read.as_slice())?)
+}
+
+// Whether the text is read as a reference to this definition.
+fn is_reference(
+    alloc: Global,
+    names: &Names,
+    text: &[u8],
+    number: usize,
+) -> Result<bool, ReadFault> {
+    Ok(read_pattern(alloc, names, 1, text)? == Pattern::Ref(number))
 }
 
 // The longest name is that of a definition.
 #[test]
 fn longest_name(rt: HostRuntime) -> Result<(), Fail> {
     let longest = text_of(rt.alloc(), Written("", "a", "", "", 64))?;
-    let names = Names::new(rt.alloc(), &[name_of(&longest)?])?;
-    assert!(rt; read_pattern(rt.alloc(), &names, 1, &longest)? == Pattern::Ref(0));
+    let names = names_of(rt.alloc(), &[str::from_utf8(&longest)?])?;
+    check_eq(
+        &rt,
+        &is_reference(rt.alloc(), &names, &longest, 0),
+        &Ok(true),
+    );
     Ok(())
 }
 
 // P may be named as it is by what comes after its definition, and Q after a star alone.
 #[test]
 fn names_of_definitions(rt: HostRuntime) -> Result<(), Fail> {
-    let names = Names::new(rt.alloc(), &[name_of(b"P")?, name_of(b"Q")?])?;
-    assert!(rt; read_pattern(rt.alloc(), &names, 1, b"P")? == Pattern::Ref(0));
-    assert!(rt; read_pattern(rt.alloc(), &names, 1, b"*Q")? == Pattern::Ref(1));
-    let fault = read_pattern(rt.alloc(), &names, 1, b"Q").err();
-    assert_eq!(rt; fault, Some(ReadFault::UnknownName(0)));
+    let alloc = rt.alloc();
+    let names = names_of(alloc, &["P", "Q"])?;
+    let read = [
+        is_reference(alloc, &names, b"P", 0),
+        is_reference(alloc, &names, b"*Q", 1),
+        is_reference(alloc, &names, b"Q", 1),
+    ];
+    let expected = [Ok(true), Ok(true), Err(ReadFault::UnknownName(0))];
+    check_eq(&rt, &read.as_slice(), &expected.as_slice());
     Ok(())
+}
+
+// How many parts the object of so many blanks has.
+fn parts_of_blanks(alloc: Global, names: &Names, count: usize) -> Result<usize, ReadFault> {
+    let blanks = vec![in alloc; b' '; count].map_err(|_| ReadFault::Memory)?;
+    Ok(read_object(alloc, names, &blanks)?.parts().len())
 }
 
 #[test]
 fn longest_object(rt: HostRuntime) -> Result<(), Fail> {
     let names = Names::new(rt.alloc(), &[])?;
-    let longest = text_of(rt.alloc(), Written("", " ", "", "", 4_096))?;
-    assert_eq!(rt; read_object(rt.alloc(), &names, &longest)?.parts().len(), 0);
-    let more = text_of(rt.alloc(), Written("", " ", "", "", 4_097))?;
-    let fault = read_object(rt.alloc(), &names, &more).err();
-    assert_eq!(rt; fault, Some(ReadFault::TooLong(4_096)));
+    let counts = [
+        parts_of_blanks(rt.alloc(), &names, 4_096),
+        parts_of_blanks(rt.alloc(), &names, 4_097),
+    ];
+    let expected = [Ok(0), Err(ReadFault::TooLong(4_096))];
+    check_eq(&rt, &counts.as_slice(), &expected.as_slice());
     Ok(())
+}
+
+// A part in words: a variable's name, or characters in quotes.
+fn part_line(alloc: Global, part: &Part) -> Result<String, Fail> {
+    match part {
+        Part::Var(name) => Ok(name.to_string(alloc)?),
+        Part::Quoted(text) => Ok(format!(in alloc; "'{}'", str::from_utf8(text.bytes())?)?),
+    }
 }
 
 #[test]
 fn parts_of_an_object(rt: HostRuntime) -> Result<(), Fail> {
-    let names = Names::new(rt.alloc(), &[name_of(b"P")?])?;
-    let object = read_object(rt.alloc(), &names, b" V '=' K ")?;
-    let parts = [
-        Part::Var(name_of(b"V")?),
-        Part::Quoted(Text::new(Vec::from_slice(rt.alloc(), b"=")?)?),
-        Part::Var(name_of(b"K")?),
-    ];
-    assert!(rt; object.parts() == parts.as_slice());
+    let alloc = rt.alloc();
+    let object = read_object(alloc, &names_of(alloc, &["P"])?, b" V '=' K ")?;
+    let mut line = String::new(alloc);
+    for part in object.parts() {
+        line.push_str(part_line(alloc, part)?.as_str())?;
+        line.push_str(";")?;
+    }
+    check_eq(&rt, &line.as_str(), &"V;'=';K;");
     Ok(())
 }
 
@@ -135,6 +177,6 @@ fn parts_of_an_object(rt: HostRuntime) -> Result<(), Fail> {
 #[test]
 fn refused_memory_is_printed(rt: HostRuntime) -> Result<(), Fail> {
     let line = ReadFault::Memory.to_string(rt.alloc())?;
-    assert_eq!(rt; line.as_str(), "out of memory");
+    check_eq(&rt, &line.as_str(), &"out of memory");
     Ok(())
 }

@@ -1,5 +1,6 @@
 //! What a test tells of its calls, a line each, for `tests/refused_growths` to read.
 use std::fmt;
+use std::process::Abort;
 use std::test::Fail;
 
 /// What a call came to.
@@ -18,6 +19,16 @@ impl fmt::Display for Answer {
             Answer::Refused => "refused",
         })
     }
+}
+
+/// Stops the test where the value is another than the expected one.
+pub(crate) fn check_eq<T: PartialEq + fmt::Debug>(rt: &impl Abort, found: &T, expected: &T) {
+    assert!(rt; found == expected, "{found:?} is not {expected:?}");
+}
+
+/// Stops the test where the bytes are others than the expected ones.
+pub(crate) fn check_bytes(rt: &impl Abort, found: &[u8], expected: &[u8]) {
+    assert_eq!(rt; found, expected);
 }
 
 /// Tells that all is made that the calls need.

@@ -3,7 +3,7 @@ ghost use Rattle.std.specs.Prelude.{IfErr};
 ghost use Rattle.sno_book.specs.Books.{view_of};
 ghost use Rattle.sno_book.specs.Views.{IsPrefix};
 
-use crate::answers::{Answer, tell, tell_ready};
+use crate::answers::{Answer, check_eq, tell, tell_ready};
 use crate::jobs::{book, check_book, check_exchange, exchange, proposal, row};
 use sno_book::{
     Book, BookFault, CommitFault, Proposal, Snapshot, StatementFault, Text, TextName, propose,
@@ -25,7 +25,7 @@ fn open(rt: &impl Abort, alloc: Global, texts: Vec<(TextName, Text)>) -> Answer 
             Answer::Given
         }
         Err(fault) => {
-            assert_eq!(rt; fault, BookFault::Memory);
+            check_eq(rt, &fault, &BookFault::Memory);
             Answer::Refused
         }
     }
@@ -50,7 +50,7 @@ fn perform_once(rt: &impl Abort, alloc: Global, statement: &Statement, text: &Te
             Answer::Given
         }
         Err(fault) => {
-            assert_eq!(rt; fault, StatementFault::Memory);
+            check_eq(rt, &fault, &StatementFault::Memory);
             Answer::Refused
         }
     }
@@ -75,11 +75,11 @@ fn propose_once(
     match propose(alloc, statement, snapshot) {
         Ok(proposal) => {
             check_exchange(rt, proposal.outcome());
-            assert_eq!(rt; (proposal.place(), proposal.version()), (0, 0));
+            check_eq(rt, &(proposal.place(), proposal.version()), &(0, 0));
             Answer::Given
         }
         Err(fault) => {
-            assert_eq!(rt; fault, StatementFault::Memory);
+            check_eq(rt, &fault, &StatementFault::Memory);
             Answer::Refused
         }
     }
@@ -112,7 +112,7 @@ fn prepare(rt: &impl Abort, book: &mut Book, proposal: Proposal) -> (Answer, Pro
             (Answer::Given, ready.back())
         }
         Err((fault, back)) => {
-            assert_eq!(rt; fault, CommitFault::Memory);
+            check_eq(rt, &fault, &CommitFault::Memory);
             check_book(rt, book, BEFORE, 0, 0);
             (Answer::Refused, back)
         }
@@ -141,12 +141,12 @@ fn commit(rt: &impl Abort, book: &mut Book, proposal: Proposal) -> Result<(), Pr
 {
     match book.commit(proposal) {
         Ok(receipt) => {
-            assert_eq!(rt; receipt.index, 0);
+            check_eq(rt, &receipt.index, &0);
             check_book(rt, book, AFTER, 1, 1);
             Ok(())
         }
         Err((fault, back)) => {
-            assert_eq!(rt; fault, CommitFault::Memory);
+            check_eq(rt, &fault, &CommitFault::Memory);
             check_book(rt, book, BEFORE, 0, 0);
             check_exchange(rt, back.outcome());
             Err(back)

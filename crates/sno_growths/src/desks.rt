@@ -3,7 +3,7 @@ ghost use Rattle.std.specs.Prelude.{◌≡◌, [], IfOk, IfErr};
 ghost use Rattle.sno_book.specs.Views.{IsPrefix};
 ghost use Rattle.sno_desk.specs.Seen.{view_after};
 
-use crate::answers::{Answer, tell, tell_ready};
+use crate::answers::{Answer, check_bytes, check_eq, tell, tell_ready};
 use crate::jobs::{book, check_book, statement};
 use sno_book::Book;
 use sno_desk::{
@@ -33,14 +33,14 @@ fn open_and_close<L: Naming, R: Wait + Abort>(
 {
     match Desk::<L>::new(rt, alloc, blank, book, 2) {
         Ok((desk, seats)) => {
-            assert_eq!(rt; seats.len(), 2);
+            check_eq(rt, &seats.len(), &2);
             let closed = close(rt, desk, seats);
             let book = closed.ok().expect(rt, "it is closed");
             check_book(rt, &book, b"x".as_slice(), 0, 0);
             Ok(())
         }
         Err((fault, book)) => {
-            assert_eq!(rt; fault, DeskFault::Memory);
+            check_eq(rt, &fault, &DeskFault::Memory);
             check_book(rt, &book, b"x".as_slice(), 0, 0);
             Err(book)
         }
@@ -105,10 +105,10 @@ fn check_seat<L: Naming>(
     accepted: u64,
     text: &[u8],
 ) {
-    assert_eq!(rt; seat.accepted(), accepted);
+    check_eq(rt, &seat.accepted(), &accepted);
     let snapshot = seat.snapshot(job.text()).ok().expect(rt, "it is shown");
-    assert_eq!(rt; snapshot.version, accepted);
-    assert_eq!(rt; snapshot.text.bytes(), text);
+    check_eq(rt, &snapshot.version, &accepted);
+    check_bytes(rt, snapshot.text.bytes(), text);
 }
 
 /// What stands after the call, as it came out.
@@ -141,12 +141,12 @@ impl Turn for Commits {
         tell_ready(rt)?;
         let answer = match desk.commit(rt, seat, proposal) {
             Ok(receipt) => {
-                assert_eq!(rt; receipt.index, 0);
+                check_eq(rt, &receipt.index, &0);
                 Answer::Given
             }
             Err((fault, back)) => {
-                assert_eq!(rt; fault, CommitFault::Memory);
-                assert_eq!(rt; back.version(), 0);
+                check_eq(rt, &fault, &CommitFault::Memory);
+                check_eq(rt, &back.version(), &0);
                 Answer::Refused
             }
         };
@@ -170,11 +170,11 @@ impl Turn for Submits {
         tell_ready(rt)?;
         let answer = match desk.submit(rt, alloc, seat, shared, 100, &OpenGate) {
             Ok(receipt) => {
-                assert_eq!(rt; receipt.index, 0);
+                check_eq(rt, &receipt.index, &0);
                 Answer::Given
             }
             Err(fault) => {
-                assert_eq!(rt; fault, SubmitFault::Memory);
+                check_eq(rt, &fault, &SubmitFault::Memory);
                 Answer::Refused
             }
         };

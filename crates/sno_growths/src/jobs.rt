@@ -3,9 +3,10 @@ ghost use Rattle.std.specs.Prelude.{◌≡◌, [], IfOk};
 ghost use Rattle.sno_book.specs.Books.{view_of};
 ghost use Rattle.sno_book.specs.Views.{IsPrefix};
 
+use crate::answers::{check_bytes, check_eq};
 use sno_book::{Book, Proposal, Text, TextName, propose};
-use sno_pattern::{Names, Rules};
-use sno_read::{read_object, read_pattern};
+use sno_pattern::{Names, Pattern, Rules};
+use sno_read::{Object, read_object, read_pattern};
 use sno_statement::{Datum, Outcome, Statement};
 use std::alloc::Global;
 use std::process::Abort;
@@ -33,6 +34,20 @@ pub(crate) fn book(alloc: Global, texts: &[(&str, &str)]) -> Result<Book, Fail>
     Ok(book)
 }
 
+/// The pattern and the object, as they are written.
+fn parts(
+    alloc: Global,
+    rules: &Rules,
+    pattern: &str,
+    object: &str,
+) -> Result<(Pattern, Object), Fail> {
+    let pattern = read_pattern(alloc, rules.names(), 0, pattern.as_bytes())?;
+    Ok((
+        pattern,
+        read_object(alloc, rules.names(), object.as_bytes())?,
+    ))
+}
+
 /// A statement that replaces what the pattern matches in the text by the object.
 pub(crate) fn statement(
     rt: &impl Abort,
@@ -41,12 +56,13 @@ pub(crate) fn statement(
     pattern: &str,
     object: &str,
 ) -> Result<Arc<Statement>, Fail> {
-    let rules = Rules::admit(alloc, Names::new(alloc, &[])?, Vec::new(alloc))?;
-    let pattern = read_pattern(alloc, rules.names(), 0, pattern.as_bytes())?;
-    let object = read_object(alloc, rules.names(), object.as_bytes())?;
-    assert!(rt; rules.covers(&pattern));
     let text = TextName::new(alloc, text.as_bytes())?;
-    let rules = Arc::new(alloc, rules)?;
+    let rules = Arc::new(
+        alloc,
+        Rules::admit(alloc, Names::new(alloc, &[])?, Vec::new(alloc))?,
+    )?;
+    let (pattern, object) = parts(alloc, &rules, pattern, object)?;
+    assert!(rt; rules.covers(&pattern));
     let statement = Statement::new(1, rules, pattern, Some(object), text, false);
     Ok(Arc::new(alloc, statement)?)
 }
@@ -67,7 +83,7 @@ pub(crate) fn proposal(alloc: Global, book: &Book, job: &Arc<Statement>) -> Resu
 
 fn check_string(rt: &impl Abort, datum: Option<&Datum>, wanted: &[u8]) {
     match datum {
-        Some(Datum::Str(text)) => assert_eq!(rt; text.bytes(), wanted),
+        Some(Datum::Str(text)) => check_bytes(rt, text.bytes(), wanted),
         Some(Datum::Int(_)) | None => assert!(rt; false, "no string"),
     }
 }
@@ -81,11 +97,11 @@ pub(crate) fn check_exchange(rt: &impl Abort, outcome: &Outcome) {
             bindings,
             after,
         } => {
-            assert_eq!(rt; (*start, *end, bindings.len()), (0, 3, 2));
+            check_eq(rt, &(*start, *end, bindings.len()), &(0, 3, 2));
             check_string(rt, bindings.get(0).map(|b| b.1), b"k".as_slice());
             check_string(rt, bindings.get(1).map(|b| b.1), b"v".as_slice());
             let after = after.as_ref().expect(rt, "there is a new text");
-            assert_eq!(rt; after.bytes(), b"v=k".as_slice());
+            check_bytes(rt, after.bytes(), b"v=k".as_slice());
         }
         Outcome::Failed { .. } | Outcome::Repeated { .. } => assert!(rt; false, "no match"),
     }
@@ -94,7 +110,7 @@ pub(crate) fn check_exchange(rt: &impl Abort, outcome: &Outcome) {
 /// Compares the book's first text and its version, and how many entries there are.
 pub(crate) fn check_book(rt: &impl Abort, book: &Book, text: &[u8], version: u64, entries: usize) {
     let (_, characters, at) = book.text(0).expect(rt, "there is a text");
-    assert_eq!(rt; characters.bytes(), text);
-    assert_eq!(rt; at, version);
-    assert_eq!(rt; book.journal().len(), entries);
+    check_bytes(rt, characters.bytes(), text);
+    check_eq(rt, &at, &version);
+    check_eq(rt, &book.journal().len(), &entries);
 }

@@ -1,7 +1,7 @@
 //! Names, definitions, patterns, objects, and what is compiled of them.
 ghost use Rattle.std.specs.Prelude.{IsTrue, length};
 
-use crate::answers::{Answer, tell, tell_ready};
+use crate::answers::{Answer, check_bytes, check_eq, tell, tell_ready};
 use sno_machine::{Code, MatchFault, compile};
 use sno_pattern::{Name, NameFault, Names, NamesFault, Pattern, Rules, RulesFault, Text, TextName};
 use sno_read::{Part, ReadFault, read_object, read_pattern};
@@ -17,11 +17,11 @@ pub(crate) fn name(rt: &impl Abort, bytes: &[u8]) -> Name {
 fn make_text_name(rt: &impl Abort, alloc: Global) -> Answer {
     match TextName::new(alloc, b"T".as_slice()) {
         Ok(name) => {
-            assert_eq!(rt; name.bytes(), b"T".as_slice());
+            check_bytes(rt, name.bytes(), b"T".as_slice());
             Answer::Given
         }
         Err(fault) => {
-            assert_eq!(rt; fault, NameFault::Memory);
+            check_eq(rt, &fault, &NameFault::Memory);
             Answer::Refused
         }
     }
@@ -37,12 +37,12 @@ fn a_name_of_a_text(rt: HostRuntime) -> Result<(), Fail> {
 fn make_names(rt: &impl Abort, alloc: Global, names: &[Name; 2]) -> Answer {
     match Names::new(alloc, names.as_slice()) {
         Ok(made) => {
-            assert_eq!(rt; made.len(), 2);
-            assert_eq!(rt; made.place(&names[1]), Some(1));
+            check_eq(rt, &made.len(), &2);
+            check_eq(rt, &made.place(&names[1]), &Some(1));
             Answer::Given
         }
         Err(fault) => {
-            assert_eq!(rt; fault, NamesFault::Memory);
+            check_eq(rt, &fault, &NamesFault::Memory);
             Answer::Refused
         }
     }
@@ -78,10 +78,10 @@ fn definitions(
 static NUMBERS: [(&str, &str); 2] = [("D", "SPAN('0123456789')"), ("N", "D '.' D")];
 
 fn admit(rt: &impl Abort, alloc: Global, names: Names, bodies: Vec<Pattern>) -> Answer {
-    assert_eq!(rt; names.len(), bodies.len());
+    assert!(rt; names.len() == bodies.len());
     match Rules::admit(alloc, names, bodies) {
         Ok(rules) => {
-            assert_eq!(rt; rules.len(), 2);
+            check_eq(rt, &rules.len(), &2);
             Answer::Given
         }
         Err(fault) => {
@@ -108,7 +108,7 @@ fn read_assigned(rt: &impl Abort, alloc: Global, names: &Names, expected: &Patte
             Answer::Given
         }
         Err(fault) => {
-            assert_eq!(rt; fault, ReadFault::Memory);
+            check_eq(rt, &fault, &ReadFault::Memory);
             Answer::Refused
         }
     }
@@ -135,7 +135,7 @@ fn read_three_parts(rt: &impl Abort, alloc: Global, names: &Names, expected: &[P
             Answer::Given
         }
         Err(fault) => {
-            assert_eq!(rt; fault, ReadFault::Memory);
+            check_eq(rt, &fault, &ReadFault::Memory);
             Answer::Refused
         }
     }
@@ -167,7 +167,7 @@ const TWO_ROWS: &[u8] = b"*S . A 'a' *S . B 'b'";
 
 fn admitted_row(rt: &impl Abort, alloc: Global) -> Result<Rules, Fail> {
     let (names, bodies) = definitions(rt, alloc, ROW.as_slice())?;
-    assert_eq!(rt; names.len(), bodies.len());
+    assert!(rt; names.len() == bodies.len());
     Ok(Rules::admit(alloc, names, bodies)?)
 }
 
@@ -194,7 +194,7 @@ fn match_once(rt: &impl Abort, alloc: Global, code: &Code<'_>, text: &Text) -> A
     match code.first(alloc, text, true, 1_000_000) {
         Ok(found) => {
             let hit = found.end.as_ref().expect(rt, "it matches");
-            assert_eq!(rt; (hit.start, hit.end), (0, 4));
+            check_eq(rt, &(hit.start, hit.end), &(0, 4));
             let expected = [
                 (name(rt, b"A".as_slice()), 0, 2),
                 (name(rt, b"B".as_slice()), 3, 3),
@@ -203,7 +203,7 @@ fn match_once(rt: &impl Abort, alloc: Global, code: &Code<'_>, text: &Text) -> A
             Answer::Given
         }
         Err(fault) => {
-            assert_eq!(rt; fault, MatchFault::Memory);
+            check_eq(rt, &fault, &MatchFault::Memory);
             Answer::Refused
         }
     }

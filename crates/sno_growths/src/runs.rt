@@ -2,7 +2,7 @@
 ghost use Rattle.std.specs.Prelude.{IfSome, ◌≤◌};
 ghost use Rattle.sno_rewrite.specs.Runs.{AreInLimits};
 
-use crate::answers::{Answer, tell, tell_ready};
+use crate::answers::{Answer, check_bytes, check_eq, tell, tell_ready};
 use sno_rewrite::{
     Options, OptionsFault, Report, RunFault, options_of, run, run_serial, run_shared,
 };
@@ -34,13 +34,14 @@ const PLAIN: Options = Options {
 fn read_words(rt: &impl Abort, alloc: Global, words: &[String]) -> Answer {
     match options_of(alloc, words) {
         Ok(options) => {
-            assert_eq!(rt;
-                options,
-                Options {
+            check_eq(
+                rt,
+                &options,
+                &Options {
                     json: true,
                     tries: 5,
                     ..PLAIN
-                }
+                },
             );
             Answer::Given
         }
@@ -68,12 +69,12 @@ fn answer_of(rt: &impl Abort, report: Result<Report, RunFault>, beginning: &str)
     match report {
         Ok(report) => {
             assert!(rt; report.bytes.starts_with(beginning.as_bytes()));
-            assert_eq!(rt; report.bytes.len(), LISTING.len());
-            assert_eq!(rt; report.refused, 1);
+            check_eq(rt, &report.bytes.len(), &LISTING.len());
+            check_eq(rt, &report.refused, &1);
             Answer::Given
         }
         Err(fault) => {
-            assert_eq!(rt; fault, RunFault::Memory);
+            check_eq(rt, &fault, &RunFault::Memory);
             Answer::Refused
         }
     }
@@ -109,12 +110,12 @@ fn run_once<R: Threads + Wait + Abort + Sync>(
     let mut reader = DOCUMENT.as_bytes();
     match run(rt, alloc, &mut reader, &mut written, &PLAIN) {
         Ok(status) => {
-            assert_eq!(rt; status, 1);
-            assert_eq!(rt; written.as_slice(), LISTING.as_bytes());
+            check_eq(rt, &status, &1);
+            check_bytes(rt, written.as_slice(), LISTING.as_bytes());
             Answer::Given
         }
         Err(fault) => {
-            assert_eq!(rt; fault, RunFault::Memory);
+            check_eq(rt, &fault, &RunFault::Memory);
             assert!(rt; written.is_empty());
             Answer::Refused
         }

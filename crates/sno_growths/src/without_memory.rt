@@ -1,7 +1,7 @@
 //! Calls that take no memory, and so have their answer whatever is refused.
 ghost use Rattle.std.specs.Prelude.{◌≡◌, []};
 
-use crate::answers::{Answer, tell, tell_ready};
+use crate::answers::{Answer, check_bytes, check_eq, tell, tell_ready};
 use crate::jobs::{book, check_book, exchange, proposal};
 use crate::patterns::name;
 use sno_book::Book;
@@ -26,13 +26,13 @@ fn names_sets_and_texts_without_memory(rt: HostRuntime) -> Result<(), Fail> {
     tell_ready(&rt)?;
     let word = Name::read(b"ARB".as_slice()).expect(&rt, "it is a name");
     assert!(rt; word.is_reserved() && Name::read(b"1A".as_slice()).is_none());
-    assert_eq!(rt; names.place(&name(&rt, b"D".as_slice())), Some(0));
-    assert_eq!(rt; names.place(&word), None);
+    check_eq(&rt, &names.place(&name(&rt, b"D".as_slice())), &Some(0));
+    check_eq(&rt, &names.place(&word), &None);
     let class = Class::new(members).expect(&rt, "it is a set");
     assert!(rt; class.has(b'b') && !class.has(b'c') && Class::new(none).is_none());
     let text = Text::new(characters)?;
-    assert_eq!(rt; text.bytes(), b"xyz".as_slice());
-    assert_eq!(rt; status_of(&RunFault::NotJson), 2);
+    check_bytes(&rt, text.bytes(), b"xyz".as_slice());
+    check_eq(&rt, &status_of(&RunFault::NotJson), &2);
     tell(&rt, Answer::Given)
 }
 
@@ -48,8 +48,12 @@ fn a_statement_without_memory(rt: HostRuntime) -> Result<(), Fail> {
     assert!(rt; rules.covers(&pattern));
     let statement = Statement::new(7, rules, pattern, Some(object), text, true);
     let statement = statement.limited(5).repeated(3);
-    assert_eq!(rt; (statement.number(), statement.limit()), (7, 5));
-    assert_eq!(rt; (statement.repeat(), statement.anchored()), (Some(3), true));
+    check_eq(&rt, &(statement.number(), statement.limit()), &(7, 5));
+    check_eq(
+        &rt,
+        &(statement.repeat(), statement.anchored()),
+        &(Some(3), true),
+    );
     tell(&rt, Answer::Given)
 }
 
@@ -66,8 +70,8 @@ fn a_book_without_memory(rt: HostRuntime) -> Result<(), Fail> {
     };
     tell_ready(&rt)?;
     check_book(&rt, &book, b"k=v".as_slice(), 0, 0);
-    assert_eq!(rt; ready.back().version(), 0);
-    assert_eq!(rt; book.opening().place(&name), Some(0));
+    check_eq(&rt, &ready.back().version(), &0);
+    check_eq(&rt, &book.opening().place(&name), &Some(0));
     assert!(rt; book.has_spare());
     tell(&rt, Answer::Given)
 }
@@ -85,7 +89,7 @@ fn a_commit_is_finished_without_memory(rt: HostRuntime) -> Result<(), Fail> {
     tell_ready(&rt)?;
     let receipt = book.finish(ready);
     check_book(&rt, &book, b"v=k".as_slice(), 1, 1);
-    assert_eq!(rt; book.audit(slice::from_ref(&receipt)), Ok(()));
+    check_eq(&rt, &book.audit(slice::from_ref(&receipt)), &Ok(()));
     tell(&rt, Answer::Given)
 }
 
@@ -105,7 +109,7 @@ fn count_and_close<L: Naming, R: Wait + Abort + Print>(
     let (desk, seats) = Desk::<L>::new(rt, alloc, blank, book, 2).map_err(|(fault, _)| fault)?;
     let told = tell_ready(rt);
     for seat in &seats {
-        assert_eq!(rt; (seat.accepted(), seat.seen()), (0, 0));
+        check_eq(rt, &(seat.accepted(), seat.seen()), &(0, 0));
     }
     let closed = close(rt, desk, seats);
     let book = closed.ok().expect(rt, "it is closed");

@@ -1,7 +1,7 @@
 //! Two workers with three jobs.
 ghost use Rattle.std.specs.Prelude.{◌≡◌, []};
 
-use crate::answers::{Answer, tell, tell_ready};
+use crate::answers::{Answer, check_eq, tell, tell_ready};
 use crate::jobs::{book, statement};
 use sno_book::Book;
 use sno_desk::{
@@ -21,7 +21,7 @@ fn answer_of(rt: &impl Abort, replies: Result<Vec<Reply>, WorkersFault>) -> Answ
     let Ok(replies) = replies else {
         return Answer::Refused;
     };
-    assert_eq!(rt; replies.len(), 3);
+    check_eq(rt, &replies.len(), &3);
     let mut answer = Answer::Given;
     let mut is_stopped = false;
     for reply in &replies {
@@ -54,7 +54,7 @@ fn work<L: Naming + Send + Sync, R: Threads + Wait + Abort + Print + Sync>(
     let told = tell_ready(rt);
     let replies = run_workers(rt, alloc, &desk, seats.as_mut_slice(), jobs, 100, &OpenGate);
     let answer = answer_of(rt, replies);
-    assert_eq!(rt; seats.len(), 2);
+    assert!(rt; seats.len() == 2);
     let shares = (seats[0].accepted(), seats[1].accepted());
     let closed = close(rt, desk, seats).map_err(|(fault, _)| fault);
     told?;
@@ -82,9 +82,13 @@ fn jobs_are_done_by_workers(rt: HostRuntime) -> Result<(), Fail> {
     jobs.push(statement(&rt, alloc, "C", "'c'", "'x'")?)?;
     let book = book(alloc, &[("A", "a"), ("B", "b"), ("C", "c")])?;
     let (answer, (first, second), book) = work_at_own_desk(&rt, alloc, book, jobs.as_slice())?;
-    assert_eq!(rt; book.journal().len() as u64, first.saturating_add(second));
+    check_eq(
+        &rt,
+        &(book.journal().len() as u64),
+        &first.saturating_add(second),
+    );
     if answer == Answer::Given {
-        assert_eq!(rt; (first, second), (2, 1));
+        check_eq(&rt, &(first, second), &(2, 1));
     }
     tell(&rt, answer)
 }

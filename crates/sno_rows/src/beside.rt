@@ -31,18 +31,29 @@ fn is_refused(code: &Code, alloc: Global, text: &Text, anchored: bool, limit: u3
     }
 }
 
+/// How many trials the evaluator counts, and what it finds.
+fn plain(
+    alloc: Global,
+    statement: &Statement,
+    text: &Text,
+    anchored: bool,
+) -> Result<(u32, Found), Fail> {
+    let (rules, pattern) = (statement.rules(), statement.pattern());
+    let trials = u32::try_from(sno_eval::trials(alloc, rules, pattern, text, anchored)?)?;
+    let found = sno_eval::first(alloc, rules, pattern, text, anchored)?;
+    Ok((trials, found))
+}
+
 /// The matcher answers as the evaluator does within as many trials as the evaluator counts, and within one less, where there are any, refuses the
 /// match. Gives how many there are.
 fn check_matcher(
     alloc: Global,
     code: &Code,
-    statement: &Statement,
     text: &Text,
     anchored: bool,
+    plain: (u32, Found),
 ) -> Result<u32, Fail> {
-    let (rules, pattern) = (statement.rules(), statement.pattern());
-    let trials = u32::try_from(sno_eval::trials(alloc, rules, pattern, text, anchored)?)?;
-    let plain = sno_eval::first(alloc, rules, pattern, text, anchored)?;
+    let (trials, plain) = plain;
     if !is_same(&code.first(alloc, text, anchored, trials)?, &plain) {
         return Err("the matcher doesn't find what the plain evaluator does".into());
     }
@@ -53,6 +64,26 @@ fn check_matcher(
     }
 }
 
+/// Compares the matcher with the evaluator, anchored and not. Gives the trials of the statement's match.
+fn trials_beside(alloc: Global, statement: &Statement, text: &Text) -> Result<u32, Fail> {
+    let code = compile(alloc, statement.rules(), statement.pattern())?;
+    let other = !statement.anchored();
+    check_matcher(
+        alloc,
+        &code,
+        text,
+        other,
+        plain(alloc, statement, text, other)?,
+    )?;
+    check_matcher(
+        alloc,
+        &code,
+        text,
+        !other,
+        plain(alloc, statement, text, !other)?,
+    )
+}
+
 /// Compares the matcher with the evaluator, anchored and not, and the trials of a match that isn't repeated with those expected, if any are.
 pub(crate) fn check_beside(
     alloc: Global,
@@ -60,14 +91,7 @@ pub(crate) fn check_beside(
     text: &Text,
     expected: Option<u32>,
 ) -> Result<(), Fail> {
-    let code = compile(alloc, statement.rules(), statement.pattern())?;
-    let anchored = check_matcher(alloc, &code, statement, text, true)?;
-    let floating = check_matcher(alloc, &code, statement, text, false)?;
-    let trials = if statement.anchored() {
-        anchored
-    } else {
-        floating
-    };
+    let trials = trials_beside(alloc, statement, text)?;
     if statement.repeat().is_some() || expected.unwrap_or(trials) == trials {
         Ok(())
     } else {

@@ -2,23 +2,16 @@
 use crate::beside::check_beside;
 use crate::example::{cut, definitions, row};
 use crate::row::{
-    Definition, Row, admit, limited, names_of, performance_line, refusal_line, statement, text_of,
+    Definition, Heading, Row, admit, limited, names_of, performance_line, refusal_line, statement,
+    text_of,
 };
+use crate::steps::check_equal;
 use crate::trees::tree;
-use sno_pattern::Text;
+use sno_pattern::{Text, TextName};
 use sno_read::read_pattern;
 use sno_statement::Statement;
 use std::alloc::Global;
 use std::test::Fail;
-
-/// The line is the one that was expected.
-fn check_equal(found: &str, expected: &str) -> Result<(), Fail> {
-    if found == expected {
-        Ok(())
-    } else {
-        Err(Fail::new(format_args!("it is {found}, and not {expected}")))
-    }
-}
 
 /// The definitions are admitted, or refused as the words say.
 fn check_definitions(
@@ -90,7 +83,15 @@ fn check_statement(alloc: Global, statement: Statement, row: &Row<'_>) -> Result
 
 fn check_row(alloc: Global, written: &[Definition<'_>], row: &Row<'_>) -> Result<(), Fail> {
     let made = match admit(alloc, written)? {
-        Ok(rules) => statement(alloc, rules, row.task)?,
+        Ok(rules) => {
+            let text = TextName::new(alloc, b"T".as_slice())?;
+            let heading = Heading {
+                number: 1,
+                text,
+                task: row.task,
+            };
+            statement(alloc, rules, heading)?
+        }
         Err(refused) => Err(refused),
     };
     match made {

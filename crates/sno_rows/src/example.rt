@@ -63,7 +63,7 @@ pub(crate) fn definitions(
 }
 
 /// The number between these words.
-fn number(words: &str, before: &str, after: &str) -> Result<u32, Fail> {
+pub(crate) fn number(words: &str, before: &str, after: &str) -> Result<u32, Fail> {
     let words = words.strip_prefix(before).ok_or("no example")?;
     let digits = words.strip_suffix(after).ok_or("no example")?;
     Ok(digits.parse::<u32>()?)

@@ -21,9 +21,13 @@ mod beside;
 mod checks;
 mod example;
 mod row;
+mod shelf;
+mod steps;
 mod trees;
 
 use crate::checks::check_line;
+use crate::shelf::Shelf;
+use crate::steps::take_step;
 use std::alloc::Global;
 use std::io::Read;
 use std::test::Fail;
@@ -35,28 +39,36 @@ fn read_all<R: Read + Drop>(alloc: Global, mut reader: R) -> Result<Vec<u8>, Fai
     Ok(bytes)
 }
 
-/// Checks the line, where it is an example, and says whether it is.
-fn check(rt: &(impl AllocGlobal + Eprint), line: &str) -> Result<bool, Fail> {
-    if !line.starts_with("- ") {
+/// Checks the line, where it is an example or a step, and says whether it is.
+fn check_or_take(alloc: Global, shelf: &mut Shelf, line: &str) -> Result<bool, Fail> {
+    if line.starts_with("- ") {
+        check_line(alloc, line)?;
+    } else if line.starts_with("+ ") {
+        take_step(alloc, shelf, line)?;
+    } else {
         return Ok(false);
     }
-    match check_line(rt.alloc(), line) {
-        Ok(()) => Ok(true),
-        Err(fail) => {
-            let _told = eprintln!(rt; "{line}");
-            Err(fail)
-        }
+    Ok(true)
+}
+
+/// Does so, and shows the line where what it says doesn't hold.
+fn check(rt: &(impl AllocGlobal + Eprint), shelf: &mut Shelf, line: &str) -> Result<bool, Fail> {
+    let checked = check_or_take(rt.alloc(), shelf, line);
+    if checked.is_err() {
+        let _told = eprintln!(rt; "{line}");
     }
+    checked
 }
 
 fn main(rt: HostRuntime) -> Result<(), Fail> {
     let bytes = read_all(rt.alloc(), rt.stdin())?;
+    let mut shelf = Shelf::new(rt.alloc())?;
     let mut count = 0_u64;
     for line in str::from_utf8(&bytes)?.lines() {
-        if check(&rt, line)? {
+        if check(&rt, &mut shelf, line)? {
             count = count.saturating_add(1);
         }
     }
-    println!(rt; "{count} examples hold")?;
+    println!(rt; "{count} examples and steps hold")?;
     Ok(())
 }

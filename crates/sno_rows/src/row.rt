@@ -125,21 +125,37 @@ pub(crate) fn admit(
     }
 }
 
+/// What a statement has beside its definitions and its parts: its number, the name of its text, and the task.
+#[derive(Drop)]
+pub(crate) struct Heading<'l> {
+    pub number: u32,
+    pub text: TextName,
+    pub task: Task<'l>,
+}
+
 /// The statement that does the task, if its pattern and its object are read.
 pub(crate) fn statement(
     alloc: Global,
     rules: Rules,
-    task: Task<'_>,
+    heading: Heading<'_>,
 ) -> Result<Result<Statement, Refused>, Fail> {
-    let (pattern, object) = match parts(alloc, &rules, task) {
-        Ok(parts) => parts,
-        Err(fault) => return Ok(Err(Refused::Read(fault))),
-    };
+    match parts(alloc, &rules, heading.task) {
+        Err(fault) => Ok(Err(Refused::Read(fault))),
+        Ok((pattern, object)) => Ok(Ok(whole(Arc::new(alloc, rules)?, pattern, object, heading)?)),
+    }
+}
+
+/// The statement of these parts.
+fn whole(
+    rules: Arc<Rules>,
+    pattern: Pattern,
+    object: Option<Object>,
+    heading: Heading<'_>,
+) -> Result<Statement, Fail> {
     if rules.covers(&pattern) {
-        let rules = Arc::new(alloc, rules)?;
-        let text = TextName::new(alloc, b"T".as_slice())?;
-        let statement = Statement::new(1, rules, pattern, object, text, task.is_anchored());
-        Ok(Ok(task.bound(statement)?))
+        let Heading { number, text, task } = heading;
+        let anchored = task.is_anchored();
+        task.bound(Statement::new(number, rules, pattern, object, text, anchored))
     } else {
         Err("the definitions don't cover the pattern".into())
     }
@@ -213,7 +229,7 @@ pub(crate) fn performance_line(
     }
 }
 
-fn outcome_line(alloc: Global, outcome: &Outcome) -> Result<String, Fail> {
+pub(crate) fn outcome_line(alloc: Global, outcome: &Outcome) -> Result<String, Fail> {
     let (mut line, bindings) = match outcome {
         Outcome::Failed { bindings } => (String::from_str(alloc, "failed")?, bindings),
         Outcome::Matched {
@@ -255,7 +271,7 @@ fn tell_value(alloc: Global, value: &Datum, line: &mut String) -> Result<(), Fai
     }
 }
 
-fn tell_text(alloc: Global, text: &Text, line: &mut String) -> Result<(), Fail> {
+pub(crate) fn tell_text(alloc: Global, text: &Text, line: &mut String) -> Result<(), Fail> {
     let characters = str::from_utf8(text.bytes())?;
     if characters.len() > 64 {
         let count = format!(in alloc; "{} characters", characters.len())?;

@@ -1,0 +1,64 @@
+//! Definitions, patterns and texts of what is written.
+ghost use Rattle.std.specs.Prelude.{IfOk, IsTrue, length};
+ghost use Rattle.sno_pattern.specs.Tree.{refs_below, tree_of};
+
+use sno_pattern::{Name, Names, Pattern, Rules, Text};
+use sno_read::read_pattern;
+use std::alloc::Global;
+use std::fmt;
+use std::process::Abort;
+use std::test::Fail;
+
+/// Stops the test where the value is another than the expected one.
+pub(crate) fn check_eq<T: PartialEq + fmt::Debug>(rt: &impl Abort, found: &T, expected: &T) {
+    assert!(rt; found == expected, "{found:?} is not {expected:?}");
+}
+
+/// The name of these letters.
+pub(crate) fn name_of(letters: &str) -> Result<Name, Fail> {
+    Ok(Name::read(letters.as_bytes()).ok_or("no name")?)
+}
+
+/// The text of these characters.
+pub(crate) fn text_of(alloc: Global, characters: &str) -> Result<Text, Fail> {
+    Ok(Text::new(Vec::from_slice(alloc, characters.as_bytes())?)?)
+}
+
+fn bodies_of(alloc: Global, names: &Names, body: &str) -> Result<Vec<Pattern>, Fail> {
+    let mut bodies = Vec::new(alloc);
+    bodies.push(read_pattern(alloc, names, 0, body.as_bytes())?)?;
+    Ok(bodies)
+}
+
+/// The definitions, which are as many as the names.
+pub(crate) fn admit(alloc: Global, names: Names, bodies: Vec<Pattern>) -> Result<Rules, Fail> {
+    if names.len() == bodies.len() {
+        Ok(Rules::admit(alloc, names, bodies)?)
+    } else {
+        Err("as many names as definitions are wanted".into())
+    }
+}
+
+/// The only definition: its name and its pattern.
+pub(crate) fn rules_of(alloc: Global, name: &str, body: &str) -> Result<Rules, Fail> {
+    let names = Names::new(alloc, &[name_of(name)?])?;
+    let bodies = bodies_of(alloc, &names, body)?;
+    admit(alloc, names, bodies)
+}
+
+/// No definition.
+pub(crate) fn no_rules(alloc: Global) -> Result<Rules, Fail> {
+    admit(alloc, Names::new(alloc, &[])?, Vec::new(alloc))
+}
+
+/// The pattern, which the definitions cover.
+pub(crate) fn pattern_of(alloc: Global, rules: &Rules, pattern: &str) -> Result<Pattern, Fail>
+    ensures { IfOk result (λ p. IsTrue (refs_below (length rules.now.bodies) (tree_of p))) }
+{
+    let pattern = read_pattern(alloc, rules.names(), rules.len(), pattern.as_bytes())?;
+    if rules.covers(&pattern) {
+        Ok(pattern)
+    } else {
+        Err("the definitions don't cover the pattern".into())
+    }
+}

@@ -1,0 +1,81 @@
+//! How a step is read that is taken on a book.
+//!
+//! - ``+ a book with room for 9 entries: `T` is `a`, `U` is 65000 times `b` ``: another book.
+//! - ``+ 1 kept on `A`: `T` with `'a'`, replaced by `'b'`: `version 0, matched 0 1 -> |b|` ``: statement 1 is for `T`, is proposed on the text
+//!   `A` as it stands, and the proposal is kept for later.
+//! - ``+ 2 done: `T` with `'b'`: `0: version 0, failed` ``: statement 2 is proposed on its own text as it stands, prepared and accepted.
+//! - ``+ the kept one taken back: `full` `` or ``+ the kept one: `full` ``: the proposal is prepared and taken back, or accepted.
+//! - ``+ texts: ``, ``+ opening: ``, ``+ memory for one more: `` and ``+ audits: ``: what is read off the book.
+use crate::example::{Quoted, cut, number, row};
+use crate::shelf::{Job, NamedText, Shelf};
+use std::alloc::Global;
+use std::test::Fail;
+
+/// The text, and what stands after it.
+fn named_text(name: Quoted<'_>) -> Result<(NamedText<'_>, &str), Fail> {
+    let characters = cut(name.after)?;
+    let times = match characters.before {
+        " is " => 1,
+        words => number(words, " is ", " times ")?,
+    };
+    Ok(((name.inside, characters.inside, times), characters.after))
+}
+
+/// The one or two texts that the line names.
+fn named_texts(alloc: Global, line: &str) -> Result<Vec<NamedText<'_>>, Fail> {
+    let mut texts = Vec::new(alloc);
+    let (first, rest) = named_text(cut(line)?)?;
+    texts.push(first)?;
+    if !rest.is_empty() {
+        let (second, _) = named_text(cut(rest)?)?;
+        texts.push(second)?;
+    }
+    Ok(texts)
+}
+
+/// The statement of this number on the text of this name, from the piece that names its own text on.
+fn job<'l>(number: u32, on: &'l str, text: Quoted<'l>) -> Result<Job<'l>, Fail> {
+    let row = row(text, cut(text.after)?)?;
+    Ok(Job { number, on, row })
+}
+
+/// The line is the one that was expected.
+pub(crate) fn check_equal(found: &str, expected: &str) -> Result<(), Fail> {
+    if found == expected {
+        Ok(())
+    } else {
+        Err(Fail::new(format_args!("it is {found}, and not {expected}")))
+    }
+}
+
+/// Takes the step with a statement, and compares what comes of it.
+fn take_job(alloc: Global, shelf: &mut Shelf, first: Quoted<'_>) -> Result<(), Fail> {
+    if first.before.ends_with(" done: ") {
+        let number = number(first.before, "+ ", " done: ")?;
+        let job = job(number, first.inside, first)?;
+        check_equal(&shelf.perform(alloc, &job)?, job.row.outcome)
+    } else {
+        let number = number(first.before, "+ ", " kept on ")?;
+        let job = job(number, first.inside, cut(first.after)?)?;
+        check_equal(&shelf.keep(alloc, &job)?, job.row.outcome)
+    }
+}
+
+/// Takes the step of this line, and compares what comes of it.
+pub(crate) fn take_step(alloc: Global, shelf: &mut Shelf, line: &str) -> Result<(), Fail> {
+    if let Some((words, texts)) = line.split_once(" entries: ") {
+        let room = number(words, "+ a book with room for ", "")?;
+        return shelf.open(alloc, &named_texts(alloc, texts)?, room);
+    }
+    let first = cut(line)?;
+    let found = match first.before {
+        "+ the kept one: " => shelf.commit(alloc)?,
+        "+ the kept one taken back: " => shelf.take_back(alloc)?,
+        "+ texts: " => shelf.texts_line(alloc)?,
+        "+ memory for one more: " => shelf.spare_line(alloc)?,
+        "+ opening: " => shelf.opening_line(alloc)?,
+        "+ audits: " => shelf.audit_line(alloc)?,
+        _ => return take_job(alloc, shelf, first),
+    };
+    check_equal(&found, first.inside)
+}
