@@ -1,6 +1,7 @@
 //! The answers of a submit, through one seat.
 ghost use Rattle.std.specs.Prelude.{◌≡◌, []};
 
+use crate::compare::check_eq;
 use crate::day::{Day, check_entry, check_text, run_day};
 use crate::gates::ShutFor;
 use crate::jobs::{book, rules, statement};
@@ -58,14 +59,14 @@ fn line_of(alloc: Global, reply: &Reply) -> Result<String, Fail> {
 fn each_answer_of_a_submit(rt: HostRuntime) -> Result<(), Fail> {
     let gate = ShutFor::new(4);
     let day = submit(&rt, rt.alloc(), &gate)?;
-    assert_eq!(rt; day.replies.len(), JOBS.len());
+    check_eq(&rt, &day.replies.len(), &JOBS.len());
     for (reply, job) in day.replies.iter().zip(JOBS.iter()) {
         let line = line_of(rt.alloc(), reply)?;
-        assert_eq!(rt; line.as_str(), job.4);
+        check_eq(&rt, &line.as_str(), &job.4);
     }
-    assert_eq!(rt; gate.counts(), (2u32, 103u32));
-    assert_eq!(rt; day.shares.as_slice(), [2u64].as_slice());
-    assert_eq!(rt; day.book.journal().len(), 2);
+    check_eq(&rt, &gate.counts(), &(2u32, 103u32));
+    check_eq(&rt, &day.shares.as_slice(), &[2u64].as_slice());
+    check_eq(&rt, &day.book.journal().len(), &2);
     check_entry(&rt, &day.book, 0, 1, 0);
     check_entry(&rt, &day.book, 1, 5, 1);
     check_text(&rt, &day.book, 0, "ayzb", 1);

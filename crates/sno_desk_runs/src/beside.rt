@@ -2,6 +2,7 @@
 ghost use Rattle.std.specs.Prelude.{◌≡◌, []};
 ghost use Rattle.std.specs.Thread.{IsSend};
 
+use crate::compare::check_eq;
 use crate::day::{check_entry, check_text};
 use crate::flags::{Flag, TURNS};
 use crate::jobs::{book, rules, statement};
@@ -140,9 +141,9 @@ fn read_beside<L: Naming + Send + Sync, R: Threads + Wait + Clock + Abort + Sync
     let mut reader = seats.pop().unwrap();
     let mut writer = seats.pop().unwrap();
     let (versions, reply) = submit_beside(rt, alloc, &desk, &mut writer, job, &mut reader, name);
-    assert_eq!(rt; versions, Some((0, 1)));
+    check_eq(rt, &versions, &Some((0, 1)));
     assert!(rt; reply.is_ok());
-    assert_eq!(rt; (reader.accepted(), reader.seen()), (0, 1));
+    check_eq(rt, &(reader.accepted(), reader.seen()), &(0, 1));
     all.push_reserved(writer);
     all.push_reserved(reader);
     let book = close(rt, desk, all).map_err(|(fault, _)| fault)?;
@@ -169,7 +170,7 @@ fn a_reader_goes_on_while_a_submit_is_held(rt: HostRuntime) -> Result<(), Fail> 
     let name = TextName::new(alloc, b"T".as_slice())?;
     let book = book(alloc, &[("T", b"x")], 1_000_000)?;
     let book = share(&rt, alloc, book, job, &name)?;
-    assert_eq!(rt; book.journal().len(), 1);
+    check_eq(&rt, &book.journal().len(), &1);
     check_entry(&rt, &book, 0, 1, 0);
     check_text(&rt, &book, 0, "z", 1);
     Ok(())

@@ -3,6 +3,7 @@ ghost use Rattle.std.specs.Prelude.{◌≡◌, [], IfOk};
 ghost use Rattle.sno_book.specs.Views.{IsPrefix};
 ghost use Rattle.sno_desk.specs.Seen.{view_after};
 
+use crate::compare::check_eq;
 use crate::day::{check_entry, check_text};
 use crate::jobs::{book, matching, rules, statement};
 use sno_book::Book;
@@ -64,8 +65,8 @@ fn check_seen<L: Naming>(
     version: u64,
 ) -> Result<(), Fail> {
     let snapshot = seat.snapshot(name)?;
-    assert_eq!(rt; snapshot.version, version);
-    assert_eq!(rt; snapshot.text.bytes(), text.as_bytes());
+    check_eq(rt, &snapshot.version, &version);
+    check_eq(rt, &snapshot.text.bytes(), &text.as_bytes());
     Ok(())
 }
 
@@ -87,21 +88,21 @@ impl Turns for Overtakes {
         third: &mut Seat<L>,
     ) -> Result<(), Fail> {
         let late = proposal(alloc, second, &self.late)?;
-        assert_eq!(rt; late.version(), 0);
+        check_eq(rt, &late.version(), &0);
         let job = Arc::try_clone(&self.first)?;
         let receipt = desk.submit(rt, alloc, first, job, 1, &OpenGate)?;
-        assert_eq!(rt; receipt.index, 0);
-        assert_eq!(rt; receipt.text.bytes(), b"x".as_slice());
-        assert_eq!(rt; (first.seen(), second.seen(), third.seen()), (1, 0, 0));
+        check_eq(rt, &receipt.index, &0);
+        check_eq(rt, &receipt.text.bytes(), &b"x".as_slice());
+        check_eq(rt, &(first.seen(), second.seen(), third.seen()), &(1, 0, 0));
         let refused = desk.commit(rt, second, late).err();
         let (fault, back) = refused.expect(rt, "it was overtaken");
-        assert_eq!(rt; fault, CommitFault::Changed { seen: 0, now: 1 });
-        assert_eq!(rt; back.version(), 0);
+        check_eq(rt, &fault, &CommitFault::Changed { seen: 0, now: 1 });
+        check_eq(rt, &back.version(), &0);
         check_seen(rt, second, self.late.text(), "z", 1)?;
         check_seen(rt, third, self.late.text(), "z", 1)?;
-        assert_eq!(rt; (first.accepted(), first.seen()), (1, 1));
-        assert_eq!(rt; (second.accepted(), second.seen()), (0, 1));
-        assert_eq!(rt; (third.accepted(), third.seen()), (0, 1));
+        check_eq(rt, &(first.accepted(), first.seen()), &(1, 1));
+        check_eq(rt, &(second.accepted(), second.seen()), &(0, 1));
+        check_eq(rt, &(third.accepted(), third.seen()), &(0, 1));
         Ok(())
     }
 }
@@ -125,18 +126,26 @@ impl Turns for Interleaves {
         second: &mut Seat<L>,
         _third: &mut Seat<L>,
     ) -> Result<(), Fail> {
-        assert_eq!(rt; commit(rt, alloc, desk, first, &self.first)?.index, 0);
+        check_eq(rt, &commit(rt, alloc, desk, first, &self.first)?.index, &0);
         let late = proposal(alloc, first, &self.again)?;
-        assert_eq!(rt; late.version(), 1);
-        assert_eq!(rt; commit(rt, alloc, desk, second, &self.elsewhere)?.index, 1);
-        assert_eq!(rt; commit(rt, alloc, desk, second, &self.unmatched)?.index, 2);
+        check_eq(rt, &late.version(), &1);
+        check_eq(
+            rt,
+            &commit(rt, alloc, desk, second, &self.elsewhere)?.index,
+            &1,
+        );
+        check_eq(
+            rt,
+            &commit(rt, alloc, desk, second, &self.unmatched)?.index,
+            &2,
+        );
         let receipt = desk.commit(rt, first, late).map_err(|(fault, _)| fault)?;
-        assert_eq!(rt; receipt.index, 3);
-        assert_eq!(rt; receipt.entry.statement.number(), 4);
-        assert_eq!(rt; receipt.entry.version, 1);
-        assert_eq!(rt; receipt.text.bytes(), b"z".as_slice());
-        assert_eq!(rt; (first.accepted(), first.seen()), (2, 4));
-        assert_eq!(rt; (second.accepted(), second.seen()), (2, 3));
+        check_eq(rt, &receipt.index, &3);
+        check_eq(rt, &receipt.entry.statement.number(), &4);
+        check_eq(rt, &receipt.entry.version, &1);
+        check_eq(rt, &receipt.text.bytes(), &b"z".as_slice());
+        check_eq(rt, &(first.accepted(), first.seen()), &(2, 4));
+        check_eq(rt, &(second.accepted(), second.seen()), &(2, 3));
         Ok(())
     }
 }
@@ -160,13 +169,13 @@ impl Turns for Fails {
     ) -> Result<(), Fail> {
         let job = Arc::try_clone(&self.unmatched)?;
         let receipt = desk.submit(rt, alloc, first, job, 1, &OpenGate)?;
-        assert_eq!(rt; receipt.index, 0);
+        check_eq(rt, &receipt.index, &0);
         assert!(rt; matches!(&*receipt.entry.outcome, Outcome::Failed { .. }));
         check_seen(rt, first, self.unmatched.text(), "x", 0)?;
         let missing = second.snapshot(&self.elsewhere).err();
-        assert_eq!(rt; missing, Some(SnapshotFault::NoText));
-        assert_eq!(rt; (first.accepted(), first.seen()), (1, 1));
-        assert_eq!(rt; (second.accepted(), second.seen()), (0, 0));
+        check_eq(rt, &missing, &Some(SnapshotFault::NoText));
+        check_eq(rt, &(first.accepted(), first.seen()), &(1, 1));
+        check_eq(rt, &(second.accepted(), second.seen()), &(0, 0));
         Ok(())
     }
 }
@@ -222,7 +231,7 @@ fn an_overtaken_proposal_comes_back_and_each_seat_sees_why(rt: HostRuntime) -> R
     };
     let book = book(alloc, &[("T", b"x")], 1_000_000)?;
     let book = share(&rt, alloc, book, &turns)?;
-    assert_eq!(rt; book.journal().len(), 1);
+    check_eq(&rt, &book.journal().len(), &1);
     check_entry(&rt, &book, 0, 2, 0);
     check_text(&rt, &book, 0, "z", 1);
     Ok(())
@@ -240,7 +249,7 @@ fn a_seat_commits_at_a_later_version(rt: HostRuntime) -> Result<(), Fail> {
     };
     let book = book(alloc, &[("T", b"x"), ("U", b"u")], 1_000_000)?;
     let book = share(&rt, alloc, book, &turns)?;
-    assert_eq!(rt; book.journal().len(), 4);
+    check_eq(&rt, &book.journal().len(), &4);
     check_entry(&rt, &book, 0, 1, 0);
     check_entry(&rt, &book, 1, 2, 0);
     check_entry(&rt, &book, 2, 3, 1);
@@ -259,7 +268,7 @@ fn a_failure_is_an_entry_and_changes_no_text(rt: HostRuntime) -> Result<(), Fail
     };
     let book = book(alloc, &[("T", b"x")], 1_000_000)?;
     let book = share(&rt, alloc, book, &turns)?;
-    assert_eq!(rt; book.journal().len(), 1);
+    check_eq(&rt, &book.journal().len(), &1);
     check_entry(&rt, &book, 0, 1, 0);
     check_text(&rt, &book, 0, "x", 0);
     Ok(())

@@ -1,6 +1,7 @@
 //! A day at a desk: it is opened, its seats work through the jobs, and it is closed.
 ghost use Rattle.std.specs.Prelude.{◌≡◌, ◌≤◌, [], IfOk};
 
+use crate::compare::check_eq;
 use sno_book::Book;
 use sno_desk::{Blank, Desk, Gate, Naming, Reply, Seat, close, run_workers};
 use sno_statement::Statement;
@@ -89,13 +90,13 @@ pub(crate) fn run_day<G: Gate + Sync, R: Threads + Wait + Sync>(
 /// Compares the text at a place of the book, and its version.
 pub(crate) fn check_text(rt: &impl Abort, book: &Book, place: usize, text: &str, version: u64) {
     let (_, characters, at) = book.text(place).expect(rt, "there is a text");
-    assert_eq!(rt; characters.bytes(), text.as_bytes());
-    assert_eq!(rt; at, version);
+    check_eq(rt, &characters.bytes(), &text.as_bytes());
+    check_eq(rt, &at, &version);
 }
 
 /// Compares the journal's entry at an index by its statement's number and its version.
 pub(crate) fn check_entry(rt: &impl Abort, book: &Book, index: usize, number: u32, version: u64) {
     let entry = book.journal().get(index).expect(rt, "there is an entry");
-    assert_eq!(rt; entry.statement.number(), number);
-    assert_eq!(rt; entry.version, version);
+    check_eq(rt, &entry.statement.number(), &number);
+    check_eq(rt, &entry.version, &version);
 }

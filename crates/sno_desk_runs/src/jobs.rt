@@ -3,7 +3,7 @@ ghost use Rattle.std.specs.Prelude.{◌≡◌, ◌≤◌, [], IfOk};
 
 use sno_book::Book;
 use sno_pattern::{Names, Rules, Text, TextName};
-use sno_read::{read_object, read_pattern};
+use sno_read::{Object, read_object, read_pattern};
 use sno_statement::Statement;
 use std::alloc::Global;
 use std::process::Abort;
@@ -14,8 +14,25 @@ use std::test::Fail;
 pub(crate) fn rules(rt: &impl Abort, alloc: Global) -> Result<Arc<Rules>, Fail> {
     let names = Names::new(alloc, &[])?;
     let bodies = Vec::new(alloc);
-    assert_eq!(rt; names.len(), bodies.len());
+    assert!(rt; names.len() == bodies.len());
     Ok(Arc::new(alloc, Rules::admit(alloc, names, bodies)?)?)
+}
+
+/// The statement that is written.
+fn written(
+    rt: &impl Abort,
+    alloc: Global,
+    rules: &Arc<Rules>,
+    number: u32,
+    text: TextName,
+    pattern: &str,
+    object: Option<Object>,
+) -> Result<Arc<Statement>, Fail> {
+    let pattern = read_pattern(alloc, rules.names(), 0, pattern.as_bytes())?;
+    assert!(rt; rules.covers(&pattern));
+    let rules = Arc::try_clone(rules)?;
+    let statement = Statement::new(number, rules, pattern, object, text, false);
+    Ok(Arc::new(alloc, statement)?)
 }
 
 /// A statement that replaces what the pattern matches in the text by the object.
@@ -28,13 +45,9 @@ pub(crate) fn statement(
     pattern: &str,
     object: &str,
 ) -> Result<Arc<Statement>, Fail> {
-    let pattern = read_pattern(alloc, rules.names(), 0, pattern.as_bytes())?;
-    let object = read_object(alloc, rules.names(), object.as_bytes())?;
-    assert!(rt; rules.covers(&pattern));
-    let rules = Arc::try_clone(rules)?;
     let text = TextName::new(alloc, text.as_bytes())?;
-    let statement = Statement::new(number, rules, pattern, Some(object), text, false);
-    Ok(Arc::new(alloc, statement)?)
+    let object = read_object(alloc, rules.names(), object.as_bytes())?;
+    written(rt, alloc, rules, number, text, pattern, Some(object))
 }
 
 /// A statement that only matches.
@@ -46,12 +59,8 @@ pub(crate) fn matching(
     text: &str,
     pattern: &str,
 ) -> Result<Arc<Statement>, Fail> {
-    let pattern = read_pattern(alloc, rules.names(), 0, pattern.as_bytes())?;
-    assert!(rt; rules.covers(&pattern));
-    let rules = Arc::try_clone(rules)?;
     let text = TextName::new(alloc, text.as_bytes())?;
-    let statement = Statement::new(number, rules, pattern, None, text, false);
-    Ok(Arc::new(alloc, statement)?)
+    written(rt, alloc, rules, number, text, pattern, None)
 }
 
 /// A book of these texts, each with its name, and room for so many entries.

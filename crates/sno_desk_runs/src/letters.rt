@@ -1,6 +1,7 @@
 //! Three texts of one letter each, replaced by three jobs of two seats; and the same with a gate that is shut for one of them.
 ghost use Rattle.std.specs.Prelude.{◌≡◌, [], IfOk};
 
+use crate::compare::check_eq;
 use crate::day::{check_text, run_day};
 use crate::gates::ShutFor;
 use crate::jobs::{book, rules, statement};
@@ -38,14 +39,14 @@ fn jobs_are_replied_to_in_order(rt: HostRuntime) -> Result<(), Fail> {
     let mut number = 1u32;
     for reply in day.replies.iter() {
         match reply {
-            Ok(receipt) => assert_eq!(rt; receipt.entry.statement.number(), number),
+            Ok(receipt) => check_eq(&rt, &receipt.entry.statement.number(), &number),
             Err(fault) => assert!(rt; false, "{fault}"),
         }
         number = number.wrapping_add(1);
     }
-    assert_eq!(rt; day.replies.len(), 3);
-    assert_eq!(rt; day.shares.as_slice(), [2u64, 1].as_slice());
-    assert_eq!(rt; day.book.journal().len(), 3);
+    check_eq(&rt, &day.replies.len(), &3);
+    check_eq(&rt, &day.shares.as_slice(), &[2u64, 1].as_slice());
+    check_eq(&rt, &day.book.journal().len(), &3);
     for place in 0..3 {
         check_text(&rt, &day.book, place, "x", 1);
     }
@@ -58,14 +59,14 @@ fn a_shut_gate_turns_one_away(rt: HostRuntime) -> Result<(), Fail> {
     let jobs = jobs(&rt, alloc)?;
     let gate = ShutFor::new(1);
     let day = run_day(&rt, alloc, letters(alloc)?, 2, jobs.as_slice(), 3, &gate)?;
-    assert_eq!(rt; day.replies.len(), 3);
+    check_eq(&rt, &day.replies.len(), &3);
     match &day.replies[0] {
         Ok(_) => assert!(rt; false, "it was accepted"),
-        Err(fault) => assert_eq!(rt; *fault, SubmitFault::GateShut),
+        Err(fault) => check_eq(&rt, fault, &SubmitFault::GateShut),
     }
     assert!(rt; day.replies[1].is_ok() && day.replies[2].is_ok());
-    assert_eq!(rt; gate.counts(), (2u32, 100u32));
-    assert_eq!(rt; day.shares.as_slice(), [1u64, 1].as_slice());
+    check_eq(&rt, &gate.counts(), &(2u32, 100u32));
+    check_eq(&rt, &day.shares.as_slice(), &[1u64, 1].as_slice());
     check_text(&rt, &day.book, 0, "a", 0);
     Ok(())
 }

@@ -9,6 +9,8 @@ mod beside;
 #[cfg(test)]
 mod commits;
 #[cfg(test)]
+mod compare;
+#[cfg(test)]
 mod day;
 #[cfg(test)]
 mod flags;

@@ -1,6 +1,7 @@
 //! Two statements on one text, of which a gate holds one back until the other is accepted.
 ghost use Rattle.std.specs.Prelude.{◌≤◌};
 
+use crate::compare::check_eq;
 use crate::day::{Day, check_entry, check_text, run_day};
 use crate::flags::Flag;
 use crate::jobs::{book, rules, statement};
@@ -110,7 +111,7 @@ fn overlap<R: Threads + Wait + Clock + Abort + Sync>(
 
 fn check_bound(rt: &impl Abort, datum: Option<&Datum>, wanted: &str) {
     match datum {
-        Some(Datum::Str(text)) => assert_eq!(rt; text.bytes(), wanted.as_bytes()),
+        Some(Datum::Str(text)) => check_eq(rt, &text.bytes(), &wanted.as_bytes()),
         Some(Datum::Int(_)) | None => assert!(rt; false, "no string"),
     }
 }
@@ -118,13 +119,13 @@ fn check_bound(rt: &impl Abort, datum: Option<&Datum>, wanted: &str) {
 #[test]
 fn a_text_that_changed_is_matched_again(rt: HostRuntime) -> Result<(), Fail> {
     let (day, notes) = overlap(&rt, rt.alloc(), 2)?;
-    assert_eq!(rt; day.replies.len(), 2);
+    check_eq(&rt, &day.replies.len(), &2);
     assert!(rt; day.replies[0].is_ok() && day.replies[1].is_ok());
-    assert_eq!(rt; notes.attempts, 12);
-    assert_eq!(rt; notes.accepted, 101);
-    assert_eq!(rt; notes.refused, 0);
+    check_eq(&rt, &notes.attempts, &12);
+    check_eq(&rt, &notes.accepted, &101);
+    check_eq(&rt, &notes.refused, &0);
     check_text(&rt, &day.book, 0, "zz", 2);
-    assert_eq!(rt; day.book.journal().len(), 2);
+    check_eq(&rt, &day.book.journal().len(), &2);
     check_entry(&rt, &day.book, 0, 2, 0);
     check_entry(&rt, &day.book, 1, 1, 1);
     let entry = day.book.journal().get(1).expect(&rt, "there is an entry");
@@ -141,18 +142,18 @@ fn a_text_that_changed_is_matched_again(rt: HostRuntime) -> Result<(), Fail> {
 #[test]
 fn tries_are_spent(rt: HostRuntime) -> Result<(), Fail> {
     let (day, notes) = overlap(&rt, rt.alloc(), 1)?;
-    assert_eq!(rt; day.replies.len(), 2);
+    check_eq(&rt, &day.replies.len(), &2);
     match &day.replies[0] {
         Ok(_) => assert!(rt; false, "it was accepted"),
-        Err(fault) => assert_eq!(rt; *fault, SubmitFault::TriesSpent { seen: 0, now: 1 }),
+        Err(fault) => check_eq(&rt, fault, &SubmitFault::TriesSpent { seen: 0, now: 1 }),
     }
     assert!(rt; day.replies[1].is_ok());
-    assert_eq!(rt; notes.attempts, 1);
-    assert_eq!(rt; notes.accepted, 100);
-    assert_eq!(rt; notes.refused, 1);
-    assert_eq!(rt; day.shares.as_slice(), [0u64, 1].as_slice());
+    check_eq(&rt, &notes.attempts, &1);
+    check_eq(&rt, &notes.accepted, &100);
+    check_eq(&rt, &notes.refused, &1);
+    check_eq(&rt, &day.shares.as_slice(), &[0u64, 1].as_slice());
     check_text(&rt, &day.book, 0, "z", 1);
-    assert_eq!(rt; day.book.journal().len(), 1);
+    check_eq(&rt, &day.book.journal().len(), &1);
     check_entry(&rt, &day.book, 0, 2, 0);
     Ok(())
 }

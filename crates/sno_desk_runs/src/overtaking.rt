@@ -1,6 +1,7 @@
 //! A submit whose gate accepts another statement through another seat at each attempt: so its text changes under each of its tries.
 ghost use Rattle.std.specs.Prelude.{◌≡◌, ◌≤◌, []};
 
+use crate::compare::check_eq;
 use crate::day::{check_entry, check_text};
 use crate::jobs::{book, rules, statement};
 use sno_book::Book;
@@ -66,9 +67,9 @@ fn overtake<L: Naming, R: Wait + Abort>(
     };
     let refused = desk.submit(rt, alloc, &mut seat, job, tries, &gate).err();
     let fault = refused.expect(rt, "it was overtaken");
-    assert_eq!(rt; seat.accepted(), 0);
+    check_eq(rt, &seat.accepted(), &0);
     let other = gate.seat.into_inner();
-    assert_eq!(rt; other.accepted(), u64::from(tries));
+    check_eq(rt, &other.accepted(), &u64::from(tries));
     all.push_reserved(seat);
     all.push_reserved(other);
     let book = close(rt, desk, all).map_err(|(fault, _)| fault)?;
@@ -100,8 +101,8 @@ fn each_try_is_overtaken(rt: HostRuntime) -> Result<(), Fail> {
         let (fault, book) = overtake_each(&rt, rt.alloc(), tries)?;
         let now = u64::from(tries);
         let seen = now - 1;
-        assert_eq!(rt; fault, SubmitFault::TriesSpent { seen, now });
-        assert_eq!(rt; book.journal().len(), tries as usize);
+        check_eq(&rt, &fault, &SubmitFault::TriesSpent { seen, now });
+        check_eq(&rt, &book.journal().len(), &(tries as usize));
         check_entry(&rt, &book, tries as usize - 1, 2, seen);
         check_text(&rt, &book, 0, text, now);
     }

@@ -1,4 +1,5 @@
 //! What each fault prints.
+use crate::compare::check_eq;
 use sno_desk::{CloseFault, CommitFault, DeskFault, SnapshotFault, SubmitFault, WorkersFault};
 use std::alloc::Global;
 use std::fmt::Display;
@@ -7,7 +8,7 @@ use std::test::Fail;
 
 fn check(rt: &impl Abort, alloc: Global, fault: &impl Display, line: &str) -> Result<(), Fail> {
     let printed = format!(in alloc; "{fault}")?;
-    assert_eq!(rt; printed.as_str(), line);
+    check_eq(rt, &printed.as_str(), &line);
     Ok(())
 }
 

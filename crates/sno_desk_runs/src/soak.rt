@@ -1,6 +1,7 @@
 //! Many seats over few texts. A text is replaced fewer times than a statement has tries, so all are accepted; no two receipts are of one entry.
 ghost use Rattle.std.specs.Prelude.{◌≡◌, [], IfOk};
 
+use crate::compare::check_eq;
 use crate::day::{Day, run_day};
 use crate::jobs::{book, rules, statement};
 use sno_book::{Book, Receipt};
@@ -55,7 +56,7 @@ fn mark(rt: &impl Abort, book: &Book, receipt: &Receipt, marks: &mut [bool]) {
 fn check_reply(rt: &impl Abort, book: &Book, job: &Statement, reply: &Reply, marks: &mut [bool]) {
     match reply {
         Ok(receipt) => {
-            assert_eq!(rt; receipt.entry.statement.number(), job.number());
+            check_eq(rt, &receipt.entry.statement.number(), &job.number());
             mark(rt, book, receipt, marks);
         }
         Err(fault) => assert!(rt; false, "{fault}"),
@@ -69,8 +70,8 @@ fn check_replies(
     day: &Day,
     jobs: &[Arc<Statement>],
 ) -> Result<(), Fail> {
-    assert_eq!(rt; day.replies.len(), jobs.len());
-    assert_eq!(rt; day.book.journal().len(), jobs.len());
+    check_eq(rt, &day.replies.len(), &jobs.len());
+    check_eq(rt, &day.book.journal().len(), &jobs.len());
     let mut marks = vec![in alloc; false; jobs.len()]?;
     for (job, reply) in jobs.iter().zip(day.replies.iter()) {
         check_reply(rt, &day.book, job, reply, marks.as_mut_slice());
@@ -84,11 +85,11 @@ fn many_seats_over_few_texts(rt: HostRuntime) -> Result<(), Fail> {
     let jobs = jobs(&rt, alloc)?;
     let day = run_day(&rt, alloc, letters(alloc)?, 16, &jobs, 1_000, &OpenGate)?;
     check_replies(&rt, alloc, &day, &jobs)?;
-    assert_eq!(rt; day.shares.as_slice(), [250u64; 16].as_slice());
+    check_eq(&rt, &day.shares.as_slice(), &[250u64; 16].as_slice());
     for place in 0..4 {
         let (_, text, version) = day.book.text(place).expect(&rt, "there is a text");
-        assert_eq!(rt; text.bytes().len(), 2_001);
-        assert_eq!(rt; version, 1_000);
+        check_eq(&rt, &text.bytes().len(), &2_001);
+        check_eq(&rt, &version, &1_000);
     }
     Ok(())
 }

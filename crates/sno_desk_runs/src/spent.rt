@@ -1,4 +1,5 @@
 //! A statement that is overtaken at each of its two tries, by workers in threads.
+use crate::compare::check_eq;
 use crate::day::{Day, check_entry, check_text, run_day};
 use crate::flags::Flag;
 use crate::jobs::{book, matching, rules, statement};
@@ -72,14 +73,14 @@ fn overtake<R: Threads + Wait + Clock + Abort + Sync>(rt: &R, alloc: Global) -> 
 #[test]
 fn the_versions_are_those_of_the_last_try(rt: HostRuntime) -> Result<(), Fail> {
     let day = overtake(&rt, rt.alloc())?;
-    assert_eq!(rt; day.replies.len(), 4);
+    check_eq(&rt, &day.replies.len(), &4);
     match &day.replies[0] {
         Ok(_) => assert!(rt; false, "it was accepted"),
-        Err(fault) => assert_eq!(rt; *fault, SubmitFault::TriesSpent { seen: 1, now: 2 }),
+        Err(fault) => check_eq(&rt, fault, &SubmitFault::TriesSpent { seen: 1, now: 2 }),
     }
     assert!(rt; day.replies[1].is_ok() && day.replies[2].is_ok() && day.replies[3].is_ok());
-    assert_eq!(rt; day.shares.as_slice(), [1u64, 2].as_slice());
-    assert_eq!(rt; day.book.journal().len(), 3);
+    check_eq(&rt, &day.shares.as_slice(), &[1u64, 2].as_slice());
+    check_eq(&rt, &day.book.journal().len(), &3);
     check_entry(&rt, &day.book, 0, 2, 0);
     check_entry(&rt, &day.book, 1, 4, 1);
     check_entry(&rt, &day.book, 2, 3, 0);

@@ -3,6 +3,7 @@ ghost use Rattle.std.specs.Prelude.{◌≡◌, [], IfOk, IfSome};
 ghost use Rattle.sno_book.specs.Books.{view_of};
 ghost use Rattle.sno_book.specs.Views.{IsPrefix};
 
+use crate::compare::check_eq;
 use crate::jobs::{book, rules, statement};
 use sno_book::{Book, Proposal, Statement, Text, propose};
 use sno_published::{History, Naming, Screen, Unpublished, ViewFault, Viewer};
@@ -86,7 +87,7 @@ fn a_history_grows(rt: HostRuntime) -> Result<(), Fail> {
     assert!(rt; history.add(&receipt.entry));
     let second = history.front().again();
     first.learn(&second);
-    assert_eq!(rt; (first.count(), second.count()), (0, 2));
+    check_eq(&rt, &(first.count(), second.count()), &(0, 2));
     Ok(())
 }
 
@@ -133,8 +134,8 @@ fn watch<L: Naming, R: Wait + Abort>(
     let ended = viewer.enter();
     assert!(rt; is_text(before, b"x".as_slice(), 0) && is_text(after, b"yx".as_slice(), 1));
     assert!(rt; matches!(past, Ok(None)));
-    assert_eq!(rt; (late, level, viewer.seen()), (false, true, 1));
-    assert_eq!(rt; ended, Err(ViewFault::Ended));
+    check_eq(rt, &(late, level, viewer.seen()), &(false, true, 1));
+    check_eq(rt, &ended, &Err(ViewFault::Ended));
     Ok(())
 }
 
@@ -159,7 +160,7 @@ fn a_viewer_sees_what_is_published(rt: HostRuntime) -> Result<(), Fail> {
     let alloc = rt.alloc();
     let mut book = one_text(alloc)?;
     watched(&rt, alloc, &mut book)?;
-    assert_eq!(rt; book.journal().len(), 1);
+    check_eq(&rt, &book.journal().len(), &1);
     Ok(())
 }
 
@@ -207,7 +208,7 @@ fn watch_beside<L: Naming + Send + Sync + 'static, R: Threads + Wait + Abort>(
     let count = screen.count();
     screen.end(rt);
     assert!(rt; never);
-    assert_eq!(rt; count, 1);
+    check_eq(rt, &count, &1);
     Ok(())
 }
 
@@ -216,6 +217,6 @@ fn a_viewer_reads_while_entries_are_published(rt: HostRuntime) -> Result<(), Fai
     let alloc = rt.alloc();
     let mut book = one_text(alloc)?;
     watched_beside(&rt, alloc, &mut book)?;
-    assert_eq!(rt; book.journal().len(), 1);
+    check_eq(&rt, &book.journal().len(), &1);
     Ok(())
 }
