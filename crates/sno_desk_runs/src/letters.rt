@@ -44,7 +44,7 @@ fn jobs_are_replied_to_in_order(rt: HostRuntime) -> Result<(), Fail> {
         }
         number = number.wrapping_add(1);
     }
-    check_eq(&rt, &day.replies.len(), &3);
+    assert!(rt; day.replies.len() == 3);
     check_eq(&rt, &day.shares.as_slice(), &[2u64, 1].as_slice());
     check_eq(&rt, &day.book.journal().len(), &3);
     for place in 0..3 {
@@ -59,7 +59,7 @@ fn a_shut_gate_turns_one_away(rt: HostRuntime) -> Result<(), Fail> {
     let jobs = jobs(&rt, alloc)?;
     let gate = ShutFor::new(1);
     let day = run_day(&rt, alloc, letters(alloc)?, 2, jobs.as_slice(), 3, &gate)?;
-    check_eq(&rt, &day.replies.len(), &3);
+    assert!(rt; day.replies.len() == 3);
     match &day.replies[0] {
         Ok(_) => assert!(rt; false, "it was accepted"),
         Err(fault) => check_eq(&rt, fault, &SubmitFault::GateShut),
