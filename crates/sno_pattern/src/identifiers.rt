@@ -2,11 +2,11 @@
 ghost use Rattle.std.specs.Prelude.{◌≡◌, ◌-◌, ◌≤◌, ◌++◌, length, replicate, nat_eq, IsTrue};
 ghost use Rattle.std.specs.Cmp.{partial_equiv_from_equiv};
 ghost use Rattle.std.specs.Cmp.Lexicographic.{pointwise, nat_list_eq_equiv};
-ghost use Rattle.std.specs.List.{list_all};
+ghost use Rattle.std.specs.List.{list_all, list_any};
 ghost use Rattle.std.specs.Cmp.Rules.{hashing};
 ghost use Rattle.std.specs.Hash as fed;
 ghost use Rattle.std.proofs.Common.{rules};
-ghost use Rattle.sno_pattern.specs.Identifiers.{is_letter, is_name_char, is_name, name_of, is_reserved};
+ghost use Rattle.sno_pattern.specs.Identifiers.{is_letter, is_name_char, is_name, name_of, is_reserved, same};
 
 use std::fmt;
 use std::hash::{Hash, Hasher};
@@ -116,26 +116,23 @@ fn is_name(bytes: &[u8]) -> bool
     }
 }
 
+// The words that stand for primitives.
+const RESERVED_WORDS: [&str; 16] = [
+    "ARB", "BAL", "REM", "FENCE", "ABORT", "FAIL", "LEN", "POS", "RPOS", "TAB", "RTAB", "ANY",
+    "NOTANY", "SPAN", "BREAK", "ARBNO",
+];
+
 #[tactic(auto, unfolding(crate::specs::Identifiers::is_reserved))]
 fn is_reserved_word(word: &[u8]) -> bool
     ensures { result ≡ is_reserved word.now }
 {
-    word == b"ARB".as_slice()
-        || word == b"BAL".as_slice()
-        || word == b"REM".as_slice()
-        || word == b"FENCE".as_slice()
-        || word == b"ABORT".as_slice()
-        || word == b"FAIL".as_slice()
-        || word == b"LEN".as_slice()
-        || word == b"POS".as_slice()
-        || word == b"RPOS".as_slice()
-        || word == b"TAB".as_slice()
-        || word == b"RTAB".as_slice()
-        || word == b"ANY".as_slice()
-        || word == b"NOTANY".as_slice()
-        || word == b"SPAN".as_slice()
-        || word == b"BREAK".as_slice()
-        || word == b"ARBNO".as_slice()
+    is_among(word, &RESERVED_WORDS)
+}
+
+fn is_among(word: &[u8], words: &[&str]) -> bool
+    ensures { result ≡ list_any (λ w. same word.now w.now) words.now }
+{
+    words.iter().any(|other| word == other.as_bytes())
 }
 
 impl PartialEq for Name {
