@@ -5,6 +5,7 @@ use crate::compare::check_eq;
 use crate::day::{Day, check_entry, check_text, run_day};
 use crate::gates::ShutFor;
 use crate::jobs::{book, rules, statement};
+use sno_book::Book;
 use sno_desk::Reply;
 use sno_statement::Statement;
 use std::alloc::Global;
@@ -55,20 +56,28 @@ fn line_of(alloc: Global, reply: &Reply) -> Result<String, Fail> {
     }
 }
 
+fn check_replies(rt: &impl Abort, alloc: Global, replies: &[Reply]) -> Result<(), Fail> {
+    check_eq(rt, &replies.len(), &JOBS.len());
+    for (reply, job) in replies.iter().zip(JOBS.iter()) {
+        let line = line_of(alloc, reply)?;
+        check_eq(rt, &line.as_str(), &job.4);
+    }
+    Ok(())
+}
+
+fn check_book(rt: &impl Abort, book: &Book) {
+    check_eq(rt, &book.journal().len(), &2);
+    check_entry(rt, book, 0, 1, 0);
+    check_entry(rt, book, 1, 5, 1);
+    check_text(rt, book, 0, "ayzb", 1);
+}
+
 #[test]
 fn each_answer_of_a_submit(rt: HostRuntime) -> Result<(), Fail> {
     let gate = ShutFor::new(4);
     let day = submit(&rt, rt.alloc(), &gate)?;
-    check_eq(&rt, &day.replies.len(), &JOBS.len());
-    for (reply, job) in day.replies.iter().zip(JOBS.iter()) {
-        let line = line_of(rt.alloc(), reply)?;
-        check_eq(&rt, &line.as_str(), &job.4);
-    }
     check_eq(&rt, &gate.counts(), &(2u32, 103u32));
     check_eq(&rt, &day.shares.as_slice(), &[2u64].as_slice());
-    check_eq(&rt, &day.book.journal().len(), &2);
-    check_entry(&rt, &day.book, 0, 1, 0);
-    check_entry(&rt, &day.book, 1, 5, 1);
-    check_text(&rt, &day.book, 0, "ayzb", 1);
-    Ok(())
+    check_book(&rt, &day.book);
+    check_replies(&rt, rt.alloc(), day.replies.as_slice())
 }

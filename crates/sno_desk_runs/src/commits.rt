@@ -8,8 +8,8 @@ use crate::day::{check_entry, check_text};
 use crate::jobs::{book, matching, rules, statement};
 use sno_book::Book;
 use sno_desk::{
-    Blank, CommitFault, Desk, Naming, OpenGate, Outcome, Proposal, Receipt, Seat, SnapshotFault,
-    TextName, close, propose,
+    Blank, CommitFault, Desk, Naming, OpenGate, Outcome, Proposal, Seat, SnapshotFault, TextName,
+    close, propose,
 };
 use sno_statement::Statement;
 use std::alloc::Global;
@@ -44,16 +44,70 @@ fn proposal<L: Naming>(
     Ok(proposal)
 }
 
-/// The statement proposed and committed.
+/// The statement proposed and committed. The index of its entry.
 fn commit<L: Naming, R: Wait + Abort>(
     rt: &R,
     alloc: Global,
     desk: &Desk<L>,
     seat: &mut Seat<L>,
     job: &Arc<Statement>,
-) -> Result<Receipt, Fail> {
+) -> Result<usize, Fail> {
     let proposal = proposal(alloc, seat, job)?;
-    Ok(desk.commit(rt, seat, proposal).map_err(|(fault, _)| fault)?)
+    let receipt = desk.commit(rt, seat, proposal).map_err(|(fault, _)| fault)?;
+    Ok(receipt.index)
+}
+
+/// The statement submitted: its entry is the first one, for this text.
+fn submit_first<L: Naming, R: Wait + Abort>(
+    rt: &R,
+    alloc: Global,
+    desk: &Desk<L>,
+    seat: &mut Seat<L>,
+    job: &Arc<Statement>,
+    text: &str,
+) -> Result<(), Fail> {
+    let job = Arc::try_clone(job)?;
+    let receipt = desk.submit(rt, alloc, seat, job, 1, &OpenGate)?;
+    check_eq(rt, &receipt.index, &0);
+    check_eq(rt, &receipt.text.bytes(), &text.as_bytes());
+    Ok(())
+}
+
+/// The proposal comes back, since one entry changed its text.
+fn check_overtaken<L: Naming, R: Wait + Abort>(
+    rt: &R,
+    desk: &Desk<L>,
+    seat: &mut Seat<L>,
+    late: Proposal,
+)
+    requires { IsPrefix late.origin (view_after L.opening seat.old.viewer.seen) }
+{
+    let refused = desk.commit(rt, seat, late).err();
+    let (fault, back) = refused.expect(rt, "it was overtaken");
+    check_eq(rt, &fault, &CommitFault::Changed { seen: 0, now: 1 });
+    check_eq(rt, &back.version(), &0);
+}
+
+/// The proposal is the fourth entry, at version 1, for the text `z`.
+fn check_fourth<L: Naming, R: Wait + Abort>(
+    rt: &R,
+    desk: &Desk<L>,
+    seat: &mut Seat<L>,
+    late: Proposal,
+) -> Result<(), Fail>
+    requires { IsPrefix late.origin (view_after L.opening seat.old.viewer.seen) }
+{
+    let receipt = desk.commit(rt, seat, late).map_err(|(fault, _)| fault)?;
+    check_eq(rt, &receipt.index, &3);
+    check_eq(rt, &receipt.entry.statement.number(), &4);
+    check_eq(rt, &receipt.entry.version, &1);
+    check_eq(rt, &receipt.text.bytes(), &b"z".as_slice());
+    Ok(())
+}
+
+/// Compares how many entries the seat has accepted, and how many it has seen.
+fn check_counts<L: Naming>(rt: &impl Abort, seat: &Seat<L>, accepted: u64, seen: u64) {
+    check_eq(rt, &(seat.accepted(), seat.seen()), &(accepted, seen));
 }
 
 /// Compares the text of this name, as the seat sees it, and its version.
@@ -89,20 +143,16 @@ impl Turns for Overtakes {
     ) -> Result<(), Fail> {
         let late = proposal(alloc, second, &self.late)?;
         check_eq(rt, &late.version(), &0);
-        let job = Arc::try_clone(&self.first)?;
-        let receipt = desk.submit(rt, alloc, first, job, 1, &OpenGate)?;
-        check_eq(rt, &receipt.index, &0);
-        check_eq(rt, &receipt.text.bytes(), &b"x".as_slice());
-        check_eq(rt, &(first.seen(), second.seen(), third.seen()), &(1, 0, 0));
-        let refused = desk.commit(rt, second, late).err();
-        let (fault, back) = refused.expect(rt, "it was overtaken");
-        check_eq(rt, &fault, &CommitFault::Changed { seen: 0, now: 1 });
-        check_eq(rt, &back.version(), &0);
+        submit_first(rt, alloc, desk, first, &self.first, "x")?;
+        check_counts(rt, first, 1, 1);
+        check_counts(rt, second, 0, 0);
+        check_counts(rt, third, 0, 0);
+        check_overtaken(rt, desk, second, late);
         check_seen(rt, second, self.late.text(), "z", 1)?;
         check_seen(rt, third, self.late.text(), "z", 1)?;
-        check_eq(rt, &(first.accepted(), first.seen()), &(1, 1));
-        check_eq(rt, &(second.accepted(), second.seen()), &(0, 1));
-        check_eq(rt, &(third.accepted(), third.seen()), &(0, 1));
+        check_counts(rt, first, 1, 1);
+        check_counts(rt, second, 0, 1);
+        check_counts(rt, third, 0, 1);
         Ok(())
     }
 }
@@ -126,26 +176,14 @@ impl Turns for Interleaves {
         second: &mut Seat<L>,
         _third: &mut Seat<L>,
     ) -> Result<(), Fail> {
-        check_eq(rt, &commit(rt, alloc, desk, first, &self.first)?.index, &0);
+        check_eq(rt, &commit(rt, alloc, desk, first, &self.first)?, &0);
         let late = proposal(alloc, first, &self.again)?;
         check_eq(rt, &late.version(), &1);
-        check_eq(
-            rt,
-            &commit(rt, alloc, desk, second, &self.elsewhere)?.index,
-            &1,
-        );
-        check_eq(
-            rt,
-            &commit(rt, alloc, desk, second, &self.unmatched)?.index,
-            &2,
-        );
-        let receipt = desk.commit(rt, first, late).map_err(|(fault, _)| fault)?;
-        check_eq(rt, &receipt.index, &3);
-        check_eq(rt, &receipt.entry.statement.number(), &4);
-        check_eq(rt, &receipt.entry.version, &1);
-        check_eq(rt, &receipt.text.bytes(), &b"z".as_slice());
-        check_eq(rt, &(first.accepted(), first.seen()), &(2, 4));
-        check_eq(rt, &(second.accepted(), second.seen()), &(2, 3));
+        check_eq(rt, &commit(rt, alloc, desk, second, &self.elsewhere)?, &1);
+        check_eq(rt, &commit(rt, alloc, desk, second, &self.unmatched)?, &2);
+        check_fourth(rt, desk, first, late)?;
+        check_counts(rt, first, 2, 4);
+        check_counts(rt, second, 2, 3);
         Ok(())
     }
 }
@@ -174,8 +212,8 @@ impl Turns for Fails {
         check_seen(rt, first, self.unmatched.text(), "x", 0)?;
         let missing = second.snapshot(&self.elsewhere).err();
         check_eq(rt, &missing, &Some(SnapshotFault::NoText));
-        check_eq(rt, &(first.accepted(), first.seen()), &(1, 1));
-        check_eq(rt, &(second.accepted(), second.seen()), &(0, 0));
+        check_counts(rt, first, 1, 1);
+        check_counts(rt, second, 0, 0);
         Ok(())
     }
 }

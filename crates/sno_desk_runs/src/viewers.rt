@@ -28,6 +28,13 @@ fn adding(rt: &impl Abort, alloc: Global) -> Result<Arc<Statement>, Fail> {
     statement(rt, alloc, &rules(rt, alloc)?, 1, "T", "''", "'y'")
 }
 
+/// That statement on the text as it stands.
+fn added(rt: &impl Abort, alloc: Global, book: &Book) -> Result<Proposal, Fail>
+    ensures { IfOk result (λ p. IsPrefix p.origin (view_of book.now)) }
+{
+    proposal(alloc, book, &adding(rt, alloc)?)
+}
+
 /// The statement on the text as it stands.
 fn proposal(alloc: Global, book: &Book, job: &Arc<Statement>) -> Result<Proposal, Fail>
     ensures { IfOk result (λ p. IsPrefix p.origin (view_of book.now)) }
@@ -79,7 +86,7 @@ fn follow<L: Naming, R: Wait>(
 fn a_history_grows(rt: HostRuntime) -> Result<(), Fail> {
     let alloc = rt.alloc();
     let mut book = one_text(alloc)?;
-    let proposal = proposal(alloc, &book, &adding(&rt, alloc)?)?;
+    let proposal = added(&rt, alloc, &book)?;
     let receipt = book.commit(proposal).map_err(|(fault, _)| fault)?;
     let mut history = History::new();
     let first = history.front().again();
@@ -102,6 +109,17 @@ fn is_text(sight: Sight, text: &[u8], version: u64) -> bool {
     }
 }
 
+/// What a viewer sees once an entry is published: whether it was level, whether it sees the new text and is level then, and whether there is no
+/// second text.
+fn look<L: Naming>(viewer: &mut Viewer<L>, screen: &Screen<L>) -> [bool; 4] {
+    let was_level = viewer.is_level(screen.table());
+    let is_new = is_text(viewer.text(0), b"yx".as_slice(), 1);
+    let is_level = viewer.is_level(screen.table());
+    let is_alone = matches!(viewer.text(1), Ok(None));
+    viewer.learn(screen.table());
+    [was_level, is_new, is_level, is_alone]
+}
+
 /// What one viewer sees before and after an entry is published, and after the screen has ended.
 fn watch<L: Naming, R: Wait + Abort>(
     rt: &R,
@@ -114,28 +132,21 @@ fn watch<L: Naming, R: Wait + Abort>(
     requires attempts { attempts.history ≡ L.tries }
     requires book { (book.old.opening ≡ L.opening) × (book.old.journal ≡ []) }
 {
-    let job = adding(rt, alloc)?;
-    let proposal = proposal(alloc, book, &job)?;
+    let proposal = added(rt, alloc, book)?;
     let screen = Screen::<L>::new(alloc, book.opening(), history, attempts, 2)?;
     let Ok(mut viewer) = screen.viewer() else {
         screen.end(rt);
         return Err("no viewer".into());
     };
-    let before = viewer.text(0);
+    let was_first = is_text(viewer.text(0), b"x".as_slice(), 0);
     let Some(screen) = follow(rt, alloc, screen, book, proposal) else {
         return Err("not published".into());
     };
-    let late = viewer.is_level(screen.table());
-    let after = viewer.text(0);
-    let level = viewer.is_level(screen.table());
-    let past = viewer.text(1);
-    viewer.learn(screen.table());
+    let sights = look(&mut viewer, &screen);
     screen.end(rt);
-    let ended = viewer.enter();
-    assert!(rt; is_text(before, b"x".as_slice(), 0) && is_text(after, b"yx".as_slice(), 1));
-    assert!(rt; matches!(past, Ok(None)));
-    check_eq(rt, &(late, level, viewer.seen()), &(false, true, 1));
-    check_eq(rt, &ended, &Err(ViewFault::Ended));
+    check_eq(rt, &(was_first, sights), &(true, [false, true, true, true]));
+    check_eq(rt, &viewer.seen(), &1);
+    check_eq(rt, &viewer.enter(), &Err(ViewFault::Ended));
     Ok(())
 }
 
@@ -189,8 +200,7 @@ fn watch_beside<L: Naming + Send + Sync + 'static, R: Threads + Wait + Abort>(
     requires attempts { attempts.history ≡ L.tries }
     requires book { (book.old.opening ≡ L.opening) × (book.old.journal ≡ []) }
 {
-    let job = adding(rt, alloc)?;
-    let proposal = proposal(alloc, book, &job)?;
+    let proposal = added(rt, alloc, book)?;
     let screen = Screen::<L>::new(alloc, book.opening(), history, attempts, 2)?;
     let Ok(viewer) = screen.viewer() else {
         screen.end(rt);

@@ -42,3 +42,12 @@ pub(crate) fn tell(rt: &impl Print, answer: Answer) -> Result<(), Fail> {
     println!(rt; "{answer}")?;
     Ok(())
 }
+
+/// Tells that all is made that the call needs, and what it comes to each of two times.
+pub(crate) fn tell_twice<F: Fn() -> Answer>(rt: &impl Print, call: F) -> Result<(), Fail>
+    requires { F.IsAlwaysCallable call }
+{
+    tell_ready(rt)?;
+    tell(rt, call())?;
+    tell(rt, call())
+}

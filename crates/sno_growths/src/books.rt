@@ -3,7 +3,7 @@ ghost use Rattle.std.specs.Prelude.{IfErr};
 ghost use Rattle.sno_book.specs.Books.{view_of};
 ghost use Rattle.sno_book.specs.Views.{IsPrefix};
 
-use crate::answers::{Answer, check_eq, tell, tell_ready};
+use crate::answers::{Answer, check_eq, tell, tell_ready, tell_twice};
 use crate::jobs::{book, check_book, check_exchange, exchange, proposal, row};
 use sno_book::{
     Book, BookFault, CommitFault, Proposal, Snapshot, StatementFault, Text, TextName, propose,
@@ -61,9 +61,7 @@ fn a_statement_is_performed(rt: HostRuntime) -> Result<(), Fail> {
     let alloc = rt.alloc();
     let statement = exchange(&rt, alloc)?;
     let text = Text::new(Vec::from_slice(alloc, BEFORE)?)?;
-    tell_ready(&rt)?;
-    tell(&rt, perform_once(&rt, alloc, &statement, &text))?;
-    tell(&rt, perform_once(&rt, alloc, &statement, &text))
+    tell_twice(&rt, || perform_once(&rt, alloc, &statement, &text))
 }
 
 fn propose_once(
@@ -125,12 +123,12 @@ fn a_commit_is_prepared(rt: HostRuntime) -> Result<(), Fail> {
     let mut book = book(alloc, &[("T", "k=v")])?;
     let proposal = proposal(alloc, &book, &exchange(&rt, alloc)?)?;
     tell_ready(&rt)?;
-    let (answer, back) = prepare(&rt, &mut book, proposal);
-    tell(&rt, answer)?;
+    let (first, back) = prepare(&rt, &mut book, proposal);
     check_exchange(&rt, back.outcome());
-    let (answer, back) = prepare(&rt, &mut book, back);
+    let (second, back) = prepare(&rt, &mut book, back);
     check_exchange(&rt, back.outcome());
-    tell(&rt, answer)
+    tell(&rt, first)?;
+    tell(&rt, second)
 }
 
 /// Commits the proposal; where memory is refused the book is as it was, and the proposal comes back.

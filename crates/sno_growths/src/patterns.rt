@@ -1,7 +1,7 @@
 //! Names, definitions, patterns, objects, and what is compiled of them.
 ghost use Rattle.std.specs.Prelude.{IsTrue, length};
 
-use crate::answers::{Answer, check_bytes, check_eq, tell, tell_ready};
+use crate::answers::{Answer, check_bytes, check_eq, tell, tell_ready, tell_twice};
 use sno_machine::{Code, MatchFault, compile};
 use sno_pattern::{Name, NameFault, Names, NamesFault, Pattern, Rules, RulesFault, Text, TextName};
 use sno_read::{Part, ReadFault, read_object, read_pattern};
@@ -29,9 +29,7 @@ fn make_text_name(rt: &impl Abort, alloc: Global) -> Answer {
 
 #[test]
 fn a_name_of_a_text(rt: HostRuntime) -> Result<(), Fail> {
-    tell_ready(&rt)?;
-    tell(&rt, make_text_name(&rt, rt.alloc()))?;
-    tell(&rt, make_text_name(&rt, rt.alloc()))
+    tell_twice(&rt, || make_text_name(&rt, rt.alloc()))
 }
 
 fn make_names(rt: &impl Abort, alloc: Global, names: &[Name; 2]) -> Answer {
@@ -51,9 +49,7 @@ fn make_names(rt: &impl Abort, alloc: Global, names: &[Name; 2]) -> Answer {
 #[test]
 fn names_of_definitions(rt: HostRuntime) -> Result<(), Fail> {
     let names = [name(&rt, b"D".as_slice()), name(&rt, b"N".as_slice())];
-    tell_ready(&rt)?;
-    tell(&rt, make_names(&rt, rt.alloc(), &names))?;
-    tell(&rt, make_names(&rt, rt.alloc(), &names))
+    tell_twice(&rt, || make_names(&rt, rt.alloc(), &names))
 }
 
 /// Definitions by their names and patterns, each of which may name all of them.
@@ -114,18 +110,20 @@ fn read_assigned(rt: &impl Abort, alloc: Global, names: &Names, expected: &Patte
     }
 }
 
+/// Seven characters, assigned to `A`, and at once to `B`.
+fn assigned(rt: &impl Abort, alloc: Global) -> Result<Pattern, Fail> {
+    let part = Box::new(alloc, Pattern::Len(7))?;
+    let part = Pattern::Cond(part, name(rt, b"A".as_slice()));
+    let part = Box::new(alloc, part)?;
+    Ok(Pattern::Imm(part, name(rt, b"B".as_slice())))
+}
+
 #[test]
 fn a_pattern_is_read(rt: HostRuntime) -> Result<(), Fail> {
     let alloc = rt.alloc();
     let names = Names::new(alloc, &[])?;
-    let part = Pattern::Cond(
-        Box::new(alloc, Pattern::Len(7))?,
-        name(&rt, b"A".as_slice()),
-    );
-    let expected = Pattern::Imm(Box::new(alloc, part)?, name(&rt, b"B".as_slice()));
-    tell_ready(&rt)?;
-    tell(&rt, read_assigned(&rt, alloc, &names, &expected))?;
-    tell(&rt, read_assigned(&rt, alloc, &names, &expected))
+    let expected = assigned(&rt, alloc)?;
+    tell_twice(&rt, || read_assigned(&rt, alloc, &names, &expected))
 }
 
 fn read_three_parts(rt: &impl Abort, alloc: Global, names: &Names, expected: &[Part]) -> Answer {
@@ -141,22 +139,24 @@ fn read_three_parts(rt: &impl Abort, alloc: Global, names: &Names, expected: &[P
     }
 }
 
+/// The parts of `V '=' K`.
+fn three_parts(rt: &impl Abort, alloc: Global) -> Result<Vec<Part>, Fail> {
+    let sign = Text::new(Vec::from_slice(alloc, b"=".as_slice())?)?;
+    let mut parts = Vec::with_capacity(alloc, 3)?;
+    parts.push(Part::Var(name(rt, b"V".as_slice())))?;
+    parts.push(Part::Quoted(sign))?;
+    parts.push(Part::Var(name(rt, b"K".as_slice())))?;
+    Ok(parts)
+}
+
 #[test]
 fn an_object_is_read(rt: HostRuntime) -> Result<(), Fail> {
     let alloc = rt.alloc();
     let names = Names::new(alloc, &[])?;
-    let mut expected = Vec::new(alloc);
-    expected.push(Part::Var(name(&rt, b"V".as_slice())))?;
-    expected.push(Part::Quoted(Text::new(Vec::from_slice(alloc, b"=".as_slice())?)?))?;
-    expected.push(Part::Var(name(&rt, b"K".as_slice())))?;
-    tell_ready(&rt)?;
-    tell(
+    let expected = three_parts(&rt, alloc)?;
+    tell_twice(
         &rt,
-        read_three_parts(&rt, alloc, &names, expected.as_slice()),
-    )?;
-    tell(
-        &rt,
-        read_three_parts(&rt, alloc, &names, expected.as_slice()),
+        || read_three_parts(&rt, alloc, &names, expected.as_slice()),
     )
 }
 
@@ -184,9 +184,7 @@ fn a_pattern_is_compiled(rt: HostRuntime) -> Result<(), Fail> {
     let alloc = rt.alloc();
     let rules = admitted_row(&rt, alloc)?;
     let pattern = read_pattern(alloc, rules.names(), 1, TWO_ROWS)?;
-    tell_ready(&rt)?;
-    tell(&rt, compile_once(&rt, alloc, &rules, &pattern))?;
-    tell(&rt, compile_once(&rt, alloc, &rules, &pattern))
+    tell_twice(&rt, || compile_once(&rt, alloc, &rules, &pattern))
 }
 
 /// The first part matches `aa`, the second one nothing.
@@ -209,15 +207,24 @@ fn match_once(rt: &impl Abort, alloc: Global, code: &Code<'_>, text: &Text) -> A
     }
 }
 
+/// The pattern is compiled, and then matches twice.
+fn match_twice<R: Abort + Print>(
+    rt: &R,
+    alloc: Global,
+    rules: &Rules,
+    pattern: &Pattern,
+    text: &Text,
+) -> Result<(), Fail> {
+    assert!(rt; rules.covers(pattern));
+    let code = compile(alloc, rules, pattern)?;
+    tell_twice(rt, || match_once(rt, alloc, &code, text))
+}
+
 #[test]
 fn a_pattern_is_matched(rt: HostRuntime) -> Result<(), Fail> {
     let alloc = rt.alloc();
     let rules = admitted_row(&rt, alloc)?;
     let pattern = read_pattern(alloc, rules.names(), 1, TWO_ROWS)?;
     let text = Text::new(Vec::from_slice(alloc, b"aaab".as_slice())?)?;
-    assert!(rt; rules.covers(&pattern));
-    let code = compile(alloc, &rules, &pattern)?;
-    tell_ready(&rt)?;
-    tell(&rt, match_once(&rt, alloc, &code, &text))?;
-    tell(&rt, match_once(&rt, alloc, &code, &text))
+    match_twice(&rt, alloc, &rules, &pattern, &text)
 }

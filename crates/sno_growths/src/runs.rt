@@ -2,7 +2,7 @@
 ghost use Rattle.std.specs.Prelude.{IfSome, ◌≤◌};
 ghost use Rattle.sno_rewrite.specs.Runs.{AreInLimits};
 
-use crate::answers::{Answer, check_bytes, check_eq, tell, tell_ready};
+use crate::answers::{Answer, check_bytes, check_eq, tell, tell_ready, tell_twice};
 use sno_rewrite::{
     Options, OptionsFault, Report, RunFault, options_of, run, run_serial, run_shared,
 };
@@ -59,9 +59,7 @@ fn options_are_read(rt: HostRuntime) -> Result<(), Fail> {
     for word in ["--json", "--tries", "5"] {
         words.push(String::from_str(alloc, word)?)?;
     }
-    tell_ready(&rt)?;
-    tell(&rt, read_words(&rt, alloc, words.as_slice()))?;
-    tell(&rt, read_words(&rt, alloc, words.as_slice()))
+    tell_twice(&rt, || read_words(&rt, alloc, words.as_slice()))
 }
 
 /// What the run came to: a report that begins so, or that memory was refused.
@@ -83,11 +81,9 @@ fn answer_of(rt: &impl Abort, report: Result<Report, RunFault>, beginning: &str)
 #[test]
 fn a_serial_run(rt: HostRuntime) -> Result<(), Fail> {
     let alloc = rt.alloc();
-    tell_ready(&rt)?;
-    let first = run_serial(alloc, DOCUMENT.as_bytes(), &PLAIN);
-    tell(&rt, answer_of(&rt, first, LISTING))?;
-    let second = run_serial(alloc, DOCUMENT.as_bytes(), &PLAIN);
-    tell(&rt, answer_of(&rt, second, LISTING))
+    tell_twice(&rt, || {
+        answer_of(&rt, run_serial(alloc, DOCUMENT.as_bytes(), &PLAIN), LISTING)
+    })
 }
 
 #[test]

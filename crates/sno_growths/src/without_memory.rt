@@ -17,21 +17,37 @@ use std::sync::{Arc, Wait};
 use std::test::Fail;
 
 #[test]
-fn names_sets_and_texts_without_memory(rt: HostRuntime) -> Result<(), Fail> {
-    let alloc = rt.alloc();
-    let names = Names::new(alloc, &[name(&rt, b"D".as_slice())])?;
-    let members = Vec::from_slice(alloc, b"ab".as_slice())?;
-    let none = Vec::new(alloc);
-    let characters = Vec::from_slice(alloc, b"xyz".as_slice())?;
+fn names_without_memory(rt: HostRuntime) -> Result<(), Fail> {
+    let names = Names::new(rt.alloc(), &[name(&rt, b"D".as_slice())])?;
     tell_ready(&rt)?;
     let word = Name::read(b"ARB".as_slice()).expect(&rt, "it is a name");
     assert!(rt; word.is_reserved() && Name::read(b"1A".as_slice()).is_none());
     check_eq(&rt, &names.place(&name(&rt, b"D".as_slice())), &Some(0));
     check_eq(&rt, &names.place(&word), &None);
+    tell(&rt, Answer::Given)
+}
+
+#[test]
+fn a_set_without_memory(rt: HostRuntime) -> Result<(), Fail> {
+    let members = Vec::from_slice(rt.alloc(), b"ab".as_slice())?;
+    tell_ready(&rt)?;
     let class = Class::new(members).expect(&rt, "it is a set");
-    assert!(rt; class.has(b'b') && !class.has(b'c') && Class::new(none).is_none());
+    assert!(rt; class.has(b'b') && !class.has(b'c') && Class::new(Vec::new(rt.alloc())).is_none());
+    tell(&rt, Answer::Given)
+}
+
+#[test]
+fn a_text_without_memory(rt: HostRuntime) -> Result<(), Fail> {
+    let characters = Vec::from_slice(rt.alloc(), b"xyz".as_slice())?;
+    tell_ready(&rt)?;
     let text = Text::new(characters)?;
     check_bytes(&rt, text.bytes(), b"xyz".as_slice());
+    tell(&rt, Answer::Given)
+}
+
+#[test]
+fn a_status_without_memory(rt: HostRuntime) -> Result<(), Fail> {
+    tell_ready(&rt)?;
     check_eq(&rt, &status_of(&RunFault::NotJson), &2);
     tell(&rt, Answer::Given)
 }
