@@ -1,6 +1,6 @@
 //! What is compiled matches many texts, references nest as deep as the longest text, and a match within the longest text is found by its limit.
 use crate::written::{check_eq, no_rules, pattern_of, rules_of, text_of};
-use sno_machine::{Code, MatchFault, What, compile};
+use sno_machine::{Code, Found, MatchFault, What, compile};
 use sno_pattern::{Rules, Text};
 use std::alloc::Global;
 use std::test::Fail;
@@ -25,7 +25,16 @@ fn extent(
     }
 }
 
-// The same for each of the texts, by one code.
+// The same for each of the texts.
+fn each_extent(alloc: Global, code: &Code, texts: &[Text]) -> Result<Vec<Option<Extent>>, Fail> {
+    let mut extents = Vec::new(alloc);
+    for text in texts {
+        extents.push(extent(alloc, code, text, LIMIT)?)?;
+    }
+    Ok(extents)
+}
+
+// The same where the pattern is compiled once.
 fn extents(
     alloc: Global,
     rules: &Rules,
@@ -34,19 +43,20 @@ fn extents(
 ) -> Result<Vec<Option<Extent>>, Fail> {
     let pattern = pattern_of(alloc, rules, pattern)?;
     let code = compile(alloc, rules, &pattern)?;
-    let mut extents = Vec::new(alloc);
-    for text in texts {
-        extents.push(extent(alloc, &code, text, LIMIT)?)?;
+    each_extent(alloc, &code, texts)
+}
+
+fn texts_of(alloc: Global, written: &[&str]) -> Result<Vec<Text>, Fail> {
+    let mut texts = Vec::new(alloc);
+    for text in written {
+        texts.push(text_of(alloc, text)?)?;
     }
-    Ok(extents)
+    Ok(texts)
 }
 
 #[test]
 fn one_code_matches_many_texts(rt: HostRuntime) -> Result<(), Fail> {
-    let mut texts = Vec::new(rt.alloc());
-    for text in ["xa", "c", "b"] {
-        texts.push(text_of(rt.alloc(), text)?)?;
-    }
+    let texts = texts_of(rt.alloc(), &["xa", "c", "b"])?;
     let found = extents(rt.alloc(), &no_rules(rt.alloc())?, "'a' | 'b'", &texts)?;
     let expected = [Some((1, 2)), None, Some((0, 1))];
     check_eq(&rt, &found.as_slice(), &expected.as_slice());
@@ -100,10 +110,8 @@ fn each_start_that_is_passed_over_costs_a_trial(rt: HostRuntime) -> Result<(), F
     Ok(())
 }
 
-// What is assigned at once where `*S 'c'` is anchored on the text, one after the other.
-fn assigned(alloc: Global, rules: &Rules, text: &Text) -> Result<Vec<What>, Fail> {
-    let pattern = pattern_of(alloc, rules, "*S 'c'")?;
-    let found = compile(alloc, rules, &pattern)?.first(alloc, text, true, LIMIT)?;
+// What is assigned at once, one after the other.
+fn parts_of(alloc: Global, found: &Found) -> Result<Vec<What>, Fail> {
     let mut parts = Vec::new(alloc);
     for set in found.sets.as_slice() {
         parts.push(set.what)?;
@@ -111,10 +119,19 @@ fn assigned(alloc: Global, rules: &Rules, text: &Text) -> Result<Vec<What>, Fail
     Ok(parts)
 }
 
+// The same where `*S 'c'` is anchored on the text.
+fn assigned(alloc: Global, rules: &Rules, text: &Text) -> Result<Vec<What>, Fail> {
+    let pattern = pattern_of(alloc, rules, "*S 'c'")?;
+    let code = compile(alloc, rules, &pattern)?;
+    let found = code.first(alloc, text, true, LIMIT)?;
+    parts_of(alloc, &found)
+}
+
 #[test]
 fn assignments_that_are_backed_over_stay(rt: HostRuntime) -> Result<(), Fail> {
     let rules = rules_of(rt.alloc(), "S", "LEN(1) $ C *S | ''")?;
-    let found = assigned(rt.alloc(), &rules, &text_of(rt.alloc(), "abc")?)?;
+    let text = text_of(rt.alloc(), "abc")?;
+    let found = assigned(rt.alloc(), &rules, &text)?;
     let parts = [What::Part(0, 1), What::Part(1, 2), What::Part(2, 3)];
     check_eq(&rt, &found.as_slice(), &parts.as_slice());
     Ok(())

@@ -9,23 +9,15 @@ use std::test::Fail;
 
 // The statement that replaces an `a` by a `b` at most so often, 1 to 1,000 times.
 fn repeated(alloc: Global, rounds: u32) -> Result<Statement, Fail> {
-    let rules = no_rules(alloc)?;
-    let pattern = pattern_of(alloc, &rules, "'a'")?;
-    let object = read_object(alloc, rules.names(), b"'b'")?;
-    let text = TextName::new(alloc, b"T".as_slice())?;
-    let statement = Statement::new(
-        1,
-        Arc::new(alloc, rules)?,
-        pattern,
-        Some(object),
-        text,
-        false,
-    );
-    if 1 <= rounds && rounds <= 1_000 {
-        Ok(statement.repeated(rounds))
-    } else {
-        Err("1 to 1000 rounds are wanted".into())
+    if rounds < 1 || 1_000 < rounds {
+        return Err("1 to 1000 rounds are wanted".into());
     }
+    let rules = Arc::new(alloc, no_rules(alloc)?)?;
+    let text = TextName::new(alloc, b"T".as_slice())?;
+    let object = read_object(alloc, rules.names(), b"'b'")?;
+    let pattern = pattern_of(alloc, &rules, "'a'")?;
+    let statement = Statement::new(1, rules, pattern, Some(object), text, false);
+    Ok(statement.repeated(rounds))
 }
 
 #[test]

@@ -4,7 +4,7 @@ ghost use Rattle.std.specs.Prelude.{◌≡◌, []};
 use crate::compare::check_eq;
 use crate::day::{Day, check_entry, check_text, run_day};
 use crate::gates::ShutFor;
-use crate::jobs::{book, rules, statement};
+use crate::jobs::{book, statement};
 use sno_book::Book;
 use sno_desk::Reply;
 use sno_statement::Statement;
@@ -28,10 +28,9 @@ static JOBS: [Job; 6] = [
 ];
 
 fn statements(rt: &impl Abort, alloc: Global) -> Result<Vec<Arc<Statement>>, Fail> {
-    let rules = rules(rt, alloc)?;
     let mut jobs = Vec::new(alloc);
     for (number, text, pattern, object, _) in JOBS {
-        jobs.push(statement(rt, alloc, &rules, number, text, pattern, object)?)?;
+        jobs.push(statement(rt, alloc, number, text, pattern, object)?)?;
     }
     Ok(jobs)
 }

@@ -5,7 +5,7 @@ ghost use Rattle.std.specs.Thread.{IsSend};
 use crate::compare::check_eq;
 use crate::day::{check_entry, check_text};
 use crate::flags::{Flag, TURNS};
-use crate::jobs::{book, rules, statement};
+use crate::jobs::{book, statement};
 use sno_book::{Book, Entry};
 use sno_desk::{Blank, Desk, Gate, Naming, Reply, Seat, TextName, close};
 use sno_statement::Statement;
@@ -166,7 +166,7 @@ fn share<R: Threads + Wait + Clock + Abort + Sync>(
 #[test]
 fn a_reader_goes_on_while_a_submit_is_held(rt: HostRuntime) -> Result<(), Fail> {
     let alloc = rt.alloc();
-    let job = statement(&rt, alloc, &rules(&rt, alloc)?, 1, "T", "'x'", "'z'")?;
+    let job = statement(&rt, alloc, 1, "T", "'x'", "'z'")?;
     let name = TextName::new(alloc, b"T".as_slice())?;
     let book = book(alloc, &[("T", b"x")], 1_000_000)?;
     let book = share(&rt, alloc, book, job, &name)?;

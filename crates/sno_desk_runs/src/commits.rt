@@ -5,7 +5,7 @@ ghost use Rattle.sno_desk.specs.Seen.{view_after};
 
 use crate::compare::check_eq;
 use crate::day::{check_entry, check_text};
-use crate::jobs::{book, matching, rules, statement};
+use crate::jobs::{book, matching, statement};
 use sno_book::Book;
 use sno_desk::{
     Blank, CommitFault, Desk, Naming, OpenGate, Outcome, Proposal, Seat, SnapshotFault, TextName,
@@ -262,10 +262,9 @@ fn share<T: Turns, R: Wait + Abort>(
 #[test]
 fn an_overtaken_proposal_comes_back_and_each_seat_sees_why(rt: HostRuntime) -> Result<(), Fail> {
     let alloc = rt.alloc();
-    let rules = rules(&rt, alloc)?;
     let turns = Overtakes {
-        late: statement(&rt, alloc, &rules, 1, "T", "'x'", "'y'")?,
-        first: statement(&rt, alloc, &rules, 2, "T", "'x'", "'z'")?,
+        late: statement(&rt, alloc, 1, "T", "'x'", "'y'")?,
+        first: statement(&rt, alloc, 2, "T", "'x'", "'z'")?,
     };
     let book = book(alloc, &[("T", b"x")], 1_000_000)?;
     let book = share(&rt, alloc, book, &turns)?;
@@ -278,12 +277,11 @@ fn an_overtaken_proposal_comes_back_and_each_seat_sees_why(rt: HostRuntime) -> R
 #[test]
 fn a_seat_commits_at_a_later_version(rt: HostRuntime) -> Result<(), Fail> {
     let alloc = rt.alloc();
-    let rules = rules(&rt, alloc)?;
     let turns = Interleaves {
-        first: statement(&rt, alloc, &rules, 1, "T", "'x'", "'z'")?,
-        elsewhere: statement(&rt, alloc, &rules, 2, "U", "'u'", "'v'")?,
-        unmatched: statement(&rt, alloc, &rules, 3, "T", "'x'", "'w'")?,
-        again: statement(&rt, alloc, &rules, 4, "T", "'z'", "'zz'")?,
+        first: statement(&rt, alloc, 1, "T", "'x'", "'z'")?,
+        elsewhere: statement(&rt, alloc, 2, "U", "'u'", "'v'")?,
+        unmatched: statement(&rt, alloc, 3, "T", "'x'", "'w'")?,
+        again: statement(&rt, alloc, 4, "T", "'z'", "'zz'")?,
     };
     let book = book(alloc, &[("T", b"x"), ("U", b"u")], 1_000_000)?;
     let book = share(&rt, alloc, book, &turns)?;
@@ -301,7 +299,7 @@ fn a_seat_commits_at_a_later_version(rt: HostRuntime) -> Result<(), Fail> {
 fn a_failure_is_an_entry_and_changes_no_text(rt: HostRuntime) -> Result<(), Fail> {
     let alloc = rt.alloc();
     let turns = Fails {
-        unmatched: matching(&rt, alloc, &rules(&rt, alloc)?, 1, "T", "'q'")?,
+        unmatched: matching(&rt, alloc, 1, "T", "'q'")?,
         elsewhere: TextName::new(alloc, b"U".as_slice())?,
     };
     let book = book(alloc, &[("T", b"x")], 1_000_000)?;

@@ -11,7 +11,7 @@ use std::sync::Arc;
 use std::test::Fail;
 
 /// No definitions.
-pub(crate) fn rules(rt: &impl Abort, alloc: Global) -> Result<Arc<Rules>, Fail> {
+fn rules(rt: &impl Abort, alloc: Global) -> Result<Arc<Rules>, Fail> {
     let names = Names::new(alloc, &[])?;
     let bodies = Vec::new(alloc);
     assert!(rt; names.len() == bodies.len());
@@ -22,7 +22,7 @@ pub(crate) fn rules(rt: &impl Abort, alloc: Global) -> Result<Arc<Rules>, Fail> 
 fn written(
     rt: &impl Abort,
     alloc: Global,
-    rules: &Arc<Rules>,
+    rules: Arc<Rules>,
     number: u32,
     text: TextName,
     pattern: &str,
@@ -30,7 +30,6 @@ fn written(
 ) -> Result<Arc<Statement>, Fail> {
     let pattern = read_pattern(alloc, rules.names(), 0, pattern.as_bytes())?;
     assert!(rt; rules.covers(&pattern));
-    let rules = Arc::try_clone(rules)?;
     let statement = Statement::new(number, rules, pattern, object, text, false);
     Ok(Arc::new(alloc, statement)?)
 }
@@ -39,12 +38,12 @@ fn written(
 pub(crate) fn statement(
     rt: &impl Abort,
     alloc: Global,
-    rules: &Arc<Rules>,
     number: u32,
     text: &str,
     pattern: &str,
     object: &str,
 ) -> Result<Arc<Statement>, Fail> {
+    let rules = rules(rt, alloc)?;
     let text = TextName::new(alloc, text.as_bytes())?;
     let object = read_object(alloc, rules.names(), object.as_bytes())?;
     written(rt, alloc, rules, number, text, pattern, Some(object))
@@ -54,11 +53,11 @@ pub(crate) fn statement(
 pub(crate) fn matching(
     rt: &impl Abort,
     alloc: Global,
-    rules: &Arc<Rules>,
     number: u32,
     text: &str,
     pattern: &str,
 ) -> Result<Arc<Statement>, Fail> {
+    let rules = rules(rt, alloc)?;
     let text = TextName::new(alloc, text.as_bytes())?;
     written(rt, alloc, rules, number, text, pattern, None)
 }

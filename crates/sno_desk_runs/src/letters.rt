@@ -4,7 +4,7 @@ ghost use Rattle.std.specs.Prelude.{◌≡◌, [], IfOk};
 use crate::compare::check_eq;
 use crate::day::{check_text, run_day};
 use crate::gates::ShutFor;
-use crate::jobs::{book, rules, statement};
+use crate::jobs::{book, statement};
 use sno_book::Book;
 use sno_desk::{OpenGate, SubmitFault};
 use sno_statement::Statement;
@@ -14,11 +14,10 @@ use std::sync::Arc;
 use std::test::Fail;
 
 fn jobs(rt: &impl Abort, alloc: Global) -> Result<Vec<Arc<Statement>>, Fail> {
-    let rules = rules(rt, alloc)?;
     let mut jobs = Vec::new(alloc);
-    jobs.push(statement(rt, alloc, &rules, 1, "A", "'a'", "'x'")?)?;
-    jobs.push(statement(rt, alloc, &rules, 2, "B", "'b'", "'x'")?)?;
-    jobs.push(statement(rt, alloc, &rules, 3, "C", "'c'", "'x'")?)?;
+    jobs.push(statement(rt, alloc, 1, "A", "'a'", "'x'")?)?;
+    jobs.push(statement(rt, alloc, 2, "B", "'b'", "'x'")?)?;
+    jobs.push(statement(rt, alloc, 3, "C", "'c'", "'x'")?)?;
     Ok(jobs)
 }
 

@@ -4,7 +4,7 @@ ghost use Rattle.std.specs.Prelude.{◌≤◌};
 use crate::compare::check_eq;
 use crate::day::{Day, check_entry, check_text, run_day};
 use crate::flags::Flag;
-use crate::jobs::{book, rules, statement};
+use crate::jobs::{book, statement};
 use sno_desk::{Gate, SubmitFault};
 use sno_statement::{Datum, Outcome};
 use std::alloc::Global;
@@ -92,10 +92,9 @@ fn overlap<R: Threads + Wait + Clock + Abort + Sync>(
 ) -> Result<(Day, Notes), Fail>
     requires { (1 ≤ tries) × (tries ≤ 1000) }
 {
-    let rules = rules(rt, alloc)?;
     let mut jobs = Vec::new(alloc);
-    jobs.push(statement(rt, alloc, &rules, 1, "T", "LEN(1) . C", "C C")?)?;
-    jobs.push(statement(rt, alloc, &rules, 2, "T", "'x'", "'z'")?)?;
+    jobs.push(statement(rt, alloc, 1, "T", "LEN(1) . C", "C C")?)?;
+    jobs.push(statement(rt, alloc, 2, "T", "'x'", "'z'")?)?;
     let gate = Hold {
         clock: rt,
         first_came: Flag::new(),

@@ -3,7 +3,7 @@ ghost use Rattle.std.specs.Prelude.{◌≡◌, ◌≤◌, []};
 
 use crate::compare::check_eq;
 use crate::day::{check_entry, check_text};
-use crate::jobs::{book, rules, statement};
+use crate::jobs::{book, statement};
 use sno_book::Book;
 use sno_desk::{Blank, Desk, Gate, Naming, OpenGate, Seat, SubmitFault, close};
 use sno_statement::Statement;
@@ -84,9 +84,8 @@ fn overtake_each<R: Wait + Abort>(
 ) -> Result<(SubmitFault, Book), Fail>
     requires { (1 ≤ tries) × (tries ≤ 1000) }
 {
-    let rules = rules(rt, alloc)?;
-    let first = statement(rt, alloc, &rules, 1, "T", "LEN(1)", "'w'")?;
-    let second = statement(rt, alloc, &rules, 2, "T", "LEN(1) . C", "C C")?;
+    let first = statement(rt, alloc, 1, "T", "LEN(1)", "'w'")?;
+    let second = statement(rt, alloc, 2, "T", "LEN(1) . C", "C C")?;
     let book = book(alloc, &[("T", b"x")], 1_000_000)?;
     overtake::<Brand, R>(rt, alloc, Blank::new(2), book, &[first, second], tries)
 }

@@ -3,7 +3,7 @@ ghost use Rattle.std.specs.Prelude.{◌≡◌, [], IfOk};
 
 use crate::compare::check_eq;
 use crate::day::{Day, run_day};
-use crate::jobs::{book, rules, statement};
+use crate::jobs::{book, statement};
 use sno_book::{Book, Receipt};
 use sno_desk::{OpenGate, Reply};
 use sno_statement::Statement;
@@ -19,13 +19,12 @@ const ROUNDS: u32 = 1_000;
 
 /// Round after round, each text with its first character put between brackets.
 fn jobs(rt: &impl Abort, alloc: Global) -> Result<Vec<Arc<Statement>>, Fail> {
-    let rules = rules(rt, alloc)?;
     let mut jobs = Vec::new(alloc);
     let mut number = 0u32;
     for _round in 0..ROUNDS {
         for text in TEXTS {
             number = number.wrapping_add(1);
-            let job = statement(rt, alloc, &rules, number, text, "LEN(1) . L", "'<' L '>'")?;
+            let job = statement(rt, alloc, number, text, "LEN(1) . L", "'<' L '>'")?;
             jobs.push(job)?;
         }
     }

@@ -2,7 +2,7 @@
 use crate::compare::check_eq;
 use crate::day::{Day, check_entry, check_text, run_day};
 use crate::flags::Flag;
-use crate::jobs::{book, matching, rules, statement};
+use crate::jobs::{book, matching, statement};
 use sno_desk::{Gate, SubmitFault};
 use std::alloc::Global;
 use std::process::Abort;
@@ -52,12 +52,11 @@ impl<C: Clock> Gate for TwoOvertake<'_, C> {
 
 /// Four statements of two seats, with two tries each: the first and the third go to the first seat, the others to the second.
 fn overtake<R: Threads + Wait + Clock + Abort + Sync>(rt: &R, alloc: Global) -> Result<Day, Fail> {
-    let rules = rules(rt, alloc)?;
     let mut jobs = Vec::new(alloc);
-    jobs.push(statement(rt, alloc, &rules, 1, "T", "LEN(1)", "'w'")?)?;
-    jobs.push(statement(rt, alloc, &rules, 2, "T", "'x'", "'y'")?)?;
-    jobs.push(matching(rt, alloc, &rules, 3, "U", "'u'")?)?;
-    jobs.push(statement(rt, alloc, &rules, 4, "T", "'y'", "'x'")?)?;
+    jobs.push(statement(rt, alloc, 1, "T", "LEN(1)", "'w'")?)?;
+    jobs.push(statement(rt, alloc, 2, "T", "'x'", "'y'")?)?;
+    jobs.push(matching(rt, alloc, 3, "U", "'u'")?)?;
+    jobs.push(statement(rt, alloc, 4, "T", "'y'", "'x'")?)?;
     let gate = TwoOvertake {
         clock: rt,
         first_attempt: Flag::new(),

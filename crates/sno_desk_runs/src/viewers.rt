@@ -4,7 +4,7 @@ ghost use Rattle.sno_book.specs.Books.{view_of};
 ghost use Rattle.sno_book.specs.Views.{IsPrefix};
 
 use crate::compare::check_eq;
-use crate::jobs::{book, rules, statement};
+use crate::jobs::{book, statement};
 use sno_book::{Book, Proposal, Statement, Text, propose};
 use sno_published::{History, Naming, Screen, Unpublished, ViewFault, Viewer};
 use std::alloc::Global;
@@ -25,7 +25,7 @@ fn one_text(alloc: Global) -> Result<Book, Fail>
 
 /// A statement that puts a `y` before the text.
 fn adding(rt: &impl Abort, alloc: Global) -> Result<Arc<Statement>, Fail> {
-    statement(rt, alloc, &rules(rt, alloc)?, 1, "T", "''", "'y'")
+    statement(rt, alloc, 1, "T", "''", "'y'")
 }
 
 /// That statement on the text as it stands.

@@ -1,8 +1,8 @@
 //! The matcher by itself: a pattern is read and compiled once, and matched with several texts. No book and no desk is needed.
 use crate::faults::Fault;
 use crate::statements::definitions;
-use sno_machine::compile;
-use sno_pattern::Text;
+use sno_machine::{Code, compile};
+use sno_pattern::{Pattern, Rules, Text};
 use sno_read::read_pattern;
 use std::alloc::Global;
 
@@ -11,27 +11,43 @@ const LIMIT: u32 = 1_000_000;
 
 const TEXTS: [&str; 3] = ["colour=red", "width = 12", "no setting"];
 
-/// Prints for each text from where to where the pattern matches, if it does.
-pub(crate) fn print_matches<R: Print>(rt: &R, alloc: Global) -> Result<(), Fault> {
-    let rules = definitions(alloc)?;
-    let pattern = read_pattern(
-        alloc,
-        rules.names(),
-        0,
-        b"*WORD . KEY '=' REM . VALUE".as_slice(),
-    )?;
-    if !rules.covers(&pattern) {
+/// Prints from where to where the pattern matches in the text, if it does.
+fn print_match<R: Print>(
+    rt: &R,
+    alloc: Global,
+    code: &Code,
+    characters: &str,
+) -> Result<(), Fault> {
+    let text = Text::new(Vec::from_slice(alloc, characters.as_bytes())?)?;
+    let found = code.first(alloc, &text, false, LIMIT)?;
+    let printed = match &found.end {
+        Some(hit) => println!(rt; "{characters}: {} to {}", hit.start, hit.end),
+        None => println!(rt; "{characters}: no match"),
+    };
+    printed.map_err(|_| Fault::Write)
+}
+
+/// The same for each text. The pattern is compiled once.
+fn print_each<R: Print>(
+    rt: &R,
+    alloc: Global,
+    rules: &Rules,
+    pattern: &Pattern,
+) -> Result<(), Fault> {
+    if !rules.covers(pattern) {
         return Err(Fault::Uncovered);
     }
-    let code = compile(alloc, &rules, &pattern)?;
+    let code = compile(alloc, rules, pattern)?;
     for characters in TEXTS {
-        let text = Text::new(Vec::from_slice(alloc, characters.as_bytes())?)?;
-        let found = code.first(alloc, &text, false, LIMIT)?;
-        let printed = match &found.end {
-            Some(hit) => println!(rt; "{characters}: {} to {}", hit.start, hit.end),
-            None => println!(rt; "{characters}: no match"),
-        };
-        printed.map_err(|_| Fault::Write)?;
+        print_match(rt, alloc, &code, characters)?;
     }
     Ok(())
+}
+
+/// Reads the pattern of a setting, and prints where it matches in each text.
+pub(crate) fn print_matches<R: Print>(rt: &R, alloc: Global) -> Result<(), Fault> {
+    let rules = definitions(alloc)?;
+    let written = b"*WORD . KEY '=' REM . VALUE".as_slice();
+    let pattern = read_pattern(alloc, rules.names(), 0, written)?;
+    print_each(rt, alloc, &rules, &pattern)
 }

@@ -43,11 +43,11 @@ fn statement(
     object: &str,
 ) -> Result<Arc<Statement>, Fault> {
     let pattern = read_pattern(alloc, rules.names(), 0, pattern.as_bytes())?;
-    let object = read_object(alloc, rules.names(), object.as_bytes())?;
-    let text = TextName::new(alloc, b"PAGE".as_slice())?;
     if !rules.covers(&pattern) {
         return Err(Fault::Uncovered);
     }
+    let object = read_object(alloc, rules.names(), object.as_bytes())?;
+    let text = TextName::new(alloc, b"PAGE".as_slice())?;
     let rules = Arc::try_clone(rules)?;
     let statement = Statement::new(number, rules, pattern, Some(object), text, false);
     Ok(Arc::new(alloc, statement)?)

@@ -37,6 +37,17 @@ fn check_tree(
     check_equal(tree(alloc, &names, &pattern)?.as_str(), expected)
 }
 
+/// What comes of the statement on the text is this line.
+fn check_performance(
+    alloc: Global,
+    statement: &Statement,
+    text: &Text,
+    expected: &str,
+) -> Result<(), Fail> {
+    let line = performance_line(alloc, statement, text)?;
+    check_equal(line.as_str(), expected)
+}
+
 /// The statement within this limit comes to the line, and comes back.
 fn check_limited(
     alloc: Global,
@@ -46,8 +57,7 @@ fn check_limited(
     expected: &str,
 ) -> Result<Statement, Fail> {
     let limited = limited(statement, limit)?;
-    let line = performance_line(alloc, &limited, text)?;
-    check_equal(line.as_str(), expected)?;
+    check_performance(alloc, &limited, text, expected)?;
     Ok(limited)
 }
 
@@ -66,19 +76,23 @@ fn check_trials(
     Ok(())
 }
 
-/// What comes of the statement is what the row says. A text that is written more than once, or a match that takes too many trials, would take
-/// the plain evaluator too long.
-fn check_statement(alloc: Global, statement: Statement, row: &Row<'_>) -> Result<(), Fail> {
-    let text = text_of(alloc, row.text, row.times)?;
-    let line = performance_line(alloc, &statement, &text)?;
-    check_equal(line.as_str(), row.outcome)?;
+/// What comes of the statement on the text is what the row says. A text that is written more than once, or a match that takes too many trials,
+/// would take the plain evaluator too long.
+fn check_on(alloc: Global, statement: Statement, text: &Text, row: &Row<'_>) -> Result<(), Fail> {
+    check_performance(alloc, &statement, text, row.outcome)?;
     if row.times == 1 && row.outcome != "too many trials" {
-        check_beside(alloc, &statement, &text, row.trials)?;
+        check_beside(alloc, &statement, text, row.trials)?;
     }
     match row.trials {
         None => Ok(()),
-        Some(trials) => check_trials(alloc, statement, &text, trials, row.outcome),
+        Some(trials) => check_trials(alloc, statement, text, trials, row.outcome),
     }
+}
+
+/// The same on the text that the row has.
+fn check_statement(alloc: Global, statement: Statement, row: &Row<'_>) -> Result<(), Fail> {
+    let text = text_of(alloc, row.text, row.times)?;
+    check_on(alloc, statement, &text, row)
 }
 
 fn check_row(alloc: Global, written: &[Definition<'_>], row: &Row<'_>) -> Result<(), Fail> {

@@ -64,9 +64,9 @@ pub(crate) fn definitions(
 
 /// The number between these words.
 pub(crate) fn number(words: &str, before: &str, after: &str) -> Result<u32, Fail> {
-    let words = words.strip_prefix(before).ok_or("no example")?;
-    let digits = words.strip_suffix(after).ok_or("no example")?;
-    Ok(digits.parse::<u32>()?)
+    let number = words.strip_prefix(before);
+    let digits = number.and_then(|number| number.strip_suffix(after));
+    Ok(digits.ok_or("no example")?.parse::<u32>()?)
 }
 
 /// The replacement by this object, and the piece after it.

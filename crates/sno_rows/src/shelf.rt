@@ -241,12 +241,14 @@ impl Shelf {
     {
         match prepare_and_finish(&mut self.book, proposal)? {
             Err(fault) => Ok(fault.to_string(alloc)?),
-            Ok(receipt) => {
-                let line = receipt_line(alloc, &receipt)?;
-                self.receipts.push(receipt)?;
-                Ok(line)
-            }
+            Ok(receipt) => self.record(alloc, receipt),
         }
+    }
+
+    fn record(&mut self, alloc: Global, receipt: Receipt) -> Result<String, Fail> {
+        let line = receipt_line(alloc, &receipt)?;
+        self.receipts.push(receipt)?;
+        Ok(line)
     }
 
     /// Prepares the proposal that is kept, and takes it back.
@@ -265,11 +267,7 @@ impl Shelf {
     pub(crate) fn commit(&mut self, alloc: Global) -> Result<String, Fail> {
         let proposal = self.kept.take().ok_or("none is kept")?;
         match commit(&mut self.book, proposal) {
-            Ok(receipt) => {
-                let line = receipt_line(alloc, &receipt)?;
-                self.receipts.push(receipt)?;
-                Ok(line)
-            }
+            Ok(receipt) => self.record(alloc, receipt),
             Err((fault, back)) => {
                 self.kept = Some(back);
                 Ok(fault.to_string(alloc)?)
