@@ -27,8 +27,7 @@ pub fn results(
     match pattern {
         Pattern::Seq(left, right) => {
             let first = results(alloc, text, rules, depth, left, c)?;
-            let events = follow(alloc, text, rules, depth, &first, right)?;
-            Ok(events)
+            follow(alloc, text, rules, depth, &first, right)
         }
         Pattern::Alt(left, right) => {
             let mut events = results(alloc, text, rules, depth, left, c)?;
@@ -40,27 +39,18 @@ pub fn results(
         }
         Pattern::Arbno(part) => {
             let left = text.bytes().len() - c;
-            let events = repeat(alloc, text, rules, depth, part, left + 1, c)?;
-            Ok(events)
+            repeat(alloc, text, rules, depth, part, left + 1, c)
         }
         Pattern::Cond(part, name) => {
             let events = results(alloc, text, rules, depth, part, c)?;
-            let assigned = assign_later(alloc, *name, c, &events)?;
-            Ok(assigned)
+            assign_later(alloc, *name, c, &events)
         }
         Pattern::Imm(part, name) => {
             let events = results(alloc, text, rules, depth, part, c)?;
-            let assigned = assign_now(alloc, *name, c, &events)?;
-            Ok(assigned)
+            assign_now(alloc, *name, c, &events)
         }
-        Pattern::Ref(number) => {
-            let events = named(alloc, text, rules, depth, *number, c)?;
-            Ok(events)
-        }
-        _ => {
-            let events = leaf(alloc, text.bytes(), pattern, c)?;
-            Ok(events)
-        }
+        Pattern::Ref(number) => named(alloc, text, rules, depth, *number, c),
+        _ => leaf(alloc, text.bytes(), pattern, c),
     }
 }
 
@@ -82,10 +72,7 @@ fn named(
     }
     match rules.body(number) {
         None => Ok(Vec::new(alloc)),
-        Some(body) => {
-            let events = results(alloc, text, rules, depth - 1, body, c)?;
-            Ok(events)
-        }
+        Some(body) => results(alloc, text, rules, depth - 1, body, c),
     }
 }
 

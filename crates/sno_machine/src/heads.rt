@@ -50,42 +50,19 @@ fn collect<'a>(pattern: &'a Pattern, heads: &mut Vec<Head<'a>>) -> Result<bool, 
     match pattern {
         Pattern::Lit(literal) => match literal.bytes().first() {
             None => Ok(false),
-            Some(first) => {
-                let whole = put(Head::Byte(*first), heads)?;
-                Ok(whole)
-            }
+            Some(first) => put(Head::Byte(*first), heads),
         },
-        Pattern::AnyOf(class) => {
-            let whole = put(Head::OneOf(class), heads)?;
-            Ok(whole)
-        }
-        Pattern::Span(class) => {
-            let whole = put(Head::OneOf(class), heads)?;
-            Ok(whole)
-        }
-        Pattern::NoneOf(class) => {
-            let whole = put(Head::NoneOf(class), heads)?;
-            Ok(whole)
-        }
-        Pattern::Seq(first, _) => {
-            let whole = collect(first, heads)?;
-            Ok(whole)
-        }
+        Pattern::AnyOf(class) | Pattern::Span(class) => put(Head::OneOf(class), heads),
+        Pattern::NoneOf(class) => put(Head::NoneOf(class), heads),
         Pattern::Alt(first, second) => {
             let begun = collect(first, heads)?;
             if !begun {
                 return Ok(false);
             }
-            let whole = collect(second, heads)?;
-            Ok(whole)
+            collect(second, heads)
         }
-        Pattern::Cond(part, _) => {
-            let whole = collect(part, heads)?;
-            Ok(whole)
-        }
-        Pattern::Imm(part, _) => {
-            let whole = collect(part, heads)?;
-            Ok(whole)
+        Pattern::Seq(part, _) | Pattern::Cond(part, _) | Pattern::Imm(part, _) => {
+            collect(part, heads)
         }
         _ => Ok(false),
     }

@@ -1,7 +1,10 @@
 //! The words that stand for primitives.
 ghost use Rattle.std.specs.Prelude.{◌≡◌};
+ghost use Rattle.std.specs.List.{find};
+ghost use Rattle.std.specs.Option.{option_map};
+ghost use Rattle.sno_pattern.specs.Identifiers.{same};
 ghost use Rattle.sno_pattern.specs.Tree.{tree_of};
-ghost use Rattle.sno_read.specs.Keywords.{keyword_of, call_of, word_tree, number_tree, set_tree};
+ghost use Rattle.sno_read.specs.Keywords.{keyword_of, word_tree, number_tree, set_tree};
 
 use sno_pattern::{Class, Pattern};
 
@@ -89,54 +92,40 @@ impl SetCall {
     }
 }
 
+// The words that stand for primitives, and what each is.
+const KEYWORDS: [(&str, Keyword); 16] = [
+    ("ARB", Keyword::Primitive(Word::Arb)),
+    ("BAL", Keyword::Primitive(Word::Bal)),
+    ("REM", Keyword::Primitive(Word::Rem)),
+    ("FENCE", Keyword::Primitive(Word::Fence)),
+    ("ABORT", Keyword::Primitive(Word::Abort)),
+    ("FAIL", Keyword::Primitive(Word::Fail)),
+    ("LEN", Keyword::Counted(NumberCall::Len)),
+    ("POS", Keyword::Counted(NumberCall::Pos)),
+    ("RPOS", Keyword::Counted(NumberCall::Rpos)),
+    ("TAB", Keyword::Counted(NumberCall::Tab)),
+    ("RTAB", Keyword::Counted(NumberCall::Rtab)),
+    ("ANY", Keyword::Chosen(SetCall::AnyOf)),
+    ("NOTANY", Keyword::Chosen(SetCall::NoneOf)),
+    ("SPAN", Keyword::Chosen(SetCall::Span)),
+    ("BREAK", Keyword::Chosen(SetCall::Break)),
+    ("ARBNO", Keyword::Repeated),
+];
+
 /// What the word is, if it is reserved.
-#[tactic(auto, unfolding(crate::specs::Keywords::keyword_of))]
+#[tactic(auto, unfolding(crate::specs::Keywords::keyword_of, crate::specs::Keywords::call_of))]
 pub fn keyword_of(word: &[u8]) -> Option<Keyword>
     ensures { result ≡ keyword_of word.now }
 {
-    if word == b"ARB".as_slice() {
-        Some(Keyword::Primitive(Word::Arb))
-    } else if word == b"BAL".as_slice() {
-        Some(Keyword::Primitive(Word::Bal))
-    } else if word == b"REM".as_slice() {
-        Some(Keyword::Primitive(Word::Rem))
-    } else if word == b"FENCE".as_slice() {
-        Some(Keyword::Primitive(Word::Fence))
-    } else if word == b"ABORT".as_slice() {
-        Some(Keyword::Primitive(Word::Abort))
-    } else if word == b"FAIL".as_slice() {
-        Some(Keyword::Primitive(Word::Fail))
-    } else {
-        call_of(word)
-    }
+    look_up(word, &KEYWORDS)
 }
 
-// What the word is, if it is a call.
-#[tactic(auto, unfolding(crate::specs::Keywords::call_of))]
-fn call_of(word: &[u8]) -> Option<Keyword>
-    ensures { result ≡ call_of word.now }
+// What stands beside the word in the table.
+fn look_up(word: &[u8], table: &[(&str, Keyword)]) -> Option<Keyword>
+    ensures { result ≡ option_map (λ e. e.1) (find (λ e. same word.now e.0.now) table.now) }
 {
-    if word == b"LEN".as_slice() {
-        Some(Keyword::Counted(NumberCall::Len))
-    } else if word == b"POS".as_slice() {
-        Some(Keyword::Counted(NumberCall::Pos))
-    } else if word == b"RPOS".as_slice() {
-        Some(Keyword::Counted(NumberCall::Rpos))
-    } else if word == b"TAB".as_slice() {
-        Some(Keyword::Counted(NumberCall::Tab))
-    } else if word == b"RTAB".as_slice() {
-        Some(Keyword::Counted(NumberCall::Rtab))
-    } else if word == b"ANY".as_slice() {
-        Some(Keyword::Chosen(SetCall::AnyOf))
-    } else if word == b"NOTANY".as_slice() {
-        Some(Keyword::Chosen(SetCall::NoneOf))
-    } else if word == b"SPAN".as_slice() {
-        Some(Keyword::Chosen(SetCall::Span))
-    } else if word == b"BREAK".as_slice() {
-        Some(Keyword::Chosen(SetCall::Break))
-    } else if word == b"ARBNO".as_slice() {
-        Some(Keyword::Repeated)
-    } else {
-        None
-    }
+    table
+        .iter()
+        .find(|(other, _)| word == other.as_bytes())
+        .map(|(_, keyword)| *keyword)
 }

@@ -1,9 +1,11 @@
 //! The reader of patterns: a method for each rule of the grammar.
-ghost use Rattle.std.specs.Prelude.{ℕ, ◌<◌, ◌≤◌, length, IfOk, Ok};
+ghost use Rattle.std.specs.Prelude.{◌≡◌, ℕ, ◌<◌, ◌≤◌, length, IfOk, Ok};
 ghost use Rattle.sno_pattern.specs.Tree.{tree_of, Seq, Alt, Cond, Imm};
-ghost use Rattle.sno_read.specs.Gives.{Gives};
-ghost use Rattle.sno_read.specs.Reading.{place, cursor_at, reference_at, plain_of, number_call_at, set_call_at, group_at, repetition_at, from_name_at, quotation_at, element_at, targets_at, item_at, items_at, parts_at, concatenation_at, inside};
+ghost use Rattle.sno_read.specs.Characters.{skip};
+ghost use Rattle.sno_read.specs.Gives.{Gives, ◌>>=◌ as ◌and_then◌};
+ghost use Rattle.sno_read.specs.Reading.{place, sign_at, cursor_at, reference_at, plain_of, number_call_at, set_call_at, group_at, repetition_at, from_name_at, quotation_at, element_at, targets_at, item_at, items_at, parts_at, concatenation_at, inside};
 ghost use Rattle.sno_read.specs.Views.{env_of};
+ghost use Rattle.sno_read.specs.declared.characters.Following.TheVariants.{Dot, Dollar};
 ghost use Rattle.sno_read.specs.declared.faults.ReadFault.TheVariants.{UnknownName};
 
 use crate::characters::{self, Following, Start};
@@ -78,20 +80,17 @@ impl<'a> Reader<'a> {
         Ok(Pattern::Alt(first, second))
     }
 
-    // A part that is assigned later.
-    fn cond(&self, part: Pattern, name: Name) -> Result<Pattern, Stop>
-        ensures { Gives tree_of result (Ok (Cond (tree_of part) name)) }
+    // A part that is assigned: at once after a dollar sign, and later after a period.
+    fn assigned(&self, sign: Following, part: Pattern, name: Name) -> Result<Pattern, Stop>
+        ensures at_once { sign ≡ Dollar → Gives tree_of result (Ok (Imm (tree_of part) name)) }
+        ensures later { sign ≡ Dot → Gives tree_of result (Ok (Cond (tree_of part) name)) }
     {
         let part = Box::new(self.alloc, part)?;
-        Ok(Pattern::Cond(part, name))
-    }
-
-    // A part that is assigned at once.
-    fn imm(&self, part: Pattern, name: Name) -> Result<Pattern, Stop>
-        ensures { Gives tree_of result (Ok (Imm (tree_of part) name)) }
-    {
-        let part = Box::new(self.alloc, part)?;
-        Ok(Pattern::Imm(part, name))
+        if sign == Following::Dollar {
+            Ok(Pattern::Imm(part, name))
+        } else {
+            Ok(Pattern::Cond(part, name))
+        }
     }
 
     // The targets of a pattern, the leftmost innermost.
@@ -99,18 +98,12 @@ impl<'a> Reader<'a> {
         ensures read { (n : ℕ) → length rest.entry.characters.now < n → Gives (λ p. (tree_of p.0, p.1.characters.now)) result (targets_at (env_of self.now) n (tree_of pattern) rest.entry.characters.now) }
         ensures shorter { IfOk result (λ p. length p.1.characters.now ≤ length rest.entry.characters.now) }
     {
-        match characters::what_follows(rest.characters) {
-            Following::Dot => {
+        let follows = characters::what_follows(rest.characters);
+        match follows {
+            Following::Dot | Following::Dollar => {
                 let rest = self.sign(rest)?;
                 let name = self.variable(rest)?;
-                let part = self.cond(pattern, name)?;
-                let read = self.targets(part, rest.after_name())?;
-                Ok(read)
-            }
-            Following::Dollar => {
-                let rest = self.sign(rest)?;
-                let name = self.variable(rest)?;
-                let part = self.imm(pattern, name)?;
+                let part = self.assigned(follows, pattern, name)?;
                 let read = self.targets(part, rest.after_name())?;
                 Ok(read)
             }
@@ -267,6 +260,17 @@ impl<'a> Reader<'a> {
         }
     }
 
+    // What comes after a bar: an alternation.
+    #[cycle(grammar)]
+    fn otherwise(&self, room: usize, rest: Piece<'a>) -> Result<(Pattern, Piece<'a>), Stop>
+        requires { 0 < length (skip rest.characters.now) }
+        ensures read { (n : ℕ) → length rest.entry.characters.now < n → Gives (λ p. (tree_of p.0, p.1.characters.now)) result (sign_at (env_of self.now) rest.entry.characters.now and_then parts_at (env_of self.now) (concatenation_at (env_of self.now) room (inside (env_of self.now) room)) n) }
+        ensures shorter { IfOk result (λ p. length p.1.characters.now < length rest.entry.characters.now) }
+    {
+        let rest = self.sign(rest)?;
+        self.alternation(room, rest)
+    }
+
     /// Concatenations, joined from the right.
     #[cycle(grammar)]
     pub fn alternation(&self, room: usize, rest: Piece<'a>) -> Result<(Pattern, Piece<'a>), Stop>
@@ -276,8 +280,7 @@ impl<'a> Reader<'a> {
         let (pattern, rest) = self.concatenation(room, rest)?;
         match characters::what_follows(rest.characters) {
             Following::Bar => {
-                let rest = self.sign(rest)?;
-                let (others, rest) = self.alternation(room, rest)?;
+                let (others, rest) = self.otherwise(room, rest)?;
                 let joined = self.alt(pattern, others)?;
                 Ok((joined, rest))
             }

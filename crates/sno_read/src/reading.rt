@@ -4,9 +4,9 @@ ghost use Rattle.sno_pattern.specs.Tree.{Tree, tree_of};
 ghost use Rattle.sno_read.specs.declared.objects.Part.{Part};
 ghost use Rattle.sno_read.specs.Grammar.{Spells};
 ghost use Rattle.sno_read.specs.ObjectGrammar.{SpellsObject};
-ghost use Rattle.sno_read.specs.Gives.{Gives, Answers, OnMemory, OnOutOfMemory};
+ghost use Rattle.sno_read.specs.Gives.{Gives, ◌>>=◌ as ◌and_then◌, Answers, OnMemory, OnOutOfMemory};
 ghost use Rattle.sno_read.specs.Characters.{skip};
-ghost use Rattle.sno_read.specs.Reading.{short_ascii, whole_of, pattern_of, AsksForMemory};
+ghost use Rattle.sno_read.specs.Reading.{short_ascii, end_at, shallow, whole_of, pattern_of, AsksForMemory};
 ghost use Rattle.sno_read.specs.Objects.{object_of};
 ghost use Rattle.sno_read.specs.Views.{env_of};
 
@@ -43,8 +43,24 @@ fn check(text: &[u8]) -> Result<Piece<'_>, Stop>
     }
 }
 
+// Nothing but blanks comes after a pattern, and it isn't too deep.
+#[tactic(auto, unfolding(crate::specs::Reading::shallow, crate::specs::Reading::end_at))]
+fn finish(reader: &Reader, pattern: &Pattern, rest: Piece) -> Result<(), Stop>
+    ensures read { Gives (λ _. tree_of pattern.now) result (end_at (env_of reader.now) (skip rest.entry.characters.now) and_then λ _. shallow (env_of reader.now) (tree_of pattern.now)) }
+{
+    let end = rest.after_blanks();
+    if !end.characters.is_empty() {
+        return Err(reader.unexpected(end));
+    }
+    if depth::fits(pattern, MAX_DEPTH) {
+        Ok(())
+    } else {
+        Err(Stop::Fault(ReadFault::TooDeep(reader.total)))
+    }
+}
+
 // The pattern that a whole text spells.
-#[tactic(auto, unfolding(crate::specs::Reading::whole_of, crate::specs::Reading::shallow, crate::specs::Reading::end_at, crate::specs::Reading::alternation_at))]
+#[tactic(auto, unfolding(crate::specs::Reading::whole_of, crate::specs::Reading::alternation_at))]
 fn whole(reader: &Reader, text: Piece) -> Result<Pattern, Stop>
     ensures read { Gives tree_of result (whole_of (env_of reader.now) text.entry.characters.now) }
     ensures late { OnMemory result (0 < length (skip text.entry.characters.now)) }
@@ -54,15 +70,8 @@ fn whole(reader: &Reader, text: Piece) -> Result<Pattern, Stop>
         return Err(Stop::Fault(ReadFault::Empty(reader.total)));
     }
     let (pattern, rest) = reader.alternation(MAX_OPEN, rest)?;
-    let end = rest.after_blanks();
-    if !end.characters.is_empty() {
-        return Err(reader.unexpected(end));
-    }
-    if depth::fits(&pattern, MAX_DEPTH) {
-        Ok(pattern)
-    } else {
-        Err(Stop::Fault(ReadFault::TooDeep(reader.total)))
-    }
+    finish(reader, &pattern, rest)?;
+    Ok(pattern)
 }
 
 #[tactic(auto, unfolding(crate::specs::Reading::pattern_of))]

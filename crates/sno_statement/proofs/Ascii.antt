@@ -6,7 +6,7 @@ use Rattle.std.specs.Str.{IsAscii}
 use Rattle.std.specs.Fmt.{decimal}
 use Rattle.std.proofs.lemmas.Fmt.{IsAscii-decimal}
 use Rattle.std.proofs.lemmas.Bool.{and_from, and_parts, lt-ltb, cases_lt}
-use Rattle.std.proofs.lemmas.List.{take-append-drop, length-take, length-drop}
+use Rattle.std.proofs.lemmas.List.{take-append-drop}
 use Rattle.std.proofs.lemmas.List.Folds.{list_all-append}
 use Rattle.sno_pattern.specs.Texts.{text_of}
 use Rattle.sno_pattern.specs.declared.texts.TextFault.{TextFault}
@@ -40,13 +40,6 @@ ascii_from_index (b ∷ bs) h = and_from (is_ascii b) (list_all is_ascii bs) (as
 
 pub ascii_decimal : (n : ℕ) → n < 2 ^ 32 → AreAscii (decimal n)
 ascii_decimal n h = ascii_from_index (decimal n) (IsAscii-decimal n (omega arith))
-
--- a part of a text is never refused as a text
-pub part_is_text : (t v : List ℕ) (from to : ℕ) (e : TextFault) → Err e ≡ text_of v → v ≡ part t from to → length t ≤ 65536 → AreAscii t → ⊥
-part_is_text t v from to e refused is short ascii =
-    let few : length (part t from to) ≤ 65536 = omega (arith, length-take (to - from) (drop from t), length-drop from t) in
-    let fine : text_of v ≡ Ok v = ap text_of is ∙ text_of_ascii (part t from to) few (ascii_part t from to ascii) ∙ ap (λ (x : List ℕ). Ok x) (sym is) in
-    cc
 
 -- ASCII characters are refused as a text only where they are too many
 pub refused_is_long : (v : List ℕ) (e : TextFault) → Err e ≡ text_of v → AreAscii v → 65536 < length v

@@ -9,7 +9,7 @@ ghost use Rattle.sno_statement.specs.Value.{value_of, new_text};
 ghost use Rattle.sno_statement.specs.Perform.{Done, Failed, Repeated, Gives, GivesText, IsCodeOf, done_of, finish, finish_found, follow, left_by, perform, perform_once, rounds};
 
 use crate::lengths::new_length;
-use crate::values::{part, replace};
+use crate::values::{part, replace, text_of};
 use crate::{Bindings, Datum, Outcome, Statement, StatementFault};
 use sno_machine::{Code, compile};
 use sno_pattern::{Assign, Found, Hit, Name, Text, What, cursors_lie_within_the_text};
@@ -90,7 +90,6 @@ fn succeed(
 }
 
 /// The text that the replacement leaves. Nothing is copied where it is too long.
-#[tactic(auto, using(crate::proofs::Ascii::refused_is_long))]
 fn new_text(
     alloc: Global,
     parts: &[Part],
@@ -104,10 +103,7 @@ fn new_text(
         return Err(StatementFault::TextTooLong);
     };
     let characters = replace(alloc, subject, hit.start, hit.end, parts, bindings, length)?;
-    match Text::new(characters) {
-        Ok(text) => Ok(Arc::new(alloc, text)?),
-        Err(_) => unreachable!(),
-    }
+    Ok(Arc::new(alloc, text_of(characters))?)
 }
 
 /// What is done to the text after a match that came out so.
@@ -126,8 +122,7 @@ fn finish(
         None => Ok(Outcome::Failed { bindings }),
         Some(hit) => {
             bind_later(alloc, subject, &mut bindings, hit.conds.as_slice())?;
-            let outcome = succeed(alloc, object, subject, hit, bindings)?;
-            Ok(outcome)
+            succeed(alloc, object, subject, hit, bindings)
         }
     }
 }
@@ -144,8 +139,7 @@ fn perform_once(
 {
     cursors_lie_within_the_text();
     let found = code.first(alloc, subject, statement.anchored(), statement.limit())?;
-    let outcome = finish(alloc, statement.object(), subject, &found)?;
-    Ok(outcome)
+    finish(alloc, statement.object(), subject, &found)
 }
 
 /// What a round that matched leaves to the next one: its bindings and its new text. Any other outcome comes back.
@@ -172,6 +166,18 @@ fn left_by(round: Outcome) -> Result<(Bindings, Arc<Text>), Outcome>
     }
 }
 
+/// The answer after so many matches, of which this is what the last one left.
+fn repeated(matches: u32, last: (Bindings, Arc<Text>)) -> Outcome
+    ensures { done_of result ≡ Repeated matches last.0 (arc_value last.1) }
+{
+    let (bindings, after) = last;
+    Outcome::Repeated {
+        matches,
+        bindings,
+        after,
+    }
+}
+
 /// The answer of rounds that end with one that left nothing. Where it failed they come to so many matches, with what the last one left;
 /// any other outcome is the answer itself.
 fn end_with(round: Outcome, matches: u32, last: (Bindings, Arc<Text>)) -> Outcome
@@ -179,16 +185,33 @@ fn end_with(round: Outcome, matches: u32, last: (Bindings, Arc<Text>)) -> Outcom
     ensures { (go_on : Bound → List ℕ → Result Done StatementFault) → follow (Ok (done_of round)) (λ _. Repeated matches last.0 (arc_value last.1)) go_on ≡ Ok (done_of result) }
 {
     match round {
-        Outcome::Failed { .. } => Outcome::Repeated {
-            matches,
-            bindings: last.0,
-            after: last.1,
-        },
+        Outcome::Failed { .. } => repeated(matches, last),
         other => other,
     }
 }
 
-/// Performs the rounds that follow the first one, up to so many in all. One text and its new text are held at a time.
+/// Performs the rounds that follow a first one that matched, up to so many in all. One text and its new text are held at a time.
+fn go_on(
+    alloc: Global,
+    code: &Code<'_>,
+    statement: &Statement,
+    mut last: (Bindings, Arc<Text>),
+    times: u32,
+) -> Result<Outcome, StatementFault>
+    requires code { IsCodeOf code.now statement.now }
+    requires some { 1 ≤ times }
+    ensures { Gives result (rounds statement.now (times - 1) 1 last.0 (arc_value last.1)) }
+{
+    for matches in 1..times {
+        match left_by(perform_once(alloc, code, statement, &last.1)?) {
+            Ok(left) => last = left,
+            Err(other) => return Ok(end_with(other, matches, last)),
+        }
+    }
+    Ok(repeated(times, last))
+}
+
+/// Performs the rounds that follow the first one, up to so many in all.
 fn follow(
     alloc: Global,
     code: &Code<'_>,
@@ -200,21 +223,10 @@ fn follow(
     requires some { 1 ≤ times }
     ensures { Gives result (follow (Ok (done_of first)) Failed (rounds statement.now (times - 1) 1)) }
 {
-    let mut last = match left_by(first) {
-        Ok(left) => left,
-        Err(ended) => return Ok(ended),
-    };
-    for matches in 1..times {
-        match left_by(perform_once(alloc, code, statement, &last.1)?) {
-            Ok(left) => last = left,
-            Err(other) => return Ok(end_with(other, matches, last)),
-        }
+    match left_by(first) {
+        Ok(left) => go_on(alloc, code, statement, left, times),
+        Err(ended) => Ok(ended),
     }
-    Ok(Outcome::Repeated {
-        matches: times,
-        bindings: last.0,
-        after: last.1,
-    })
 }
 
 /// Performs a statement on a text: matches the pattern, binds the variables and, where the statement has an object and the match
@@ -243,9 +255,6 @@ pub fn perform(
     let first = perform_once(alloc, &code, statement, subject)?;
     match statement.repeat() {
         None => Ok(first),
-        Some(times) => {
-            let outcome = follow(alloc, &code, statement, first, times)?;
-            Ok(outcome)
-        }
+        Some(times) => follow(alloc, &code, statement, first, times),
     }
 }

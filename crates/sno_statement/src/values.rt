@@ -4,10 +4,11 @@ ghost use Rattle.std.specs.List.{list_all};
 ghost use Rattle.std.specs.Char.{is_ascii};
 ghost use Rattle.std.specs.Fmt.{decimal};
 ghost use Rattle.sno_pattern.specs.Ends.{part};
-ghost use Rattle.sno_statement.specs.Value.{part_value, value_of, new_text};
+ghost use Rattle.sno_statement.specs.Bindings.{lookup};
+ghost use Rattle.sno_statement.specs.Value.{part_value, string_of, value_of, new_text};
 
 use crate::{Bindings, Datum};
-use sno_pattern::Text;
+use sno_pattern::{Name, Text};
 use sno_read::Part;
 use std::alloc::{AllocError, Global};
 
@@ -33,8 +34,21 @@ pub(crate) fn back(characters: &[u8], count: usize) -> &[u8]
     }
 }
 
-#[tactic(auto, using(crate::proofs::Ascii::part_is_text))]
+/// The text of these characters. They are ASCII, and no more than a text has.
+#[tactic(auto, using(crate::proofs::Ascii::refused_is_long))]
+pub(crate) fn text_of(characters: Vec<u8>) -> Text
+    requires ascii { IsTrue (list_all is_ascii characters.items) }
+    requires short { length characters.items ≤ 65536 }
+    ensures { result ≡ characters.items }
+{
+    match Text::new(characters) {
+        Ok(text) => text,
+        Err(_) => unreachable!(),
+    }
+}
+
 /// A text of the characters between two cursors.
+#[tactic(auto, using(crate::proofs::Ascii::ascii_part))]
 pub(crate) fn part(
     alloc: Global,
     subject: &Text,
@@ -44,10 +58,7 @@ pub(crate) fn part(
     ensures { IfOk result (λ s. s ≡ part subject.now from to) }
 {
     let characters = front(back(subject.bytes(), from), to.saturating_sub(from));
-    match Text::new(Vec::from_slice(alloc, characters)?) {
-        Ok(text) => Ok(text),
-        Err(_) => unreachable!(),
-    }
+    Ok(text_of(Vec::from_slice(alloc, characters)?))
 }
 
 /// Appends a number in decimal digits.
@@ -58,6 +69,23 @@ fn put_number(alloc: Global, number: u32, out: &mut Vec<u8>) -> Result<(), Alloc
 {
     let digits = number.to_string(alloc)?;
     out.extend_from_slice(digits.as_bytes())
+}
+
+/// Appends a variable's value.
+fn put_variable(
+    alloc: Global,
+    name: &Name,
+    bindings: &Bindings,
+    out: &mut Vec<u8>,
+) -> Result<(), AllocError>
+    ensures value { OnOk result (out.new.items ≡ out.old.items ++ string_of (lookup name.now bindings.now)) }
+    ensures ascii { IsTrue (list_all is_ascii (string_of (lookup name.now bindings.now))) }
+{
+    match bindings.value(name) {
+        None => Ok(()),
+        Some(Datum::Str(text)) => out.extend_from_slice(text.bytes()),
+        Some(Datum::Int(number)) => put_number(alloc, *number, out),
+    }
 }
 
 /// Appends a part's value.
@@ -72,12 +100,25 @@ fn put_part(
 {
     match part {
         Part::Quoted(text) => out.extend_from_slice(text.bytes()),
-        Part::Var(name) => match bindings.value(name) {
-            None => Ok(()),
-            Some(Datum::Str(text)) => out.extend_from_slice(text.bytes()),
-            Some(Datum::Int(number)) => put_number(alloc, *number, out),
-        },
+        Part::Var(name) => put_variable(alloc, name, bindings, out),
     }
+}
+
+/// Appends the values of the parts, in order.
+#[tactic(auto, using(crate::proofs::Ascii::ascii_append))]
+fn put_parts(
+    alloc: Global,
+    parts: &[Part],
+    bindings: &Bindings,
+    out: &mut Vec<u8>,
+) -> Result<(), AllocError>
+    ensures value { OnOk result (out.new.items ≡ out.old.items ++ value_of bindings.now parts.now) }
+    ensures ascii { OnOk result (IsTrue (list_all is_ascii out.old.items) → IsTrue (list_all is_ascii out.new.items)) }
+{
+    for part in parts {
+        put_part(alloc, part, bindings, out)?;
+    }
+    Ok(())
 }
 
 /// The characters in which the part between two cursors is replaced by the object's value, in memory that is taken at once where
@@ -97,9 +138,7 @@ pub(crate) fn replace(
 {
     let mut out = Vec::with_capacity(alloc, length)?;
     out.extend_from_slice(front(subject.bytes(), start))?;
-    for part in parts {
-        put_part(alloc, part, bindings, &mut out)?;
-    }
+    put_parts(alloc, parts, bindings, &mut out)?;
     out.extend_from_slice(back(subject.bytes(), end))?;
     Ok(out)
 }

@@ -1,8 +1,9 @@
 -- Each call has less to do than the one that makes it, and what each adds is what the definitions say.
-use Rattle.std.proofs.Common.{◌+◌, ◌-◌, [], ◌∷◌, ◌++◌, length, drop, arith, ap, sym, ◌∙◌}
+use Rattle.std.proofs.Common.{◌≡◌, ◌+◌, ◌-◌, [], ◌∷◌, ◌++◌, length, drop, arith, ap, sym, ◌∙◌}
+use Rattle.std.proofs.lemmas.Result.{IfOk-weaker}
 use Rattle.sno_pattern.specs.Tree.{tree_of}
 use Rattle.sno_pattern.specs.Events.{go_on}
-use Rattle.sno_pattern.specs.Results.{results}
+use Rattle.sno_pattern.specs.Results.{results, definition_results}
 use Rattle.sno_pattern.specs.Laws.{Within}
 use Rattle.sno_pattern.specs.declared.events.Event.TheVariants.{Try, Set, End}
 use Rattle.std.specs.List.{list_any}
@@ -56,9 +57,10 @@ pub named-returns-in-None : goal.named-returns-in-None
 named-returns-in-None t c =
     named_missing c.args.text.now c.args.rules.now.bodies c.args.depth c.args.number c.args.c _ c.new-in-None.ensures.items c.in-None.ensures
 
-pub named-returns-in_ok-events-in-Some : goal.named-returns-in_ok-events-in-Some
-named-returns-in_ok-events-in-Some t c =
-    named_does c.args.text.now c.args.rules.now.bodies c.args.depth c.args.number c.args.c (tree_of c.in-Some.body.now) _ (omega arith) c.in-Some.ensures c.in_ok-events-in-Some.ensures
+pub named-returns-in-Some : goal.named-returns-in-Some
+named-returns-in-Some t c =
+    IfOk-weaker c.results.result (λ v. v.items ≡ results c.args.text.now c.args.rules.now.bodies (c.args.depth - 1) (tree_of c.in-Some.body.now) c.args.c) (λ v. v.items ≡ definition_results c.args.text.now c.args.rules.now.bodies c.args.depth c.args.number c.args.c)
+    (λ v is. named_does c.args.text.now c.args.rules.now.bodies c.args.depth c.args.number c.args.c (tree_of c.in-Some.body.now) _ (omega arith) c.in-Some.ensures is) c.results.ensures
 
 pub repeat-results-requires : goal.repeat-results-requires
 repeat-results-requires t c = (

@@ -2,7 +2,7 @@
 use Rattle.std.proofs.Common.{suc, ◌-◌, length, arith, rules}
 use Rattle.sno_read.specs.Reading.{item_at, concatenation_at, alternation_at, group_at, inside}
 use Rattle.sno_read.specs.Views.{env_of}
-use Rattle.sno_read.proofs.Steps.{items_step, parts_step, inside_step}
+use Rattle.sno_read.proofs.Steps.{items_step, parts_step, bar_stops, bar_found, inside_step}
 use Rattle.sno_read.proofs.reader.Reader.+grammar.Goals as goal
 
 pub concatenation-returns-in_err-pattern-clause-read : goal.concatenation-returns-in_err-pattern-clause-read
@@ -24,20 +24,19 @@ unfolding concatenation_at
 alternation-returns-in_err-pattern-clause-read t c = λ n h. rw (parts_step (env_of c.args.self.now) (concatenation_at (env_of c.args.self.now) c.args.room (inside (env_of c.args.self.now) c.args.room)) n c.args.rest.characters.now _ h)
     (let p = c.in_err-pattern.ensures.read (suc (length c.args.rest.characters.now)) (omega arith) in search rules)
 
-pub alternation-returns-in_err-rest-in-Bar-clause-read : goal.alternation-returns-in_err-rest-in-Bar-clause-read
-unfolding concatenation_at
-alternation-returns-in_err-rest-in-Bar-clause-read t c = λ n h. rw (parts_step (env_of c.args.self.now) (concatenation_at (env_of c.args.self.now) c.args.room (inside (env_of c.args.self.now) c.args.room)) n c.args.rest.characters.now _ h)
-    (let p = c.in_ok-pattern.ensures.read (suc (length c.args.rest.characters.now)) (omega arith) in search rules)
-
 pub alternation-returns-in_err-others-in-Bar-clause-read : goal.alternation-returns-in_err-others-in-Bar-clause-read
 unfolding concatenation_at
 alternation-returns-in_err-others-in-Bar-clause-read t c = λ n h. rw (parts_step (env_of c.args.self.now) (concatenation_at (env_of c.args.self.now) c.args.room (inside (env_of c.args.self.now) c.args.room)) n c.args.rest.characters.now _ h)
-    (let p = c.in_ok-pattern.ensures.read (suc (length c.args.rest.characters.now)) (omega arith) in let i = c.in_err-others-in-Bar.ensures.read (n - 1) (omega (arith, c.in_ok-pattern.ensures.shorter, c.in_ok-rest-in-Bar.ensures.shorter)) in search rules)
+    (let p = c.in_ok-pattern.ensures.read (suc (length c.args.rest.characters.now)) (omega arith) in
+    let i = c.in_err-others-in-Bar.ensures.read (n - 1) (omega (arith, c.in_ok-pattern.ensures.shorter)) in
+    search (rules, bar_stops))
 
 pub alternation-returns-in_ok-joined-in-Bar-clause-read : goal.alternation-returns-in_ok-joined-in-Bar-clause-read
 unfolding concatenation_at
 alternation-returns-in_ok-joined-in-Bar-clause-read t c = λ n h. rw (parts_step (env_of c.args.self.now) (concatenation_at (env_of c.args.self.now) c.args.room (inside (env_of c.args.self.now) c.args.room)) n c.args.rest.characters.now _ h)
-    (let p = c.in_ok-pattern.ensures.read (suc (length c.args.rest.characters.now)) (omega arith) in let i = c.in_ok-others-in-Bar.ensures.read (n - 1) (omega (arith, c.in_ok-pattern.ensures.shorter, c.in_ok-rest-in-Bar.ensures.shorter)) in search rules)
+    (let p = c.in_ok-pattern.ensures.read (suc (length c.args.rest.characters.now)) (omega arith) in
+    let i = c.in_ok-others-in-Bar.ensures.read (n - 1) (omega (arith, c.in_ok-pattern.ensures.shorter)) in
+    search (rules, bar_found))
 
 pub alternation-returns-in-Nothing : goal.alternation-returns-in-Nothing
 unfolding concatenation_at

@@ -5,6 +5,9 @@ use Rattle.sno_read.proofs.reader.Reader.+grammar.Given as goal
 abbrev pub decreases-alternation : goal.decreases-alternation
 decreases-alternation l = 10 * length l.rest.characters.now + 6
 
+abbrev pub decreases-otherwise : goal.decreases-otherwise
+decreases-otherwise l = 10 * length l.rest.characters.now + 7
+
 abbrev pub decreases-concatenation : goal.decreases-concatenation
 decreases-concatenation l = 10 * length l.rest.characters.now + 5
 

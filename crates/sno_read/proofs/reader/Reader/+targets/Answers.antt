@@ -6,32 +6,18 @@ use Rattle.sno_read.proofs.Steps.{targets_step}
 use Rattle.sno_read.proofs.reader.Reader.+targets.Goals as goal
 
 pub returns-in_err-rest-in-Dot-clause-read : goal.returns-in_err-rest-in-Dot-clause-read
-returns-in_err-rest-in-Dot-clause-read t c = λ n h. rw (targets_step (env_of c.args.self.now) n (tree_of c.args.pattern) c.args.rest.characters.now _ h) (search rules)
+returns-in_err-rest-in-Dot-clause-read t c = λ n h. rw (targets_step (env_of c.args.self.now) n (tree_of c.args.pattern) c.args.rest.characters.now _ h) (grind arith)
 
 pub returns-in_err-name-in-Dot-clause-read : goal.returns-in_err-name-in-Dot-clause-read
-returns-in_err-name-in-Dot-clause-read t c = λ n h. rw (targets_step (env_of c.args.self.now) n (tree_of c.args.pattern) c.args.rest.characters.now _ h) (search rules)
+returns-in_err-name-in-Dot-clause-read t c = λ n h. rw (targets_step (env_of c.args.self.now) n (tree_of c.args.pattern) c.args.rest.characters.now _ h) (grind arith)
 
 pub returns-in_err-read-in-Dot-clause-read : goal.returns-in_err-read-in-Dot-clause-read
 returns-in_err-read-in-Dot-clause-read t c = λ n h. rw (targets_step (env_of c.args.self.now) n (tree_of c.args.pattern) c.args.rest.characters.now _ h)
-    (let i = c.in_err-read-in-Dot.ensures.read (n - 1) (omega (arith, c.in_ok-rest-in-Dot.ensures.shorter, c.in_ok-name-in-Dot.ensures.shorter)) in search rules)
+    (let i = c.in_err-read-in-Dot.ensures.read (n - 1) (omega (arith, c.in_ok-rest-in-Dot.ensures.shorter, c.in_ok-name-in-Dot.ensures.shorter)) in grind arith)
 
 pub returns-in_ok-read-in-Dot-clause-read : goal.returns-in_ok-read-in-Dot-clause-read
 returns-in_ok-read-in-Dot-clause-read t c = λ n h. rw (targets_step (env_of c.args.self.now) n (tree_of c.args.pattern) c.args.rest.characters.now _ h)
-    (let i = c.in_ok-read-in-Dot.ensures.read (n - 1) (omega (arith, c.in_ok-rest-in-Dot.ensures.shorter, c.in_ok-name-in-Dot.ensures.shorter)) in search rules)
-
-pub returns-in_err-rest-in-Dollar-clause-read : goal.returns-in_err-rest-in-Dollar-clause-read
-returns-in_err-rest-in-Dollar-clause-read t c = λ n h. rw (targets_step (env_of c.args.self.now) n (tree_of c.args.pattern) c.args.rest.characters.now _ h) (search rules)
-
-pub returns-in_err-name-in-Dollar-clause-read : goal.returns-in_err-name-in-Dollar-clause-read
-returns-in_err-name-in-Dollar-clause-read t c = λ n h. rw (targets_step (env_of c.args.self.now) n (tree_of c.args.pattern) c.args.rest.characters.now _ h) (search rules)
-
-pub returns-in_err-read-in-Dollar-clause-read : goal.returns-in_err-read-in-Dollar-clause-read
-returns-in_err-read-in-Dollar-clause-read t c = λ n h. rw (targets_step (env_of c.args.self.now) n (tree_of c.args.pattern) c.args.rest.characters.now _ h)
-    (let i = c.in_err-read-in-Dollar.ensures.read (n - 1) (omega (arith, c.in_ok-rest-in-Dollar.ensures.shorter, c.in_ok-name-in-Dollar.ensures.shorter)) in search rules)
-
-pub returns-in_ok-read-in-Dollar-clause-read : goal.returns-in_ok-read-in-Dollar-clause-read
-returns-in_ok-read-in-Dollar-clause-read t c = λ n h. rw (targets_step (env_of c.args.self.now) n (tree_of c.args.pattern) c.args.rest.characters.now _ h)
-    (let i = c.in_ok-read-in-Dollar.ensures.read (n - 1) (omega (arith, c.in_ok-rest-in-Dollar.ensures.shorter, c.in_ok-name-in-Dollar.ensures.shorter)) in search rules)
+    (let i = c.in_ok-read-in-Dot.ensures.read (n - 1) (omega (arith, c.in_ok-rest-in-Dot.ensures.shorter, c.in_ok-name-in-Dot.ensures.shorter)) in grind arith)
 
 pub returns-in-Nothing : goal.returns-in-Nothing
 returns-in-Nothing t c = record { read = λ n h. rw (targets_step (env_of c.args.self.now) n (tree_of c.args.pattern) c.args.rest.characters.now _ h) (search rules); shorter = omega arith }
