@@ -1,38 +1,36 @@
 //! The answers of a submit, through one seat.
-ghost use Rattle.std.specs.Prelude.{◌≡◌, []};
+ghost use Rattle.std.specs.Prelude.{◌≡◌, [], IfOk};
 
 use crate::compare::check_eq;
 use crate::day::{Day, check_entry, check_text, run_day};
 use crate::gates::ShutFor;
-use crate::jobs::{book, statement};
+use crate::jobs::{Row, book, statements};
 use sno_book::Book;
 use sno_desk::Reply;
-use sno_statement::Statement;
 use std::alloc::Global;
 use std::process::Abort;
-use std::sync::{Arc, Wait};
+use std::sync::Wait;
 use std::test::Fail;
 use std::thread::Threads;
 
-/// The number, the text, the pattern and the object of each statement, and the reply to it: the index of its entry, or why it is refused. The
-/// journal has room for two entries, the gate is shut for statement 4, and the text L is as long as a text may be.
-type Job = (u32, &'static str, &'static str, &'static str, &'static str);
-
-static JOBS: [Job; 6] = [
-    (1, "T", "'x'", "'yz'", "0"),
-    (2, "U", "'x'", "'y'", "no text"),
-    (3, "L", "'a'", "'aa'", "text too long"),
-    (4, "T", "'a'", "'b'", "gate shut"),
-    (5, "T", "'q'", "'b'", "1"),
-    (6, "T", "'a'", "'b'", "full"),
+static JOBS: [Row; 6] = [
+    (1, "T", "'x'", Some("'yz'")),
+    (2, "U", "'x'", Some("'y'")),
+    (3, "L", "'a'", Some("'aa'")),
+    (4, "T", "'a'", Some("'b'")),
+    (5, "T", "'q'", Some("'b'")),
+    (6, "T", "'a'", Some("'b'")),
 ];
 
-fn statements(rt: &impl Abort, alloc: Global) -> Result<Vec<Arc<Statement>>, Fail> {
-    let mut jobs = Vec::new(alloc);
-    for (number, text, pattern, object, _) in JOBS {
-        jobs.push(statement(rt, alloc, number, text, pattern, object)?)?;
-    }
-    Ok(jobs)
+/// The reply to each: the index of its entry, or why it is refused. The journal has room for two entries, the gate is shut for statement 4, and the
+/// text L is as long as a text may be.
+static LINES: [&str; 6] = ["0", "no text", "text too long", "gate shut", "1", "full"];
+
+fn open(alloc: Global) -> Result<Book, Fail>
+    ensures { IfOk result (λ b. b.journal ≡ []) }
+{
+    let long = vec![in alloc; b'a'; 65_536]?;
+    book(alloc, &[("T", b"axb"), ("L", long.as_slice())], 2)
 }
 
 fn submit<R: Threads + Wait + Abort + Sync>(
@@ -40,12 +38,8 @@ fn submit<R: Threads + Wait + Abort + Sync>(
     alloc: Global,
     gate: &ShutFor,
 ) -> Result<Day, Fail> {
-    let jobs = statements(rt, alloc)?;
-    let long = vec![in alloc; b'a'; 65_536]?;
-    let texts: [(&str, &[u8]); 2] = [("T", b"axb"), ("L", long.as_slice())];
-    let book = book(alloc, &texts, 2)?;
-    let day = run_day(rt, alloc, book, 1, jobs.as_slice(), 3, gate)?;
-    Ok(day)
+    let jobs = statements(rt, alloc, JOBS.as_slice())?;
+    run_day(rt, alloc, open(alloc)?, 1, jobs.as_slice(), 3, gate)
 }
 
 fn line_of(alloc: Global, reply: &Reply) -> Result<String, Fail> {
@@ -55,11 +49,15 @@ fn line_of(alloc: Global, reply: &Reply) -> Result<String, Fail> {
     }
 }
 
-fn check_replies(rt: &impl Abort, alloc: Global, replies: &[Reply]) -> Result<(), Fail> {
-    check_eq(rt, &replies.len(), &JOBS.len());
-    for (reply, job) in replies.iter().zip(JOBS.iter()) {
-        let line = line_of(alloc, reply)?;
-        check_eq(rt, &line.as_str(), &job.4);
+fn check_replies(
+    rt: &impl Abort,
+    alloc: Global,
+    replies: &[Reply],
+    lines: &[&'static str],
+) -> Result<(), Fail> {
+    check_eq(rt, &replies.len(), &lines.len());
+    for (reply, line) in replies.iter().zip(lines.iter()) {
+        check_eq(rt, &line_of(alloc, reply)?.as_str(), line);
     }
     Ok(())
 }
@@ -78,5 +76,5 @@ fn each_answer_of_a_submit(rt: HostRuntime) -> Result<(), Fail> {
     check_eq(&rt, &gate.counts(), &(2u32, 103u32));
     check_eq(&rt, &day.shares.as_slice(), &[2u64].as_slice());
     check_book(&rt, &day.book);
-    check_replies(&rt, rt.alloc(), day.replies.as_slice())
+    check_replies(&rt, rt.alloc(), day.replies.as_slice(), LINES.as_slice())
 }

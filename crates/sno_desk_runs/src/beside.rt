@@ -7,7 +7,7 @@ use crate::day::{check_entry, check_text};
 use crate::flags::{Flag, TURNS};
 use crate::jobs::{book, statement};
 use sno_book::{Book, Entry};
-use sno_desk::{Blank, Desk, Gate, Naming, Reply, Seat, TextName, close};
+use sno_desk::{Blank, Desk, Gate, Naming, Seat, TextName, close};
 use sno_statement::Statement;
 use std::alloc::Global;
 use std::marker::Brand;
@@ -92,7 +92,7 @@ impl<L: Naming> Reads for Seat<L> {
     }
 }
 
-/// The job submitted in this thread while the reader reads in another.
+/// The job submitted in this thread while the reader reads in another: the versions that the reader saw, and whether the job was accepted.
 fn submit_beside<L: Naming, S: Reads + Send, R: Threads + Wait + Clock + Sync>(
     rt: &R,
     alloc: Global,
@@ -101,7 +101,7 @@ fn submit_beside<L: Naming, S: Reads + Send, R: Threads + Wait + Clock + Sync>(
     job: Arc<Statement>,
     reader: &mut S,
     name: &TextName,
-) -> (Option<(u64, u64)>, Reply) {
+) -> (Option<(u64, u64)>, bool) {
     let gate = Held {
         clock: rt,
         came: Flag::new(),
@@ -111,7 +111,7 @@ fn submit_beside<L: Naming, S: Reads + Send, R: Threads + Wait + Clock + Sync>(
     thread::join(
         rt,
         || reader.read(name, &gate),
-        || { desk.submit(rt, alloc, writer, job, 1, &gate) },
+        || desk.submit(rt, alloc, writer, job, 1, &gate).is_ok(),
     )
 }
 
@@ -120,7 +120,24 @@ fn may_cross<T: Send>()
     ensures sends { IsSend T.row }
 {}
 
-/// One seat submits the job while the other reads its text.
+/// The first seat submits the job while the second reads its text.
+fn use_seats<L: Naming + Send + Sync, R: Threads + Wait + Clock + Abort + Sync>(
+    rt: &R,
+    alloc: Global,
+    desk: &Desk<L>,
+    seats: &mut [Seat<L>],
+    job: Arc<Statement>,
+    name: &TextName,
+) {
+    may_cross::<Entry>();
+    assert!(rt; seats.len() == 2);
+    let (first, second) = seats.split_at_mut(1);
+    let seen = submit_beside(rt, alloc, desk, &mut first[0], job, &mut second[0], name);
+    check_eq(rt, &seen, &(Some((0, 1)), true));
+    check_eq(rt, &(second[0].accepted(), second[0].seen()), &(0, 1));
+}
+
+/// One seat submits the job while the other reads its text. The book, as it is closed.
 fn read_beside<L: Naming + Send + Sync, R: Threads + Wait + Clock + Abort + Sync>(
     rt: &R,
     alloc: Global,
@@ -135,19 +152,9 @@ fn read_beside<L: Naming + Send + Sync, R: Threads + Wait + Clock + Abort + Sync
     requires two { blank.ledger.parts ≡ 2 }
     requires empty { book.journal ≡ [] }
 {
-    may_cross::<Entry>();
-    let mut all = Vec::with_capacity(alloc, 2)?;
     let (desk, mut seats) = Desk::<L>::new(rt, alloc, blank, book, 2).map_err(|(fault, _)| fault)?;
-    let mut reader = seats.pop().unwrap();
-    let mut writer = seats.pop().unwrap();
-    let (versions, reply) = submit_beside(rt, alloc, &desk, &mut writer, job, &mut reader, name);
-    check_eq(rt, &versions, &Some((0, 1)));
-    assert!(rt; reply.is_ok());
-    check_eq(rt, &(reader.accepted(), reader.seen()), &(0, 1));
-    all.push_reserved(writer);
-    all.push_reserved(reader);
-    let book = close(rt, desk, all).map_err(|(fault, _)| fault)?;
-    Ok(book)
+    use_seats(rt, alloc, &desk, seats.as_mut_slice(), job, name);
+    Ok(close(rt, desk, seats).map_err(|(fault, _)| fault)?)
 }
 
 /// The same at a desk of its own.
@@ -163,13 +170,22 @@ fn share<R: Threads + Wait + Clock + Abort + Sync>(
     read_beside::<Brand, R>(rt, alloc, Blank::new(2), book, job, name)
 }
 
+/// A statement on a text of one letter.
+fn replace<R: Threads + Wait + Clock + Abort + Sync>(rt: &R, alloc: Global) -> Result<Book, Fail> {
+    let job = statement(rt, alloc, 1, "T", "'x'", "'z'")?;
+    let name = TextName::new(alloc, b"T".as_slice())?;
+    share(
+        rt,
+        alloc,
+        book(alloc, &[("T", b"x")], 1_000_000)?,
+        job,
+        &name,
+    )
+}
+
 #[test]
 fn a_reader_goes_on_while_a_submit_is_held(rt: HostRuntime) -> Result<(), Fail> {
-    let alloc = rt.alloc();
-    let job = statement(&rt, alloc, 1, "T", "'x'", "'z'")?;
-    let name = TextName::new(alloc, b"T".as_slice())?;
-    let book = book(alloc, &[("T", b"x")], 1_000_000)?;
-    let book = share(&rt, alloc, book, job, &name)?;
+    let book = replace(&rt, rt.alloc())?;
     check_eq(&rt, &book.journal().len(), &1);
     check_entry(&rt, &book, 0, 1, 0);
     check_text(&rt, &book, 0, "z", 1);

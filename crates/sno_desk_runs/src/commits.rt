@@ -1,19 +1,18 @@
 //! Seats that work by themselves: one overtakes another's proposal, adds entries between two of its own, and sees what nobody told it.
-ghost use Rattle.std.specs.Prelude.{◌≡◌, [], IfOk};
+ghost use Rattle.std.specs.Prelude.{IfOk};
 ghost use Rattle.sno_book.specs.Views.{IsPrefix};
 ghost use Rattle.sno_desk.specs.Seen.{view_after};
 
 use crate::compare::check_eq;
 use crate::day::{check_entry, check_text};
+use crate::desks::{Work, at_desk};
 use crate::jobs::{book, matching, statement};
 use sno_book::Book;
 use sno_desk::{
-    Blank, CommitFault, Desk, Naming, OpenGate, Outcome, Proposal, Seat, SnapshotFault, TextName,
-    close, propose,
+    CommitFault, Desk, Naming, OpenGate, Outcome, Proposal, Seat, SnapshotFault, TextName, propose,
 };
 use sno_statement::Statement;
 use std::alloc::Global;
-use std::marker::Brand;
 use std::process::Abort;
 use std::sync::{Arc, Wait};
 use std::test::Fail;
@@ -70,6 +69,20 @@ fn submit_first<L: Naming, R: Wait + Abort>(
     let receipt = desk.submit(rt, alloc, seat, job, 1, &OpenGate)?;
     check_eq(rt, &receipt.index, &0);
     check_eq(rt, &receipt.text.bytes(), &text.as_bytes());
+    Ok(())
+}
+
+/// The statement submitted: its entry is the first one, and it failed.
+fn submit_failing<L: Naming, R: Wait + Abort>(
+    rt: &R,
+    alloc: Global,
+    desk: &Desk<L>,
+    seat: &mut Seat<L>,
+    job: &Arc<Statement>,
+) -> Result<(), Fail> {
+    let receipt = desk.submit(rt, alloc, seat, Arc::try_clone(job)?, 1, &OpenGate)?;
+    check_eq(rt, &receipt.index, &0);
+    assert!(rt; matches!(&*receipt.entry.outcome, Outcome::Failed { .. }));
     Ok(())
 }
 
@@ -166,6 +179,21 @@ struct Interleaves {
     again: Arc<Statement>,
 }
 
+impl Interleaves {
+    /// The second and the third entry.
+    fn add_between<L: Naming, R: Wait + Abort>(
+        &self,
+        rt: &R,
+        alloc: Global,
+        desk: &Desk<L>,
+        seat: &mut Seat<L>,
+    ) -> Result<(), Fail> {
+        check_eq(rt, &commit(rt, alloc, desk, seat, &self.elsewhere)?, &1);
+        check_eq(rt, &commit(rt, alloc, desk, seat, &self.unmatched)?, &2);
+        Ok(())
+    }
+}
+
 impl Turns for Interleaves {
     fn take<L: Naming, R: Wait + Abort>(
         &self,
@@ -179,8 +207,7 @@ impl Turns for Interleaves {
         check_eq(rt, &commit(rt, alloc, desk, first, &self.first)?, &0);
         let late = proposal(alloc, first, &self.again)?;
         check_eq(rt, &late.version(), &1);
-        check_eq(rt, &commit(rt, alloc, desk, second, &self.elsewhere)?, &1);
-        check_eq(rt, &commit(rt, alloc, desk, second, &self.unmatched)?, &2);
+        self.add_between(rt, alloc, desk, second)?;
         check_fourth(rt, desk, first, late)?;
         check_counts(rt, first, 2, 4);
         check_counts(rt, second, 2, 3);
@@ -205,10 +232,7 @@ impl Turns for Fails {
         second: &mut Seat<L>,
         _third: &mut Seat<L>,
     ) -> Result<(), Fail> {
-        let job = Arc::try_clone(&self.unmatched)?;
-        let receipt = desk.submit(rt, alloc, first, job, 1, &OpenGate)?;
-        check_eq(rt, &receipt.index, &0);
-        assert!(rt; matches!(&*receipt.entry.outcome, Outcome::Failed { .. }));
+        submit_failing(rt, alloc, desk, first, &self.unmatched)?;
         check_seen(rt, first, self.unmatched.text(), "x", 0)?;
         let missing = second.snapshot(&self.elsewhere).err();
         check_eq(rt, &missing, &Some(SnapshotFault::NoText));
@@ -218,45 +242,41 @@ impl Turns for Fails {
     }
 }
 
-fn three_seats<L: Naming, T: Turns, R: Wait + Abort>(
-    rt: &R,
-    alloc: Global,
-    blank: Blank,
-    book: Book,
-    turns: &T,
-) -> Result<Book, Fail>
-    requires name { (blank.ledger.name ≡ L.name) × (blank.ledger.parts ≡ L.parts) }
-    requires histories { (blank.history ≡ record { history = L.book; entries = [] }) × (blank.attempts.history ≡ L.tries) }
-    requires opening { book.opening ≡ L.opening }
-    requires three { blank.ledger.parts ≡ 3 }
-    requires empty { book.journal ≡ [] }
-{
-    let (desk, mut seats) = Desk::<L>::new(rt, alloc, blank, book, 3).map_err(|(fault, _)| fault)?;
-    let (first, others) = seats.as_mut_slice().split_at_mut(1);
-    let (second, third) = others.split_at_mut(1);
-    let taken = turns.take(
-        rt,
-        alloc,
-        &desk,
-        &mut first[0],
-        &mut second[0],
-        &mut third[0],
-    );
-    let closed = close(rt, desk, seats).map_err(|(fault, _)| fault);
-    taken?;
-    Ok(closed?)
+/// What three seats do, as the work of a desk.
+#[derive(Drop)]
+struct ByThree<'a, T: Turns>(&'a T);
+
+impl<T: Turns> Work for ByThree<'_, T> {
+    fn work<L: Naming, R: Wait + Abort>(
+        &self,
+        rt: &R,
+        alloc: Global,
+        desk: &Desk<L>,
+        seats: &mut [Seat<L>],
+    ) -> Result<(), Fail> {
+        assert!(rt; seats.len() == 3);
+        let (first, others) = seats.split_at_mut(1);
+        let (second, third) = others.split_at_mut(1);
+        self.0.take(
+            rt,
+            alloc,
+            desk,
+            &mut first[0],
+            &mut second[0],
+            &mut third[0],
+        )
+    }
 }
 
-/// A desk of three seats, with a ledger of its own.
+/// What is done by three seats at a desk over these texts. The book, as it is closed.
 fn share<T: Turns, R: Wait + Abort>(
     rt: &R,
     alloc: Global,
-    book: Book,
+    texts: &[(&str, &[u8])],
     turns: &T,
-) -> Result<Book, Fail>
-    requires { book.journal ≡ [] }
-{
-    three_seats::<Brand, T, R>(rt, alloc, Blank::new(3), book, turns)
+) -> Result<Book, Fail> {
+    let book = book(alloc, texts, 1_000_000)?;
+    at_desk(rt, alloc, book, 3, &ByThree(turns))
 }
 
 #[test]
@@ -266,25 +286,27 @@ fn an_overtaken_proposal_comes_back_and_each_seat_sees_why(rt: HostRuntime) -> R
         late: statement(&rt, alloc, 1, "T", "'x'", "'y'")?,
         first: statement(&rt, alloc, 2, "T", "'x'", "'z'")?,
     };
-    let book = book(alloc, &[("T", b"x")], 1_000_000)?;
-    let book = share(&rt, alloc, book, &turns)?;
+    let book = share(&rt, alloc, &[("T", b"x")], &turns)?;
     check_eq(&rt, &book.journal().len(), &1);
     check_entry(&rt, &book, 0, 2, 0);
     check_text(&rt, &book, 0, "z", 1);
     Ok(())
 }
 
+/// The book of the four entries.
+fn interleave(rt: &(impl Wait + Abort), alloc: Global) -> Result<Book, Fail> {
+    let turns = Interleaves {
+        first: statement(rt, alloc, 1, "T", "'x'", "'z'")?,
+        elsewhere: statement(rt, alloc, 2, "U", "'u'", "'v'")?,
+        unmatched: statement(rt, alloc, 3, "T", "'x'", "'w'")?,
+        again: statement(rt, alloc, 4, "T", "'z'", "'zz'")?,
+    };
+    share(rt, alloc, &[("T", b"x"), ("U", b"u")], &turns)
+}
+
 #[test]
 fn a_seat_commits_at_a_later_version(rt: HostRuntime) -> Result<(), Fail> {
-    let alloc = rt.alloc();
-    let turns = Interleaves {
-        first: statement(&rt, alloc, 1, "T", "'x'", "'z'")?,
-        elsewhere: statement(&rt, alloc, 2, "U", "'u'", "'v'")?,
-        unmatched: statement(&rt, alloc, 3, "T", "'x'", "'w'")?,
-        again: statement(&rt, alloc, 4, "T", "'z'", "'zz'")?,
-    };
-    let book = book(alloc, &[("T", b"x"), ("U", b"u")], 1_000_000)?;
-    let book = share(&rt, alloc, book, &turns)?;
+    let book = interleave(&rt, rt.alloc())?;
     check_eq(&rt, &book.journal().len(), &4);
     check_entry(&rt, &book, 0, 1, 0);
     check_entry(&rt, &book, 1, 2, 0);
@@ -302,8 +324,7 @@ fn a_failure_is_an_entry_and_changes_no_text(rt: HostRuntime) -> Result<(), Fail
         unmatched: matching(&rt, alloc, 1, "T", "'q'")?,
         elsewhere: TextName::new(alloc, b"U".as_slice())?,
     };
-    let book = book(alloc, &[("T", b"x")], 1_000_000)?;
-    let book = share(&rt, alloc, book, &turns)?;
+    let book = share(&rt, alloc, &[("T", b"x")], &turns)?;
     check_eq(&rt, &book.journal().len(), &1);
     check_entry(&rt, &book, 0, 1, 0);
     check_text(&rt, &book, 0, "x", 0);

@@ -2,8 +2,9 @@
 ghost use Rattle.std.specs.Prelude.{◌≡◌, ◌≤◌, [], IfOk};
 
 use crate::compare::check_eq;
+use crate::jobs::{Row, book, statements};
 use sno_book::Book;
-use sno_desk::{Blank, Desk, Gate, Naming, Reply, Seat, close, run_workers};
+use sno_desk::{Blank, Desk, Gate, Naming, Reply, Seat, SubmitFault, close, run_workers};
 use sno_statement::Statement;
 use std::alloc::{AllocError, Global};
 use std::marker::Brand;
@@ -85,6 +86,37 @@ pub(crate) fn run_day<G: Gate + Sync, R: Threads + Wait + Sync>(
         tries,
         gate,
     )
+}
+
+/// A day on which workers at two seats do these jobs, as they are written, on these texts.
+pub(crate) fn run_rows<G: Gate + Sync, R: Threads + Wait + Abort + Sync>(
+    rt: &R,
+    alloc: Global,
+    texts: &[(&str, &[u8])],
+    rows: &[Row],
+    tries: u32,
+    gate: &G,
+) -> Result<Day, Fail>
+    requires { (1 ≤ tries) × (tries ≤ 1000) }
+{
+    let jobs = statements(rt, alloc, rows)?;
+    run_day(
+        rt,
+        alloc,
+        book(alloc, texts, 1_000_000)?,
+        2,
+        jobs.as_slice(),
+        tries,
+        gate,
+    )
+}
+
+/// Why the job was refused; none where it was accepted.
+pub(crate) fn fault_of(reply: &Reply) -> Option<SubmitFault> {
+    match reply {
+        Ok(_) => None,
+        Err(fault) => Some(*fault),
+    }
 }
 
 /// Compares the text at a place of the book, and its version.

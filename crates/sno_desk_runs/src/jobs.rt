@@ -62,6 +62,30 @@ pub(crate) fn matching(
     written(rt, alloc, rules, number, text, pattern, None)
 }
 
+/// How a statement is written: its number, its text, its pattern, and its object if it has one.
+pub(crate) type Row = (u32, &'static str, &'static str, Option<&'static str>);
+
+/// The statement of a row.
+fn of_row(rt: &impl Abort, alloc: Global, row: &Row) -> Result<Arc<Statement>, Fail> {
+    match row.3 {
+        Some(object) => statement(rt, alloc, row.0, row.1, row.2, object),
+        None => matching(rt, alloc, row.0, row.1, row.2),
+    }
+}
+
+/// The statements of these rows.
+pub(crate) fn statements(
+    rt: &impl Abort,
+    alloc: Global,
+    rows: &[Row],
+) -> Result<Vec<Arc<Statement>>, Fail> {
+    let mut jobs = Vec::new(alloc);
+    for row in rows {
+        jobs.push(of_row(rt, alloc, row)?)?;
+    }
+    Ok(jobs)
+}
+
 /// A book of these texts, each with its name, and room for so many entries.
 pub(crate) fn book(alloc: Global, texts: &[(&str, &[u8])], room: u32) -> Result<Book, Fail>
     requires { room ≤ 1000000 }

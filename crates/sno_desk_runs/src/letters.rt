@@ -1,68 +1,86 @@
 //! Three texts of one letter each, replaced by three jobs of two seats; and the same with a gate that is shut for one of them.
-ghost use Rattle.std.specs.Prelude.{◌≡◌, [], IfOk};
+ghost use Rattle.std.specs.Prelude.{◌≤◌};
 
 use crate::compare::check_eq;
-use crate::day::{check_text, run_day};
+use crate::day::{Day, check_text, fault_of, run_rows};
 use crate::gates::ShutFor;
-use crate::jobs::{book, statement};
+use crate::jobs::Row;
 use sno_book::Book;
-use sno_desk::{OpenGate, SubmitFault};
-use sno_statement::Statement;
+use sno_desk::{Gate, OpenGate, Reply, SubmitFault};
 use std::alloc::Global;
 use std::process::Abort;
-use std::sync::Arc;
+use std::sync::Wait;
 use std::test::Fail;
+use std::thread::Threads;
 
-fn jobs(rt: &impl Abort, alloc: Global) -> Result<Vec<Arc<Statement>>, Fail> {
-    let mut jobs = Vec::new(alloc);
-    jobs.push(statement(rt, alloc, 1, "A", "'a'", "'x'")?)?;
-    jobs.push(statement(rt, alloc, 2, "B", "'b'", "'x'")?)?;
-    jobs.push(statement(rt, alloc, 3, "C", "'c'", "'x'")?)?;
-    Ok(jobs)
+static JOBS: [Row; 3] = [
+    (1, "A", "'a'", Some("'x'")),
+    (2, "B", "'b'", Some("'x'")),
+    (3, "C", "'c'", Some("'x'")),
+];
+
+/// The texts of the jobs, a letter each, and what two seats do with them.
+fn run_letters<G: Gate + Sync, R: Threads + Wait + Abort + Sync>(
+    rt: &R,
+    alloc: Global,
+    tries: u32,
+    gate: &G,
+) -> Result<Day, Fail>
+    requires { (1 ≤ tries) × (tries ≤ 1000) }
+{
+    let texts: [(&str, &[u8]); 3] = [("A", b"a"), ("B", b"b"), ("C", b"c")];
+    run_rows(rt, alloc, &texts, JOBS.as_slice(), tries, gate)
 }
 
-/// The texts of the jobs, a letter each.
-fn letters(alloc: Global) -> Result<Book, Fail>
-    ensures { IfOk result (λ b. b.journal ≡ []) }
-{
-    let book = book(alloc, &[("A", b"a"), ("B", b"b"), ("C", b"c")], 1_000_000)?;
-    Ok(book)
+/// The reply is a receipt for this job.
+fn check_reply(rt: &impl Abort, reply: &Reply, number: u32) {
+    match reply {
+        Ok(receipt) => check_eq(rt, &receipt.entry.statement.number(), &number),
+        Err(fault) => assert!(rt; false, "{fault}"),
+    }
+}
+
+/// Each reply is a receipt for the job at its place.
+fn check_replies(rt: &impl Abort, replies: &[Reply]) {
+    assert!(rt; replies.len() == 3);
+    check_reply(rt, &replies[0], 1);
+    check_reply(rt, &replies[1], 2);
+    check_reply(rt, &replies[2], 3);
+}
+
+fn check_texts(rt: &impl Abort, book: &Book) {
+    for place in 0..3 {
+        check_text(rt, book, place, "x", 1);
+    }
 }
 
 #[test]
 fn jobs_are_replied_to_in_order(rt: HostRuntime) -> Result<(), Fail> {
-    let alloc = rt.alloc();
-    let jobs = jobs(&rt, alloc)?;
-    let book = letters(alloc)?;
-    let day = run_day(&rt, alloc, book, 2, jobs.as_slice(), 1, &OpenGate)?;
-    let mut number = 1u32;
-    for reply in day.replies.iter() {
-        match reply {
-            Ok(receipt) => check_eq(&rt, &receipt.entry.statement.number(), &number),
-            Err(fault) => assert!(rt; false, "{fault}"),
-        }
-        number = number.wrapping_add(1);
-    }
-    assert!(rt; day.replies.len() == 3);
+    let day = run_letters(&rt, rt.alloc(), 1, &OpenGate)?;
+    check_replies(&rt, day.replies.as_slice());
     check_eq(&rt, &day.shares.as_slice(), &[2u64, 1].as_slice());
     check_eq(&rt, &day.book.journal().len(), &3);
-    for place in 0..3 {
-        check_text(&rt, &day.book, place, "x", 1);
-    }
+    check_texts(&rt, &day.book);
     Ok(())
+}
+
+/// The first reply is that the gate was shut, the others are receipts.
+fn check_turned_away(rt: &impl Abort, replies: &[Reply]) {
+    assert!(rt; replies.len() == 3);
+    check_eq(rt, &fault_of(&replies[0]), &Some(SubmitFault::GateShut));
+    assert!(rt; replies[1].is_ok() && replies[2].is_ok());
 }
 
 #[test]
 fn a_shut_gate_turns_one_away(rt: HostRuntime) -> Result<(), Fail> {
-    let alloc = rt.alloc();
-    let jobs = jobs(&rt, alloc)?;
     let gate = ShutFor::new(1);
-    let day = run_day(&rt, alloc, letters(alloc)?, 2, jobs.as_slice(), 3, &gate)?;
+    let day = run_letters(&rt, rt.alloc(), 3, &gate)?;
     assert!(rt; day.replies.len() == 3);
-    match &day.replies[0] {
-        Ok(_) => assert!(rt; false, "it was accepted"),
-        Err(fault) => check_eq(&rt, fault, &SubmitFault::GateShut),
-    }
+    check_eq(
+        &rt,
+        &fault_of(&day.replies[0]),
+        &Some(SubmitFault::GateShut),
+    );
     assert!(rt; day.replies[1].is_ok() && day.replies[2].is_ok());
     check_eq(&rt, &gate.counts(), &(2u32, 100u32));
     check_eq(&rt, &day.shares.as_slice(), &[1u64, 1].as_slice());

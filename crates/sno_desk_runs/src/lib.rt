@@ -13,6 +13,8 @@ mod compare;
 #[cfg(test)]
 mod day;
 #[cfg(test)]
+mod desks;
+#[cfg(test)]
 mod flags;
 #[cfg(test)]
 mod gates;

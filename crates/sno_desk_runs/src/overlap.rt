@@ -2,9 +2,10 @@
 ghost use Rattle.std.specs.Prelude.{◌≤◌};
 
 use crate::compare::check_eq;
-use crate::day::{Day, check_entry, check_text, run_day};
+use crate::day::{Day, check_entry, check_text, fault_of, run_rows};
 use crate::flags::Flag;
-use crate::jobs::{book, statement};
+use crate::jobs::Row;
+use sno_book::Book;
 use sno_desk::{Gate, SubmitFault};
 use sno_statement::{Datum, Outcome};
 use std::alloc::Global;
@@ -36,7 +37,19 @@ struct Notes {
     refused: u32,
 }
 
-impl<C: Clock> Hold<'_, C> {
+impl<'a, C: Clock> Hold<'a, C> {
+    /// The gate, told nothing.
+    fn new(clock: &'a C) -> Hold<'a, C> {
+        Hold {
+            clock,
+            first_came: Flag::new(),
+            second_done: Flag::new(),
+            attempts: AtomicU32::new(0),
+            accepted: AtomicU32::new(0),
+            refused: AtomicU32::new(0),
+        }
+    }
+
     /// Notes one more attempt of statement 1.
     fn note(&self, attempt: u32) {
         let earlier = self.attempts.load(Ordering::SeqCst);
@@ -84,6 +97,11 @@ impl<C: Clock> Gate for Hold<'_, C> {
     }
 }
 
+static JOBS: [Row; 2] = [
+    (1, "T", "LEN(1) . C", Some("C C")),
+    (2, "T", "'x'", Some("'z'")),
+];
+
 /// Both statements submitted by two seats, and what the gate noted.
 fn overlap<R: Threads + Wait + Clock + Abort + Sync>(
     rt: &R,
@@ -92,19 +110,8 @@ fn overlap<R: Threads + Wait + Clock + Abort + Sync>(
 ) -> Result<(Day, Notes), Fail>
     requires { (1 ≤ tries) × (tries ≤ 1000) }
 {
-    let mut jobs = Vec::new(alloc);
-    jobs.push(statement(rt, alloc, 1, "T", "LEN(1) . C", "C C")?)?;
-    jobs.push(statement(rt, alloc, 2, "T", "'x'", "'z'")?)?;
-    let gate = Hold {
-        clock: rt,
-        first_came: Flag::new(),
-        second_done: Flag::new(),
-        attempts: AtomicU32::new(0),
-        accepted: AtomicU32::new(0),
-        refused: AtomicU32::new(0),
-    };
-    let book = book(alloc, &[("T", b"x")], 1_000_000)?;
-    let day = run_day(rt, alloc, book, 2, jobs.as_slice(), tries, &gate)?;
+    let gate = Hold::new(rt);
+    let day = run_rows(rt, alloc, &[("T", b"x")], JOBS.as_slice(), tries, &gate)?;
     Ok((day, gate.notes()))
 }
 
@@ -115,44 +122,59 @@ fn check_bound(rt: &impl Abort, datum: Option<&Datum>, wanted: &str) {
     }
 }
 
+fn check_notes(rt: &impl Abort, notes: Notes, attempts: u32, accepted: u32, refused: u32) {
+    check_eq(rt, &notes.attempts, &attempts);
+    check_eq(rt, &notes.accepted, &accepted);
+    check_eq(rt, &notes.refused, &refused);
+}
+
+/// The statement matched, and assigned this string to its variable.
+fn check_matched(rt: &impl Abort, outcome: &Outcome, wanted: &str) {
+    match outcome {
+        Outcome::Matched { bindings, .. } => {
+            check_bound(rt, bindings.get(0).map(|b| b.1), wanted);
+        }
+        Outcome::Failed { .. } => assert!(rt; false, "it failed"),
+        Outcome::Repeated { .. } => assert!(rt; false, "it was repeated"),
+    }
+}
+
+/// Two entries, the second of which saw what the first left.
+fn check_both(rt: &impl Abort, book: &Book) {
+    check_text(rt, book, 0, "zz", 2);
+    check_eq(rt, &book.journal().len(), &2);
+    check_entry(rt, book, 0, 2, 0);
+    check_entry(rt, book, 1, 1, 1);
+    let entry = book.journal().get(1).expect(rt, "there is an entry");
+    check_matched(rt, &entry.outcome, "z");
+}
+
 #[test]
 fn a_text_that_changed_is_matched_again(rt: HostRuntime) -> Result<(), Fail> {
     let (day, notes) = overlap(&rt, rt.alloc(), 2)?;
     assert!(rt; day.replies.len() == 2);
     assert!(rt; day.replies[0].is_ok() && day.replies[1].is_ok());
-    check_eq(&rt, &notes.attempts, &12);
-    check_eq(&rt, &notes.accepted, &101);
-    check_eq(&rt, &notes.refused, &0);
-    check_text(&rt, &day.book, 0, "zz", 2);
-    check_eq(&rt, &day.book.journal().len(), &2);
-    check_entry(&rt, &day.book, 0, 2, 0);
-    check_entry(&rt, &day.book, 1, 1, 1);
-    let entry = day.book.journal().get(1).expect(&rt, "there is an entry");
-    match &*entry.outcome {
-        Outcome::Matched { bindings, .. } => {
-            check_bound(&rt, bindings.get(0).map(|b| b.1), "z");
-        }
-        Outcome::Failed { .. } => assert!(rt; false, "it failed"),
-        Outcome::Repeated { .. } => assert!(rt; false, "it was repeated"),
-    }
+    check_notes(&rt, notes, 12, 101, 0);
+    check_both(&rt, &day.book);
     Ok(())
+}
+
+/// One entry, of the second statement.
+fn check_second(rt: &impl Abort, book: &Book) {
+    check_text(rt, book, 0, "z", 1);
+    check_eq(rt, &book.journal().len(), &1);
+    check_entry(rt, book, 0, 2, 0);
 }
 
 #[test]
 fn tries_are_spent(rt: HostRuntime) -> Result<(), Fail> {
     let (day, notes) = overlap(&rt, rt.alloc(), 1)?;
     assert!(rt; day.replies.len() == 2);
-    match &day.replies[0] {
-        Ok(_) => assert!(rt; false, "it was accepted"),
-        Err(fault) => check_eq(&rt, fault, &SubmitFault::TriesSpent { seen: 0, now: 1 }),
-    }
+    let spent = SubmitFault::TriesSpent { seen: 0, now: 1 };
+    check_eq(&rt, &fault_of(&day.replies[0]), &Some(spent));
     assert!(rt; day.replies[1].is_ok());
-    check_eq(&rt, &notes.attempts, &1);
-    check_eq(&rt, &notes.accepted, &100);
-    check_eq(&rt, &notes.refused, &1);
+    check_notes(&rt, notes, 1, 100, 1);
     check_eq(&rt, &day.shares.as_slice(), &[0u64, 1].as_slice());
-    check_text(&rt, &day.book, 0, "z", 1);
-    check_eq(&rt, &day.book.journal().len(), &1);
-    check_entry(&rt, &day.book, 0, 2, 0);
+    check_second(&rt, &day.book);
     Ok(())
 }

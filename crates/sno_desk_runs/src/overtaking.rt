@@ -1,14 +1,12 @@
 //! A submit whose gate accepts another statement through another seat at each attempt: so its text changes under each of its tries.
-ghost use Rattle.std.specs.Prelude.{◌≡◌, ◌≤◌, []};
-
 use crate::compare::check_eq;
 use crate::day::{check_entry, check_text};
+use crate::desks::{Work, at_desk};
 use crate::jobs::{book, statement};
 use sno_book::Book;
-use sno_desk::{Blank, Desk, Gate, Naming, OpenGate, Seat, SubmitFault, close};
+use sno_desk::{Desk, Gate, Naming, OpenGate, Seat, SubmitFault};
 use sno_statement::Statement;
 use std::alloc::Global;
-use std::marker::Brand;
 use std::process::Abort;
 use std::sync::{Arc, Mutex, Wait};
 use std::test::Fail;
@@ -18,7 +16,7 @@ use std::test::Fail;
 struct Overtaking<'a, L: Naming> {
     alloc: Global,
     desk: &'a Desk<L>,
-    seat: Mutex<Seat<L>>,
+    seat: Mutex<&'a mut Seat<L>>,
     job: &'a Arc<Statement>,
 }
 
@@ -38,72 +36,97 @@ impl<L: Naming> Gate for Overtaking<'_, L> {
     fn done<R: Wait>(&self, _rt: &R, _number: u32, _accepted: bool) {}
 }
 
-/// The first job submitted with so many tries, each of which the second job overtakes.
-fn overtake<L: Naming, R: Wait + Abort>(
-    rt: &R,
-    alloc: Global,
-    blank: Blank,
-    book: Book,
-    jobs: &[Arc<Statement>; 2],
+/// The first job is submitted with so many tries, each of which the second job overtakes.
+#[derive(Drop)]
+struct Overtaken {
+    first: Arc<Statement>,
+    second: Arc<Statement>,
     tries: u32,
-) -> Result<(SubmitFault, Book), Fail>
-    requires name { (blank.ledger.name ≡ L.name) × (blank.ledger.parts ≡ L.parts) }
-    requires histories { (blank.history ≡ record { history = L.book; entries = [] }) × (blank.attempts.history ≡ L.tries) }
-    requires opening { book.opening ≡ L.opening }
-    requires two { blank.ledger.parts ≡ 2 }
-    requires empty { book.journal ≡ [] }
-    requires lawful { (1 ≤ tries) × (tries ≤ 1000) }
-{
-    let job = Arc::try_clone(&jobs[0])?;
-    let mut all = Vec::with_capacity(alloc, 2)?;
-    let (desk, mut seats) = Desk::<L>::new(rt, alloc, blank, book, 2).map_err(|(fault, _)| fault)?;
-    let other = seats.pop().unwrap();
-    let mut seat = seats.pop().unwrap();
-    let gate = Overtaking {
+}
+
+impl Overtaken {
+    /// On a text of one letter: the first job replaces it, the second puts it twice.
+    fn one_letter(rt: &impl Abort, alloc: Global, tries: u32) -> Result<Overtaken, Fail> {
+        Ok(Overtaken {
+            first: statement(rt, alloc, 1, "T", "LEN(1)", "'w'")?,
+            second: statement(rt, alloc, 2, "T", "LEN(1) . C", "C C")?,
+            tries,
+        })
+    }
+
+    /// Why the first job is refused to one seat, while its gate submits the second through the other.
+    fn submit<L: Naming, R: Wait + Abort>(
+        &self,
+        rt: &R,
+        alloc: Global,
+        desk: &Desk<L>,
+        seat: &mut Seat<L>,
+        other: &mut Seat<L>,
+    ) -> Result<Option<SubmitFault>, Fail> {
+        let job = Arc::try_clone(&self.first)?;
+        assert!(rt; 1 <= self.tries && self.tries <= 1000);
+        let gate = Overtaking {
+            alloc,
+            desk,
+            seat: Mutex::new(other),
+            job: &self.second,
+        };
+        Ok(desk.submit(rt, alloc, seat, job, self.tries, &gate).err())
+    }
+}
+
+impl Work for Overtaken {
+    fn work<L: Naming, R: Wait + Abort>(
+        &self,
+        rt: &R,
+        alloc: Global,
+        desk: &Desk<L>,
+        seats: &mut [Seat<L>],
+    ) -> Result<(), Fail> {
+        assert!(rt; seats.len() == 2);
+        let (first, second) = seats.split_at_mut(1);
+        let refused = self.submit(rt, alloc, desk, &mut first[0], &mut second[0])?;
+        let now = u64::from(self.tries);
+        let seen = now.saturating_sub(1);
+        check_eq(rt, &refused, &Some(SubmitFault::TriesSpent { seen, now }));
+        check_eq(rt, &first[0].accepted(), &0);
+        check_eq(rt, &second[0].accepted(), &now);
+        Ok(())
+    }
+}
+
+/// The book that so many tries leave.
+fn overtake<R: Wait + Abort>(rt: &R, alloc: Global, tries: u32) -> Result<Book, Fail> {
+    let overtaken = Overtaken::one_letter(rt, alloc, tries)?;
+    at_desk(
+        rt,
         alloc,
-        desk: &desk,
-        seat: Mutex::new(other),
-        job: &jobs[1],
-    };
-    let refused = desk.submit(rt, alloc, &mut seat, job, tries, &gate).err();
-    let fault = refused.expect(rt, "it was overtaken");
-    check_eq(rt, &seat.accepted(), &0);
-    let other = gate.seat.into_inner();
-    check_eq(rt, &other.accepted(), &u64::from(tries));
-    all.push_reserved(seat);
-    all.push_reserved(other);
-    let book = close(rt, desk, all).map_err(|(fault, _)| fault)?;
-    Ok((fault, book))
+        book(alloc, &[("T", b"x")], 1_000_000)?,
+        2,
+        &overtaken,
+    )
 }
 
-/// A text of one letter: the first job replaces it, the second puts it twice.
-fn overtake_each<R: Wait + Abort>(
+/// After so many tries the second job has left this text.
+fn check_overtaken<R: Wait + Abort>(
     rt: &R,
     alloc: Global,
     tries: u32,
-) -> Result<(SubmitFault, Book), Fail>
-    requires { (1 ≤ tries) × (tries ≤ 1000) }
-{
-    let first = statement(rt, alloc, 1, "T", "LEN(1)", "'w'")?;
-    let second = statement(rt, alloc, 2, "T", "LEN(1) . C", "C C")?;
-    let book = book(alloc, &[("T", b"x")], 1_000_000)?;
-    overtake::<Brand, R>(rt, alloc, Blank::new(2), book, &[first, second], tries)
+    text: &str,
+) -> Result<(), Fail> {
+    let book = overtake(rt, alloc, tries)?;
+    let now = u64::from(tries);
+    let last = (tries as usize).saturating_sub(1);
+    check_eq(rt, &book.journal().len(), &(tries as usize));
+    check_entry(rt, &book, last, 2, now.saturating_sub(1));
+    check_text(rt, &book, 0, text, now);
+    Ok(())
 }
-
-/// How many tries there are, and the text that the second job leaves.
-static TRIES: [(u32, &str); 3] = [(1, "xx"), (2, "xxx"), (5, "xxxxxx")];
 
 #[test]
 fn each_try_is_overtaken(rt: HostRuntime) -> Result<(), Fail> {
-    for (tries, text) in TRIES {
-        assert!(rt; 1 <= tries && tries <= 5);
-        let (fault, book) = overtake_each(&rt, rt.alloc(), tries)?;
-        let now = u64::from(tries);
-        let seen = now - 1;
-        check_eq(&rt, &fault, &SubmitFault::TriesSpent { seen, now });
-        check_eq(&rt, &book.journal().len(), &(tries as usize));
-        check_entry(&rt, &book, tries as usize - 1, 2, seen);
-        check_text(&rt, &book, 0, text, now);
-    }
-    Ok(())
+    let alloc = rt.alloc();
+    check_overtaken(&rt, alloc, 1, "xx")?;
+    check_overtaken(&rt, alloc, 2, "xxx")?;
+    check_overtaken(&rt, alloc, 5, "xxxxxx")
 }

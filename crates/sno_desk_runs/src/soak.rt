@@ -10,8 +10,9 @@ use sno_statement::Statement;
 use std::alloc::Global;
 use std::process::Abort;
 use std::slice;
-use std::sync::Arc;
+use std::sync::{Arc, Wait};
 use std::test::Fail;
+use std::thread::Threads;
 
 static TEXTS: [&str; 4] = ["A", "B", "C", "D"];
 
@@ -78,17 +79,30 @@ fn check_replies(
     Ok(())
 }
 
+/// The jobs done by sixteen seats.
+fn work<R: Threads + Wait + Abort + Sync>(
+    rt: &R,
+    alloc: Global,
+    jobs: &[Arc<Statement>],
+) -> Result<Day, Fail> {
+    run_day(rt, alloc, letters(alloc)?, 16, jobs, 1_000, &OpenGate)
+}
+
+/// Each text is as long as its rounds make it.
+fn check_texts(rt: &impl Abort, book: &Book) {
+    for place in 0..4 {
+        let (_, text, version) = book.text(place).expect(rt, "there is a text");
+        check_eq(rt, &text.bytes().len(), &2_001);
+        check_eq(rt, &version, &1_000);
+    }
+}
+
 #[test]
 fn many_seats_over_few_texts(rt: HostRuntime) -> Result<(), Fail> {
     let alloc = rt.alloc();
     let jobs = jobs(&rt, alloc)?;
-    let day = run_day(&rt, alloc, letters(alloc)?, 16, &jobs, 1_000, &OpenGate)?;
-    check_replies(&rt, alloc, &day, &jobs)?;
+    let day = work(&rt, alloc, jobs.as_slice())?;
     check_eq(&rt, &day.shares.as_slice(), &[250u64; 16].as_slice());
-    for place in 0..4 {
-        let (_, text, version) = day.book.text(place).expect(&rt, "there is a text");
-        check_eq(&rt, &text.bytes().len(), &2_001);
-        check_eq(&rt, &version, &1_000);
-    }
-    Ok(())
+    check_texts(&rt, &day.book);
+    check_replies(&rt, alloc, &day, jobs.as_slice())
 }

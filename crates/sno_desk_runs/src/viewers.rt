@@ -5,7 +5,7 @@ ghost use Rattle.sno_book.specs.Views.{IsPrefix};
 
 use crate::compare::check_eq;
 use crate::jobs::{book, statement};
-use sno_book::{Book, Proposal, Statement, Text, propose};
+use sno_book::{Book, Entry, Proposal, Receipt, Statement, Text, propose};
 use sno_published::{History, Naming, Screen, Unpublished, ViewFault, Viewer};
 use std::alloc::Global;
 use std::marker::Brand;
@@ -44,6 +44,26 @@ fn proposal(alloc: Global, book: &Book, job: &Arc<Statement>) -> Result<Proposal
     Ok(proposal)
 }
 
+/// The screen, where an entry was published on it; else it is ended.
+fn unended<L: Naming, R: Wait>(
+    rt: &R,
+    answer: Result<Screen<L>, Unpublished<L>>,
+) -> Option<Screen<L>>
+    ensures { IfSome result (λ s. answer ≡ Ok s) }
+{
+    match answer {
+        Ok(screen) => Some(screen),
+        Err(Unpublished::Memory(screen)) => {
+            screen.end(rt);
+            None
+        }
+        Err(Unpublished::Stopped(spent)) => {
+            spent.end(rt);
+            None
+        }
+    }
+}
+
 /// Commits the proposal to the book, and publishes the entry. Where something is refused the screen is ended.
 #[tactic(auto, using(sno_book::proofs::Kinship::is_kin))]
 fn follow<L: Naming, R: Wait>(
@@ -68,33 +88,32 @@ fn follow<L: Naming, R: Wait>(
         screen.end(rt);
         return None;
     };
-    match screen.publish(rt, alloc, &receipt.entry) {
-        Ok(screen) => Some(screen),
-        Err(Unpublished::Memory(screen)) => {
-            screen.end(rt);
-            None
-        }
-        Err(Unpublished::Stopped(spent)) => {
-            spent.end(rt);
-            None
-        }
-    }
+    unended(rt, screen.publish(rt, alloc, &receipt.entry))
+}
+
+/// The receipt of the statement on a book of its own.
+#[tactic(auto, using(sno_book::proofs::Kinship::is_kin))]
+fn receipt(rt: &impl Abort, alloc: Global) -> Result<Receipt, Fail> {
+    let mut book = one_text(alloc)?;
+    let proposal = added(rt, alloc, &book)?;
+    Ok(book.commit(proposal).map_err(|(fault, _)| fault)?)
+}
+
+/// Two entries are added to a history, and a front of the time before is told of them.
+fn check_growth(rt: &impl Abort, entry: &Entry) {
+    let mut history = History::new();
+    let first = history.front().again();
+    assert!(rt; history.add(entry));
+    assert!(rt; history.add(entry));
+    let second = history.front().again();
+    first.learn(&second);
+    check_eq(rt, &(first.count(), second.count()), &(0, 2));
 }
 
 #[test]
-#[tactic(auto, using(sno_book::proofs::Kinship::is_kin))]
 fn a_history_grows(rt: HostRuntime) -> Result<(), Fail> {
-    let alloc = rt.alloc();
-    let mut book = one_text(alloc)?;
-    let proposal = added(&rt, alloc, &book)?;
-    let receipt = book.commit(proposal).map_err(|(fault, _)| fault)?;
-    let mut history = History::new();
-    let first = history.front().again();
-    assert!(rt; history.add(&receipt.entry));
-    assert!(rt; history.add(&receipt.entry));
-    let second = history.front().again();
-    first.learn(&second);
-    check_eq(&rt, &(first.count(), second.count()), &(0, 2));
+    let receipt = receipt(&rt, rt.alloc())?;
+    check_growth(&rt, &receipt.entry);
     Ok(())
 }
 
@@ -120,6 +139,41 @@ fn look<L: Naming>(viewer: &mut Viewer<L>, screen: &Screen<L>) -> [bool; 4] {
     [was_level, is_new, is_level, is_alone]
 }
 
+/// A screen of the book's texts, with a viewer.
+fn open<L: Naming, R: Wait>(
+    rt: &R,
+    alloc: Global,
+    book: &Book,
+    history: History,
+    attempts: History,
+) -> Result<(Screen<L>, Viewer<L>), Fail>
+    requires history { (history.history ≡ L.book) × (history.entries ≡ []) }
+    requires attempts { attempts.history ≡ L.tries }
+    requires book { book.now.opening ≡ L.opening }
+    ensures { IfOk result (λ s. s.0 ≡ []) }
+{
+    let screen = Screen::<L>::new(alloc, book.opening(), history, attempts, 2)?;
+    match screen.viewer() {
+        Ok(viewer) => Ok((screen, viewer)),
+        Err(fault) => {
+            screen.end(rt);
+            Err(fault.into())
+        }
+    }
+}
+
+/// What the viewer sees of a screen on which an entry was published, and after that has ended.
+fn look_to_the_end<L: Naming, R: Wait>(
+    rt: &R,
+    shown: Option<Screen<L>>,
+    viewer: &mut Viewer<L>,
+) -> Option<[bool; 4]> {
+    let screen = shown?;
+    let sights = look(viewer, &screen);
+    screen.end(rt);
+    Some(sights)
+}
+
 /// What one viewer sees before and after an entry is published, and after the screen has ended.
 fn watch<L: Naming, R: Wait + Abort>(
     rt: &R,
@@ -133,18 +187,15 @@ fn watch<L: Naming, R: Wait + Abort>(
     requires book { (book.old.opening ≡ L.opening) × (book.old.journal ≡ []) }
 {
     let proposal = added(rt, alloc, book)?;
-    let screen = Screen::<L>::new(alloc, book.opening(), history, attempts, 2)?;
-    let Ok(mut viewer) = screen.viewer() else {
-        screen.end(rt);
-        return Err("no viewer".into());
-    };
+    let (screen, mut viewer) = open::<L, R>(rt, alloc, book, history, attempts)?;
     let was_first = is_text(viewer.text(0), b"x".as_slice(), 0);
-    let Some(screen) = follow(rt, alloc, screen, book, proposal) else {
-        return Err("not published".into());
-    };
-    let sights = look(&mut viewer, &screen);
-    screen.end(rt);
-    check_eq(rt, &(was_first, sights), &(true, [false, true, true, true]));
+    let shown = follow(rt, alloc, screen, book, proposal);
+    let sights = look_to_the_end(rt, shown, &mut viewer);
+    check_eq(
+        rt,
+        &(was_first, sights),
+        &(true, Some([false, true, true, true])),
+    );
     check_eq(rt, &viewer.seen(), &1);
     check_eq(rt, &viewer.enter(), &Err(ViewFault::Ended));
     Ok(())
@@ -188,6 +239,14 @@ fn never_goes_back<L: Naming>(mut viewer: Viewer<L>, times: u32) -> bool {
     true
 }
 
+/// How many entries the screen shows, which is ended.
+fn count_at_the_end<L: Naming, R: Wait>(rt: &R, shown: Option<Screen<L>>) -> Option<u64> {
+    let screen = shown?;
+    let count = screen.count();
+    screen.end(rt);
+    Some(count)
+}
+
 /// A viewer reads in a thread of its own while an entry is published.
 fn watch_beside<L: Naming + Send + Sync + 'static, R: Threads + Wait + Abort>(
     rt: &R,
@@ -201,24 +260,15 @@ fn watch_beside<L: Naming + Send + Sync + 'static, R: Threads + Wait + Abort>(
     requires book { (book.old.opening ≡ L.opening) × (book.old.journal ≡ []) }
 {
     let proposal = added(rt, alloc, book)?;
-    let screen = Screen::<L>::new(alloc, book.opening(), history, attempts, 2)?;
-    let Ok(viewer) = screen.viewer() else {
-        screen.end(rt);
-        return Err("no viewer".into());
-    };
+    let (screen, viewer) = open::<L, R>(rt, alloc, book, history, attempts)?;
     let Ok(reader) = thread::spawn(rt, move || never_goes_back(viewer, 1000)) else {
         screen.end(rt);
         return Err("no thread".into());
     };
     let shown = follow(rt, alloc, screen, book, proposal);
     let never = reader.join(rt);
-    let Some(screen) = shown else {
-        return Err("not published".into());
-    };
-    let count = screen.count();
-    screen.end(rt);
-    assert!(rt; never);
-    check_eq(rt, &count, &1);
+    let count = count_at_the_end(rt, shown);
+    check_eq(rt, &(never, count), &(true, Some(1)));
     Ok(())
 }
 

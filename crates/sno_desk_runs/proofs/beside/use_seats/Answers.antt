@@ -4,12 +4,12 @@ use denote.Param.{param}
 use denote.Param.Send.{IsSend, param_send, arg_send}
 use Rattle.sno_book.specs.contracts.entries.Entry as Entry
 use Rattle.sno_desk.proofs.Crossings.{receipt_send, seat_send}
-use Rattle.sno_desk_runs.proofs.beside.read_beside.Lts as Lts
-use Rattle.sno_desk_runs.proofs.beside.read_beside.Goals as goal
+use Rattle.sno_desk_runs.proofs.beside.use_seats.Lts as Lts
+use Rattle.sno_desk_runs.proofs.beside.use_seats.Goals as goal
 
-pub submit_beside-versions-requires-send-S : goal.submit_beside-versions-requires-send-S
-submit_beside-versions-requires-send-S g c κs within =
+pub submit_beside-seen-requires-send-S : goal.submit_beside-seen-requires-send-S
+submit_beside-seen-requires-send-S g c κs within =
     let entry : IsSend Entry.the_row = record { owned = c.may_cross.ensures.sends.owned; leaving = λ k d w. tt } in
     let seat = seat_send (param 0 g.row.L) g.L.Naming g.L.Ledger (receipt_send entry) in
-    param_send 1 (Lts.arg-18-1 g.row.L g.row.R g.L.laws g.R.laws g.L.Naming g.L.Naming-dict g.L.Ledger g.L.Ledger-dict g.R.Threads g.R.Threads-dict g.R.Wait g.R.Wait-dict g.R.Clock g.R.Clock-dict g.R.Abort g.R.Abort-dict κs)
+    param_send 1 (Lts.arg-3-1 g.row.L g.row.R g.L.laws g.R.laws g.L.Naming g.L.Naming-dict g.L.Ledger g.L.Ledger-dict g.R.Threads g.R.Threads-dict g.R.Wait g.R.Wait-dict g.R.Clock g.R.Clock-dict g.R.Abort g.R.Abort-dict κs)
     (arg_send _ yes _ seat)
