@@ -4,7 +4,7 @@ ghost use Rattle.sno_book.specs.Books.{view_of};
 ghost use Rattle.sno_book.specs.Views.{IsPrefix};
 
 use crate::answers::{Answer, check_eq, tell, tell_ready, tell_twice};
-use crate::jobs::{book, check_book, check_exchange, exchange, proposal, row};
+use crate::jobs::{book, check_book, check_exchange, exchange, proposed, row};
 use sno_book::{
     Book, BookFault, CommitFault, Proposal, Snapshot, StatementFault, Text, TextName, propose,
 };
@@ -31,16 +31,21 @@ fn open(rt: &impl Abort, alloc: Global, texts: Vec<(TextName, Text)>) -> Answer 
     }
 }
 
+/// One text with its name.
+fn texts(alloc: Global) -> Result<Vec<(TextName, Text)>, Fail> {
+    let mut texts = Vec::with_capacity(alloc, 1)?;
+    texts.push(row(alloc, "T", "k=v")?)?;
+    Ok(texts)
+}
+
 #[test]
 fn a_book(rt: HostRuntime) -> Result<(), Fail> {
     let alloc = rt.alloc();
-    let mut texts = Vec::new(alloc);
-    texts.push(row(alloc, "T", "k=v")?)?;
-    let mut same_texts = Vec::new(alloc);
-    same_texts.push(row(alloc, "T", "k=v")?)?;
+    let first = texts(alloc)?;
+    let second = texts(alloc)?;
     tell_ready(&rt)?;
-    tell(&rt, open(&rt, alloc, texts))?;
-    tell(&rt, open(&rt, alloc, same_texts))
+    tell(&rt, open(&rt, alloc, first))?;
+    tell(&rt, open(&rt, alloc, second))
 }
 
 fn perform_once(rt: &impl Abort, alloc: Global, statement: &Statement, text: &Text) -> Answer {
@@ -64,12 +69,33 @@ fn a_statement_is_performed(rt: HostRuntime) -> Result<(), Fail> {
     tell_twice(&rt, || perform_once(&rt, alloc, &statement, &text))
 }
 
-fn propose_once(
-    rt: &impl Abort,
-    alloc: Global,
+/// A share of a statement, and one of its text.
+#[derive(Drop)]
+struct Task {
     statement: Arc<Statement>,
     snapshot: Snapshot,
-) -> Answer {
+}
+
+fn share(book: &Book, statement: &Arc<Statement>) -> Result<Task, Fail> {
+    Ok(Task {
+        statement: Arc::try_clone(statement)?,
+        snapshot: book.snapshot(statement.text())?,
+    })
+}
+
+/// Two tasks, of one statement and one text.
+fn tasks(rt: &impl Abort, alloc: Global) -> Result<(Task, Task), Fail> {
+    let statement = exchange(rt, alloc)?;
+    let book = book(alloc, &[("T", "k=v")])?;
+    let first = share(&book, &statement)?;
+    Ok((first, share(&book, &statement)?))
+}
+
+fn propose_once(rt: &impl Abort, alloc: Global, task: Task) -> Answer {
+    let Task {
+        statement,
+        snapshot,
+    } = task;
     match propose(alloc, statement, snapshot) {
         Ok(proposal) => {
             check_exchange(rt, proposal.outcome());
@@ -87,14 +113,10 @@ fn propose_once(
 #[test]
 fn a_statement_is_proposed(rt: HostRuntime) -> Result<(), Fail> {
     let alloc = rt.alloc();
-    let statement = exchange(&rt, alloc)?;
-    let book = book(alloc, &[("T", "k=v")])?;
-    let snapshot = book.snapshot(statement.text())?;
-    let again = book.snapshot(statement.text())?;
-    let shared = Arc::try_clone(&statement)?;
+    let (first, second) = tasks(&rt, alloc)?;
     tell_ready(&rt)?;
-    tell(&rt, propose_once(&rt, alloc, shared, snapshot))?;
-    tell(&rt, propose_once(&rt, alloc, statement, again))
+    tell(&rt, propose_once(&rt, alloc, first))?;
+    tell(&rt, propose_once(&rt, alloc, second))
 }
 
 /// Prepares the proposal, and takes it back. The book is as it was, with both answers.
@@ -117,16 +139,22 @@ fn prepare(rt: &impl Abort, book: &mut Book, proposal: Proposal) -> (Answer, Pro
     }
 }
 
+/// Prepares the proposal, and once more what came back.
+fn prepare_twice(rt: &impl Abort, mut book: Book, proposal: Proposal) -> (Answer, Answer)
+    requires { IsPrefix proposal.origin (view_of book) }
+{
+    let (first, back) = prepare(rt, &mut book, proposal);
+    check_exchange(rt, back.outcome());
+    let (second, back) = prepare(rt, &mut book, back);
+    check_exchange(rt, back.outcome());
+    (first, second)
+}
+
 #[test]
 fn a_commit_is_prepared(rt: HostRuntime) -> Result<(), Fail> {
-    let alloc = rt.alloc();
-    let mut book = book(alloc, &[("T", "k=v")])?;
-    let proposal = proposal(alloc, &book, &exchange(&rt, alloc)?)?;
+    let (book, proposal) = proposed(&rt, rt.alloc())?;
     tell_ready(&rt)?;
-    let (first, back) = prepare(&rt, &mut book, proposal);
-    check_exchange(&rt, back.outcome());
-    let (second, back) = prepare(&rt, &mut book, back);
-    check_exchange(&rt, back.outcome());
+    let (first, second) = prepare_twice(&rt, book, proposal);
     tell(&rt, first)?;
     tell(&rt, second)
 }
@@ -152,21 +180,27 @@ fn commit(rt: &impl Abort, book: &mut Book, proposal: Proposal) -> Result<(), Pr
     }
 }
 
+/// Commits the proposal. Where it comes back it is committed once more, after the first answer was told.
+fn commit_again(
+    rt: &(impl Abort + Print),
+    mut book: Book,
+    proposal: Proposal,
+) -> Result<Answer, Fail>
+    requires { IsPrefix proposal.origin (view_of book) }
+{
+    let Err(back) = commit(rt, &mut book, proposal) else {
+        return Ok(Answer::Given);
+    };
+    tell(rt, Answer::Refused)?;
+    Ok(match commit(rt, &mut book, back) {
+        Ok(()) => Answer::Given,
+        Err(_) => Answer::Refused,
+    })
+}
+
 #[test]
 fn a_proposal_is_committed(rt: HostRuntime) -> Result<(), Fail> {
-    let alloc = rt.alloc();
-    let mut book = book(alloc, &[("T", "k=v")])?;
-    let proposal = proposal(alloc, &book, &exchange(&rt, alloc)?)?;
+    let (book, proposal) = proposed(&rt, rt.alloc())?;
     tell_ready(&rt)?;
-    let Err(back) = commit(&rt, &mut book, proposal) else {
-        return tell(&rt, Answer::Given);
-    };
-    tell(&rt, Answer::Refused)?;
-    tell(
-        &rt,
-        match commit(&rt, &mut book, back) {
-            Ok(()) => Answer::Given,
-            Err(_) => Answer::Refused,
-        },
-    )
+    tell(&rt, commit_again(&rt, book, proposal)?)
 }

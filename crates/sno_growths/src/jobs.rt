@@ -48,6 +48,12 @@ fn parts(
     ))
 }
 
+/// No definitions.
+pub(crate) fn rules(alloc: Global) -> Result<Arc<Rules>, Fail> {
+    let rules = Rules::admit(alloc, Names::new(alloc, &[])?, Vec::new(alloc))?;
+    Ok(Arc::new(alloc, rules)?)
+}
+
 /// A statement that replaces what the pattern matches in the text by the object.
 pub(crate) fn statement(
     rt: &impl Abort,
@@ -57,10 +63,7 @@ pub(crate) fn statement(
     object: &str,
 ) -> Result<Arc<Statement>, Fail> {
     let text = TextName::new(alloc, text.as_bytes())?;
-    let rules = Arc::new(
-        alloc,
-        Rules::admit(alloc, Names::new(alloc, &[])?, Vec::new(alloc))?,
-    )?;
+    let rules = rules(alloc)?;
     let (pattern, object) = parts(alloc, &rules, pattern, object)?;
     assert!(rt; rules.covers(&pattern));
     let statement = Statement::new(1, rules, pattern, Some(object), text, false);
@@ -79,6 +82,16 @@ pub(crate) fn proposal(alloc: Global, book: &Book, job: &Arc<Statement>) -> Resu
     let snapshot = book.snapshot(job.text())?;
     let proposal = propose(alloc, Arc::try_clone(job)?, snapshot)?;
     Ok(proposal)
+}
+
+/// A book of the text `k=v`, and `exchange` on it.
+pub(crate) fn proposed(rt: &impl Abort, alloc: Global) -> Result<(Book, Proposal), Fail>
+    ensures { IfOk result (λ p. IsPrefix p.1.origin (view_of p.0)) }
+{
+    let job = exchange(rt, alloc)?;
+    let book = book(alloc, &[("T", "k=v")])?;
+    let proposal = proposal(alloc, &book, &job)?;
+    Ok((book, proposal))
 }
 
 fn check_string(rt: &impl Abort, datum: Option<&Datum>, wanted: &[u8]) {

@@ -179,12 +179,27 @@ fn compile_once(rt: &impl Abort, alloc: Global, rules: &Rules, pattern: &Pattern
     }
 }
 
+/// A pattern with the definitions that it names.
+#[derive(Drop)]
+struct Search {
+    rules: Rules,
+    pattern: Pattern,
+}
+
+fn two_rows(rt: &impl Abort, alloc: Global) -> Result<Search, Fail> {
+    let rules = admitted_row(rt, alloc)?;
+    let pattern = read_pattern(alloc, rules.names(), 1, TWO_ROWS)?;
+    Ok(Search { rules, pattern })
+}
+
 #[test]
 fn a_pattern_is_compiled(rt: HostRuntime) -> Result<(), Fail> {
     let alloc = rt.alloc();
-    let rules = admitted_row(&rt, alloc)?;
-    let pattern = read_pattern(alloc, rules.names(), 1, TWO_ROWS)?;
-    tell_twice(&rt, || compile_once(&rt, alloc, &rules, &pattern))
+    let search = two_rows(&rt, alloc)?;
+    tell_twice(
+        &rt,
+        || compile_once(&rt, alloc, &search.rules, &search.pattern),
+    )
 }
 
 /// The first part matches `aa`, the second one nothing.
@@ -211,20 +226,17 @@ fn match_once(rt: &impl Abort, alloc: Global, code: &Code<'_>, text: &Text) -> A
 fn match_twice<R: Abort + Print>(
     rt: &R,
     alloc: Global,
-    rules: &Rules,
-    pattern: &Pattern,
+    search: &Search,
     text: &Text,
 ) -> Result<(), Fail> {
-    assert!(rt; rules.covers(pattern));
-    let code = compile(alloc, rules, pattern)?;
+    assert!(rt; search.rules.covers(&search.pattern));
+    let code = compile(alloc, &search.rules, &search.pattern)?;
     tell_twice(rt, || match_once(rt, alloc, &code, text))
 }
 
 #[test]
 fn a_pattern_is_matched(rt: HostRuntime) -> Result<(), Fail> {
     let alloc = rt.alloc();
-    let rules = admitted_row(&rt, alloc)?;
-    let pattern = read_pattern(alloc, rules.names(), 1, TWO_ROWS)?;
     let text = Text::new(Vec::from_slice(alloc, b"aaab".as_slice())?)?;
-    match_twice(&rt, alloc, &rules, &pattern, &text)
+    match_twice(&rt, alloc, &two_rows(&rt, alloc)?, &text)
 }

@@ -2,11 +2,12 @@
 ghost use Rattle.std.specs.Prelude.{◌≡◌, []};
 
 use crate::answers::{Answer, check_bytes, check_eq, tell, tell_ready};
-use crate::jobs::{book, check_book, exchange, proposal};
+use crate::jobs::{book, check_book, proposed, rules};
 use crate::patterns::name;
-use sno_book::Book;
-use sno_desk::{Blank, Desk, Naming, close};
+use sno_book::{Book, Ready};
+use sno_desk::{Blank, Desk, Naming, Seat, close};
 use sno_pattern::{Class, Name, Names, Pattern, Rules, Text, TextName};
+use sno_read::{Object, read_object};
 use sno_rewrite::{RunFault, status_of};
 use sno_statement::Statement;
 use std::alloc::Global;
@@ -52,43 +53,70 @@ fn a_status_without_memory(rt: HostRuntime) -> Result<(), Fail> {
     tell(&rt, Answer::Given)
 }
 
-#[test]
-fn a_statement_without_memory(rt: HostRuntime) -> Result<(), Fail> {
-    let alloc = rt.alloc();
-    let rules = Rules::admit(alloc, Names::new(alloc, &[])?, Vec::new(alloc))?;
-    let rules = Arc::new(alloc, rules)?;
-    let object = sno_read::read_object(alloc, rules.names(), b"'x'".as_slice())?;
-    let text = TextName::new(alloc, b"T".as_slice())?;
-    tell_ready(&rt)?;
+/// What a statement is made of, but its pattern.
+#[derive(Drop)]
+struct Parts {
+    rules: Arc<Rules>,
+    object: Object,
+    text: TextName,
+}
+
+/// They are for a text `T`, whose matched part is replaced by an `x`.
+fn make_parts(alloc: Global) -> Result<Parts, Fail> {
+    let rules = rules(alloc)?;
+    let object = read_object(alloc, rules.names(), b"'x'".as_slice())?;
+    Ok(Parts {
+        rules,
+        object,
+        text: TextName::new(alloc, b"T".as_slice())?,
+    })
+}
+
+/// A statement with a limit, which is repeated.
+fn check_statement(rt: &impl Abort, parts: Parts) {
+    let Parts {
+        rules,
+        object,
+        text,
+    } = parts;
     let pattern = Pattern::Len(1);
     assert!(rt; rules.covers(&pattern));
     let statement = Statement::new(7, rules, pattern, Some(object), text, true);
     let statement = statement.limited(5).repeated(3);
-    check_eq(&rt, &(statement.number(), statement.limit()), &(7, 5));
+    check_eq(rt, &(statement.number(), statement.limit()), &(7, 5));
     check_eq(
-        &rt,
+        rt,
         &(statement.repeat(), statement.anchored()),
         &(Some(3), true),
     );
+}
+
+#[test]
+fn a_statement_without_memory(rt: HostRuntime) -> Result<(), Fail> {
+    let parts = make_parts(rt.alloc())?;
+    tell_ready(&rt)?;
+    check_statement(&rt, parts);
     tell(&rt, Answer::Given)
+}
+
+/// Takes back a proposal that is ready.
+#[tactic(auto, using(sno_book::proofs::Kinship::is_kin))]
+fn check_book_with_ready(rt: &impl Abort, book: &Book, ready: Ready, name: &TextName) {
+    check_book(rt, book, b"k=v".as_slice(), 0, 0);
+    check_eq(rt, &ready.back().version(), &0);
+    check_eq(rt, &book.opening().place(name), &Some(0));
+    assert!(rt; book.has_spare());
 }
 
 /// A proposal that is ready is taken back.
 #[test]
 #[tactic(auto, using(sno_book::proofs::Kinship::is_kin))]
 fn a_book_without_memory(rt: HostRuntime) -> Result<(), Fail> {
-    let alloc = rt.alloc();
-    let mut book = book(alloc, &[("T", "k=v")])?;
-    let name = TextName::new(alloc, b"T".as_slice())?;
-    let proposal = proposal(alloc, &book, &exchange(&rt, alloc)?)?;
-    let Ok(ready) = book.prepare(proposal) else {
-        return Err("out of memory".into());
-    };
+    let name = TextName::new(rt.alloc(), b"T".as_slice())?;
+    let (mut book, proposal) = proposed(&rt, rt.alloc())?;
+    let ready = book.prepare(proposal).map_err(|(fault, _)| fault)?;
     tell_ready(&rt)?;
-    check_book(&rt, &book, b"k=v".as_slice(), 0, 0);
-    check_eq(&rt, &ready.back().version(), &0);
-    check_eq(&rt, &book.opening().place(&name), &Some(0));
-    assert!(rt; book.has_spare());
+    check_book_with_ready(&rt, &book, ready, &name);
     tell(&rt, Answer::Given)
 }
 
@@ -96,9 +124,7 @@ fn a_book_without_memory(rt: HostRuntime) -> Result<(), Fail> {
 #[test]
 #[tactic(auto, using(sno_book::proofs::Kinship::is_kin, sno_book::proofs::Kinship::kin_after))]
 fn a_commit_is_finished_without_memory(rt: HostRuntime) -> Result<(), Fail> {
-    let alloc = rt.alloc();
-    let mut book = book(alloc, &[("T", "k=v")])?;
-    let proposal = proposal(alloc, &book, &exchange(&rt, alloc)?)?;
+    let (mut book, proposal) = proposed(&rt, rt.alloc())?;
     let Ok(ready) = book.prepare(proposal) else {
         return Err("out of memory".into());
     };
@@ -107,6 +133,13 @@ fn a_commit_is_finished_without_memory(rt: HostRuntime) -> Result<(), Fail> {
     check_book(&rt, &book, b"v=k".as_slice(), 1, 1);
     check_eq(&rt, &book.audit(slice::from_ref(&receipt)), &Ok(()));
     tell(&rt, Answer::Given)
+}
+
+/// The seats have accepted and seen nothing.
+fn check_seats<L: Naming>(rt: &impl Abort, seats: &[Seat<L>]) {
+    for seat in seats {
+        check_eq(rt, &(seat.accepted(), seat.seen()), &(0, 0));
+    }
 }
 
 /// The seats are counted, and the desk is closed.
@@ -124,9 +157,7 @@ fn count_and_close<L: Naming, R: Wait + Abort + Print>(
 {
     let (desk, seats) = Desk::<L>::new(rt, alloc, blank, book, 2).map_err(|(fault, _)| fault)?;
     let told = tell_ready(rt);
-    for seat in &seats {
-        check_eq(rt, &(seat.accepted(), seat.seen()), &(0, 0));
-    }
+    check_seats(rt, seats.as_slice());
     let closed = close(rt, desk, seats);
     let book = closed.ok().expect(rt, "it is closed");
     check_book(rt, &book, b"x".as_slice(), 0, 0);

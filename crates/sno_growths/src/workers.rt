@@ -5,7 +5,7 @@ use crate::answers::{Answer, check_eq, tell, tell_ready};
 use crate::jobs::{book, statement};
 use sno_book::Book;
 use sno_desk::{
-    Blank, Desk, Naming, OpenGate, Reply, SubmitFault, WorkersFault, close, run_workers,
+    Blank, Desk, Naming, OpenGate, Reply, Seat, SubmitFault, WorkersFault, close, run_workers,
 };
 use sno_statement::Statement;
 use std::alloc::Global;
@@ -36,6 +36,21 @@ fn answer_of(rt: &impl Abort, replies: Result<Vec<Reply>, WorkersFault>) -> Answ
     answer
 }
 
+/// What the workers came to, and how many each seat has accepted.
+fn work_at<L: Naming + Send + Sync, R: Threads + Wait + Abort + Print + Sync>(
+    rt: &R,
+    alloc: Global,
+    desk: &Desk<L>,
+    seats: &mut [Seat<L>],
+    jobs: &[Arc<Statement>],
+) -> Result<(Answer, (u64, u64)), Fail> {
+    assert!(rt; seats.len() == 2);
+    tell_ready(rt)?;
+    let replies = run_workers(rt, alloc, desk, seats, jobs, 100, &OpenGate);
+    let answer = answer_of(rt, replies);
+    Ok((answer, (seats[0].accepted(), seats[1].accepted())))
+}
+
 /// What the workers came to, how many each seat has accepted, and the closed book.
 fn work<L: Naming + Send + Sync, R: Threads + Wait + Abort + Print + Sync>(
     rt: &R,
@@ -51,13 +66,9 @@ fn work<L: Naming + Send + Sync, R: Threads + Wait + Abort + Print + Sync>(
     requires empty { book.journal ≡ [] }
 {
     let (desk, mut seats) = Desk::<L>::new(rt, alloc, blank, book, 2).map_err(|(fault, _)| fault)?;
-    let told = tell_ready(rt);
-    let replies = run_workers(rt, alloc, &desk, seats.as_mut_slice(), jobs, 100, &OpenGate);
-    let answer = answer_of(rt, replies);
-    assert!(rt; seats.len() == 2);
-    let shares = (seats[0].accepted(), seats[1].accepted());
+    let done = work_at(rt, alloc, &desk, seats.as_mut_slice(), jobs);
     let closed = close(rt, desk, seats).map_err(|(fault, _)| fault);
-    told?;
+    let (answer, shares) = done?;
     Ok((answer, shares, closed?))
 }
 
@@ -72,16 +83,33 @@ fn work_at_own_desk<R: Threads + Wait + Abort + Print + Sync>(
     work::<Brand, R>(rt, alloc, Blank::new(2), book, jobs)
 }
 
+/// A statement for each of these texts, whose letter it replaces.
+fn jobs(
+    rt: &impl Abort,
+    alloc: Global,
+    rows: &[(&'static str, &'static str)],
+) -> Result<Vec<Arc<Statement>>, Fail> {
+    let mut jobs = Vec::new(alloc);
+    for (text, pattern) in rows {
+        jobs.push(statement(rt, alloc, text, pattern, "'x'")?)?;
+    }
+    Ok(jobs)
+}
+
+/// Three jobs on three texts.
+fn work_on_letters<R: Threads + Wait + Abort + Print + Sync>(
+    rt: &R,
+    alloc: Global,
+) -> Result<(Answer, (u64, u64), Book), Fail> {
+    let jobs = jobs(rt, alloc, &[("A", "'a'"), ("B", "'b'"), ("C", "'c'")])?;
+    let book = book(alloc, &[("A", "a"), ("B", "b"), ("C", "c")])?;
+    work_at_own_desk(rt, alloc, book, jobs.as_slice())
+}
+
 /// The journal has as many entries as the seats have accepted: all three where every reply is a receipt.
 #[test]
 fn jobs_are_done_by_workers(rt: HostRuntime) -> Result<(), Fail> {
-    let alloc = rt.alloc();
-    let mut jobs = Vec::new(alloc);
-    jobs.push(statement(&rt, alloc, "A", "'a'", "'x'")?)?;
-    jobs.push(statement(&rt, alloc, "B", "'b'", "'x'")?)?;
-    jobs.push(statement(&rt, alloc, "C", "'c'", "'x'")?)?;
-    let book = book(alloc, &[("A", "a"), ("B", "b"), ("C", "c")])?;
-    let (answer, (first, second), book) = work_at_own_desk(&rt, alloc, book, jobs.as_slice())?;
+    let (answer, (first, second), book) = work_on_letters(&rt, rt.alloc())?;
     check_eq(
         &rt,
         &(book.journal().len() as u64),
