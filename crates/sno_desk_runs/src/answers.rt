@@ -49,6 +49,11 @@ fn line_of(alloc: Global, reply: &Reply) -> Result<String, Fail> {
     }
 }
 
+fn check_reply(rt: &impl Abort, alloc: Global, reply: &Reply, line: &str) -> Result<(), Fail> {
+    check_eq(rt, &line_of(alloc, reply)?.as_str(), &line);
+    Ok(())
+}
+
 fn check_replies(
     rt: &impl Abort,
     alloc: Global,
@@ -57,7 +62,7 @@ fn check_replies(
 ) -> Result<(), Fail> {
     check_eq(rt, &replies.len(), &lines.len());
     for (reply, line) in replies.iter().zip(lines.iter()) {
-        check_eq(rt, &line_of(alloc, reply)?.as_str(), line);
+        check_reply(rt, alloc, reply, line)?;
     }
     Ok(())
 }

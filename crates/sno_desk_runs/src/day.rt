@@ -112,10 +112,25 @@ pub(crate) fn run_rows<G: Gate + Sync, R: Threads + Wait + Abort + Sync>(
 }
 
 /// Why the job was refused; none where it was accepted.
-pub(crate) fn fault_of(reply: &Reply) -> Option<SubmitFault> {
+fn fault_of(reply: &Reply) -> Option<SubmitFault> {
     match reply {
         Ok(_) => None,
         Err(fault) => Some(*fault),
+    }
+}
+
+/// There are so many replies; the first job was refused for this, and the others were accepted.
+pub(crate) fn check_first_refused(
+    rt: &impl Abort,
+    replies: &[Reply],
+    count: usize,
+    fault: SubmitFault,
+) {
+    check_eq(rt, &replies.len(), &count);
+    let (first, others) = replies.split_first().expect(rt, "there is a reply");
+    check_eq(rt, &fault_of(first), &Some(fault));
+    for reply in others {
+        assert!(rt; reply.is_ok());
     }
 }
 

@@ -2,7 +2,7 @@
 ghost use Rattle.std.specs.Prelude.{◌≤◌};
 
 use crate::compare::check_eq;
-use crate::day::{Day, check_text, fault_of, run_rows};
+use crate::day::{Day, check_first_refused, check_text, run_rows};
 use crate::gates::ShutFor;
 use crate::jobs::Row;
 use sno_book::Book;
@@ -64,24 +64,11 @@ fn jobs_are_replied_to_in_order(rt: HostRuntime) -> Result<(), Fail> {
     Ok(())
 }
 
-/// The first reply is that the gate was shut, the others are receipts.
-fn check_turned_away(rt: &impl Abort, replies: &[Reply]) {
-    assert!(rt; replies.len() == 3);
-    check_eq(rt, &fault_of(&replies[0]), &Some(SubmitFault::GateShut));
-    assert!(rt; replies[1].is_ok() && replies[2].is_ok());
-}
-
 #[test]
 fn a_shut_gate_turns_one_away(rt: HostRuntime) -> Result<(), Fail> {
     let gate = ShutFor::new(1);
     let day = run_letters(&rt, rt.alloc(), 3, &gate)?;
-    assert!(rt; day.replies.len() == 3);
-    check_eq(
-        &rt,
-        &fault_of(&day.replies[0]),
-        &Some(SubmitFault::GateShut),
-    );
-    assert!(rt; day.replies[1].is_ok() && day.replies[2].is_ok());
+    check_first_refused(&rt, day.replies.as_slice(), 3, SubmitFault::GateShut);
     check_eq(&rt, &gate.counts(), &(2u32, 100u32));
     check_eq(&rt, &day.shares.as_slice(), &[1u64, 1].as_slice());
     check_text(&rt, &day.book, 0, "a", 0);

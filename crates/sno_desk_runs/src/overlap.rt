@@ -2,7 +2,7 @@
 ghost use Rattle.std.specs.Prelude.{◌≤◌};
 
 use crate::compare::check_eq;
-use crate::day::{Day, check_entry, check_text, fault_of, run_rows};
+use crate::day::{Day, check_entry, check_first_refused, check_text, run_rows};
 use crate::flags::Flag;
 use crate::jobs::Row;
 use sno_book::Book;
@@ -169,10 +169,8 @@ fn check_second(rt: &impl Abort, book: &Book) {
 #[test]
 fn tries_are_spent(rt: HostRuntime) -> Result<(), Fail> {
     let (day, notes) = overlap(&rt, rt.alloc(), 1)?;
-    assert!(rt; day.replies.len() == 2);
     let spent = SubmitFault::TriesSpent { seen: 0, now: 1 };
-    check_eq(&rt, &fault_of(&day.replies[0]), &Some(spent));
-    assert!(rt; day.replies[1].is_ok());
+    check_first_refused(&rt, day.replies.as_slice(), 2, spent);
     check_notes(&rt, notes, 1, 100, 1);
     check_eq(&rt, &day.shares.as_slice(), &[0u64, 1].as_slice());
     check_second(&rt, &day.book);

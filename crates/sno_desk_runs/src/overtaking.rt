@@ -73,6 +73,20 @@ impl Overtaken {
         };
         Ok(desk.submit(rt, alloc, seat, job, self.tries, &gate).err())
     }
+
+    /// All tries are spent, and each was overtaken by one entry.
+    fn check<L: Naming>(
+        &self,
+        rt: &impl Abort,
+        refused: Option<SubmitFault>,
+        seat: &Seat<L>,
+        other: &Seat<L>,
+    ) {
+        let now = u64::from(self.tries);
+        let seen = now.saturating_sub(1);
+        check_eq(rt, &refused, &Some(SubmitFault::TriesSpent { seen, now }));
+        check_eq(rt, &(seat.accepted(), other.accepted()), &(0, now));
+    }
 }
 
 impl Work for Overtaken {
@@ -86,11 +100,7 @@ impl Work for Overtaken {
         assert!(rt; seats.len() == 2);
         let (first, second) = seats.split_at_mut(1);
         let refused = self.submit(rt, alloc, desk, &mut first[0], &mut second[0])?;
-        let now = u64::from(self.tries);
-        let seen = now.saturating_sub(1);
-        check_eq(rt, &refused, &Some(SubmitFault::TriesSpent { seen, now }));
-        check_eq(rt, &first[0].accepted(), &0);
-        check_eq(rt, &second[0].accepted(), &now);
+        self.check(rt, refused, &first[0], &second[0]);
         Ok(())
     }
 }

@@ -1,6 +1,6 @@
 //! A statement that is overtaken at each of its two tries, by workers in threads.
 use crate::compare::check_eq;
-use crate::day::{Day, check_entry, check_text, fault_of, run_rows};
+use crate::day::{Day, check_entry, check_first_refused, check_text, run_rows};
 use crate::flags::Flag;
 use crate::jobs::Row;
 use sno_book::Book;
@@ -84,10 +84,8 @@ fn check_book(rt: &impl Abort, book: &Book) {
 #[test]
 fn the_versions_are_those_of_the_last_try(rt: HostRuntime) -> Result<(), Fail> {
     let day = overtake(&rt, rt.alloc())?;
-    assert!(rt; day.replies.len() == 4);
     let spent = SubmitFault::TriesSpent { seen: 1, now: 2 };
-    check_eq(&rt, &fault_of(&day.replies[0]), &Some(spent));
-    assert!(rt; day.replies[1].is_ok() && day.replies[2].is_ok() && day.replies[3].is_ok());
+    check_first_refused(&rt, day.replies.as_slice(), 4, spent);
     check_eq(&rt, &day.shares.as_slice(), &[1u64, 2].as_slice());
     check_book(&rt, &day.book);
     Ok(())

@@ -179,14 +179,15 @@ fn watch<L: Naming, R: Wait + Abort>(
     rt: &R,
     alloc: Global,
     book: &mut Book,
+    proposal: Proposal,
     history: History,
     attempts: History,
 ) -> Result<(), Fail>
+    requires view { IsPrefix proposal.origin (view_of book.old) }
     requires history { (history.history ≡ L.book) × (history.entries ≡ []) }
     requires attempts { attempts.history ≡ L.tries }
     requires book { (book.old.opening ≡ L.opening) × (book.old.journal ≡ []) }
 {
-    let proposal = added(rt, alloc, book)?;
     let (screen, mut viewer) = open::<L, R>(rt, alloc, book, history, attempts)?;
     let was_first = is_text(viewer.text(0), b"x".as_slice(), 0);
     let shown = follow(rt, alloc, screen, book, proposal);
@@ -204,7 +205,8 @@ fn watch<L: Naming, R: Wait + Abort>(
 fn watched<R: Wait + Abort>(rt: &R, alloc: Global, book: &mut Book) -> Result<(), Fail>
     requires { book.old.journal ≡ [] }
 {
-    watch::<Brand, R>(rt, alloc, book, History::new(), History::new())
+    let proposal = added(rt, alloc, book)?;
+    watch::<Brand, R>(rt, alloc, book, proposal, History::new(), History::new())
 }
 
 fn watched_beside<R: Threads + Wait + Abort>(
@@ -214,7 +216,8 @@ fn watched_beside<R: Threads + Wait + Abort>(
 ) -> Result<(), Fail>
     requires { book.old.journal ≡ [] }
 {
-    watch_beside::<Brand, R>(rt, alloc, book, History::new(), History::new())
+    let proposal = added(rt, alloc, book)?;
+    watch_beside::<Brand, R>(rt, alloc, book, proposal, History::new(), History::new())
 }
 
 #[test]
@@ -252,14 +255,15 @@ fn watch_beside<L: Naming + Send + Sync + 'static, R: Threads + Wait + Abort>(
     rt: &R,
     alloc: Global,
     book: &mut Book,
+    proposal: Proposal,
     history: History,
     attempts: History,
 ) -> Result<(), Fail>
+    requires view { IsPrefix proposal.origin (view_of book.old) }
     requires history { (history.history ≡ L.book) × (history.entries ≡ []) }
     requires attempts { attempts.history ≡ L.tries }
     requires book { (book.old.opening ≡ L.opening) × (book.old.journal ≡ []) }
 {
-    let proposal = added(rt, alloc, book)?;
     let (screen, viewer) = open::<L, R>(rt, alloc, book, history, attempts)?;
     let Ok(reader) = thread::spawn(rt, move || never_goes_back(viewer, 1000)) else {
         screen.end(rt);
