@@ -22,6 +22,19 @@ const BEGINNING: &str = "texts 2\nA 1 |v=k|\nB 0 |aaab|\nentries 2\n";
 const LISTING: &str =
     "texts 2\nA 1 |v=k|\nB 0 |aaab|\nentries 2\n0 statement 1 A 0 matched 0 3\n  K = |k|\n  V = |v|\n  -> |v=k|\n1 statement 2 B 0 failed\nrefused 1\nstatement 3 no text\n";
 
+/// The document's bytes: whoever calls this needs no proof about each of them.
+fn document() -> &'static [u8] {
+    DOCUMENT.as_bytes()
+}
+
+fn listing() -> &'static [u8] {
+    LISTING.as_bytes()
+}
+
+fn beginning() -> &'static [u8] {
+    BEGINNING.as_bytes()
+}
+
 /// The options that are given by no words.
 const PLAIN: Options = Options {
     anchor: false,
@@ -63,11 +76,11 @@ fn options_are_read(rt: HostRuntime) -> Result<(), Fail> {
 }
 
 /// What the run came to: a report that begins so, or that memory was refused.
-fn answer_of(rt: &impl Abort, report: Result<Report, RunFault>, beginning: &str) -> Answer {
+fn answer_of(rt: &impl Abort, report: Result<Report, RunFault>, beginning: &[u8]) -> Answer {
     match report {
         Ok(report) => {
-            assert!(rt; report.bytes.starts_with(beginning.as_bytes()));
-            check_eq(rt, &report.bytes.len(), &LISTING.len());
+            assert!(rt; report.bytes.starts_with(beginning));
+            check_eq(rt, &report.bytes.len(), &listing().len());
             check_eq(rt, &report.refused, &1);
             Answer::Given
         }
@@ -82,7 +95,7 @@ fn answer_of(rt: &impl Abort, report: Result<Report, RunFault>, beginning: &str)
 fn a_serial_run(rt: HostRuntime) -> Result<(), Fail> {
     let alloc = rt.alloc();
     tell_twice(&rt, || {
-        answer_of(&rt, run_serial(alloc, DOCUMENT.as_bytes(), &PLAIN), LISTING)
+        answer_of(&rt, run_serial(alloc, document(), &PLAIN), listing())
     })
 }
 
@@ -93,8 +106,8 @@ fn a_run_shared_by_workers(rt: HostRuntime) -> Result<(), Fail> {
         ..PLAIN
     };
     tell_ready(&rt)?;
-    let report = run_shared(&rt, rt.alloc(), DOCUMENT.as_bytes(), &options);
-    tell(&rt, answer_of(&rt, report, BEGINNING))
+    let report = run_shared(&rt, rt.alloc(), document(), &options);
+    tell(&rt, answer_of(&rt, report, beginning()))
 }
 
 /// The run between a reader and a writer that has room for the listing. Where memory is refused nothing is written.
@@ -103,11 +116,11 @@ fn run_once<R: Threads + Wait + Abort + Sync>(
     alloc: Global,
     mut written: Vec<u8>,
 ) -> Answer {
-    let mut reader = DOCUMENT.as_bytes();
+    let mut reader = document();
     match run(rt, alloc, &mut reader, &mut written, &PLAIN) {
         Ok(status) => {
             check_eq(rt, &status, &1);
-            check_bytes(rt, written.as_slice(), LISTING.as_bytes());
+            check_bytes(rt, written.as_slice(), listing());
             Answer::Given
         }
         Err(fault) => {
