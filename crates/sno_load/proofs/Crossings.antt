@@ -14,7 +14,7 @@ use Rattle.sno_load.specs.contracts.posts.Post as Post
 use Rattle.sno_load.specs.contracts.posts.Record as Record
 
 record_send : IsSend Receipt.the_row → IsSend Record.the_row
-record_send receipt = declared_send Record.the_type (Vec-send Receipt.the_row receipt, (search sendable, (option.the_send Fault.the_row fault.the_send, tt)))
+record_send receipt = declared_send Record.the_type (Vec-send Receipt.the_row receipt, (search sendable, (search sendable, (option.the_send Fault.the_row fault.the_send, tt))))
 
 -- a post, from its receipts
 pub post_send : (L : RattleType) (n : NamingGhosts L.Denot) (g : Ghosts L.Denot) → IsSend Receipt.the_row → IsSend (Post.the_row L n g)

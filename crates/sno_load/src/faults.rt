@@ -7,7 +7,7 @@ use std::alloc::{AllocError, AllocFailed};
 use thiserror::Error;
 
 /// Why the program ends otherwise than with its lines. What it prints is the line for standard error.
-#[derive(Clone, Copy, Debug, PartialEq, Eq, Error)]
+#[derive(Clone, Copy, Debug, Error)]
 pub enum Fault {
     /// The words are none that the program knows.
     #[error("usage: sno_load [--submits N --writers W --readers R | --times N], where N is 1 to 1000000 submits or 1 to 100000 times, W is 1 to 16, and R is 0 to 16 - W")]

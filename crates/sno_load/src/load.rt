@@ -3,26 +3,25 @@ ghost use Rattle.std.specs.Prelude.{◌≡◌, ◌≤◌, ◌+◌, [], IfOk, len
 ghost use Rattle.std.specs.Thread.{IsSend, IsSync};
 
 use crate::faults::Fault;
-use crate::posts::{Post, Record, Shift};
+use crate::posts::{Post, Record, Shared, Shift};
 use crate::texts::{TEXTS, book_of, jobs_of, names_of};
 use crate::words::Load;
 use sno_book::{Book, Entry, Receipt};
-use sno_desk::{Blank, Desk, Naming, Seat, TextName, close};
+use sno_desk::{Blank, Desk, Naming, Seat, close};
 use sno_statement::Statement;
-use std::alloc::{AllocError, Global};
+use std::alloc::Global;
 use std::marker::Brand;
+use std::sync::Wait;
 use std::sync::atomic::AtomicU64;
-use std::sync::{Arc, Wait};
 use std::thread;
 use std::thread::Threads;
 use std::time::{Clock, Duration, Instant};
 
-/// What a load leaves: the book, what was done at each seat and how many it has accepted, and how long that took.
+/// What a load leaves: the book, what was done at each seat, and how long that took.
 #[derive(Drop)]
 pub struct Rest {
     pub book: Book,
     pub records: Vec<Record>,
-    pub accepted: Vec<u64>,
     pub took: Duration,
 }
 
@@ -43,10 +42,7 @@ fn work_all<L: Naming + Send + Sync, R: Threads + Wait + Sync>(
     alloc: Global,
     desk: &Desk<L>,
     posts: &mut [Post<L>],
-    jobs: &[Arc<Statement>],
-    names: &[TextName],
-    load: Load,
-    writers: &AtomicU64,
+    shared: &Shared,
 )
     requires some { 1 ≤ length posts.old }
     ensures { length posts.new ≡ length posts.old }
@@ -56,92 +52,139 @@ fn work_all<L: Naming + Send + Sync, R: Threads + Wait + Sync>(
     may_cross::<Receipt>();
     let threads = posts.len();
     let worker = |place: usize, post: &mut Post<L>| {
-        let shift = Shift {
-            desk,
-            jobs,
-            names,
-            load,
-            writers,
-        };
+        let shift = Shift { desk, shared };
         shift.work(rt, alloc, place, post);
     };
     thread::for_each_mut(rt, posts, threads, &worker);
 }
 
 /// A post at each seat.
-fn posts_at<L: Naming>(alloc: Global, seats: Vec<Seat<L>>) -> Result<Vec<Post<L>>, AllocError>
+fn posts_at<L: Naming>(alloc: Global, seats: Vec<Seat<L>>) -> Result<Vec<Post<L>>, Fault>
     ensures { IfOk result (λ posts. length posts.items ≡ length seats.items) }
 {
     let mut posts = Vec::with_capacity(alloc, seats.len())?;
     for seat in seats {
-        posts.push(Post::new(alloc, seat)).map_err(|_| AllocError)?;
+        posts.push(Post::new(alloc, seat))?;
     }
     Ok(posts)
 }
 
 /// What was done at each post.
-fn take_records<L: Naming>(alloc: Global, posts: &mut [Post<L>]) -> Result<Vec<Record>, AllocError>
+fn take_records<L: Naming>(alloc: Global, posts: &mut [Post<L>]) -> Result<Vec<Record>, Fault>
     ensures { length posts.new ≡ length posts.old }
 {
     let mut records = Vec::with_capacity(alloc, posts.len())?;
     for post in posts.iter_mut() {
-        records
-            .push(post.take_record(alloc))
-            .map_err(|_| AllocError)?;
+        records.push(post.take_record(alloc))?;
     }
     Ok(records)
 }
 
 /// The seats of the posts.
-fn seats_of<L: Naming>(alloc: Global, posts: Vec<Post<L>>) -> Result<Vec<Seat<L>>, AllocError>
+fn seats_of<L: Naming>(alloc: Global, posts: Vec<Post<L>>) -> Result<Vec<Seat<L>>, Fault>
     ensures { IfOk result (λ seats. length seats.items ≡ length posts.items) }
 {
     let mut seats = Vec::with_capacity(alloc, posts.len())?;
     for post in posts {
-        seats.push(post.into_seat()).map_err(|_| AllocError)?;
+        seats.push(post.into_seat())?;
     }
     Ok(seats)
 }
 
-/// How many each seat has accepted.
-fn counts_of<L: Naming>(alloc: Global, seats: &[Seat<L>]) -> Result<Vec<u64>, AllocError> {
-    let mut counts = Vec::with_capacity(alloc, seats.len())?;
-    for seat in seats {
-        counts.push(seat.accepted()).map_err(|_| AllocError)?;
-    }
-    Ok(counts)
+/// What the posts of this load share.
+fn shared_of(alloc: Global, load: Load) -> Result<Shared, Fault> {
+    let jobs = jobs_of(alloc, load)?;
+    Ok(Shared {
+        jobs,
+        names: names_of(alloc, TEXTS)?,
+        load,
+        writers: AtomicU64::new(load.writers as u64),
+    })
 }
 
-/// The load at its seats, and the seats and records that are left of it. Where it is refused, the seats are lost.
+/// How long all posts were at work.
+fn time_work<L: Naming + Send + Sync, R: Threads + Wait + Clock + Sync>(
+    rt: &R,
+    alloc: Global,
+    desk: &Desk<L>,
+    posts: &mut [Post<L>],
+    load: Load,
+) -> Result<Duration, Fault>
+    requires some { 1 ≤ length posts.old }
+    ensures { length posts.new ≡ length posts.old }
+{
+    let shared = shared_of(alloc, load)?;
+    let begun = now(rt)?;
+    work_all(rt, alloc, desk, posts, &shared);
+    Ok(now(rt)?.duration_since(begun))
+}
+
+/// What is left of a load at its seats.
+#[derive(Drop)]
+struct Spent<L: Naming> {
+    seats: Vec<Seat<L>>,
+    records: Vec<Record>,
+    took: Duration,
+}
+
+/// The load at its seats. Where it is refused, the seats are lost.
 fn spend<L: Naming + Send + Sync, R: Threads + Wait + Clock + Sync>(
     rt: &R,
     alloc: Global,
     desk: &Desk<L>,
     seats: Vec<Seat<L>>,
     load: Load,
-) -> Result<(Vec<Seat<L>>, Vec<Record>, Duration), Fault>
+) -> Result<Spent<L>, Fault>
     requires { 1 ≤ length seats.items }
-    ensures { IfOk result (λ r. length r.0.items ≡ length seats.items) }
+    ensures { IfOk result (λ spent. length spent.seats.items ≡ length seats.items) }
 {
-    let jobs = jobs_of(alloc, load)?;
-    let names = names_of(alloc, TEXTS)?;
-    let writers = AtomicU64::new(load.writers as u64);
     let mut posts = posts_at(alloc, seats)?;
-    let begun = now(rt)?;
-    work_all(
-        rt,
-        alloc,
-        desk,
-        posts.as_mut_slice(),
-        &jobs,
-        &names,
-        load,
-        &writers,
-    );
-    let took = now(rt)?.duration_since(begun);
+    let took = time_work(rt, alloc, desk, posts.as_mut_slice(), load)?;
     let records = take_records(alloc, posts.as_mut_slice())?;
-    let seats = seats_of(alloc, posts)?;
-    Ok((seats, records, took))
+    Ok(Spent {
+        seats: seats_of(alloc, posts)?,
+        records,
+        took,
+    })
+}
+
+/// What a load leaves, after the close of its desk.
+fn close_after<L: Naming, R: Wait>(rt: &R, desk: Desk<L>, spent: Spent<L>) -> Result<Rest, Fault>
+    requires { length spent.seats.items ≡ L.parts }
+{
+    let Spent {
+        seats,
+        records,
+        took,
+    } = spent;
+    match close(rt, desk, seats) {
+        Ok(book) => Ok(Rest {
+            book,
+            records,
+            took,
+        }),
+        Err(_) => Err(Fault::Close),
+    }
+}
+
+/// The load at the seats of a desk, and its close.
+fn work_at<L: Naming + Send + Sync, R: Threads + Wait + Clock + Sync>(
+    rt: &R,
+    alloc: Global,
+    desk: Desk<L>,
+    seats: Vec<Seat<L>>,
+    load: Load,
+) -> Result<Rest, Fault>
+    requires some { 1 ≤ length seats.items }
+    requires all { length seats.items ≡ L.parts }
+{
+    match spend(rt, alloc, &desk, seats, load) {
+        Ok(spent) => close_after(rt, desk, spent),
+        Err(fault) => {
+            desk.end(rt);
+            Err(fault)
+        }
+    }
 }
 
 /// A desk over the book, with so many seats, under load.
@@ -160,22 +203,7 @@ fn run<L: Naming + Send + Sync, R: Threads + Wait + Clock + Sync>(
 {
     let count = load.writers + load.readers;
     let (desk, seats) = Desk::<L>::new(rt, alloc, blank, book, count).map_err(|_| Fault::NoDesk)?;
-    let spent = spend(rt, alloc, &desk, seats, load);
-    let (seats, records, took) = match spent {
-        Ok(spent) => spent,
-        Err(fault) => {
-            desk.end(rt);
-            return Err(fault);
-        }
-    };
-    let accepted = counts_of(alloc, seats.as_slice());
-    let book = close(rt, desk, seats).map_err(|_| Fault::Close)?;
-    Ok(Rest {
-        book,
-        records,
-        accepted: accepted?,
-        took,
-    })
+    work_at(rt, alloc, desk, seats, load)
 }
 
 /// A desk of its own under load.

@@ -14,11 +14,12 @@ use std::{mem, thread};
 /// How many tries a submit has: more than there are replacements of one text by others in a load of many writers.
 const TRIES: u32 = 1_000;
 
-/// What was done at a seat: the receipts, how many snapshots were taken, and the first fault.
+/// What was done at a seat: the receipts, how many snapshots were taken, how many statements the seat has accepted, and the first fault.
 #[derive(Drop)]
 pub struct Record {
     pub receipts: Vec<Receipt>,
     pub snapshots: u64,
+    pub accepted: u64,
     pub fault: Option<Fault>,
 }
 
@@ -28,6 +29,7 @@ impl Record {
         Record {
             receipts: Vec::new(alloc),
             snapshots: 0,
+            accepted: 0,
             fault: None,
         }
     }
@@ -49,8 +51,9 @@ impl<L: Naming> Post<L> {
         }
     }
 
-    /// The record, in whose place there is a new one.
+    /// The record, in whose place there is a new one, with the seat's count.
     pub fn take_record(&mut self, alloc: Global) -> Record {
+        self.record.accepted = self.seat.accepted();
         mem::replace(&mut self.record, Record::new(alloc))
     }
 
@@ -59,15 +62,21 @@ impl<L: Naming> Post<L> {
         self.seat
     }
 
+    /// The version of a text in a snapshot.
+    fn version_of(&mut self, name: &TextName) -> Result<u64, Fault> {
+        let snapshot = self.seat.snapshot(name)?;
+        self.record.snapshots = self.record.snapshots.saturating_add(1);
+        Ok(snapshot.version)
+    }
+
     /// A snapshot of each text. No version is lower than the one that was seen before.
     fn look(&mut self, names: &[TextName], versions: &mut [u64]) -> Result<(), Fault> {
         for (name, version) in names.iter().zip(versions.iter_mut()) {
-            let snapshot = self.seat.snapshot(name)?;
-            if snapshot.version < *version {
+            let found = self.version_of(name)?;
+            if found < *version {
                 return Err(Fault::WentDown);
             }
-            *version = snapshot.version;
-            self.record.snapshots = self.record.snapshots.saturating_add(1);
+            *version = found;
         }
         Ok(())
     }
@@ -86,17 +95,38 @@ impl<L: Naming> Post<L> {
     }
 }
 
+/// What all posts share beside the desk: the statements and the names of the texts, the load, and how many writers are still at work.
+#[derive(Drop)]
+pub struct Shared {
+    pub jobs: Vec<Arc<Statement>>,
+    pub names: Vec<TextName>,
+    pub load: Load,
+    pub writers: AtomicU64,
+}
+
 /// What all posts share.
 #[derive(Drop)]
 pub struct Shift<'a, L: Naming> {
     pub desk: &'a Desk<L>,
-    pub jobs: &'a [Arc<Statement>],
-    pub names: &'a [TextName],
-    pub load: Load,
-    pub writers: &'a AtomicU64,
+    pub shared: &'a Shared,
 }
 
 impl<L: Naming> Shift<'_, L> {
+    /// Submits the job, and keeps its receipt.
+    fn submit<R: Wait>(
+        &self,
+        rt: &R,
+        alloc: Global,
+        post: &mut Post<L>,
+        job: &Arc<Statement>,
+    ) -> Result<(), Fault> {
+        let job = Arc::try_clone(job)?;
+        let receipt = self
+            .desk
+            .submit(rt, alloc, &mut post.seat, job, TRIES, &OpenGate)?;
+        Ok(post.record.receipts.push(receipt)?)
+    }
+
     /// Submits each job whose turn it is.
     fn write<R: Wait>(
         &self,
@@ -105,13 +135,9 @@ impl<L: Naming> Shift<'_, L> {
         post: &mut Post<L>,
         first: usize,
     ) -> Result<(), Fault> {
-        for (place, job) in self.jobs.iter().enumerate() {
-            if place % self.load.writers == first {
-                let job = Arc::try_clone(job)?;
-                let receipt = self
-                    .desk
-                    .submit(rt, alloc, &mut post.seat, job, TRIES, &OpenGate)?;
-                post.record.receipts.push(receipt)?;
+        for (place, job) in self.shared.jobs.iter().enumerate() {
+            if place % self.shared.load.writers == first {
+                self.submit(rt, alloc, post, job)?;
             }
         }
         Ok(())
@@ -119,12 +145,13 @@ impl<L: Naming> Shift<'_, L> {
 
     /// Does the work of the post at a place: the first ones write, the others read.
     pub fn work<R: Wait>(&self, rt: &R, alloc: Global, place: usize, post: &mut Post<L>) {
-        let done = if place < self.load.writers {
+        let shared = self.shared;
+        let done = if place < shared.load.writers {
             let done = self.write(rt, alloc, post, place);
-            self.writers.fetch_sub(1, Ordering::SeqCst);
+            shared.writers.fetch_sub(1, Ordering::SeqCst);
             done
         } else {
-            post.read(self.names, self.writers)
+            post.read(&shared.names, &shared.writers)
         };
         post.record.fault = done.err();
     }

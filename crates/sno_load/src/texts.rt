@@ -5,7 +5,7 @@ use crate::faults::Fault;
 use crate::words::Load;
 use sno_book::Book;
 use sno_pattern::{Names, Pattern, Rules, Text, TextName};
-use sno_read::read_object;
+use sno_read::{Object, read_object};
 use sno_statement::Statement;
 use std::alloc::Global;
 use std::sync::Arc;
@@ -34,15 +34,18 @@ pub fn names_of(alloc: Global, count: usize) -> Result<Vec<TextName>, Fault> {
     Ok(names)
 }
 
+fn letter(alloc: Global) -> Result<Text, Fault> {
+    let letter = Vec::from_slice(alloc, b"a".as_slice())?;
+    Text::new(letter).map_err(|_| Fault::NoLoad)
+}
+
 /// A book of so many texts, a letter each.
 pub fn book_of(alloc: Global, count: usize) -> Result<Book, Fault>
     ensures { IfOk result (λ b. b.journal ≡ []) }
 {
     let mut rows = Vec::new(alloc);
     for place in 0..count {
-        let letter = Vec::from_slice(alloc, b"a".as_slice())?;
-        let text = Text::new(letter).map_err(|_| Fault::NoLoad)?;
-        rows.push((name_of(alloc, place)?, text))?;
+        rows.push((name_of(alloc, place)?, letter(alloc)?))?;
     }
     Book::new(alloc, rows, ROOM).map_err(|_| Fault::NoLoad)
 }
@@ -54,6 +57,16 @@ pub fn no_rules(alloc: Global) -> Result<Arc<Rules>, Fault> {
     Ok(Arc::new(alloc, rules)?)
 }
 
+fn object_of(alloc: Global, rules: &Rules, written: Option<&str>) -> Result<Option<Object>, Fault> {
+    let Some(written) = written else {
+        return Ok(None);
+    };
+    match read_object(alloc, rules.names(), written.as_bytes()) {
+        Ok(object) => Ok(Some(object)),
+        Err(_) => Err(Fault::NoLoad),
+    }
+}
+
 /// A statement that matches the one character of the text at a place, and puts the object in its place, if there is one.
 pub fn statement_of(
     alloc: Global,
@@ -61,13 +74,7 @@ pub fn statement_of(
     place: usize,
     object: Option<&str>,
 ) -> Result<Arc<Statement>, Fault> {
-    let object = match object {
-        Some(object) => {
-            let object = read_object(alloc, rules.names(), object.as_bytes());
-            Some(object.map_err(|_| Fault::NoLoad)?)
-        }
-        None => None,
-    };
+    let object = object_of(alloc, rules, object)?;
     let text = name_of(alloc, place)?;
     let statement = Statement::new(
         0,
@@ -92,16 +99,28 @@ fn kinds(alloc: Global) -> Result<Vec<Arc<Statement>>, Fault> {
     Ok(kinds)
 }
 
+/// The statement at a place of the list.
+fn job_at(kinds: &[Arc<Statement>], place: usize) -> Result<Arc<Statement>, Fault> {
+    let kind = kinds.get(place).ok_or(Fault::NoLoad)?;
+    Ok(Arc::try_clone(kind)?)
+}
+
+/// The statements of a load, taken from the list again and again.
+fn jobs_from(
+    alloc: Global,
+    kinds: &[Arc<Statement>],
+    load: Load,
+) -> Result<Vec<Arc<Statement>>, Fault> {
+    let mut jobs = Vec::with_capacity(alloc, load.submits as usize)?;
+    for job in 0..load.submits as usize {
+        jobs.push(job_at(kinds, job / load.writers % 16)?)?;
+    }
+    Ok(jobs)
+}
+
 /// The statements of a load. Those that go to the writers side by side are on one text. Of the statements on a text every second one replaces
 /// its character.
 pub fn jobs_of(alloc: Global, load: Load) -> Result<Vec<Arc<Statement>>, Fault> {
     let kinds = kinds(alloc)?;
-    let mut jobs = Vec::with_capacity(alloc, load.submits as usize)?;
-    for job in 0..load.submits as usize {
-        match kinds.get(job / load.writers % 16) {
-            Some(kind) => jobs.push(Arc::try_clone(kind)?)?,
-            None => return Err(Fault::NoLoad),
-        }
-    }
-    Ok(jobs)
+    jobs_from(alloc, &kinds, load)
 }

@@ -20,7 +20,7 @@ use std::time::{Clock, Duration};
 const RUNS: u32 = 5;
 
 /// A time in tenths of a nanosecond. It is printed in nanoseconds.
-#[derive(Clone, Copy, Debug)]
+#[derive(Clone, Copy)]
 pub struct Tenths(u128);
 
 impl fmt::Display for Tenths {
@@ -37,7 +37,7 @@ fn one_of(took: Duration, times: Times) -> Tenths {
 }
 
 /// What a snapshot and a commit take at one desk.
-#[derive(Clone, Copy, Debug)]
+#[derive(Clone, Copy)]
 pub struct DeskTimes {
     pub snapshot: Tenths,
     pub commit: Tenths,

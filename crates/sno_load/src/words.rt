@@ -16,7 +16,7 @@ const MAX_SEATS: u32 = 16;
 const MAX_TIMES: u32 = 100_000;
 
 /// How many statements are submitted by how many seats, beside how many that read.
-#[derive(Clone, Copy, Debug)]
+#[derive(Clone, Copy)]
 pub struct Load {
     pub submits: u32,
     pub writers: usize,
@@ -27,14 +27,14 @@ pub struct Load {
 }
 
 /// How often a work is timed in a run.
-#[derive(Clone, Copy, Debug)]
+#[derive(Clone, Copy)]
 pub struct Times {
     pub number: u32,
     ghost lawful: { (1 ≤ number) × (number ≤ 100000) },
 }
 
 /// What the words ask for.
-#[derive(Clone, Copy, Debug)]
+#[derive(Clone, Copy)]
 pub enum Task {
     /// A load; timed where its rates are wanted too.
     Load { load: Load, is_timed: bool },
@@ -80,34 +80,44 @@ fn load_in(words: &mut Args) -> Result<Load, Fault> {
     })
 }
 
+/// What this option asks for, with the words after it.
+fn task_of(option: &str, words: &mut Args) -> Result<Task, Fault> {
+    match option {
+        "--submits" => Ok(Task::Load {
+            load: load_in(words)?,
+            is_timed: true,
+        }),
+        "--times" => Ok(Task::Times(Times {
+            number: number_in(words.next(), 1, MAX_TIMES)?,
+        })),
+        _ => Err(Fault::Usage),
+    }
+}
+
+/// What is done without words.
+fn plain() -> Task {
+    Task::Load {
+        load: Load {
+            submits: 8_000,
+            writers: 8,
+            readers: 8,
+        },
+        is_timed: false,
+    }
+}
+
 /// What the words after the program's name ask for.
 fn task_after_name(words: Args) -> Result<Task, Fault> {
     let mut words = words;
     let _name = words.next();
     let Some(option) = words.next() else {
-        return Ok(Task::Load {
-            load: Load {
-                submits: 8_000,
-                writers: 8,
-                readers: 8,
-            },
-            is_timed: false,
-        });
+        return Ok(plain());
     };
-    let task = match option.as_str() {
-        "--submits" => Task::Load {
-            load: load_in(&mut words)?,
-            is_timed: true,
-        },
-        "--times" => Task::Times(Times {
-            number: number_in(words.next(), 1, MAX_TIMES)?,
-        }),
-        _ => return Err(Fault::Usage),
-    };
-    if words.next().is_some() {
-        return Err(Fault::Usage);
+    let task = task_of(option.as_str(), &mut words)?;
+    match words.next() {
+        None => Ok(task),
+        Some(_) => Err(Fault::Usage),
     }
-    Ok(task)
 }
 
 /// What the program's words ask for, its name the first of them.
@@ -115,10 +125,7 @@ fn task_after_name(words: Args) -> Result<Task, Fault> {
 /// Refused: `Usage` for other words, also one that is no text, and `Memory` where memory is.
 pub fn task_in(words: io::Result<Args>) -> Result<Task, Fault> {
     match words {
-        Ok(words) => {
-            let task = task_after_name(words)?;
-            Ok(task)
-        }
+        Ok(words) => task_after_name(words),
         Err(error) => Err(match error.kind() {
             ErrorKind::OutOfMemory => Fault::Memory,
             _ => Fault::Usage,

@@ -2,23 +2,22 @@
 use mathlib.Core.List.{[], ◌∷◌}
 use mir.Syntax.{named}
 use denote.Ref.{ShrRef}
-use denote.Slice.{ShrSlice}
 use denote.Exit.{yes}
 use denote.Param.{param}
-use denote.Param.Send.{IsSend, IsSync, param_send, param_sync, arg_send, arg_sync, shr_sync, shr_slice_sync, sendable}
-use Rattle.std.proofs.Crossing.{crosses, sync, Arc-sync}
+use denote.Param.Send.{IsSend, IsSync, param_send, param_sync, arg_send, arg_sync, shr_sync, sendable}
+use denote.Param.SendFields.{declared_sync}
+use Rattle.std.proofs.Crossing.{crosses, sync, Arc-sync, Vec-sync}
 use Rattle.std.specs.contracts.sync.Arc as Arc
 use Rattle.std.specs.contracts.sync.atomic.AtomicU64 as AtomicU64
 use Rattle.std.specs.contracts.alloc.Global as Global
 use Rattle.std.specs.contracts.impls.GlobalAllocator.TheImpl.{ghosts}
 use Rattle.sno_pattern.proofs.text_names.TextName.TheSendSync as text_name
-use Rattle.sno_pattern.specs.contracts.text_names.TextName as TextName
 use Rattle.sno_desk.specs.contracts.desk.Desk as Desk
 use Rattle.sno_book.specs.contracts.entries.Entry as Entry
 use Rattle.sno_book.specs.contracts.entries.Receipt as Receipt
 use Rattle.sno_statement.specs.contracts.statements.Statement as Statement
 use Rattle.sno_desk.proofs.Crossings.{book_send, desk_sync, closure_sync}
-use Rattle.sno_load.specs.contracts.words.Load as Load
+use Rattle.sno_load.specs.contracts.posts.Shared as Shared
 use Rattle.sno_load.proofs.words.Load.TheSendSync as load
 use Rattle.sno_load.proofs.Crossings.{post_send}
 use Rattle.sno_load.proofs.load.work_all.Lts as Lts
@@ -39,15 +38,13 @@ for_each_mut-requires-sync-F g c κs within =
     let shared : IsSync Statement.the_row = record { shared = c.may_cross-2.ensures.shares.shared } in
     let job = Arc-sync Statement.the_row sent shared in
     let counter : IsSync AtomicU64.the_row = search (sendable, crosses) depth 40 fits 100000 in
+    let shared : IsSync Shared.the_row = declared_sync Shared.the_type (Vec-sync _ job, (Vec-sync _ text_name.the_sync, (load.the_sync, (counter, tt)))) in
     let closure = closure_sync [] (
     ShrRef (named 6) κs.1.1.1.1.1.1.0 (Desk.the_row (param 0 g.row.L) g.L.Naming g.L.Ledger)
-    ∷ ShrSlice (named 7) κs.1.1.1.1.1.1.1.0 (Arc.the_row Statement.the_row Global.the_row ghosts)
-    ∷ ShrSlice (named 8) κs.1.1.1.1.1.1.1.1.0 TextName.the_row
-    ∷ ShrRef (named 9) κs.1.1.1.1.1.1.1.1.1.0 Load.the_row
-    ∷ ShrRef (named 10) κs.1.1.1.1.1.1.1.1.1.1.0 AtomicU64.the_row
-    ∷ ShrRef (named 11) κs.1.1.1.1.1.1.1.1.1.1.1.0 (param 1 g.row.R)
-    ∷ ShrRef (named 12) κs.1.1.1.1.1.1.1.1.1.1.1.1.0 Global.the_row
+    ∷ ShrRef (named 7) κs.1.1.1.1.1.1.1.0 Shared.the_row
+    ∷ ShrRef (named 8) κs.1.1.1.1.1.1.1.1.0 (param 1 g.row.R)
+    ∷ ShrRef (named 9) κs.1.1.1.1.1.1.1.1.1.0 Global.the_row
     ∷ [])
-    (shr_sync _ _ _ desk, (shr_slice_sync _ _ _ job, (shr_slice_sync _ _ _ text_name.the_sync, (shr_sync _ _ _ load.the_sync, (shr_sync _ _ _ counter, (shr_sync _ _ _ c.type_bounds.sync-R, (shr_sync _ _ _ sync, tt)))))))
+    (shr_sync _ _ _ desk, (shr_sync _ _ _ shared, (shr_sync _ _ _ c.type_bounds.sync-R, (shr_sync _ _ _ sync, tt))))
     in
     record { shared = closure.shared }
