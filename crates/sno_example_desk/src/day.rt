@@ -17,13 +17,18 @@ use std::time::Clock;
 /// How many entries the journal has room for.
 const ROOM: u32 = 1_000;
 
-/// A book of one text, PAGE, with no entry.
+/// The text PAGE, with its name.
+fn page(alloc: Global) -> Result<(TextName, Text), Fault> {
+    let text = Text::new(Vec::from_slice(alloc, b"lines".as_slice())?)?;
+    Ok((TextName::new(alloc, b"PAGE".as_slice())?, text))
+}
+
+/// A book of that text, with no entry.
 fn book(alloc: Global) -> Result<Book, Fault>
     ensures { IfOk result (λ book. book.journal ≡ []) }
 {
     let mut texts = Vec::new(alloc);
-    let page = Text::new(Vec::from_slice(alloc, b"lines".as_slice())?)?;
-    texts.push((TextName::new(alloc, b"PAGE".as_slice())?, page))?;
+    texts.push(page(alloc)?)?;
     let book = Book::new(alloc, texts, ROOM)?;
     Ok(book)
 }

@@ -10,31 +10,31 @@ use thiserror::Error;
 /// Why the program ends early: a refusal of the library, which says itself why, or one of the program's own.
 #[derive(Debug, Drop, Error)]
 pub(crate) enum Fault {
-    #[error("{0}")]
+    #[error(transparent)]
     Name(#[from] NameFault),
-    #[error("{0}")]
+    #[error(transparent)]
     Names(#[from] NamesFault),
-    #[error("{0}")]
+    #[error(transparent)]
     Rules(#[from] RulesFault),
-    #[error("{0}")]
+    #[error(transparent)]
     Read(#[from] ReadFault),
-    #[error("{0}")]
+    #[error(transparent)]
     Text(#[from] TextFault),
-    #[error("{0}")]
+    #[error(transparent)]
     Book(#[from] BookFault),
-    #[error("{0}")]
+    #[error(transparent)]
     Desk(#[from] DeskFault),
-    #[error("{0}")]
+    #[error(transparent)]
     Snapshot(#[from] SnapshotFault),
-    #[error("{0}")]
+    #[error(transparent)]
     Statement(#[from] StatementFault),
-    #[error("{0}")]
+    #[error(transparent)]
     Commit(#[from] CommitFault),
-    #[error("{0}")]
+    #[error(transparent)]
     Submit(#[from] SubmitFault),
-    #[error("{0}")]
+    #[error(transparent)]
     Close(#[from] CloseFault),
-    #[error("{0}")]
+    #[error(transparent)]
     Match(#[from] MatchFault),
     #[error("out of memory")]
     Memory(#[from(alloc)] AllocError),

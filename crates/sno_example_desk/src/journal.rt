@@ -1,7 +1,7 @@
 //! What a day leaves: the journal, and the texts to which it leads.
 use crate::faults::Fault;
 use sno_desk::{Book, Entry};
-use std::str;
+use std::{io, str};
 
 /// How many entries of the journal have this statement.
 fn count(entries: &[Entry], number: u32) -> usize {
@@ -28,19 +28,27 @@ fn letters(characters: &[u8]) -> &str {
     str::from_utf8(characters).unwrap_or_default()
 }
 
-/// Prints how many entries each statement has, whether each was performed on the version before it, and the text with its version. Which seat came
-/// first differs from run to run; what is printed doesn't.
-pub(crate) fn print_journal<R: Print>(rt: &R, book: &Book) -> Result<(), Fault> {
-    let entries = book.journal();
+/// Prints how many entries each statement has, and whether each was performed on the version before it.
+fn print_counts<R: Print>(rt: &R, entries: &[Entry]) -> io::Result<()> {
     let lines = count(entries, 1);
     let marks = count(entries, 2);
     let unbroken = is_unbroken(entries);
-    println!(rt; "entries {lines} and {marks}, unbroken {unbroken}").map_err(|_| Fault::Write)?;
+    println!(rt; "entries {lines} and {marks}, unbroken {unbroken}")
+}
+
+/// Prints a text with its name and its version.
+fn print_text<R: Print>(rt: &R, name: &[u8], version: u64, text: &[u8]) -> io::Result<()> {
+    let name = letters(name);
+    let characters = letters(text);
+    println!(rt; "{name} version {version}: {characters}")
+}
+
+/// Prints the counts, and each text. Which seat came first differs from run to run; what is printed doesn't.
+pub(crate) fn print_journal<R: Print>(rt: &R, book: &Book) -> Result<(), Fault> {
+    print_counts(rt, book.journal()).map_err(|_| Fault::Write)?;
     for place in 0..book.len() {
         if let Some((name, text, version)) = book.text(place) {
-            let name = letters(name.bytes());
-            let characters = letters(text.bytes());
-            println!(rt; "{name} version {version}: {characters}").map_err(|_| Fault::Write)?;
+            print_text(rt, name.bytes(), version, text.bytes()).map_err(|_| Fault::Write)?;
         }
     }
     Ok(())

@@ -1,15 +1,23 @@
 //! The matcher by itself: a pattern is read and compiled once, and matched with several texts. No book and no desk is needed.
 use crate::faults::Fault;
 use crate::statements::definitions;
-use sno_machine::{Code, compile};
+use sno_machine::{Code, Found, compile};
 use sno_pattern::{Pattern, Rules, Text};
 use sno_read::read_pattern;
 use std::alloc::Global;
+use std::io;
 
 /// How many trials a match may take.
 const LIMIT: u32 = 1_000_000;
 
 const TEXTS: [&str; 3] = ["colour=red", "width = 12", "no setting"];
+
+fn print_found<R: Print>(rt: &R, characters: &str, found: &Found) -> io::Result<()> {
+    match &found.end {
+        Some(hit) => println!(rt; "{characters}: {} to {}", hit.start, hit.end),
+        None => println!(rt; "{characters}: no match"),
+    }
+}
 
 /// Prints from where to where the pattern matches in the text, if it does.
 fn print_match<R: Print>(
@@ -20,11 +28,7 @@ fn print_match<R: Print>(
 ) -> Result<(), Fault> {
     let text = Text::new(Vec::from_slice(alloc, characters.as_bytes())?)?;
     let found = code.first(alloc, &text, false, LIMIT)?;
-    let printed = match &found.end {
-        Some(hit) => println!(rt; "{characters}: {} to {}", hit.start, hit.end),
-        None => println!(rt; "{characters}: no match"),
-    };
-    printed.map_err(|_| Fault::Write)
+    print_found(rt, characters, &found).map_err(|_| Fault::Write)
 }
 
 /// The same for each text. The pattern is compiled once.

@@ -1,7 +1,7 @@
 //! Statements, from the characters in which their patterns and objects are written.
 use crate::faults::Fault;
-use sno_pattern::{Name, Names, Rules, TextName};
-use sno_read::{read_object, read_pattern};
+use sno_pattern::{Name, Names, Pattern, Rules, TextName};
+use sno_read::{Object, read_object, read_pattern};
 use sno_statement::Statement;
 use std::alloc::Global;
 use std::sync::Arc;
@@ -15,19 +15,30 @@ pub(crate) struct Edits {
     pub(crate) mark: Arc<Statement>,
 }
 
-/// One definition: WORD is a run of small letters. Definitions are admitted together: a cycle of references in which no character is taken is
-/// refused here, so that no match goes round for ever.
-pub(crate) fn definitions(alloc: Global) -> Result<Rules, Fault> {
+/// The name of the one definition.
+fn names(alloc: Global) -> Result<Names, Fault> {
     let mut list = Vec::new(alloc);
     if let Some(word) = Name::read(b"WORD".as_slice()) {
         list.push(word)?;
     }
-    let names = Names::new(alloc, list.as_slice())?;
+    Ok(Names::new(alloc, list.as_slice())?)
+}
+
+/// What each name stands for: a run of small letters.
+fn bodies(alloc: Global, names: &Names) -> Result<Vec<Pattern>, Fault> {
     let mut bodies = Vec::new(alloc);
     for _name in 0..names.len() {
         let letters = b"SPAN('abcdefghijklmnopqrstuvwxyz')".as_slice();
-        bodies.push(read_pattern(alloc, &names, 0, letters)?)?;
+        bodies.push(read_pattern(alloc, names, 0, letters)?)?;
     }
+    Ok(bodies)
+}
+
+/// One definition: WORD is a run of small letters. Definitions are admitted together: a cycle of references in which no character is taken is
+/// refused here, so that no match goes round for ever.
+pub(crate) fn definitions(alloc: Global) -> Result<Rules, Fault> {
+    let names = names(alloc)?;
+    let bodies = bodies(alloc, &names)?;
     if bodies.len() != names.len() {
         return Err(Fault::Unequal);
     }
@@ -35,6 +46,22 @@ pub(crate) fn definitions(alloc: Global) -> Result<Rules, Fault> {
 }
 
 /// A statement on the text PAGE, which replaces what the pattern matches by the object.
+fn on_page(
+    alloc: Global,
+    rules: Arc<Rules>,
+    number: u32,
+    pattern: Pattern,
+    object: Object,
+) -> Result<Arc<Statement>, Fault> {
+    if !rules.covers(&pattern) {
+        return Err(Fault::Uncovered);
+    }
+    let text = TextName::new(alloc, b"PAGE".as_slice())?;
+    let statement = Statement::new(number, rules, pattern, Some(object), text, false);
+    Ok(Arc::new(alloc, statement)?)
+}
+
+/// The same, with the pattern and the object as they are written.
 fn statement(
     alloc: Global,
     rules: &Arc<Rules>,
@@ -43,14 +70,8 @@ fn statement(
     object: &str,
 ) -> Result<Arc<Statement>, Fault> {
     let pattern = read_pattern(alloc, rules.names(), 0, pattern.as_bytes())?;
-    if !rules.covers(&pattern) {
-        return Err(Fault::Uncovered);
-    }
     let object = read_object(alloc, rules.names(), object.as_bytes())?;
-    let text = TextName::new(alloc, b"PAGE".as_slice())?;
-    let rules = Arc::try_clone(rules)?;
-    let statement = Statement::new(number, rules, pattern, Some(object), text, false);
-    Ok(Arc::new(alloc, statement)?)
+    on_page(alloc, Arc::try_clone(rules)?, number, pattern, object)
 }
 
 impl Edits {
