@@ -1,29 +1,29 @@
 //! Command lines and the options that they give.
+use crate::compare::{check_beginning, check_eq, check_part};
 use crate::runs::{PLAIN, words_of};
 use sno_rewrite::{Options, OptionsFault, options_of};
 use std::alloc::Global;
 use std::process::Abort;
 use std::test::Fail;
 
+fn answer_of(alloc: Global, line: &str) -> Result<Result<Options, OptionsFault>, Fail> {
+    let words = words_of(alloc, line)?;
+    Ok(options_of(alloc, &words))
+}
+
 // The text that refuses a line; none where it is not refused.
 fn refusal_of(alloc: Global, line: &str) -> Result<Option<String>, Fail> {
-    let words = words_of(alloc, line)?;
-    match options_of(alloc, &words) {
-        Ok(_options) => Ok(None),
+    match answer_of(alloc, line)? {
         Err(OptionsFault::Usage(text)) => Ok(Some(text)),
-        Err(OptionsFault::Help(_text)) => Ok(None),
-        Err(OptionsFault::Memory) => Ok(None),
+        _ => Ok(None),
     }
 }
 
 // The help that a line asks for; none where it asks for none.
 fn help_of(alloc: Global, line: &str) -> Result<Option<String>, Fail> {
-    let words = words_of(alloc, line)?;
-    match options_of(alloc, &words) {
-        Ok(_options) => Ok(None),
+    match answer_of(alloc, line)? {
         Err(OptionsFault::Help(text)) => Ok(Some(text)),
-        Err(OptionsFault::Usage(_text)) => Ok(None),
-        Err(OptionsFault::Memory) => Ok(None),
+        _ => Ok(None),
     }
 }
 
@@ -87,9 +87,8 @@ static GIVEN: [(&'static str, Options); 10] = [
 ];
 
 fn check_given(rt: &(impl Abort + AllocGlobal), line: &str, options: &Options) -> Result<(), Fail> {
-    let words = words_of(rt.alloc(), line)?;
-    let given = options_of(rt.alloc(), &words)?;
-    assert_eq!(rt; given, *options, "for {line}");
+    let given = answer_of(rt.alloc(), line)??;
+    check_eq(rt, line, &given, options);
     Ok(())
 }
 
@@ -126,9 +125,8 @@ static REFUSED: [&'static str; 18] = [
 // The text that refuses the line says that it is an error, and how to get help.
 fn check_refused(rt: &(impl Abort + AllocGlobal), line: &str) -> Result<(), Fail> {
     let text = refusal_of(rt.alloc(), line)?.ok_or("not refused")?;
-    let begins = text.as_str().starts_with("error: ");
-    let helps = text.as_str().contains("try '--help'.");
-    assert!(rt; begins && helps, "for {line}: {text}");
+    check_beginning(rt, line, &text, "error: ");
+    check_part(rt, line, &text, "try '--help'.");
     Ok(())
 }
 
@@ -156,12 +154,15 @@ static HELPED: [&'static str; 12] = [
     "--help",
 ];
 
+fn check_parts(rt: &impl Abort, line: &str, text: &str) {
+    for part in &HELPED {
+        check_part(rt, line, text, part);
+    }
+}
+
 fn check_help(rt: &(impl Abort + AllocGlobal), line: &str) -> Result<(), Fail> {
     let text = help_of(rt.alloc(), line)?.ok_or("no help")?;
-    for part in &HELPED {
-        let holds = text.as_str().contains(*part);
-        assert!(rt; holds, "{part} is not in {text}");
-    }
+    check_parts(rt, line, &text);
     Ok(())
 }
 

@@ -1,6 +1,7 @@
 //! Bytes that are no JSON, between a reader and a writer: nothing is written.
-use crate::runs::{PLAIN, THREE_STATEMENTS};
-use sno_rewrite::{RunFault, run, status_of};
+use crate::compare::check_eq;
+use crate::runs::{PLAIN, THREE_STATEMENTS, answer_of};
+use sno_rewrite::{RunFault, status_of};
 use std::alloc::Global;
 use std::process::Abort;
 use std::sync::Wait;
@@ -12,12 +13,10 @@ fn check_refused<R: Threads + Wait + Abort + AllocGlobal + Sync>(
     document: &[u8],
     expected: RunFault,
 ) {
-    let mut reader = document;
-    let mut written = Vec::new(rt.alloc());
-    let answer = run(rt, rt.alloc(), &mut reader, &mut written, &PLAIN);
-    assert_eq!(rt; answer, Err(expected), "for {document:?}");
-    assert_eq!(rt; status_of(&expected), 2);
-    assert!(rt; written.is_empty());
+    let (answer, written) = answer_of(rt, document, &PLAIN);
+    let found = (answer, written.len());
+    assert!(rt; found == (Err(expected), 0), "for {document:?}: {found:?}");
+    check_eq(rt, "the status", &status_of(&expected), &2);
 }
 
 // The document but for some of its last bytes, down to no byte at all.

@@ -1,5 +1,6 @@
 //! Documents with their listings, and with their first faults.
-use crate::runs::{PLAIN, THREE_STATEMENTS};
+use crate::compare::{check_eq, check_text};
+use crate::runs::{PLAIN, THREE_STATEMENTS, check_serial};
 use sno_rewrite::{Name, Options, ReadFault, RunFault, run_serial, status_of};
 use std::alloc::Global;
 use std::process::Abort;
@@ -100,22 +101,19 @@ static LISTED: [Listed; 15] = [
 fn check_listed(rt: &(impl Abort + AllocGlobal), row: &Listed) -> Result<(), Fail> {
     let Listed(document, anchor, listing, refused) = *row;
     let options = Options { anchor, ..PLAIN };
-    let report = run_serial(rt.alloc(), document.as_bytes(), &options)?;
-    assert_eq!(rt;
-        report.bytes.as_slice(),
-        listing.as_bytes(),
-        "for {document}"
-    );
-    assert_eq!(rt; report.refused, refused, "for {document}");
+    check_serial(rt, document, &options, listing, refused)
+}
+
+fn check_all_listed(rt: &(impl Abort + AllocGlobal), rows: &[Listed]) -> Result<(), Fail> {
+    for row in rows {
+        check_listed(rt, row)?;
+    }
     Ok(())
 }
 
 #[test]
 fn documents_are_listed(rt: HostRuntime) -> Result<(), Fail> {
-    for row in &LISTED {
-        check_listed(&rt, row)?;
-    }
-    Ok(())
+    check_all_listed(&rt, &LISTED)
 }
 
 // Documents, each with the line of its first fault.
@@ -231,13 +229,16 @@ fn fault_of(alloc: Global, document: &str) -> Result<RunFault, Fail> {
     Ok(answer.err().ok_or("accepted")?)
 }
 
-#[test]
-fn first_faults_are_answered(rt: HostRuntime) -> Result<(), Fail> {
-    for (document, line) in &FAULTS {
-        let fault = fault_of(rt.alloc(), document)?;
-        check_line(&rt, &fault, line, 2)?;
+fn check_faults(rt: &(impl Abort + AllocGlobal), rows: &[(&str, &str)]) -> Result<(), Fail> {
+    for (document, line) in rows {
+        check_line(rt, &fault_of(rt.alloc(), document)?, line, 2)?;
     }
     Ok(())
+}
+
+#[test]
+fn first_faults_are_answered(rt: HostRuntime) -> Result<(), Fail> {
+    check_faults(&rt, &FAULTS)
 }
 
 fn check_line(
@@ -246,10 +247,9 @@ fn check_line(
     line: &str,
     status: u8,
 ) -> Result<(), Fail> {
+    check_eq(rt, line, &status_of(fault), &status);
     let text = format!(in rt.alloc(); "{fault}")?;
-    assert_eq!(rt; text.as_str(), line);
-    let told = status_of(fault);
-    assert_eq!(rt; told, status, "for {line}");
+    check_text(rt, line, text.as_bytes(), line);
     Ok(())
 }
 

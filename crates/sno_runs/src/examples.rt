@@ -2,7 +2,8 @@
 //! changed there; `examples/check` finds out where they differ.
 ghost use Rattle.sno_rewrite.specs.Runs.{AreInLimits};
 
-use crate::runs::{PLAIN, written};
+use crate::compare::{check_eq, check_part};
+use crate::runs::{PLAIN, check_written, written};
 use sno_rewrite::Options;
 use std::process::Abort;
 use std::str;
@@ -21,9 +22,9 @@ const THREE_WORKERS: Options = Options {
     ..PLAIN
 };
 
-/// The name of an example, its document, its listing, and the status that its run ends with.
+/// An example: its document, its listing, and the status that its run ends with.
 #[derive(Clone, Copy)]
-struct Example(&'static str, &'static str, &'static str, u8);
+struct Example(&'static str, &'static str, u8);
 
 const DATES: &str = r#"{
   "patterns": [
@@ -345,16 +346,16 @@ refused 0
 
 // Those that are given no options, and `tools` without its workers.
 static EXAMPLES: [Example; 10] = [
-    Example("expression", EXPRESSION, EXPRESSION_LISTING, 0),
-    Example("first", FIRST, FIRST_LISTING, 0),
-    Example("first_argument", FIRST_ARGUMENT, FIRST_ARGUMENT_LISTING, 0),
-    Example("guarded", GUARDED, GUARDED_LISTING, 0),
-    Example("limited", LIMITED, LIMITED_LISTING, 1),
-    Example("refused", REFUSED, REFUSED_LISTING, 1),
-    Example("rename", RENAME, RENAME_LISTING, 0),
-    Example("template", TEMPLATE, TEMPLATE_LISTING, 0),
-    Example("tools", TOOLS, TOOLS_LISTING, 0),
-    Example("turn_around", TURN_AROUND, TURN_AROUND_LISTING, 0),
+    Example(EXPRESSION, EXPRESSION_LISTING, 0),
+    Example(FIRST, FIRST_LISTING, 0),
+    Example(FIRST_ARGUMENT, FIRST_ARGUMENT_LISTING, 0),
+    Example(GUARDED, GUARDED_LISTING, 0),
+    Example(LIMITED, LIMITED_LISTING, 1),
+    Example(REFUSED, REFUSED_LISTING, 1),
+    Example(RENAME, RENAME_LISTING, 0),
+    Example(TEMPLATE, TEMPLATE_LISTING, 0),
+    Example(TOOLS, TOOLS_LISTING, 0),
+    Example(TURN_AROUND, TURN_AROUND_LISTING, 0),
 ];
 
 fn check<R: Threads + Wait + Abort + AllocGlobal + Sync>(
@@ -364,55 +365,68 @@ fn check<R: Threads + Wait + Abort + AllocGlobal + Sync>(
 ) -> Result<(), Fail>
     requires { AreInLimits options.now }
 {
-    let Example(name, document, listing, wanted) = *example;
-    let (bytes, status) = written(rt, document, options)?;
-    assert_eq!(rt; str::from_utf8(&bytes)?, listing, "{name}");
-    assert_eq!(rt; status, wanted, "{name}");
-    Ok(())
+    let Example(document, listing, status) = *example;
+    check_written(rt, document, options, listing, status)
 }
 
-#[test]
-fn examples_are_listed(rt: HostRuntime) -> Result<(), Fail> {
-    for example in &EXAMPLES {
-        check(&rt, example, &PLAIN)?;
+fn check_all<R: Threads + Wait + Abort + AllocGlobal + Sync>(
+    rt: &R,
+    examples: &[Example],
+) -> Result<(), Fail> {
+    for example in examples {
+        check(rt, example, &PLAIN)?;
     }
     Ok(())
 }
 
 #[test]
+fn examples_are_listed(rt: HostRuntime) -> Result<(), Fail> {
+    check_all(&rt, &EXAMPLES)
+}
+
+#[test]
 fn an_example_is_listed_as_json(rt: HostRuntime) -> Result<(), Fail> {
-    check(
-        &rt,
-        &Example("dates", DATES, DATES_LISTING, 0),
-        &JSON_ANCHORED,
-    )
+    check(&rt, &Example(DATES, DATES_LISTING, 0), &JSON_ANCHORED)
 }
 
 // By workers the entries may come in another order. But the texts come out the same, with as many entries, and each statement has one.
 #[test]
 fn workers_settle_an_example(rt: HostRuntime) -> Result<(), Fail> {
     let (bytes, status) = written(&rt, TOOLS, &THREE_WORKERS)?;
-    assert_eq!(rt; status, 0);
+    check_eq(&rt, "tools", &status, &0);
     check_settled(&rt, str::from_utf8(&bytes)?)
 }
 
-fn check_settled(rt: &impl Abort, listing: &str) -> Result<(), Fail> {
+// What is listed before the entries.
+fn texts_in(listing: &str) -> Result<&str, Fail> {
     let (texts, _) = listing.split_once("0 statement ").ok_or("no entry")?;
-    let (wanted, _) = TOOLS_LISTING.split_once("0 statement ").ok_or("no entry")?;
-    assert_eq!(rt; texts, wanted);
-    assert!(rt; listing.ends_with("\nrefused 0\n"));
-    for statement in [
-        " statement 1 guide ",
-        " statement 2 guide ",
-        " statement 3 guide ",
-        " statement 4 notes ",
-        " statement 5 notes ",
-        " statement 6 notes ",
-    ] {
-        assert!(rt;
-            listing.contains(statement),
-            "{statement} is not in {listing}"
-        );
-    }
+    Ok(texts)
+}
+
+// How the line of each entry begins, but for the entry's number.
+static ENTRIES: [&'static str; 6] = [
+    " statement 1 guide ",
+    " statement 2 guide ",
+    " statement 3 guide ",
+    " statement 4 notes ",
+    " statement 5 notes ",
+    " statement 6 notes ",
+];
+
+fn check_texts(rt: &impl Abort, listing: &str) -> Result<(), Fail> {
+    let expected = texts_in(TOOLS_LISTING)?;
+    check_eq(rt, "tools", &texts_in(listing)?, &expected);
     Ok(())
+}
+
+fn check_entries(rt: &impl Abort, listing: &str) {
+    for entry in &ENTRIES {
+        check_part(rt, "tools", listing, entry);
+    }
+}
+
+fn check_settled(rt: &impl Abort, listing: &str) -> Result<(), Fail> {
+    check_entries(rt, listing);
+    check_eq(rt, listing, &listing.ends_with("\nrefused 0\n"), &true);
+    check_texts(rt, listing)
 }

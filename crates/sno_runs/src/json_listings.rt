@@ -1,7 +1,7 @@
 //! Listings as JSON.
 use crate::examples::FIRST;
-use crate::runs::{PLAIN, THREE_STATEMENTS, written};
-use sno_rewrite::{Options, run_serial};
+use crate::runs::{PLAIN, THREE_STATEMENTS, check_serial, check_written};
+use sno_rewrite::Options;
 use std::process::Abort;
 use std::test::Fail;
 
@@ -46,19 +46,23 @@ fn check(
     listing: &str,
     refused: usize,
 ) -> Result<(), Fail> {
-    let report = run_serial(rt.alloc(), document.as_bytes(), &JSON)?;
     let line = format!(in rt.alloc(); "{listing}\n")?;
-    assert_eq!(rt; report.bytes.as_slice(), line.as_bytes(), "for {document}");
-    assert_eq!(rt; report.refused, refused, "for {document}");
+    check_serial(rt, document, &JSON, &line, refused)
+}
+
+fn check_all(
+    rt: &(impl Abort + AllocGlobal),
+    rows: &[(&'static str, &'static str, usize)],
+) -> Result<(), Fail> {
+    for (document, listing, refused) in rows {
+        check(rt, document, listing, *refused)?;
+    }
     Ok(())
 }
 
 #[test]
 fn documents_are_listed_as_json(rt: HostRuntime) -> Result<(), Fail> {
-    for (document, listing, refused) in &LISTED {
-        check(&rt, document, listing, *refused)?;
-    }
-    Ok(())
+    check_all(&rt, &LISTED)
 }
 
 // A run writes the same line, and its status tells of a refused statement.
@@ -66,11 +70,7 @@ fn documents_are_listed_as_json(rt: HostRuntime) -> Result<(), Fail> {
 fn runs_write_json(rt: HostRuntime) -> Result<(), Fail> {
     let document =
         r#"{"texts":[{"name":"T","text":"aa"}],"statements":[{"text":"U","pattern":"'a'"}]}"#;
-    let (written, status) = written(&rt, document, &JSON)?;
-    assert_eq!(rt; status, 1);
-    assert_eq!(rt;
-        written.as_slice(),
-        "{\"entries\":[],\"refused\":[{\"reason\":\"no text\",\"statement\":1}],\"texts\":[{\"name\":\"T\",\"text\":\"aa\",\"version\":0}]}\n".as_bytes()
-    );
-    Ok(())
+    let listing =
+        "{\"entries\":[],\"refused\":[{\"reason\":\"no text\",\"statement\":1}],\"texts\":[{\"name\":\"T\",\"text\":\"aa\",\"version\":0}]}\n";
+    check_written(&rt, document, &JSON, listing, 1)
 }

@@ -5,6 +5,8 @@
 #[cfg(test)]
 mod command_lines;
 #[cfg(test)]
+mod compare;
+#[cfg(test)]
 mod damaged;
 #[cfg(test)]
 mod documents;

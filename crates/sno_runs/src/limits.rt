@@ -2,10 +2,9 @@
 ghost use Rattle.std.specs.Prelude.{◌≤◌, IfSome};
 ghost use Rattle.sno_rewrite.specs.Runs.{AreInLimits};
 
-use crate::runs::{PLAIN, written};
+use crate::runs::{PLAIN, check_written};
 use sno_rewrite::Options;
 use std::process::Abort;
-use std::str;
 use std::sync::Wait;
 use std::test::Fail;
 use std::thread::Threads;
@@ -78,24 +77,28 @@ fn check<R: Threads + Wait + Abort + AllocGlobal + Sync>(
     let lawful = 1 <= trials && trials <= 1_000_000_000;
     assert!(rt; lawful);
     let options = options_of(trials, workers);
-    let (lines, ended) = written(rt, document, &options)?;
-    assert_eq!(rt; str::from_utf8(&lines)?, listing, "for {document}");
-    assert_eq!(rt; ended, status, "for {document}");
+    check_written(rt, document, &options, listing, status)
+}
+
+fn check_all<R: Threads + Wait + Abort + AllocGlobal + Sync>(
+    rt: &R,
+    rows: &[Limited],
+    workers: Option<u32>,
+) -> Result<(), Fail>
+    requires { IfSome workers (λ n. (1 ≤ n) × (n ≤ 16)) }
+{
+    for row in rows {
+        check(rt, row, workers)?;
+    }
     Ok(())
 }
 
 #[test]
 fn a_match_that_takes_more_trials_is_refused(rt: HostRuntime) -> Result<(), Fail> {
-    for row in &LIMITED {
-        check(&rt, row, None)?;
-    }
-    Ok(())
+    check_all(&rt, &LIMITED, None)
 }
 
 #[test]
 fn workers_refuse_it_too(rt: HostRuntime) -> Result<(), Fail> {
-    for row in &LIMITED {
-        check(&rt, row, Some(1))?;
-    }
-    Ok(())
+    check_all(&rt, &LIMITED, Some(1))
 }

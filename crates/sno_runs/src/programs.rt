@@ -1,4 +1,5 @@
 //! The program, run between bytes: what it prints where, and its status.
+use crate::compare::{check_beginning, check_eq, check_part, check_text};
 use crate::examples::{FIRST, FIRST_LISTING};
 use crate::runs::words_of;
 use sno_rewrite::run_program;
@@ -37,21 +38,26 @@ fn run_of<R: Threads + Wait + AllocGlobal + Sync>(
     }
 }
 
-fn check(
-    rt: &impl Abort,
-    ending: &Ending,
-    status: u8,
-    output: &str,
-    errors: &str,
-) -> Result<(), Fail> {
-    assert_eq!(rt; ending.status, status);
-    assert_eq!(rt; str::from_utf8(&ending.output)?, output);
-    assert_eq!(rt; str::from_utf8(&ending.errors)?, errors);
-    Ok(())
+// The same with a line of words, the program's name the first of them.
+fn ending_of<R: Threads + Wait + AllocGlobal + Sync>(
+    rt: &R,
+    line: &str,
+    document: &str,
+) -> Result<Ending, Fail> {
+    let words = words_of(rt.alloc(), line)?;
+    Ok(run_of(rt, Ok(words.into_iter()), document))
+}
+
+fn check(rt: &impl Abort, line: &str, ending: &Ending, status: u8, output: &str, errors: &str) {
+    check_eq(rt, line, &ending.status, &status);
+    check_text(rt, line, &ending.output, output);
+    check_text(rt, line, &ending.errors, errors);
 }
 
 // A line of words, the program's name the first of them, with a document, the status, the output and the errors.
-static ENDINGS: [(&'static str, &'static str, u8, &'static str, &'static str); 7] = [
+type Row = (&'static str, &'static str, u8, &'static str, &'static str);
+
+static ENDINGS: [Row; 7] = [
     ("sno_rewrite", FIRST, 0, FIRST_LISTING, ""),
     ("--json", FIRST, 0, FIRST_LISTING, ""),
     ("sno_rewrite --json", FIRST, 0, JSON_LISTING, ""),
@@ -79,50 +85,65 @@ static ENDINGS: [(&'static str, &'static str, u8, &'static str, &'static str); 7
     ),
 ];
 
+fn check_endings<R: Threads + Wait + Abort + AllocGlobal + Sync>(
+    rt: &R,
+    rows: &[Row],
+) -> Result<(), Fail> {
+    for (line, document, status, output, errors) in rows {
+        let ending = ending_of(rt, line, document)?;
+        check(rt, line, &ending, *status, output, errors);
+    }
+    Ok(())
+}
+
 #[test]
 fn the_program_ends_by_its_words_and_its_input(rt: HostRuntime) -> Result<(), Fail> {
-    for (line, document, status, output, errors) in &ENDINGS {
-        let words = words_of(rt.alloc(), line)?;
-        check(
-            &rt,
-            &run_of(&rt, Ok(words.into_iter()), document),
-            *status,
-            output,
-            errors,
-        )?;
-    }
+    check_endings(&rt, &ENDINGS)
+}
+
+fn check_helped(rt: &impl Abort, ending: &Ending) -> Result<(), Fail> {
+    check_eq(rt, "--help", &ending.status, &0);
+    check_text(rt, "--help", &ending.errors, "");
+    check_part(
+        rt,
+        "--help",
+        str::from_utf8(&ending.output)?,
+        "--workers <N>",
+    );
+    Ok(())
+}
+
+fn check_refused(rt: &impl Abort, ending: &Ending) -> Result<(), Fail> {
+    check_eq(rt, "--quick", &ending.status, &3);
+    check_text(rt, "--quick", &ending.output, "");
+    check_beginning(rt, "--quick", str::from_utf8(&ending.errors)?, "error: ");
     Ok(())
 }
 
 // Help goes to the output and nothing to the errors; a fault of usage goes to the errors alone.
 #[test]
 fn help_and_usage_go_their_ways(rt: HostRuntime) -> Result<(), Fail> {
-    let words = words_of(rt.alloc(), "sno_rewrite --help")?;
-    let helped = run_of(&rt, Ok(words.into_iter()), FIRST);
-    assert_eq!(rt; helped.status, 0);
-    assert!(rt; str::from_utf8(&helped.output)?.contains("--workers <N>"));
-    assert!(rt; helped.errors.is_empty());
-    let words = words_of(rt.alloc(), "sno_rewrite --quick")?;
-    let refused = run_of(&rt, Ok(words.into_iter()), FIRST);
-    assert_eq!(rt; refused.status, 3);
-    assert!(rt; refused.output.is_empty());
-    assert!(rt; str::from_utf8(&refused.errors)?.starts_with("error: "));
-    Ok(())
+    check_helped(&rt, &ending_of(&rt, "sno_rewrite --help", FIRST)?)?;
+    check_refused(&rt, &ending_of(&rt, "sno_rewrite --quick", FIRST)?)
+}
+
+// How the program ends where its words could not be read.
+fn check_no_words<R: Threads + Wait + Abort + AllocGlobal + Sync>(
+    rt: &R,
+    kind: ErrorKind,
+    status: u8,
+    errors: &str,
+) {
+    let ending = run_of(rt, Err(io::Error::from(kind)), FIRST);
+    check(rt, "no words", &ending, status, "", errors);
 }
 
 // A word that is no text is a fault of usage; refused memory is none.
 #[test]
-fn words_may_be_none(rt: HostRuntime) -> Result<(), Fail> {
-    let no_text = run_of(&rt, Err(io::Error::from(ErrorKind::InvalidData)), FIRST);
-    check(
-        &rt,
-        &no_text,
-        3,
-        "",
-        "error: a word is not UTF-8\n\nFor more information, try '--help'.\n",
-    )?;
-    let memory = run_of(&rt, Err(io::Error::from(ErrorKind::OutOfMemory)), FIRST);
-    check(&rt, &memory, 4, "", "out of memory\n")
+fn words_may_be_none(rt: HostRuntime) {
+    let usage = "error: a word is not UTF-8\n\nFor more information, try '--help'.\n";
+    check_no_words(&rt, ErrorKind::InvalidData, 3, usage);
+    check_no_words(&rt, ErrorKind::OutOfMemory, 4, "out of memory\n");
 }
 
 // A writer that takes nothing.
@@ -158,11 +179,17 @@ fn status_unprinted<R: Threads + Wait + AllocGlobal + Sync>(
 }
 
 // What can't be printed leaves the status of a fault as it is; help and a listing that can't be end with 4.
+static UNPRINTED: [(&'static str, &'static str, u8); 4] = [
+    ("sno_rewrite", "[]", 2),
+    ("sno_rewrite --quick", "[]", 3),
+    ("sno_rewrite --help", "[]", 4),
+    ("sno_rewrite", FIRST, 4),
+];
+
 #[test]
 fn what_is_not_printed_keeps_its_status(rt: HostRuntime) -> Result<(), Fail> {
-    assert_eq!(rt; status_unprinted(&rt, "sno_rewrite", "[]")?, 2);
-    assert_eq!(rt; status_unprinted(&rt, "sno_rewrite --quick", "[]")?, 3);
-    assert_eq!(rt; status_unprinted(&rt, "sno_rewrite --help", "[]")?, 4);
-    assert_eq!(rt; status_unprinted(&rt, "sno_rewrite", FIRST)?, 4);
+    for (line, document, status) in &UNPRINTED {
+        check_eq(&rt, line, &status_unprinted(&rt, line, document)?, status);
+    }
     Ok(())
 }

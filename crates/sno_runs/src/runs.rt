@@ -1,8 +1,11 @@
 //! Words, documents and runs between bytes.
 ghost use Rattle.sno_rewrite.specs.Runs.{AreInLimits};
 
-use sno_rewrite::{Options, run};
+use crate::compare::{check_eq, check_text};
+use sno_rewrite::{Options, Report, RunFault, run, run_serial};
 use std::alloc::Global;
+use std::io::Read;
+use std::process::Abort;
 use std::sync::Wait;
 use std::test::Fail;
 use std::thread::Threads;
@@ -29,6 +32,20 @@ pub(crate) fn words_of(alloc: Global, line: &str) -> Result<Vec<String>, Fail> {
     Ok(words)
 }
 
+/// What comes of the run of what the reader gives, and what is written.
+pub(crate) fn answer_of<R: Threads + Wait + AllocGlobal + Sync, I: Read + Drop>(
+    rt: &R,
+    reader: I,
+    options: &Options,
+) -> (Result<u8, RunFault>, Vec<u8>)
+    requires { AreInLimits options.now }
+{
+    let mut reader = reader;
+    let mut written = Vec::new(rt.alloc());
+    let answer = run(rt, rt.alloc(), &mut reader, &mut written, options);
+    (answer, written)
+}
+
 /// What the run of the document writes, and its status.
 pub(crate) fn written<R: Threads + Wait + AllocGlobal + Sync>(
     rt: &R,
@@ -37,8 +54,49 @@ pub(crate) fn written<R: Threads + Wait + AllocGlobal + Sync>(
 ) -> Result<(Vec<u8>, u8), Fail>
     requires { AreInLimits options.now }
 {
-    let mut written = Vec::new(rt.alloc());
-    let mut reader = document.as_bytes();
-    let status = run(rt, rt.alloc(), &mut reader, &mut written, options)?;
-    Ok((written, status))
+    let (answer, written) = answer_of(rt, document.as_bytes(), options);
+    Ok((written, answer?))
+}
+
+/// The run of the document writes this listing, and ends with this status.
+pub(crate) fn check_written<R: Threads + Wait + Abort + AllocGlobal + Sync>(
+    rt: &R,
+    document: &str,
+    options: &Options,
+    listing: &str,
+    status: u8,
+) -> Result<(), Fail>
+    requires { AreInLimits options.now }
+{
+    let (bytes, ended) = written(rt, document, options)?;
+    check_text(rt, document, &bytes, listing);
+    check_eq(rt, document, &ended, &status);
+    Ok(())
+}
+
+/// The report has this listing, and so many refused statements.
+pub(crate) fn check_report(
+    rt: &impl Abort,
+    document: &str,
+    report: &Report,
+    listing: &str,
+    refused: usize,
+) {
+    check_text(rt, document, &report.bytes, listing);
+    check_eq(rt, document, &report.refused, &refused);
+}
+
+/// The serial run of the document reports so.
+pub(crate) fn check_serial(
+    rt: &(impl Abort + AllocGlobal),
+    document: &str,
+    options: &Options,
+    listing: &str,
+    refused: usize,
+) -> Result<(), Fail>
+    requires { AreInLimits options.now }
+{
+    let report = run_serial(rt.alloc(), document.as_bytes(), options)?;
+    check_report(rt, document, &report, listing, refused);
+    Ok(())
 }

@@ -2,8 +2,9 @@
 ghost use Rattle.std.specs.Prelude.{◌≤◌, IfSome};
 ghost use Rattle.sno_rewrite.specs.Runs.{AreInLimits};
 
-use crate::runs::{PLAIN, THREE_STATEMENTS, written};
-use sno_rewrite::{Options, Report, RunFault, run, run_serial, run_shared};
+use crate::compare::{check_eq, check_text};
+use crate::runs::{PLAIN, THREE_STATEMENTS, answer_of, written};
+use sno_rewrite::{Options, Report, RunFault, run_serial, run_shared};
 use std::alloc::Global;
 use std::process::Abort;
 use std::str;
@@ -52,10 +53,11 @@ fn serial(alloc: Global, document: &str) -> Result<Report, Fail> {
     Ok(run_serial(alloc, document.as_bytes(), &options)?)
 }
 
-fn check_either(rt: &impl Abort, listing: &[u8], one: &str, other: &str) -> Result<(), Fail> {
-    let listing = str::from_utf8(listing)?;
-    assert!(rt; listing == one || listing == other, "{listing}");
-    Ok(())
+// The listing is one of these two.
+fn check_either(rt: &impl Abort, listing: &[u8], one: &str, other: &str) {
+    let text = str::from_utf8(listing).unwrap_or_default();
+    let expected = listing == one.as_bytes() || listing == other.as_bytes();
+    assert!(rt; expected, "{text}");
 }
 
 // Up to more workers than statements: each statement is listed once, in one of the two orders.
@@ -63,8 +65,8 @@ fn check_either(rt: &impl Abort, listing: &[u8], one: &str, other: &str) -> Resu
 fn workers_list_each_statement_once(rt: HostRuntime) -> Result<(), Fail> {
     for workers in 2..17 {
         let (listing, status) = written(&rt, THREE_STATEMENTS, &options_of(Some(workers)))?;
-        assert_eq!(rt; status, 1);
-        check_either(&rt, &listing, A_FIRST, B_FIRST)?;
+        check_eq(&rt, THREE_STATEMENTS, &status, &1);
+        check_either(&rt, &listing, A_FIRST, B_FIRST);
     }
     Ok(())
 }
@@ -74,8 +76,8 @@ fn workers_list_each_statement_once(rt: HostRuntime) -> Result<(), Fail> {
 fn workers_share_a_text(rt: HostRuntime) -> Result<(), Fail> {
     for workers in 1..6 {
         let report = shared(&rt, ONE_TEXT, Some(workers))?;
-        assert_eq!(rt; report.refused, 0);
-        check_either(&rt, &report.bytes, FIRST_FIRST, SECOND_FIRST)?;
+        check_eq(&rt, ONE_TEXT, &report.refused, &0);
+        check_either(&rt, &report.bytes, FIRST_FIRST, SECOND_FIRST);
     }
     Ok(())
 }
@@ -101,6 +103,16 @@ fn two_workers_overlap(rt: HostRuntime) -> Result<(), Fail> {
     Err("the first statement was the first entry each time".into())
 }
 
+fn check_same(rt: &impl Abort, document: &str, shared: &Report, serial: &Report) {
+    check_eq(
+        rt,
+        document,
+        &shared.bytes.as_slice(),
+        &serial.bytes.as_slice(),
+    );
+    check_eq(rt, document, &shared.refused, &serial.refused);
+}
+
 fn check_order<R: Threads + Wait + Abort + AllocGlobal + Sync>(
     rt: &R,
     document: &str,
@@ -110,8 +122,7 @@ fn check_order<R: Threads + Wait + Abort + AllocGlobal + Sync>(
 {
     let serial = serial(rt.alloc(), document)?;
     let shared = shared(rt, document, workers)?;
-    assert_eq!(rt; shared.bytes.as_slice(), serial.bytes.as_slice());
-    assert_eq!(rt; shared.refused, serial.refused);
+    check_same(rt, document, &shared, &serial);
     Ok(())
 }
 
@@ -127,17 +138,8 @@ fn one_worker_keeps_the_order(rt: HostRuntime) -> Result<(), Fail> {
 
 // A fault of the document is answered as without workers, and nothing is written.
 #[test]
-fn workers_answer_the_documents_fault(rt: HostRuntime) -> Result<(), Fail> {
-    let mut written = Vec::new(rt.alloc());
-    let options = options_of(Some(2));
-    let answer = run(
-        &rt,
-        rt.alloc(),
-        &mut b"[]".as_slice(),
-        &mut written,
-        &options,
-    );
-    assert_eq!(rt; answer, Err(RunFault::Shape));
-    assert!(rt; written.is_empty());
-    Ok(())
+fn workers_answer_the_documents_fault(rt: HostRuntime) {
+    let (answer, written) = answer_of(&rt, b"[]".as_slice(), &options_of(Some(2)));
+    check_eq(&rt, "[]", &answer, &Err(RunFault::Shape));
+    check_text(&rt, "[]", &written, "");
 }

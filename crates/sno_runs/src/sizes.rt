@@ -1,16 +1,14 @@
 //! Documents at their limits, and one past them.
+use crate::compare::check_eq;
 use crate::runs::PLAIN;
 use sno_rewrite::{RunFault, run_serial};
 use std::alloc::Global;
 use std::process::Abort;
 use std::test::Fail;
 
-// What a document lacks at its limit, and what it is refused for one past it.
-type Answer = Option<RunFault>;
-
-fn check(rt: &(impl Abort + AllocGlobal), document: &str, expected: Answer) {
+fn check(rt: &(impl Abort + AllocGlobal), size: usize, document: &str, expected: Option<RunFault>) {
     let answer = run_serial(rt.alloc(), document.as_bytes(), &PLAIN).err();
-    assert_eq!(rt; answer, expected);
+    check_eq(rt, "a document", &(size, answer), &(size, expected));
 }
 
 // The character so many times.
@@ -50,9 +48,9 @@ fn definitions(alloc: Global, count: usize) -> Result<String, Fail> {
 
 #[test]
 fn a_document_has_at_most_64_definitions(rt: HostRuntime) -> Result<(), Fail> {
-    check(&rt, &definitions(rt.alloc(), 64)?, None);
+    check(&rt, 64, &definitions(rt.alloc(), 64)?, None);
     let refused = Some(RunFault::TooManyPatterns);
-    check(&rt, &definitions(rt.alloc(), 65)?, refused);
+    check(&rt, 65, &definitions(rt.alloc(), 65)?, refused);
     Ok(())
 }
 
@@ -64,12 +62,9 @@ fn texts(alloc: Global, count: usize) -> Result<String, Fail> {
 
 #[test]
 fn a_document_has_at_most_1024_texts(rt: HostRuntime) -> Result<(), Fail> {
-    check(&rt, &texts(rt.alloc(), 1_024)?, None);
-    check(
-        &rt,
-        &texts(rt.alloc(), 1_025)?,
-        Some(RunFault::TooManyTexts),
-    );
+    check(&rt, 1_024, &texts(rt.alloc(), 1_024)?, None);
+    let refused = Some(RunFault::TooManyTexts);
+    check(&rt, 1_025, &texts(rt.alloc(), 1_025)?, refused);
     Ok(())
 }
 
@@ -80,9 +75,9 @@ fn long_text(alloc: Global, length: usize) -> Result<String, Fail> {
 
 #[test]
 fn a_text_has_at_most_65536_characters(rt: HostRuntime) -> Result<(), Fail> {
-    check(&rt, &long_text(rt.alloc(), 65_536)?, None);
+    check(&rt, 65_536, &long_text(rt.alloc(), 65_536)?, None);
     let refused = Some(RunFault::TextTooLong(1));
-    check(&rt, &long_text(rt.alloc(), 65_537)?, refused);
+    check(&rt, 65_537, &long_text(rt.alloc(), 65_537)?, refused);
     Ok(())
 }
 
@@ -93,27 +88,38 @@ fn long_definition(alloc: Global, length: usize) -> Result<String, Fail> {
 
 #[test]
 fn the_name_of_a_definition_has_at_most_64_characters(rt: HostRuntime) -> Result<(), Fail> {
-    check(&rt, &long_definition(rt.alloc(), 64)?, None);
+    check(&rt, 64, &long_definition(rt.alloc(), 64)?, None);
     let refused = Some(RunFault::PatternName(1));
-    check(&rt, &long_definition(rt.alloc(), 65)?, refused);
+    check(&rt, 65, &long_definition(rt.alloc(), 65)?, refused);
     Ok(())
 }
 
-// A text of this name, and a statement on it.
-fn long_name(alloc: Global, length: usize) -> Result<(String, String), Fail> {
+fn text_named(alloc: Global, length: usize) -> Result<String, Fail> {
     let name = row_of(alloc, "~", length)?;
-    let text = format!(in alloc; r#"{{"texts":[{{"name":"{name}","text":""}}]}}"#)?;
-    let statement = format!(in alloc; r#"{{"statements":[{{"text":"{name}","pattern":"''"}}]}}"#)?;
-    Ok((text, statement))
+    Ok(format!(in alloc; r#"{{"texts":[{{"name":"{name}","text":""}}]}}"#)?)
+}
+
+fn statement_on(alloc: Global, length: usize) -> Result<String, Fail> {
+    let name = row_of(alloc, "~", length)?;
+    Ok(format!(in alloc; r#"{{"statements":[{{"text":"{name}","pattern":"''"}}]}}"#)?)
+}
+
+// A text with a name of this length, and a statement on such a text.
+fn check_name(
+    rt: &(impl Abort + AllocGlobal),
+    length: usize,
+    text: Option<RunFault>,
+    statement: Option<RunFault>,
+) -> Result<(), Fail> {
+    check(rt, length, &text_named(rt.alloc(), length)?, text);
+    check(rt, length, &statement_on(rt.alloc(), length)?, statement);
+    Ok(())
 }
 
 #[test]
 fn the_name_of_a_text_has_at_most_255_characters(rt: HostRuntime) -> Result<(), Fail> {
-    let (text, statement) = long_name(rt.alloc(), 255)?;
-    check(&rt, &text, None);
-    check(&rt, &statement, None);
-    let (text, statement) = long_name(rt.alloc(), 256)?;
-    check(&rt, &text, Some(RunFault::TextName(1)));
-    check(&rt, &statement, Some(RunFault::StatementName(1)));
-    Ok(())
+    check_name(&rt, 255, None, None)?;
+    let text = Some(RunFault::TextName(1));
+    let statement = Some(RunFault::StatementName(1));
+    check_name(&rt, 256, text, statement)
 }

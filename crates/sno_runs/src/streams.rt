@@ -1,4 +1,5 @@
 //! Readers and writers that give and take pieces, or fail.
+use crate::compare::{check_eq, check_text};
 use crate::runs::PLAIN;
 use sno_rewrite::{RunFault, run};
 use std::io;
@@ -85,35 +86,46 @@ fn reader_of(document: &'static [u8], fails_at: usize, kind: ErrorKind) -> Piece
 // A number of reads or writes that no test comes to.
 const NEVER: usize = 1_000_000;
 
+// What came of a run: its answer, how many reads and writes there were, and what was taken.
+#[derive(Drop)]
+struct Outcome {
+    answer: Result<u8, RunFault>,
+    reads: usize,
+    writes: usize,
+    taken: Vec<u8>,
+}
+
 // What comes of the run between the reader and the writer.
-fn answer(
+fn outcome_of(
     rt: &(impl Threads + Wait + AllocGlobal + Sync),
-    reader: &mut Pieces<'_>,
-    writer: &mut Taker,
-) -> Result<u8, RunFault> {
-    let status = run(rt, rt.alloc(), reader, writer, &PLAIN)?;
-    Ok(status)
+    mut reader: Pieces<'_>,
+    mut writer: Taker,
+) -> Outcome {
+    let answer = run(rt, rt.alloc(), &mut reader, &mut writer, &PLAIN);
+    Outcome {
+        answer,
+        reads: reader.reads,
+        writes: writer.writes,
+        taken: writer.taken,
+    }
 }
 
 // Pieces of 7 bytes in, one byte a call out: the whole listing, and the status of a refused statement.
 #[test]
-fn pieces_make_the_whole(rt: HostRuntime) -> Result<(), Fail> {
-    let mut reader = reader_of(DOCUMENT.as_bytes(), NEVER, ErrorKind::Other);
-    let mut writer = writer_of(&rt, 1, NEVER);
-    let status = answer(&rt, &mut reader, &mut writer)?;
-    assert_eq!(rt; status, 1);
-    assert_eq!(rt; writer.taken.as_slice(), LISTING.as_bytes());
-    Ok(())
+fn pieces_make_the_whole(rt: HostRuntime) {
+    let reader = reader_of(DOCUMENT.as_bytes(), NEVER, ErrorKind::Other);
+    let outcome = outcome_of(&rt, reader, writer_of(&rt, 1, NEVER));
+    check_eq(&rt, "pieces", &outcome.answer, &Ok(1));
+    check_text(&rt, "pieces", &outcome.taken, LISTING);
 }
 
 // No byte at all is no JSON, and no failed read.
 #[test]
 fn no_input_is_no_json(rt: HostRuntime) {
-    let mut reader = reader_of(b"", NEVER, ErrorKind::Other);
-    let mut writer = writer_of(&rt, 1_000, NEVER);
-    let answer = answer(&rt, &mut reader, &mut writer);
-    assert_eq!(rt; answer, Err(RunFault::NotJson));
-    assert!(rt; writer.taken.is_empty());
+    let reader = reader_of(b"", NEVER, ErrorKind::Other);
+    let outcome = outcome_of(&rt, reader, writer_of(&rt, 1_000, NEVER));
+    check_eq(&rt, "no input", &outcome.answer, &Err(RunFault::NotJson));
+    check_text(&rt, "no input", &outcome.taken, "");
 }
 
 // A read that fails so, after so many others, ends the run: it is not tried again, though it would go on, and nothing is written.
@@ -122,16 +134,16 @@ fn check_read(
     reads: usize,
     kind: ErrorKind,
 ) {
-    let mut reader = reader_of(DOCUMENT.as_bytes(), reads, kind);
-    let mut writer = writer_of(rt, 1_000, NEVER);
-    let answer = answer(rt, &mut reader, &mut writer);
-    assert_eq!(rt; answer, Err(RunFault::Read), "after {reads} reads");
-    assert_eq!(rt;
-        reader.reads.checked_sub(reads),
-        Some(1),
-        "after {reads} reads"
+    let reader = reader_of(DOCUMENT.as_bytes(), reads, kind);
+    let outcome = outcome_of(rt, reader, writer_of(rt, 1_000, NEVER));
+    let found = (reads, outcome.answer, outcome.reads.checked_sub(reads));
+    check_eq(
+        rt,
+        "a failed read",
+        &found,
+        &(reads, Err(RunFault::Read), Some(1)),
     );
-    assert!(rt; writer.taken.is_empty());
+    check_text(rt, "a failed read", &outcome.taken, "");
 }
 
 // Each read that the document meets fails in turn, an interrupted one too.
@@ -151,20 +163,17 @@ fn check_write(
     writes: usize,
     beginning: &[u8],
 ) {
-    let mut reader = reader_of(DOCUMENT.as_bytes(), NEVER, ErrorKind::Other);
-    let mut writer = writer_of(rt, most, writes);
-    let answer = answer(rt, &mut reader, &mut writer);
-    assert_eq!(rt;
-        answer,
-        Err(RunFault::Write),
-        "{most} bytes, {writes} times"
+    let reader = reader_of(DOCUMENT.as_bytes(), NEVER, ErrorKind::Other);
+    let outcome = outcome_of(rt, reader, writer_of(rt, most, writes));
+    let found = (
+        most,
+        writes,
+        outcome.answer,
+        outcome.writes.checked_sub(writes),
     );
-    assert_eq!(rt;
-        writer.writes.checked_sub(writes),
-        Some(1),
-        "{most} bytes, {writes} times"
-    );
-    assert_eq!(rt; writer.taken.as_slice(), beginning);
+    let expected = (most, writes, Err(RunFault::Write), Some(1));
+    check_eq(rt, "a failed write", &found, &expected);
+    check_eq(rt, "a failed write", &outcome.taken.as_slice(), &beginning);
 }
 
 #[test]
@@ -181,11 +190,10 @@ fn a_write_that_fails_once_ends_the_run(rt: HostRuntime) {
 // A write that takes no byte ends the run, too.
 #[test]
 fn a_write_that_takes_nothing_ends_the_run(rt: HostRuntime) {
-    let mut reader = reader_of(DOCUMENT.as_bytes(), NEVER, ErrorKind::Other);
-    let mut writer = writer_of(&rt, 0, NEVER);
-    let answer = answer(&rt, &mut reader, &mut writer);
-    assert_eq!(rt; answer, Err(RunFault::Write));
-    assert_eq!(rt; writer.writes, 1);
+    let reader = reader_of(DOCUMENT.as_bytes(), NEVER, ErrorKind::Other);
+    let outcome = outcome_of(&rt, reader, writer_of(&rt, 0, NEVER));
+    check_eq(&rt, "nothing taken", &outcome.answer, &Err(RunFault::Write));
+    check_eq(&rt, "nothing taken", &outcome.writes, &1);
 }
 
 // What comes of the run of so many blanks, and how many of them are not read.
@@ -200,17 +208,20 @@ fn of_blanks(
     Ok((answer, reader.len()))
 }
 
+fn check_blanks(
+    rt: &(impl Threads + Wait + Abort + AllocGlobal + Sync),
+    length: usize,
+    fault: RunFault,
+    unread: usize,
+) -> Result<(), Fail> {
+    check_eq(rt, "blanks", &of_blanks(rt, length)?, &(Err(fault), unread));
+    Ok(())
+}
+
 // One byte more than a document has is too long, blanks as they are, and no more is read; as many as a document has are no JSON.
 #[test]
 fn the_longest_input(rt: HostRuntime) -> Result<(), Fail> {
-    assert_eq!(rt; of_blanks(&rt, 16_777_216)?, (Err(RunFault::NotJson), 0));
-    assert_eq!(rt;
-        of_blanks(&rt, 16_777_217)?,
-        (Err(RunFault::DocumentTooLong), 0)
-    );
-    assert_eq!(rt;
-        of_blanks(&rt, 16_777_317)?,
-        (Err(RunFault::DocumentTooLong), 100)
-    );
-    Ok(())
+    check_blanks(&rt, 16_777_216, RunFault::NotJson, 0)?;
+    check_blanks(&rt, 16_777_217, RunFault::DocumentTooLong, 0)?;
+    check_blanks(&rt, 16_777_317, RunFault::DocumentTooLong, 100)
 }
