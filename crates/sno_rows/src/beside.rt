@@ -24,6 +24,18 @@ fn is_same(found: &Found, plain: &Found) -> bool {
         && conditions(found) == conditions(plain)
 }
 
+fn is_found(
+    alloc: Global,
+    code: &Code,
+    text: &Text,
+    anchored: bool,
+    trials: u32,
+    plain: &Found,
+) -> Result<bool, Fail> {
+    let found = code.first(alloc, text, anchored, trials)?;
+    Ok(is_same(&found, plain))
+}
+
 fn is_refused(code: &Code, alloc: Global, text: &Text, anchored: bool, limit: u32) -> bool {
     match code.first(alloc, text, anchored, limit) {
         Ok(_) => false,
@@ -54,7 +66,7 @@ fn check_matcher(
     plain: (u32, Found),
 ) -> Result<u32, Fail> {
     let (trials, plain) = plain;
-    if !is_same(&code.first(alloc, text, anchored, trials)?, &plain) {
+    if !is_found(alloc, code, text, anchored, trials, &plain)? {
         return Err("the matcher doesn't find what the plain evaluator does".into());
     }
     if trials == 0 || is_refused(code, alloc, text, anchored, trials - 1) {
@@ -64,24 +76,23 @@ fn check_matcher(
     }
 }
 
+fn check_beside_plain(
+    alloc: Global,
+    code: &Code,
+    statement: &Statement,
+    text: &Text,
+    anchored: bool,
+) -> Result<u32, Fail> {
+    let plain = plain(alloc, statement, text, anchored)?;
+    check_matcher(alloc, code, text, anchored, plain)
+}
+
 /// Compares the matcher with the evaluator, anchored and not. Gives the trials of the statement's match.
 fn trials_beside(alloc: Global, statement: &Statement, text: &Text) -> Result<u32, Fail> {
     let code = compile(alloc, statement.rules(), statement.pattern())?;
-    let other = !statement.anchored();
-    check_matcher(
-        alloc,
-        &code,
-        text,
-        other,
-        plain(alloc, statement, text, other)?,
-    )?;
-    check_matcher(
-        alloc,
-        &code,
-        text,
-        !other,
-        plain(alloc, statement, text, !other)?,
-    )
+    let anchored = statement.anchored();
+    check_beside_plain(alloc, &code, statement, text, !anchored)?;
+    check_beside_plain(alloc, &code, statement, text, anchored)
 }
 
 /// Compares the matcher with the evaluator, anchored and not, and the trials of a match that isn't repeated with those expected, if any are.

@@ -1,13 +1,13 @@
 //! What is compared for each kind of example.
 use crate::beside::check_beside;
-use crate::example::{cut, definitions, row};
+use crate::example::{Quoted, cut, definitions, row};
 use crate::row::{
-    Definition, Heading, Row, admit, limited, names_of, performance_line, refusal_line, statement,
-    text_of,
+    Definition, Heading, Refused, Row, admit, limited, names_of, performance_line, refusal_line,
+    statement, text_of,
 };
 use crate::steps::check_equal;
 use crate::trees::tree;
-use sno_pattern::{Text, TextName};
+use sno_pattern::{Rules, Text, TextName};
 use sno_read::read_pattern;
 use sno_statement::Statement;
 use std::alloc::Global;
@@ -95,35 +95,55 @@ fn check_statement(alloc: Global, statement: Statement, row: &Row<'_>) -> Result
     check_on(alloc, statement, &text, row)
 }
 
-fn check_row(alloc: Global, written: &[Definition<'_>], row: &Row<'_>) -> Result<(), Fail> {
-    let made = match admit(alloc, written)? {
-        Ok(rules) => {
-            let text = TextName::new(alloc, b"T".as_slice())?;
-            let heading = Heading {
-                number: 1,
-                text,
-                task: row.task,
-            };
-            statement(alloc, rules, heading)?
-        }
-        Err(refused) => Err(refused),
+/// The statement of the row, or why there is none.
+fn row_statement(
+    alloc: Global,
+    rules: Rules,
+    row: &Row<'_>,
+) -> Result<Result<Statement, Refused>, Fail> {
+    let heading = Heading {
+        number: 1,
+        text: TextName::new(alloc, b"T".as_slice())?,
+        task: row.task,
     };
-    match made {
+    statement(alloc, rules, heading)
+}
+
+/// What is refused is refused as the row says.
+fn check_refused(alloc: Global, refused: &Refused, row: &Row<'_>) -> Result<(), Fail> {
+    check_equal(refusal_line(alloc, refused)?.as_str(), row.outcome)
+}
+
+/// With these definitions the statement of the row comes to what the row says.
+fn check_admitted(alloc: Global, rules: Rules, row: &Row<'_>) -> Result<(), Fail> {
+    match row_statement(alloc, rules, row)? {
         Ok(statement) => check_statement(alloc, statement, row),
-        Err(refused) => check_equal(refusal_line(alloc, &refused)?.as_str(), row.outcome),
+        Err(refused) => check_refused(alloc, &refused, row),
+    }
+}
+
+fn check_row(alloc: Global, written: &[Definition<'_>], row: &Row<'_>) -> Result<(), Fail> {
+    match admit(alloc, written)? {
+        Ok(rules) => check_admitted(alloc, rules, row),
+        Err(refused) => check_refused(alloc, &refused, row),
+    }
+}
+
+/// Checks the example of these definitions, from the piece after them on.
+fn check_example(alloc: Global, written: &[Definition<'_>], next: Quoted<'_>) -> Result<(), Fail> {
+    if next.after.is_empty() {
+        return check_definitions(alloc, written, next.inside);
+    }
+    let second = cut(next.after)?;
+    if second.before == " is read as " {
+        check_tree(alloc, written, next.inside, second.inside)
+    } else {
+        check_row(alloc, written, &row(next, second)?)
     }
 }
 
 /// Checks the example of this line.
 pub(crate) fn check_line(alloc: Global, line: &str) -> Result<(), Fail> {
     let (written, next) = definitions(alloc, line)?;
-    if next.after.is_empty() {
-        return check_definitions(alloc, &written, next.inside);
-    }
-    let second = cut(next.after)?;
-    if second.before == " is read as " {
-        check_tree(alloc, &written, next.inside, second.inside)
-    } else {
-        check_row(alloc, &written, &row(next, second)?)
-    }
+    check_example(alloc, &written, next)
 }

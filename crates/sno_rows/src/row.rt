@@ -40,9 +40,9 @@ pub(crate) struct Row<'l> {
 /// Why there is no statement: what is written can't be read, or its definitions aren't admitted.
 #[derive(Drop, Debug, Error)]
 pub(crate) enum Refused {
-    #[error("{0}")]
+    #[error(transparent)]
     Read(ReadFault),
-    #[error("{0}")]
+    #[error(transparent)]
     Rules(RulesFault),
 }
 
@@ -108,20 +108,29 @@ fn bodies_of(
     Ok(Ok(bodies))
 }
 
+fn admit_bodies(
+    alloc: Global,
+    names: Names,
+    bodies: Vec<Pattern>,
+) -> Result<Result<Rules, Refused>, Fail> {
+    if names.len() != bodies.len() {
+        return Err("as many names as patterns are wanted".into());
+    }
+    match Rules::admit(alloc, names, bodies) {
+        Ok(rules) => Ok(Ok(rules)),
+        Err(fault) => Ok(Err(Refused::Rules(fault))),
+    }
+}
+
 /// Definitions that are admitted, or why they are refused.
 pub(crate) fn admit(
     alloc: Global,
     written: &[Definition<'_>],
 ) -> Result<Result<Rules, Refused>, Fail> {
     let names = names_of(alloc, written)?;
-    let bodies = match bodies_of(alloc, &names, written)? {
-        Ok(bodies) => bodies,
-        Err(fault) => return Ok(Err(Refused::Read(fault))),
-    };
-    if names.len() == bodies.len() {
-        Ok(Rules::admit(alloc, names, bodies).map_err(|fault| Refused::Rules(fault)))
-    } else {
-        Err("as many names as patterns are wanted".into())
+    match bodies_of(alloc, &names, written)? {
+        Ok(bodies) => admit_bodies(alloc, names, bodies),
+        Err(fault) => Ok(Err(Refused::Read(fault))),
     }
 }
 
@@ -194,14 +203,18 @@ pub(crate) fn limited(statement: Statement, limit: u32) -> Result<Statement, Fai
     }
 }
 
+fn tell_cycle(alloc: Global, cycle: &[usize], line: &mut String) -> Result<(), Fail> {
+    for definition in cycle {
+        line.push_str(format!(in alloc; " {definition}")?.as_str())?;
+    }
+    Ok(())
+}
+
 /// Why there is no statement, in one line: of a cycle of definitions their numbers, too.
 pub(crate) fn refusal_line(alloc: Global, refused: &Refused) -> Result<String, Fail> {
     let mut line = refused.to_string(alloc)?;
     if let Refused::Rules(RulesFault::Unguarded(cycle)) = refused {
-        for definition in cycle {
-            line.push_str(" ")?;
-            line.push_str(definition.to_string(alloc)?.as_str())?;
-        }
+        tell_cycle(alloc, cycle, &mut line)?;
     }
     Ok(line)
 }
@@ -229,35 +242,52 @@ pub(crate) fn performance_line(
     }
 }
 
-pub(crate) fn outcome_line(alloc: Global, outcome: &Outcome) -> Result<String, Fail> {
-    let (mut line, bindings) = match outcome {
-        Outcome::Failed { bindings } => (String::from_str(alloc, "failed")?, bindings),
-        Outcome::Matched {
-            start,
-            end,
-            bindings,
-            ..
-        } => (format!(in alloc; "matched {start} {end}")?, bindings),
-        Outcome::Repeated {
-            matches,
-            bindings,
-            ..
-        } => (format!(in alloc; "repeated {matches}")?, bindings),
-    };
-    tell_bindings(alloc, bindings, &mut line)?;
-    if let Some(text) = outcome.after() {
-        line.push_str(" -> ")?;
-        tell_text(alloc, text, &mut line)?;
+fn bindings_of(outcome: &Outcome) -> &Bindings {
+    match outcome {
+        Outcome::Failed { bindings }
+        | Outcome::Matched { bindings, .. }
+        | Outcome::Repeated { bindings, .. } => bindings,
     }
+}
+
+/// How the line of the outcome begins.
+fn beginning(alloc: Global, outcome: &Outcome) -> Result<String, Fail> {
+    match outcome {
+        Outcome::Failed { .. } => Ok(String::from_str(alloc, "failed")?),
+        Outcome::Matched { start, end, .. } => Ok(format!(in alloc; "matched {start} {end}")?),
+        Outcome::Repeated { matches, .. } => Ok(format!(in alloc; "repeated {matches}")?),
+    }
+}
+
+/// The new text, if there is one.
+fn tell_after(alloc: Global, outcome: &Outcome, line: &mut String) -> Result<(), Fail> {
+    match outcome.after() {
+        None => Ok(()),
+        Some(text) => {
+            line.push_str(" -> ")?;
+            tell_text(alloc, text, line)
+        }
+    }
+}
+
+pub(crate) fn outcome_line(alloc: Global, outcome: &Outcome) -> Result<String, Fail> {
+    let mut line = beginning(alloc, outcome)?;
+    tell_bindings(alloc, bindings_of(outcome), &mut line)?;
+    tell_after(alloc, outcome, &mut line)?;
     Ok(line)
+}
+
+/// A blank, the name, and a sign of equality.
+fn tell_name(name: &Name, line: &mut String) -> Result<(), Fail> {
+    line.push_str(" ")?;
+    line.push_str(str::from_utf8(name.bytes())?)?;
+    Ok(line.push_str("=")?)
 }
 
 fn tell_bindings(alloc: Global, bindings: &Bindings, line: &mut String) -> Result<(), Fail> {
     for place in 0..bindings.len() {
         if let Some((name, value)) = bindings.get(place) {
-            line.push_str(" ")?;
-            line.push_str(str::from_utf8(name.bytes())?)?;
-            line.push_str("=")?;
+            tell_name(name, line)?;
             tell_value(alloc, value, line)?;
         }
     }
@@ -273,11 +303,10 @@ fn tell_value(alloc: Global, value: &Datum, line: &mut String) -> Result<(), Fai
 
 pub(crate) fn tell_text(alloc: Global, text: &Text, line: &mut String) -> Result<(), Fail> {
     let characters = str::from_utf8(text.bytes())?;
-    if characters.len() > 64 {
-        let count = format!(in alloc; "{} characters", characters.len())?;
-        return Ok(line.push_str(count.as_str())?);
-    }
-    line.push_str("|")?;
-    line.push_str(characters)?;
-    Ok(line.push_str("|")?)
+    let told = if characters.len() > 64 {
+        format!(in alloc; "{} characters", characters.len())?
+    } else {
+        format!(in alloc; "|{characters}|")?
+    };
+    Ok(line.push_str(told.as_str())?)
 }

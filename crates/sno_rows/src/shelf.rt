@@ -4,7 +4,7 @@ ghost use Rattle.sno_book.specs.Books.{view_of};
 ghost use Rattle.sno_book.specs.Views.{IsPrefix, View};
 
 use crate::row::{Heading, Row, admit, outcome_line, statement, tell_text, text_of};
-use sno_book::{Book, CommitFault, Proposal, Receipt, SnapshotFault, propose};
+use sno_book::{Book, CommitFault, Opening, Proposal, Receipt, SnapshotFault, propose};
 use sno_pattern::{Text, TextName};
 use sno_statement::{Statement, StatementFault};
 use std::alloc::Global;
@@ -85,9 +85,9 @@ fn job_statement(alloc: Global, job: &Job<'_>) -> Result<Arc<Statement>, Fail> {
 /// Why a statement isn't proposed.
 #[derive(Drop, Debug, Error)]
 enum NotProposed {
-    #[error("{0}")]
+    #[error(transparent)]
     Snapshot(SnapshotFault),
-    #[error("{0}")]
+    #[error(transparent)]
     Statement(StatementFault),
 }
 
@@ -126,6 +126,25 @@ fn tell_named(alloc: Global, name: &TextName, text: &Text, line: &mut String) ->
     line.push_str(str::from_utf8(name.bytes())?)?;
     line.push_str(" ")?;
     tell_text(alloc, text, line)
+}
+
+/// The text at a place of the book, with its name and version.
+fn tell_place(alloc: Global, book: &Book, place: usize, line: &mut String) -> Result<(), Fail> {
+    let (name, text, version) = book.text(place).ok_or("no text")?;
+    tell_named(alloc, name, text, line)?;
+    Ok(line.push_str(format!(in alloc; " {version}, ")?.as_str())?)
+}
+
+/// The text at a place of the opening, with its name.
+fn tell_opening(
+    alloc: Global,
+    opening: &Opening,
+    place: usize,
+    line: &mut String,
+) -> Result<(), Fail> {
+    let (name, text) = opening.row(place).ok_or("no text")?;
+    line.push_str(", ")?;
+    tell_named(alloc, name, text, line)
 }
 
 /// The version that the statement was performed on, and what comes of it.
@@ -284,9 +303,7 @@ impl Shelf {
     pub(crate) fn texts_line(&self, alloc: Global) -> Result<String, Fail> {
         let mut line = String::new(alloc);
         for place in 0..self.book.len() {
-            let (name, text, version) = self.book.text(place).ok_or("no text")?;
-            tell_named(alloc, name, text, &mut line)?;
-            line.push_str(format!(in alloc; " {version}, ")?.as_str())?;
+            tell_place(alloc, &self.book, place, &mut line)?;
         }
         let count = self.book.journal().len();
         line.push_str(format!(in alloc; "{count} entries")?.as_str())?;
@@ -298,9 +315,7 @@ impl Shelf {
         let opening = self.book.opening();
         let mut line = opening.room().to_string(alloc)?;
         for place in 0..opening.len() {
-            let (name, text) = opening.row(place).ok_or("no text")?;
-            line.push_str(", ")?;
-            tell_named(alloc, name, text, &mut line)?;
+            tell_opening(alloc, opening, place, &mut line)?;
         }
         Ok(line)
     }

@@ -23,14 +23,12 @@ fn named_text(name: Quoted<'_>) -> Result<(NamedText<'_>, &str), Fail> {
 
 /// The one or two texts that the line names.
 fn named_texts(alloc: Global, line: &str) -> Result<Vec<NamedText<'_>>, Fail> {
-    let mut texts = Vec::new(alloc);
     let (first, rest) = named_text(cut(line)?)?;
-    texts.push(first)?;
-    if !rest.is_empty() {
-        let (second, _) = named_text(cut(rest)?)?;
-        texts.push(second)?;
+    if rest.is_empty() {
+        return Ok(vec![in alloc; first]?);
     }
-    Ok(texts)
+    let (second, _) = named_text(cut(rest)?)?;
+    Ok(vec![in alloc; first, second]?)
 }
 
 /// The statement of this number on the text of this name, from the piece that names its own text on.
@@ -48,34 +46,54 @@ pub(crate) fn check_equal(found: &str, expected: &str) -> Result<(), Fail> {
     }
 }
 
-/// Takes the step with a statement, and compares what comes of it.
-fn take_job(alloc: Global, shelf: &mut Shelf, first: Quoted<'_>) -> Result<(), Fail> {
-    if first.before.ends_with(" done: ") {
-        let number = number(first.before, "+ ", " done: ")?;
-        let job = job(number, first.inside, first)?;
-        check_equal(&shelf.perform(alloc, &job)?, job.row.outcome)
-    } else {
-        let number = number(first.before, "+ ", " kept on ")?;
-        let job = job(number, first.inside, cut(first.after)?)?;
-        check_equal(&shelf.keep(alloc, &job)?, job.row.outcome)
+/// Takes the step that proposes a statement, prepares it and accepts it, and compares what comes of it.
+fn take_done(alloc: Global, shelf: &mut Shelf, first: Quoted<'_>) -> Result<(), Fail> {
+    let number = number(first.before, "+ ", " done: ")?;
+    let job = job(number, first.inside, first)?;
+    check_equal(&shelf.perform(alloc, &job)?, job.row.outcome)
+}
+
+/// Takes the step that proposes a statement for later, and compares what comes of it.
+fn take_kept(alloc: Global, shelf: &mut Shelf, first: Quoted<'_>) -> Result<(), Fail> {
+    let number = number(first.before, "+ ", " kept on ")?;
+    let job = job(number, first.inside, cut(first.after)?)?;
+    check_equal(&shelf.keep(alloc, &job)?, job.row.outcome)
+}
+
+/// What comes of the step that these words name.
+fn line_of(alloc: Global, shelf: &mut Shelf, words: &str) -> Result<String, Fail> {
+    match words {
+        "+ the kept one: " => shelf.commit(alloc),
+        "+ the kept one taken back: " => shelf.take_back(alloc),
+        "+ texts: " => shelf.texts_line(alloc),
+        "+ memory for one more: " => shelf.spare_line(alloc),
+        "+ opening: " => shelf.opening_line(alloc),
+        "+ audits: " => shelf.audit_line(alloc),
+        _ => Err("no step".into()),
     }
+}
+
+/// Takes the step that begins with this piece, and compares what comes of it.
+fn take(alloc: Global, shelf: &mut Shelf, first: Quoted<'_>) -> Result<(), Fail> {
+    if first.before.ends_with(" done: ") {
+        take_done(alloc, shelf, first)
+    } else if first.before.ends_with(" kept on ") {
+        take_kept(alloc, shelf, first)
+    } else {
+        check_equal(&line_of(alloc, shelf, first.before)?, first.inside)
+    }
+}
+
+/// Opens another book, with the texts that the line names after these words.
+fn open(alloc: Global, shelf: &mut Shelf, words: &str, texts: &str) -> Result<(), Fail> {
+    let room = number(words, "+ a book with room for ", "")?;
+    shelf.open(alloc, &named_texts(alloc, texts)?, room)
 }
 
 /// Takes the step of this line, and compares what comes of it.
 pub(crate) fn take_step(alloc: Global, shelf: &mut Shelf, line: &str) -> Result<(), Fail> {
-    if let Some((words, texts)) = line.split_once(" entries: ") {
-        let room = number(words, "+ a book with room for ", "")?;
-        return shelf.open(alloc, &named_texts(alloc, texts)?, room);
+    match line.split_once(" entries: ") {
+        Some((words, texts)) => open(alloc, shelf, words, texts),
+        None => take(alloc, shelf, cut(line)?),
     }
-    let first = cut(line)?;
-    let found = match first.before {
-        "+ the kept one: " => shelf.commit(alloc)?,
-        "+ the kept one taken back: " => shelf.take_back(alloc)?,
-        "+ texts: " => shelf.texts_line(alloc)?,
-        "+ memory for one more: " => shelf.spare_line(alloc)?,
-        "+ opening: " => shelf.opening_line(alloc)?,
-        "+ audits: " => shelf.audit_line(alloc)?,
-        _ => return take_job(alloc, shelf, first),
-    };
-    check_equal(&found, first.inside)
 }
