@@ -1,4 +1,5 @@
--- What reading is refused for.
+-- What reading is refused for; and what is written, whose answer stands here so that a wrong body is refused by it alone.
+use Rattle.std.proofs.Common.{rules}
 use Rattle.sno_rewrite.proofs.ReadLemmas.{read_fault}
 use Rattle.sno_rewrite.specs.Modes.{mode_of}
 use Rattle.sno_rewrite.proofs.running.run.Goals as goal
@@ -6,3 +7,9 @@ use Rattle.sno_rewrite.proofs.running.run.Goals as goal
 pub returns-in_err-bytes-clause-fault : goal.returns-in_err-bytes-clause-fault
 returns-in_err-bytes-clause-fault g c =
     read_fault c.args.options.now.workers (mode_of c.args.options.now) (g.R.Read.remaining c.args.reader.now) _ _ _ c.from_residual.ensures.1 c.in_err-bytes.ensures.fault
+
+pub returns-clause-done : goal.returns-clause-done
+returns-clause-done g c = search rules
+
+pub returns-in_err-write_all-clause-nothing : goal.returns-in_err-write_all-clause-nothing
+returns-in_err-write_all-clause-nothing g c = search rules
