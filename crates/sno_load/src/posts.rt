@@ -104,7 +104,7 @@ pub struct Shared {
     pub writers: AtomicU64,
 }
 
-/// What all posts share.
+/// The desk at which the posts work, with what else they share.
 #[derive(Drop)]
 pub struct Shift<'a, L: Naming> {
     pub desk: &'a Desk<L>,

@@ -1,5 +1,5 @@
 -- One entry more, which is shown first.
-use Rattle.std.proofs.Common.{◌≡◌, ◌≤◌, List, [], ◌∷◌, ◌++◌, ap, sym, subst, ◌∙◌}
+use Rattle.std.proofs.Common.{rules, ◌≡◌, ◌≤◌, List, [], ◌∷◌, ◌++◌, ap, sym, subst, ◌∙◌}
 use mathlib.Core.List.{IsPrefix as Begins}
 use Rattle.sno_book.specs.Books.{view_of}
 use Rattle.sno_book.specs.Entries.{Entry}
@@ -47,3 +47,6 @@ returns-clause-told g c =
     let begins : Begins (book.journal ++ given.entry ∷ []) c.count.new.self.viewer.seen =
     subst (λ (v : Viewing). Begins (book.journal ++ given.entry ∷ []) v.seen) (sym c.count.ensures.viewer) (subst (λ (l : List Entry). Begins l c.learn.new.self.viewer.seen) shown c.learn.ensures.told) in
     told (view_of book) (view_of c.finish-receipt.new.self) c.args.ready given g.L.Naming.opening c.count.new.self.viewer.seen accepted c.requires.opening legal begins
+
+pub returns-clause-at_end : goal.returns-clause-at_end
+returns-clause-at_end g c = search rules

@@ -1,5 +1,5 @@
 -- What a piece takes that isn't kept, with what was read before it.
-use Rattle.std.proofs.Common.{◌++◌, arith}
+use Rattle.std.proofs.Common.{rules, ◌++◌, arith}
 use Rattle.std.proofs.KnownBytes.{Consumes-trans}
 use Rattle.std.proofs.lemmas.List.{length-append}
 use Rattle.sno_rewrite.proofs.streams.read_all.Goals as goal
@@ -12,3 +12,9 @@ returns-in_err-count-clause-taken g c =
       Consumes-trans _ _ _ c.loop-bytes.bytes.items piece.0 before.consumed piece.1,
       omega (arith, length-append c.loop-bytes.bytes.items piece.0, piece.2),
     )
+
+pub returns-clause-taken : goal.returns-clause-taken
+returns-clause-taken g c = search rules
+
+pub returns-clause-fault : goal.returns-clause-fault
+returns-clause-fault g c = search rules

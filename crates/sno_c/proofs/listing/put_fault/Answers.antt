@@ -1,0 +1,6 @@
+-- What is said of the answer stands here so that a wrong body is refused by it alone.
+use Rattle.std.proofs.Common.{rules}
+use Rattle.sno_c.proofs.listing.put_fault.Goals as goal
+
+pub returns-in-Ok-clause-inside : goal.returns-in-Ok-clause-inside
+returns-in-Ok-clause-inside c = search rules
