@@ -4,13 +4,11 @@ use mir.Syntax.{named}
 use denote.Ref.{ShrRef}
 use denote.Exit.{yes}
 use denote.Param.{param}
-use denote.Param.Send.{IsSend, IsSync, param_send, param_sync, arg_send, arg_sync, shr_sync, sendable}
+use denote.Param.Send.{IsSend, IsSync, param_send, arg_send, shr_sync, sendable}
 use denote.Param.SendFields.{declared_sync}
 use Rattle.std.proofs.Crossing.{crosses, sync, Arc-sync, Vec-sync}
-use Rattle.std.specs.contracts.sync.Arc as Arc
 use Rattle.std.specs.contracts.sync.atomic.AtomicU64 as AtomicU64
 use Rattle.std.specs.contracts.alloc.Global as Global
-use Rattle.std.specs.contracts.impls.GlobalAllocator.TheImpl.{ghosts}
 use Rattle.sno_pattern.proofs.text_names.TextName.TheSendSync as text_name
 use Rattle.sno_desk.specs.contracts.desk.Desk as Desk
 use Rattle.sno_book.specs.contracts.entries.Entry as Entry
