@@ -12,7 +12,7 @@ use Rattle.sno_book.specs.Journals.{HasStep}
 use Rattle.sno_book.specs.Openings.{Opening, IsOpening, names_in, start, place_in}
 use Rattle.sno_book.specs.Views.{View, state_of, and_then}
 use Rattle.sno_book.specs.Books.{Book, view_of}
-use Rattle.sno_book.specs.Proposals.{Proposed, entry_of}
+use Rattle.sno_book.specs.Proposals.{Proposal, entry_of}
 use Rattle.sno_book.specs.Commits.{full, beside, at_place, refusal}
 use Rattle.sno_book.specs.VersionedTexts.{Keeps, with_names}
 use Rattle.sno_book.specs.Starts.{contents, first_contents}
@@ -22,8 +22,8 @@ use Rattle.sno_book.specs.declared.versioned_texts.VersionedText.{VersionedText 
 use Rattle.sno_book.proofs.Places.{stands_at, stands_inside, find_held, find_none, get_at, held_small}
 use Rattle.sno_book.proofs.Steps.{replay_snoc, legal_snoc, below_replayed, below_started, VersionsBelow}
 
--- what holds where nothing refuses the proposal
-pub record IsFree (v : View) (p : Proposed) : Type 0 where
+-- what holds if nothing refuses the proposal
+pub record IsFree (v : View) (p : Proposal) : Type 0 where
   pub versioned : VersionedText
   pub placed : place_in v.opening p.statement.text ≡ Some p.place
   pub there : slice_get (state_of v) p.place ≡ Some versioned
@@ -41,7 +41,7 @@ beside_if : (v : View) (a : Bool) (g : CommitFault) → cond a (full v) (Some g)
 beside_if v true g h = (refl, h)
 beside_if v false g h = cc
 
-beside_free : (v : View) (p : Proposed) (o : Option VersionedText) → place_in v.opening p.statement.text ≡ Some p.place → slice_get (state_of v) p.place ≡ o → beside v p o ≡ None → IsFree v p
+beside_free : (v : View) (p : Proposal) (o : Option VersionedText) → place_in v.opening p.statement.text ≡ Some p.place → slice_get (state_of v) p.place ≡ o → beside v p o ≡ None → IsFree v p
 beside_free v p None placed there h = cc
 beside_free v p (Some versioned) placed there h =
     let bs = beside_if v (nat_eq p.version versioned.version) _ h in
@@ -53,7 +53,7 @@ beside_free v p (Some versioned) placed there h =
       room = room_free v bs.1;
     }
 
-place_if : (v : View) (p : Proposed) (place : ℕ) (b : Bool) → nat_eq place p.place ≡ b → place_in v.opening p.statement.text ≡ Some place
+place_if : (v : View) (p : Proposal) (place : ℕ) (b : Bool) → nat_eq place p.place ≡ b → place_in v.opening p.statement.text ≡ Some place
     → cond b (beside v p (slice_get (state_of v) place)) (Some NoText) ≡ None → IsFree v p
 place_if v p place true is placed h =
     let same : place ≡ p.place = eqb-true place p.place is in
@@ -61,15 +61,15 @@ place_if v p place true is placed h =
     (subst (λ x. beside v p (slice_get (state_of v) x) ≡ None) same h)
 place_if v p place false is placed h = cc
 
-place_free : (v : View) (p : Proposed) (o : Option ℕ) → place_in v.opening p.statement.text ≡ o → at_place v p o ≡ None → IsFree v p
+place_free : (v : View) (p : Proposal) (o : Option ℕ) → place_in v.opening p.statement.text ≡ o → at_place v p o ≡ None → IsFree v p
 place_free v p None placed h = cc
 place_free v p (Some place) placed h = place_if v p place (nat_eq place p.place) refl placed h
 
-pub free : (v : View) (p : Proposed) → refusal v p ≡ None → IsFree v p
+pub free : (v : View) (p : Proposal) → refusal v p ≡ None → IsFree v p
 free v p h = place_free v p (place_in v.opening p.statement.text) refl h
 
 -- the entry has a step from the book's texts
-pub free_step : (v : View) (p : Proposed) (stored : List StoredText) → Keeps v stored → (is_free : IsFree v p) → perform p.statement is_free.versioned.text ≡ Ok p.done
+pub free_step : (v : View) (p : Proposal) (stored : List StoredText) → Keeps v stored → (is_free : IsFree v p) → perform p.statement is_free.versioned.text ≡ Ok p.outcome
     → HasStep (state_of v) (entry_of p)
 free_step v p stored keeps is_free performed =
     let names = names_in v.opening.texts in
@@ -84,8 +84,8 @@ free_step v p stored keeps is_free performed =
     }
 
 -- the book with one more entry
-pub keeps_more : (v : View) (p : Proposed) (old new : List StoredText) → Keeps v old → (is_free : IsFree v p) → perform p.statement is_free.versioned.text ≡ Ok p.done
-    → with_names (names_in v.opening.texts) new ≡ renew_by p.statement.text (after_of p.done) (with_names (names_in v.opening.texts) old) → length new ≡ length old
+pub keeps_more : (v : View) (p : Proposal) (old new : List StoredText) → Keeps v old → (is_free : IsFree v p) → perform p.statement is_free.versioned.text ≡ Ok p.outcome
+    → with_names (names_in v.opening.texts) new ≡ renew_by p.statement.text (after_of p.outcome) (with_names (names_in v.opening.texts) old) → length new ≡ length old
     → Keeps (and_then v (entry_of p)) new
 keeps_more v p old new keeps f performed put as_many =
     let step = free_step v p old keeps f performed in
@@ -95,17 +95,17 @@ keeps_more v p old new keeps f performed put as_many =
         legal = legal_snoc (start v.opening) v.journal (entry_of p) keeps.lawful.legal step;
         within = omega (arith, length-append v.journal (entry_of p ∷ []), keeps.lawful.within, f.room);
       };
-      texts = put ∙ ap (λ (s : State). renew_by p.statement.text (after_of p.done) s) keeps.texts ∙ sym (replay_snoc (start v.opening) v.journal (entry_of p));
+      texts = put ∙ ap (λ (s : State). renew_by p.statement.text (after_of p.outcome) s) keeps.texts ∙ sym (replay_snoc (start v.opening) v.journal (entry_of p));
       as_many = as_many ∙ keeps.as_many;
     }
 
--- the place of a name lies among the texts
+-- the place of a name is less than the number of texts
 pub place_inside : (b : Book) (stored : List StoredText) (name : List ℕ) (k : ℕ) → Keeps (view_of b) stored → place_in b.opening name ≡ Some k → k < length stored
 place_inside b stored name k keeps placed =
     let inside = stands_inside name k (names_in b.opening.texts) (stands_at name k (names_in b.opening.texts) placed) in
     omega (arith, inside, keeps.as_many, length-map b.opening.texts (λ (t : List ℕ × List ℕ). t.0))
 
--- what stands there is the text of that name
+-- the text at that place is the text of that name
 pub stands_there : (b : Book) (stored : List StoredText) (name : List ℕ) (k : ℕ) (s : StoredText) → Keeps (view_of b) stored → place_in b.opening name ≡ Some k
     → slice_get stored k ≡ Some s → slice_get (state_of (view_of b)) k ≡ Some (record { name = name; text = arc_value s.text; version = s.version })
 stands_there b stored name k s keeps placed there =
@@ -119,12 +119,12 @@ found_there b stored name k s keeps placed there =
     let at = stands_at name k names placed in
     ap (λ (l : State). find name l) (sym keeps.texts) ∙ find_held name k names stored _ at (get_at name k names stored s at there)
 
--- where no text has the name, none is found by it
+-- if no text has the name, `find` returns `None`
 pub found_none : (b : Book) (stored : List StoredText) (name : List ℕ) → Keeps (view_of b) stored → place_in b.opening name ≡ None → find name (state_of (view_of b)) ≡ None
 found_none b stored name keeps none =
     ap (λ (l : State). find name l) (sym keeps.texts) ∙ find_none name 0 (names_in b.opening.texts) stored none
 
--- no version of a lawful book is higher than there are entries
+-- no version of a valid book is higher than the number of entries
 pub version_small : (v : View) (stored : List StoredText) (k : ℕ) (s : StoredText) → Keeps v stored → slice_get stored k ≡ Some s → s.version ≤ length v.journal
 version_small v stored k s keeps there =
     let start_below : VersionsBelow 0 (start v.opening) = below_started v.opening.texts v.opening.room in
@@ -133,22 +133,22 @@ version_small v stored k s keeps there =
     let few : length stored ≤ length (names_in v.opening.texts) = omega (arith, keeps.as_many, length-map v.opening.texts (λ (t : List ℕ × List ℕ). t.0)) in
     let small = held_small (0 + length v.journal) k (names_in v.opening.texts) stored s there few versioned in omega (arith, small)
 
--- the version of what stands may be raised
+-- the version of a stored text may be raised
 pub version_rises : (v : View) (stored : List StoredText) (k : ℕ) (s : StoredText) → Keeps v stored → slice_get stored k ≡ Some s → s.version + 1 < 2 ^ 64
 version_rises v stored k s keeps there =
     let small = version_small v stored k s keeps there in omega (arith, small, keeps.lawful.within, keeps.lawful.opening.room)
 
-place_is : (v : View) (p : Proposed) (place : ℕ) (b : Bool) → b ≡ true → cond b (beside v p (slice_get (state_of v) place)) (Some NoText) ≡ beside v p (slice_get (state_of v) place)
+place_is : (v : View) (p : Proposal) (place : ℕ) (b : Bool) → b ≡ true → cond b (beside v p (slice_get (state_of v) place)) (Some NoText) ≡ beside v p (slice_get (state_of v) place)
 place_is v p place true h = refl
 place_is v p place false h = cc
 
--- why a proposal is refused whose text stands at its place
-pub refusal_there : (v : View) (p : Proposed) (place : ℕ) (versioned : VersionedText) → place_in v.opening p.statement.text ≡ Some place → place ≡ p.place
+-- why a proposal is refused if its text is at its place
+pub refusal_there : (v : View) (p : Proposal) (place : ℕ) (versioned : VersionedText) → place_in v.opening p.statement.text ≡ Some place → place ≡ p.place
     → slice_get (state_of v) place ≡ Some versioned → refusal v p ≡ beside v p (Some versioned)
 refusal_there v p place versioned placed same there =
     ap (λ (o : Option ℕ). at_place v p o) placed ∙ place_is v p place (nat_eq place p.place) (eq-eqb place p.place same) ∙ ap (λ (o : Option VersionedText). beside v p o) there
 
--- ---- a book with no entry
+-- ---- a book without entries
 held_first : (texts : List (List ℕ × List ℕ)) (room : ℕ) (stored : List StoredText) → contents stored ≡ first_contents texts
     → with_names (names_in texts) stored ≡ start (record { texts = texts; room = room })
 held_first [] room [] h = refl
@@ -208,7 +208,7 @@ held_many [] (s ∷ stored) h = absurd (omega (arith, h))
 held_many (n ∷ names) [] h = refl
 held_many (n ∷ names) (s ∷ stored) h = let rest = held_many names stored (omega (arith, h)) in omega (arith, rest)
 
--- as many texts stand as there are
+-- the state has as many texts as the book stores
 pub state_many : (b : Book) (stored : List StoredText) → Keeps (view_of b) stored → length stored ≡ length (state_of (view_of b))
 state_many b stored keeps =
     held_many (names_in b.opening.texts) stored (keeps.as_many ∙ sym (length-map {B = List ℕ} b.opening.texts (λ (t : List ℕ × List ℕ). t.0)))

@@ -13,7 +13,7 @@ use Rattle.sno_book.specs.Openings.{names_in, start, place_in}
 use Rattle.sno_book.specs.Views.{View, IsLawful, Kin, state_of, and_then}
 use Rattle.sno_book.specs.Books.{Book, view_of}
 use Rattle.sno_book.specs.Origins.{Stands, IsPerformed}
-use Rattle.sno_book.specs.Proposals.{Proposed, Received, entry_of}
+use Rattle.sno_book.specs.Proposals.{Proposal, Receipt, entry_of}
 use Rattle.sno_book.specs.Commits.{full, refusal, Fits, IsAccepted}
 use Rattle.sno_book.specs.VersionedTexts.{Keeps, with_names}
 use Rattle.sno_book.specs.declared.faults.CommitFault.TheVariants.{Changed}
@@ -24,7 +24,7 @@ use Rattle.sno_book.proofs.BookLaws.{IsFree, free, free_step, place_inside, refu
 use Rattle.sno_book.proofs.Rising.{versions_count_entries, kin_agree}
 use Rattle.sno_book.proofs.Fresh.{same_equal, chosen, not_full}
 
--- what stands at the place of a name has that name
+-- the text at the place of a name has that name
 named_at : (name : List ℕ) (k : ℕ) (names : List (List ℕ)) (stored : List StoredText) (versioned : VersionedText) → StandsAt name names k
     → slice_get (with_names names stored) k ≡ Some versioned → versioned.name ≡ name
 named_at name k [] stored versioned at there = absurd at
@@ -32,7 +32,7 @@ named_at name k (n ∷ names) [] versioned at there = cc
 named_at name zero (n ∷ names) (x ∷ stored) versioned at there = let here : n ≡ versioned.name = cc in sym here ∙ sym (same_is name n at)
 named_at name (suc k) (n ∷ names) (x ∷ stored) versioned at there = named_at name k names stored versioned at.1 there
 
--- a text that stands at a place has the name of that place
+-- a text at a place has the name of that place
 name_there : (k : ℕ) (names : List (List ℕ)) (stored : List StoredText) (versioned : VersionedText) → slice_get (with_names names stored) k ≡ Some versioned
     → slice_get names k ≡ Some versioned.name
 name_there k [] stored versioned there = cc
@@ -45,7 +45,7 @@ other_at k x name [] h there = cc
 other_at zero x name (n ∷ names) h there = let here : n ≡ name = cc in subst (λ (m : List ℕ). same m x ≡ false) here h.0
 other_at (suc k) x name (n ∷ names) h there = other_at k x name names h.1 there
 
--- where no name stands twice, a name's place is where it stands
+-- if no two names are equal, a name's place is its index
 placed_from : (i k : ℕ) (name : List ℕ) (names : List (List ℕ)) → AreApart names → slice_get names k ≡ Some name → position_from (same name) i names ≡ Some (i + k)
 placed_from i k name [] h there = cc
 placed_from i zero name (n ∷ names) h there =
@@ -61,7 +61,7 @@ placed_at : (k : ℕ) (name : List ℕ) (names : List (List ℕ)) → AreApart n
 placed_at k name names h there = let count : 0 + k ≡ k = omega arith in placed_from 0 k name names h there ∙ ap (λ (m : ℕ). Some m) count
 
 -- a proposal that nothing refuses fits
-pub fits : (v : View) (p : Proposed) (stored : List StoredText) → Keeps v stored → refusal v p ≡ None → Fits v p
+pub fits : (v : View) (p : Proposal) (stored : List StoredText) → Keeps v stored → refusal v p ≡ None → Fits v p
 fits v p stored keeps unrefused =
     let f = free v p unrefused in
     let names = names_in v.opening.texts in
@@ -76,7 +76,7 @@ fits v p stored keeps unrefused =
     }
 
 -- and nothing refuses one that fits
-pub fits_free : (v : View) (p : Proposed) (stored : List StoredText) → Keeps v stored → Fits v p → refusal v p ≡ None
+pub fits_free : (v : View) (p : Proposal) (stored : List StoredText) → Keeps v stored → Fits v p → refusal v p ≡ None
 fits_free v p stored keeps h =
     let names = names_in v.opening.texts in
     let versioned : VersionedText = record { name = p.statement.text; text = h.text; version = p.version } in
@@ -87,14 +87,14 @@ fits_free v p stored keeps h =
     ∙ chosen (nat_eq p.version p.version) (full v) (Changed p.version p.version) (eq-eqb p.version p.version refl)
     ∙ not_full (length v.journal) v.opening.room (nat_eq (length v.journal) v.opening.room) refl (λ same. omega (arith, h.room, same))
 
--- the place of a proposal that nothing refuses lies among the texts
-pub place_free : (b book : Book) (p : Proposed) (stored : List StoredText) → b ≡ book → Keeps (view_of b) stored → refusal (view_of book) p ≡ None → p.place < length stored
+-- the place of a proposal that nothing refuses is less than the number of texts
+pub place_free : (b book : Book) (p : Proposal) (stored : List StoredText) → b ≡ book → Keeps (view_of b) stored → refusal (view_of book) p ≡ None → p.place < length stored
 place_free b book p stored equal keeps none =
     let f = free (view_of b) p (ap (λ (c : Book). refusal (view_of c) p) equal ∙ none) in place_inside b stored p.statement.text p.place keeps f.placed
 
 -- the text in the book is the one that the proposal's statement was performed on
-pub stands_still : (b book : Book) (p : Proposed) (stored : List StoredText) (s : StoredText) → b ≡ book → Keeps (view_of b) stored → refusal (view_of book) p ≡ None
-    → Kin p.origin (view_of book) → IsPerformed p.origin p.place p.version p.statement p.done → slice_get stored p.place ≡ Some s
+pub stands_still : (b book : Book) (p : Proposal) (stored : List StoredText) (s : StoredText) → b ≡ book → Keeps (view_of b) stored → refusal (view_of book) p ≡ None
+    → Kin p.origin (view_of book) → IsPerformed p.origin p.place p.version p.statement p.outcome → slice_get stored p.place ≡ Some s
     → Stands p.origin p.place p.version (arc_value s.text)
 stands_still b book p stored s equal keeps none kin performed at =
     let f = free (view_of b) p (ap (λ (c : Book). refusal (view_of c) p) equal ∙ none) in
@@ -107,26 +107,26 @@ stands_still b book p stored s equal keeps none kin performed at =
     kin_agree p.origin (view_of b) here p.place before now performed.stands.there there (f.version ∙ ap (λ (x : VersionedText). x.version) is) in
     subst (λ (t : List ℕ). Stands p.origin p.place p.version t) text performed.stands
 
-pub fits_still : (b book : Book) (p ready : Proposed) (stored : List StoredText) (journal : List Entry) → b ≡ book → ready ≡ p → journal ≡ b.journal → Keeps (view_of b) stored
+pub fits_still : (b book : Book) (p ready : Proposal) (stored : List StoredText) (journal : List Entry) → b ≡ book → ready ≡ p → journal ≡ b.journal → Keeps (view_of b) stored
     → refusal (view_of book) p ≡ None → Fits (record { opening = b.opening; journal = journal }) ready
 fits_still b book p ready stored journal same holds still keeps none =
     let here : Fits (view_of b) p = fits (view_of b) p stored keeps (ap (λ (c : Book). refusal (view_of c) p) same ∙ none) in
     let now : Fits (record { opening = b.opening; journal = journal }) p =
     subst (λ (j : List Entry). Fits (record { opening = b.opening; journal = j }) p) (sym still) here in
-    subst (λ (q : Proposed). Fits (record { opening = b.opening; journal = journal }) q) (sym holds) now
+    subst (λ (q : Proposal). Fits (record { opening = b.opening; journal = journal }) q) (sym holds) now
 
--- what was prepared, at a book that it fits
-module _ (b book : Book) (p ready : Proposed) (stored : List StoredText) (text : List ℕ) (equal : b ≡ book) (holds : p ≡ ready) (keeps : Keeps (view_of b) stored)
-    (fit : Fits (view_of book) ready) (kin : Kin ready.origin (view_of book)) (stands : Stands p.origin p.place p.version text) (performed : perform p.statement text ≡ Ok p.done) where
+-- a proposal that was prepared, and a book that it fits
+module _ (b book : Book) (p ready : Proposal) (stored : List StoredText) (text : List ℕ) (equal : b ≡ book) (holds : p ≡ ready) (keeps : Keeps (view_of b) stored)
+    (fit : Fits (view_of book) ready) (kin : Kin ready.origin (view_of book)) (stands : Stands p.origin p.place p.version text) (performed : perform p.statement text ≡ Ok p.outcome) where
   fit_here : Fits (view_of b) p
   fit_here =
       let here : Fits (view_of b) ready = subst (λ (c : Book). Fits (view_of c) ready) (sym equal) fit in
-      subst (λ (q : Proposed). Fits (view_of b) q) (sym holds) here
+      subst (λ (q : Proposal). Fits (view_of b) q) (sym holds) here
 
   kin_here : Kin p.origin (view_of b)
   kin_here =
       let here : Kin ready.origin (view_of b) = subst (λ (c : Book). Kin ready.origin (view_of c)) (sym equal) kin in
-      subst (λ (q : Proposed). Kin q.origin (view_of b)) (sym holds) here
+      subst (λ (q : Proposal). Kin q.origin (view_of b)) (sym holds) here
 
   none_here : refusal (view_of b) p ≡ None
   none_here = fits_free (view_of b) p stored keeps fit_here
@@ -136,14 +136,14 @@ module _ (b book : Book) (p ready : Proposed) (stored : List StoredText) (text :
   free_here = free (view_of b) p none_here
 
   -- its statement was performed on the book's text
-  pub performed_here : perform p.statement free_here.versioned.text ≡ Ok p.done
+  pub performed_here : perform p.statement free_here.versioned.text ≡ Ok p.outcome
   performed_here =
       let before : VersionedText = record { name = stands.name; text = text; version = p.version } in
       let agree : text ≡ free_here.versioned.text = kin_agree p.origin (view_of b) kin_here p.place before free_here.versioned stands.there free_here.there free_here.version in
       ap (λ (t : List ℕ). perform p.statement t) (sym agree) ∙ performed
 
   -- and so it is accepted
-  pub accepted : (journal : List Entry) (given : Received) → journal ≡ b.journal ++ entry_of p ∷ []
+  pub accepted : (journal : List Entry) (given : Receipt) → journal ≡ b.journal ++ entry_of p ∷ []
       → given ≡ record { index = length b.journal; entry = entry_of p; text = text } → IsAccepted (view_of book) (record { opening = b.opening; journal = journal }) ready given
   accepted journal given grown received =
       let v : View = view_of b in
@@ -151,22 +151,22 @@ module _ (b book : Book) (p ready : Proposed) (stored : List StoredText) (text :
       let before : VersionedText = record { name = stands.name; text = text; version = p.version } in
       let now : VersionedText = record { name = p.statement.text; text = fit_here.text; version = p.version } in
       let agree : text ≡ fit_here.text = kin_agree p.origin v kin_here p.place before now stands.there fit_here.there refl in
-      let given_text : text ≡ given.text = sym (ap (λ (r : Received). r.text) received) in
+      let given_text : text ≡ given.text = sym (ap (λ (r : Receipt). r.text) received) in
       let is : IsAccepted v (record { opening = b.opening; journal = journal }) p given = record {
         free = none_here;
         appended = appended;
         has_step = free_step v p stored keeps free_here performed_here;
         stepped = ap (λ (w : View). state_of w) appended ∙ replay_snoc (start v.opening) v.journal (entry_of p);
-        index = ap (λ (r : Received). r.index) received;
-        entry = ap (λ (r : Received). r.entry) received;
+        index = ap (λ (r : Receipt). r.index) received;
+        entry = ap (λ (r : Receipt). r.entry) received;
         text = fit_here.there ∙ ap (λ (t : List ℕ). Some (record { name = p.statement.text; text = t; version = p.version })) (sym agree ∙ given_text);
         seen = subst (λ (t : List ℕ). Stands p.origin p.place p.version t) given_text stands;
       } in
       let at_book : IsAccepted (view_of book) (record { opening = b.opening; journal = journal }) p given =
       subst (λ (c : Book). IsAccepted (view_of c) (record { opening = b.opening; journal = journal }) p given) equal is in
-      subst (λ (q : Proposed). IsAccepted (view_of book) (record { opening = b.opening; journal = journal }) q given) holds at_book
+      subst (λ (q : Proposal). IsAccepted (view_of book) (record { opening = b.opening; journal = journal }) q given) holds at_book
 
--- a text as it stands in a book
+-- a current text of a book
 pub stands_in : (book : Book) (origin : View) (name taken text : List ℕ) (place version : ℕ) → origin ≡ view_of book → IsLawful (view_of book) → text ≡ taken
     → slice_get (state_of (view_of book)) place ≡ Some (record { name = name; text = taken; version = version }) → Stands origin place version text
 stands_in book origin name taken text place version from lawful same_text there =

@@ -1,8 +1,8 @@
--- A proposal on a text as it stands.
+-- A proposal on the current text of a book.
 use Rattle.std.proofs.Common.{◌≡◌, ◌≢◌, ℕ, Bool, true, false, cond, nat_eq, List, [], ◌∷◌, length, append-nil, Option, Some, None, inl, refl, ap, sym, ◌∙◌}
 use Rattle.std.proofs.lemmas.Bool.{eq-eqb, eqb-true, and_from}
 use Rattle.sno_pattern.specs.Identifiers.{same}
-use Rattle.sno_statement.specs.Task.{Task}
+use Rattle.sno_statement.specs.Statement.{Statement}
 use Rattle.sno_book.specs.Openings.{place_in}
 use Rattle.sno_book.specs.States.{VersionedText}
 use Rattle.sno_book.specs.Commits.{full}
@@ -30,7 +30,7 @@ chosen false x g h = cc
 pub fresh_is_free : FreshIsFree
 fresh_is_free v snapshot s p taken proposed room =
     let versioned : VersionedText = record { name = s.text; text = snapshot.text; version = snapshot.version } in
-    let placed : place_in v.opening p.statement.text ≡ Some snapshot.place = ap (λ (t : Task). place_in v.opening t.text) proposed.statement ∙ taken.place in
+    let placed : place_in v.opening p.statement.text ≡ Some snapshot.place = ap (λ (t : Statement). place_in v.opening t.text) proposed.statement ∙ taken.place in
     refusal_there v p snapshot.place versioned placed (sym proposed.place) taken.there
     ∙ chosen (nat_eq p.version versioned.version) (full v) (Changed p.version versioned.version) (eq-eqb p.version versioned.version proposed.version)
     ∙ not_full (length v.journal) v.opening.room (nat_eq (length v.journal) v.opening.room) refl room

@@ -23,7 +23,7 @@ same_is (x ∷ a) (y ∷ b) h =
     let head : x ≡ y = eqb-true x y hs.0 in
     let tail = same_is a b hs.1 in cc
 
--- the first of the names that is this one stands at place k
+-- the first of the names that is this one is at place k
 abbrev pub StandsAt : List ℕ → List (List ℕ) → ℕ → Type 0
 StandsAt name [] k = ⊥
 StandsAt name (n ∷ names) zero = same name n ≡ true
@@ -64,7 +64,7 @@ stands_inside name (suc k) (n ∷ names) h = let i = stands_inside name k names 
 abbrev seen : List ℕ → StoredText → VersionedText
 seen name s = record { name = name; text = arc_value s.text; version = s.version }
 
--- what stands at the place of a name is what is found by the name
+-- `find` returns the text at the place of the name
 pub find_held : (name : List ℕ) (k : ℕ) (names : List (List ℕ)) (stored : List StoredText) (versioned : VersionedText) → StandsAt name names k → slice_get (with_names names stored) k ≡ Some versioned
     → find name (with_names names stored) ≡ Some versioned
 find_held name k [] stored versioned at there = absurd at
@@ -76,7 +76,7 @@ none_if : (b : Bool) (i : ℕ) (later : Option ℕ) (x : VersionedText) (rest : 
 none_if true i later x rest h more = cc
 none_if false i later x rest h more = more h
 
--- where no name is this one, nothing is found by it
+-- if no name is this one, `find` returns `None`
 pub find_none : (name : List ℕ) (i : ℕ) (names : List (List ℕ)) (stored : List StoredText) → position_from (same name) i names ≡ None → find name (with_names names stored) ≡ None
 find_none name i [] stored h = refl
 find_none name i (n ∷ names) [] h = refl
@@ -91,7 +91,7 @@ get_at name zero (n ∷ names) (x ∷ stored) s at there =
     let is : x ≡ s = cc in let called = sym (same_is name n at) in (λ i. Some (seen (called i) (is i)))
 get_at name (suc k) (n ∷ names) (x ∷ stored) s at there = get_at name k names stored s at.1 there
 
--- what is put at the place of a name takes the place of the text of that name
+-- a text that is put at the place of a name replaces the text of that name
 pub renew_at : (name text : List ℕ) (k : ℕ) (names : List (List ℕ)) (stored : List StoredText) (s new : StoredText) → StandsAt name names k → slice_get stored k ≡ Some s
     → arc_value new.text ≡ text → new.version ≡ s.version + 1 → with_names names (set stored k new) ≡ renew name text (with_names names stored)
 renew_at name text k [] stored s new at there is raised = absurd at
@@ -103,7 +103,7 @@ renew_at name text zero (n ∷ names) (x ∷ stored) s new at there is raised =
 renew_at name text (suc k) (n ∷ names) (x ∷ stored) s new at there is raised =
     rw at.0 (ap (λ (l : State). seen n x ∷ l) (renew_at name text k names stored s new at.1 there is raised))
 
--- the same, of a new text that is there
+-- the same if there is a new text
 pub renewed : (name : List ℕ) (k : ℕ) (names : List (List ℕ)) (stored : List StoredText) (s : StoredText) (text : Arc (List ℕ) Global) (after : Option (Arc (List ℕ) Global))
     → place_of names name ≡ Some k → slice_get stored k ≡ Some s → after ≡ Some text
     → with_names names (set stored k (record { text = text; version = s.version + 1 })) ≡ renew_by name (option_map arc_value after) (with_names names stored)
@@ -114,7 +114,7 @@ abbrev version_in : Option StoredText → ℕ
 version_in None = 0
 version_in (Some s) = s.version
 
--- what stands at a place has no version above that of all the texts
+-- if no version is above n, neither is that of the text at a place
 pub held_small : (n k : ℕ) (names : List (List ℕ)) (stored : List StoredText) (s : StoredText) → slice_get stored k ≡ Some s → length stored ≤ length names
     → VersionsBelow n (with_names names stored) → s.version ≤ n
 held_small n k names [] s there few h = cc

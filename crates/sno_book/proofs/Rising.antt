@@ -9,7 +9,7 @@ use Rattle.sno_book.specs.Views.{View, IsPrefix, state_of}
 use Rattle.sno_book.specs.Laws.{OnlyRises, VersionsOnlyRise, VersionsOnlyRiseInPlace, KinAgree, VersionsCountEntries}
 use Rattle.sno_book.proofs.Steps.{VersionsBelow, below_replayed, below_started}
 
--- what is found after a step: what was found before it, or a text of a version one higher
+-- what is found after a step: the text that was found before it, or one whose version is one higher
 record Goes (found : Option VersionedText) (versioned : VersionedText) : Type 0 where
   next : VersionedText
   is : found ≡ Some next
@@ -42,7 +42,7 @@ rises : (name : List ℕ) (state : State) (journal : List Entry) (before after :
 rises name state [] before after h g =
     let same : before ≡ after = cc in rw same (record { version = omega arith; text = λ _. refl })
 rises name state (e ∷ journal) before after h g =
-    let s = renewed_by name e.statement.text (after_of e.done) state before h in onward before s.next after s.rises (rises name (step state e) journal s.next after s.is g)
+    let s = renewed_by name e.statement.text (after_of e.outcome) state before h in onward before s.next after s.rises (rises name (step state e) journal s.next after s.is g)
 
 replay_append : (state : State) (journal more : List Entry) → replay state (journal ++ more) ≡ replay (replay state journal) more
 replay_append state [] more = refl
@@ -60,7 +60,7 @@ versions_only_rise earlier later prefix name before after h g =
 
 -- ---- a text by its place
 
--- what stands at a place after a step: what stood there before it, or a text of that name and of a version one higher
+-- the text at a place after a step: the one that was there before it, or one of that name whose version is one higher
 renewed_there : (name text : List ℕ) (k : ℕ) (state : State) (versioned : VersionedText) → slice_get state k ≡ Some versioned → Goes (slice_get (renew name text state) k) versioned
 renewed_there name text k [] versioned there = cc
 renewed_there name text zero (here ∷ state) versioned there = first (same name here.name)
@@ -82,7 +82,7 @@ rises_there : (k : ℕ) (state : State) (journal : List Entry) (before after : V
 rises_there k state [] before after h g =
     let same : before ≡ after = cc in rw same (record { version = omega arith; text = λ _. refl })
 rises_there k state (e ∷ journal) before after h g =
-    let s = renewed_there_by e.statement.text (after_of e.done) k state before h in onward before s.next after s.rises (rises_there k (step state e) journal s.next after s.is g)
+    let s = renewed_there_by e.statement.text (after_of e.outcome) k state before h in onward before s.next after s.rises (rises_there k (step state e) journal s.next after s.is g)
 
 pub versions_only_rise_in_place : VersionsOnlyRiseInPlace
 versions_only_rise_in_place earlier later prefix place before after h g =

@@ -1,4 +1,4 @@
--- The entries that are the same by `same_entry` are the equal ones, and so of all that they are made of.
+-- `same_entry` holds exactly for equal entries. The same is proved of all that entries are made of.
 use Rattle.std.proofs.Common.{◌≡◌, ℕ, Bool, ◌&&◌, nat_eq, List, Option, Some, None, refl, ap}
 use Rattle.std.specs.Bool.{Decides}
 use Rattle.std.specs.Option.{option_eq}
@@ -11,14 +11,14 @@ use Rattle.sno_pattern.specs.Identifiers.{same}
 use Rattle.sno_pattern.specs.Definitions.{Definitions}
 use Rattle.sno_read.specs.declared.objects.Part.{Part}
 use Rattle.sno_read.specs.declared.objects.Part.TheVariants.{Quoted, Var}
-use Rattle.sno_statement.specs.Task.{Task}
-use Rattle.sno_statement.specs.Bindings.{Bound}
-use Rattle.sno_statement.specs.Perform.{Done, Matched, Failed, Repeated}
+use Rattle.sno_statement.specs.Statement.{Statement}
+use Rattle.sno_statement.specs.Bindings.{Bindings}
+use Rattle.sno_statement.specs.Perform.{Outcome, Matched, Failed, Repeated}
 use Rattle.sno_statement.specs.declared.binding.Datum.{Datum}
 use Rattle.sno_statement.specs.declared.binding.Datum.TheVariants.{Str, Int}
 use Rattle.sno_book.specs.Entries.{Entry}
 use Rattle.sno_book.specs.SamePatterns.{same_tree}
-use Rattle.sno_book.specs.SameEntries.{same_part, same_object, same_definitions, same_task, same_datum, same_binding, same_bound, same_done, same_entry}
+use Rattle.sno_book.specs.SameEntries.{same_part, same_object, same_definitions, same_statement, same_datum, same_binding, same_bound, same_outcome, same_entry}
 use Rattle.sno_book.proofs.SameTrees.{tree_decides}
 
 -- lists, and values that may be there, by their elements
@@ -46,8 +46,8 @@ definitions_decide d e =
     (λ (h : d ≡ e). (ap (λ (x : Definitions). x.names) h, ap (λ (x : Definitions). x.bodies) h))
     (Decides-and names bodies (lists same bytes_eq-Decides d.names e.names) (lists same_tree tree_decides d.bodies e.bodies))
 
-task_decides : (s t : Task) → Decides (same_task s t) (s ≡ t)
-task_decides s t =
+statement_decides : (s t : Statement) → Decides (same_statement s t) (s ≡ t)
+statement_decides s t =
     let number = nat_eq s.number t.number in
     let limit = nat_eq s.limit t.limit in
     let repeat = option_eq nat_eq s.repeat t.repeat in
@@ -67,7 +67,7 @@ task_decides s t =
       pattern = h.1.1.1.1.1.1.0 i;
       rules = h.1.1.1.1.1.1.1 i;
     }))
-    (λ (h : s ≡ t). (ap (λ (x : Task). x.number) h, (ap (λ (x : Task). x.limit) h, (ap (λ (x : Task). x.repeat) h, (ap (λ (x : Task). x.anchored) h, (ap (λ (x : Task). x.text) h, (ap (λ (x : Task). x.object) h, (ap (λ (x : Task). x.pattern) h, ap (λ (x : Task). x.rules) h))))))))
+    (λ (h : s ≡ t). (ap (λ (x : Statement). x.number) h, (ap (λ (x : Statement). x.limit) h, (ap (λ (x : Statement). x.repeat) h, (ap (λ (x : Statement). x.anchored) h, (ap (λ (x : Statement). x.text) h, (ap (λ (x : Statement). x.object) h, (ap (λ (x : Statement). x.pattern) h, ap (λ (x : Statement). x.rules) h))))))))
     (Decides-and number (limit && (repeat && (anchored && (text && (object && (pattern && rules)))))) (unsigned_Decides s.number t.number)
     (Decides-and limit (repeat && (anchored && (text && (object && (pattern && rules))))) (unsigned_Decides s.limit t.limit)
     (Decides-and repeat (anchored && (text && (object && (pattern && rules)))) (options nat_eq unsigned_Decides s.repeat t.repeat)
@@ -91,11 +91,11 @@ binding_decides b c =
     (λ (h : b ≡ c). (ap (λ (x : List ℕ × Datum). x.0) h, ap (λ (x : List ℕ × Datum). x.1) h))
     (Decides-and name datum (bytes_eq-Decides b.0 c.0) (datum_decides b.1 c.1))
 
-bound_decides : (b c : Bound) → Decides (same_bound b c) (b ≡ c)
+bound_decides : (b c : Bindings) → Decides (same_bound b c) (b ≡ c)
 bound_decides b c = lists same_binding binding_decides b c
 
-done_decides : (d e : Done) → Decides (same_done d e) (d ≡ e)
-done_decides (Matched s e b after) (Matched t f c more) =
+outcome_decides : (d e : Outcome) → Decides (same_outcome d e) (d ≡ e)
+outcome_decides (Matched s e b after) (Matched t f c more) =
     let from = nat_eq s t in
     let to = nat_eq e f in
     let bound = same_bound b c in
@@ -106,32 +106,32 @@ done_decides (Matched s e b after) (Matched t f c more) =
     (Decides-and from (to && (bound && text)) (unsigned_Decides s t)
     (Decides-and to (bound && text) (unsigned_Decides e f)
     (Decides-and bound text (bound_decides b c) (options same bytes_eq-Decides after more))))
-done_decides (Matched s e b after) (Failed c) = (λ h. cc, λ e. cc)
-done_decides (Matched s e b after) (Repeated n c u) = (λ h. cc, λ e. cc)
-done_decides (Failed b) (Matched t f c more) = (λ h. cc, λ e. cc)
-done_decides (Failed b) (Repeated n c u) = (λ h. cc, λ e. cc)
-done_decides (Repeated m b t) (Matched s f c more) = (λ h. cc, λ e. cc)
-done_decides (Repeated m b t) (Failed c) = (λ h. cc, λ e. cc)
-done_decides (Repeated m b t) (Repeated n c u) =
+outcome_decides (Matched s e b after) (Failed c) = (λ h. cc, λ e. cc)
+outcome_decides (Matched s e b after) (Repeated n c u) = (λ h. cc, λ e. cc)
+outcome_decides (Failed b) (Matched t f c more) = (λ h. cc, λ e. cc)
+outcome_decides (Failed b) (Repeated n c u) = (λ h. cc, λ e. cc)
+outcome_decides (Repeated m b t) (Matched s f c more) = (λ h. cc, λ e. cc)
+outcome_decides (Repeated m b t) (Failed c) = (λ h. cc, λ e. cc)
+outcome_decides (Repeated m b t) (Repeated n c u) =
     let matches = nat_eq m n in
     let bound = same_bound b c in
     let text = same t u in
     Decides-like (matches && (bound && text)) (λ (h : (m ≡ n) × ((b ≡ c) × (t ≡ u))). (λ i. Repeated (h.0 i) (h.1.0 i) (h.1.1 i)))
     (λ (h : Repeated m b t ≡ Repeated n c u). (cc, (cc, cc)))
     (Decides-and matches (bound && text) (unsigned_Decides m n) (Decides-and bound text (bound_decides b c) (bytes_eq-Decides t u)))
-done_decides (Failed b) (Failed c) = Decides-like (same_bound b c) (λ (e : b ≡ c). ap Failed e) (λ (e : Failed b ≡ Failed c). cc) (bound_decides b c)
+outcome_decides (Failed b) (Failed c) = Decides-like (same_bound b c) (λ (e : b ≡ c). ap Failed e) (λ (e : Failed b ≡ Failed c). cc) (bound_decides b c)
 
 entry_decides : (e f : Entry) → Decides (same_entry e f) (e ≡ f)
 entry_decides e f =
     let version = nat_eq e.version f.version in
-    let statement = same_task e.statement f.statement in
-    let done = same_done e.done f.done in
+    let statement = same_statement e.statement f.statement in
+    let done = same_outcome e.outcome f.outcome in
     Decides-like (version && (statement && done))
-    (λ (h : (e.version ≡ f.version) × ((e.statement ≡ f.statement) × (e.done ≡ f.done))). (λ i. record { version = h.0 i; statement = h.1.0 i; done = h.1.1 i }))
-    (λ (h : e ≡ f). (ap (λ (x : Entry). x.version) h, (ap (λ (x : Entry). x.statement) h, ap (λ (x : Entry). x.done) h)))
+    (λ (h : (e.version ≡ f.version) × ((e.statement ≡ f.statement) × (e.outcome ≡ f.outcome))). (λ i. record { version = h.0 i; statement = h.1.0 i; outcome = h.1.1 i }))
+    (λ (h : e ≡ f). (ap (λ (x : Entry). x.version) h, (ap (λ (x : Entry). x.statement) h, ap (λ (x : Entry). x.outcome) h)))
     (Decides-and version (statement && done) (unsigned_Decides e.version f.version)
-    (Decides-and statement done (task_decides e.statement f.statement) (done_decides e.done f.done)))
+    (Decides-and statement done (statement_decides e.statement f.statement) (outcome_decides e.outcome f.outcome)))
 
--- the same entries are the equal ones
+-- `same_entry` decides whether entries are equal
 pub decided : (r : Bool) (e f : Entry) → r ≡ same_entry e f → Decides r (e ≡ f)
 decided r e f is = Decides-at r (same_entry e f) is (entry_decides e f)

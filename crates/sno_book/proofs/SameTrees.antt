@@ -1,4 +1,4 @@
--- The trees that are the same by `same_tree` are the equal ones.
+-- `same_tree` holds exactly for equal trees.
 use Rattle.std.proofs.Common.{◌≡◌, ℕ, true, nat_eq, List, refl, ap, subst}
 use Rattle.std.specs.Bool.{Decides}
 use Rattle.std.proofs.lemmas.Bool.{eqb-true, eq-eqb, and_from, and_parts}
@@ -72,6 +72,6 @@ tree_self (Alt p q) = and_from (same_tree p p) (same_tree q q) (tree_self p) (tr
 tree_self (Cond p v) = and_from (same v v) (same_tree p p) (self_text v) (tree_self p)
 tree_self (Imm p v) = and_from (same v v) (same_tree p p) (self_text v) (tree_self p)
 
--- the same trees are the equal ones
+-- `same_tree` decides whether trees are equal
 pub tree_decides : (t u : Tree) → Decides (same_tree t u) (t ≡ u)
 tree_decides t u = (tree_is t u, λ (e : t ≡ u). subst (λ (v : Tree). same_tree t v ≡ true) e (tree_self t))

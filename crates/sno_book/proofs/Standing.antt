@@ -1,4 +1,4 @@
--- Which texts stand after some entries: those of the opening, each at the place of its name.
+-- Which texts there are after some entries: those of the opening, each at the place of its name.
 use Rattle.std.proofs.Common.{◌≡◌, ◌≢◌, ℕ, zero, suc, ◌+◌, Bool, true, false, cond, List, [], ◌∷◌, map, Option, Some, None, slice_get, refl, ap, sym, ◌∙◌, subst}
 use Rattle.std.specs.List.{position_from}
 use Rattle.sno_pattern.specs.Identifiers.{same}
@@ -29,13 +29,13 @@ renewed_by name (Some text) state = renewed_names name text state
 
 replayed_names : (state : State) (journal : List Entry) → names_of (replay state journal) ≡ names_of state
 replayed_names state [] = refl
-replayed_names state (e ∷ journal) = replayed_names (step state e) journal ∙ renewed_by e.statement.text (after_of e.done) state
+replayed_names state (e ∷ journal) = replayed_names (step state e) journal ∙ renewed_by e.statement.text (after_of e.outcome) state
 
 started_names : (texts : List (List ℕ × List ℕ)) (room : ℕ) → names_of (start (record { texts = texts; room = room })) ≡ names_in texts
 started_names [] room = refl
 started_names (t ∷ texts) room = ap (λ (l : List (List ℕ)). t.0 ∷ l) (started_names texts room)
 
--- the text of this name stands at this place, and no earlier one has the name
+-- the text of this name is at this place, and no earlier one has the name
 pub record Stood (name : List ℕ) (place : ℕ) (state : State) : Type 0 where
   pub held : VersionedText
   pub there : slice_get state place ≡ Some held
@@ -47,7 +47,7 @@ stood name zero (here ∷ state) h = record { held = here; there = refl; found =
 stood name (suc k) (here ∷ state) h =
     let later = stood name k state h.1 in record { held = later.held; there = later.there; found = rw (h.0) later.found }
 
--- the opening's place of a name is that of a text after any entries
+-- the place of a name in the opening is the place of its text after any entries
 pub standing : (opening : Opening) (entries : List Entry) (name : List ℕ) (k : ℕ) → place_in opening name ≡ Some k → Stood name k (replay (start opening) entries)
 standing opening entries name k h =
     let names = replayed_names (start opening) entries ∙ started_names opening.texts opening.room in
@@ -72,17 +72,17 @@ found_none name i [] h = refl
 found_none name i (held ∷ state) h =
     none_if (same name held.name) i (position_from (same name) (i + 1) (names_of state)) held (find name state) h (found_none name (i + 1) state)
 
--- what is found by the name is what stands at its place
+-- `find` returns the text at the place of the name
 pub found_by_place : (book : Book) (name : List ℕ) (k : ℕ) → place_of (names_in book.opening.texts) name ≡ Some k
     → find name (state_of (view_of book)) ≡ slice_get (state_of (view_of book)) k
 found_by_place book name k placed =
     found_at name k (state_of (view_of book)) (subst (λ l. StandsAt name l k) (sym (names_kept (view_of book))) (stands_at name k (names_in book.opening.texts) placed))
 
--- what has no place is not found
+-- for a name without a place `find` returns `None`
 pub found_nowhere : (book : Book) (name : List ℕ) → place_of (names_in book.opening.texts) name ≡ None → find name (state_of (view_of book)) ≡ None
 found_nowhere book name nowhere = found_none name 0 (state_of (view_of book)) (ap (λ (l : List (List ℕ)). place_of l name) (names_kept (view_of book)) ∙ nowhere)
 
--- the same of a name that the opening has, and of one that it has not
+-- whether `find` returns a text for a name that the opening has, and for one that it lacks
 pub is_named : (book : Book) (name : List ℕ) → place_in book.opening name ≢ None → find name (state_of (view_of book)) ≢ None
 is_named book name there none = by_place (place_in book.opening name) refl
   where

@@ -32,7 +32,7 @@ below_by n name (Some text) state h = below_renewed n name text state h
 pub below_replayed : (n : ℕ) (state : State) (journal : List Entry) → VersionsBelow n state → VersionsBelow (n + length journal) (replay state journal)
 below_replayed n state [] h = let count : n ≡ n + 0 = omega arith in subst (λ k. VersionsBelow k state) count h
 below_replayed n state (e ∷ journal) h =
-    let r = below_replayed (n + 1) (step state e) journal (below_by n e.statement.text (after_of e.done) state h) in
+    let r = below_replayed (n + 1) (step state e) journal (below_by n e.statement.text (after_of e.outcome) state h) in
     let count : n + 1 + length journal ≡ n + suc (length journal) = omega arith in subst (λ k. VersionsBelow k (replay (step state e) journal)) count r
 
 pub below_started : (texts : List (List ℕ × List ℕ)) (room : ℕ) → VersionsBelow 0 (start (record { texts = texts; room = room }))

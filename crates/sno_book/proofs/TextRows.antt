@@ -33,13 +33,13 @@ insert_if : (b : Bool) (k : List ℕ) (v : Arc (List ℕ) Global) (e : List ℕ 
 insert_if true k v e es more later h rest = cc
 insert_if false k v e es more later h rest = ap (λ (l : List (List ℕ × List ℕ)). (e.0, arc_value e.1) ∷ l) (rest h)
 
--- a text of a new name stands after the others
+-- a text of a new name comes after the others
 pub insert_seen : (k : List ℕ) (v : Arc (List ℕ) Global) (es : Shared) → list_any (same k) (names_in (texts_seen es)) ≡ false
     → texts_seen (insert_entry same es k v) ≡ texts_seen es ++ (k, arc_value v) ∷ []
 insert_seen k v [] h = refl
 insert_seen k v (e ∷ es) h = insert_if (same k e.0) k v e es (insert_entry same es k v) (list_any (same k) (names_in (texts_seen es))) h (insert_seen k v es)
 
--- what was looked for is not there
+-- the name that was sought is not there
 pub absent : (found : Bool) (t : List ℕ → Bool) (es : Shared) → found ≡ is_some (lookup t es) → found ≡ false → list_any t (names_in (texts_seen es)) ≡ false
 absent found t es looked h = sym (there_seen t es) ∙ sym looked ∙ h
 
@@ -92,7 +92,7 @@ false_of : (b added : Bool) → added ≡ not b → added ≡ true → b ≡ fal
 false_of true added h g = cc
 false_of false added h g = refl
 
--- the name that wasn't added stands there already
+-- the name that wasn't added is there already
 pub not_added : (name : List ℕ) (so_far : List (List ℕ × List ℕ)) (added : Bool) → added ≡ not (list_any (same name) (names_in so_far)) → added ≡ false → list_any (same name) (names_in so_far) ≡ true
 not_added name so_far added h g = true_of (list_any (same name) (names_in so_far)) added h g
 
@@ -126,7 +126,7 @@ first_same so_far more left rest t first added es fs grown is fs_seen es_seen as
     ∙ ap (λ (ks : List (List ℕ)). repeat_from ks (length es + 1) (names_in rest)) (ap names_in grown ∙ names_snoc so_far t)
     ∙ sym step ∙ ap (λ (l : List (List ℕ × List ℕ)). repeat_from (names_in so_far) (length es) (names_in l)) (sym is) ∙ invariant
 
--- what stands at the place of the text that was added
+-- the stored text and version of the text that was added
 pub contents_more : (so_far more : List (List ℕ × List ℕ)) (old new : List (List ℕ × ℕ)) (t : List ℕ × List ℕ) → more ≡ so_far ++ t ∷ [] → new ≡ old ++ (t.1, 0) ∷ []
     → old ≡ first_contents so_far → new ≡ first_contents more
 contents_more so_far more old new t grown put is =

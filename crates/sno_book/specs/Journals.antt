@@ -4,17 +4,17 @@ use Rattle.sno_statement.specs.Perform.{perform}
 use Rattle.sno_book.specs.States.{VersionedText, State, find, renew_by}
 use Rattle.sno_book.specs.Entries.{Entry, after_of}
 
--- an entry has a step from texts among which the statement's text has the entry's version, and where the entry's outcome is what the
--- statement does to that text
+-- an entry has a step from texts if the statement's text has the entry's version among them, and the entry's outcome is
+-- what the statement does to that text
 pub record HasStep (state : State) (entry : Entry) : Type 0 where
   pub versioned : VersionedText
   pub found : find entry.statement.text state ≡ Some versioned
   pub at_version : versioned.version ≡ entry.version
-  pub performed : perform entry.statement versioned.text ≡ Ok entry.done
+  pub performed : perform entry.statement versioned.text ≡ Ok entry.outcome
 
--- the texts after the step: the new text in place of the statement's text, where the outcome has one
+-- the texts after the step: the new text in place of the statement's text, if the outcome has one
 abbrev pub step : State → Entry → State
-step state entry = renew_by entry.statement.text (after_of entry.done) state
+step state entry = renew_by entry.statement.text (after_of entry.outcome) state
 
 -- the texts after the steps of a journal
 abbrev pub replay : State → List Entry → State

@@ -8,6 +8,7 @@ use Rattle.std.proofs.Common.{Global}
 use Rattle.sno_book.specs.States.{State}
 use Rattle.sno_book.specs.declared.faults.BookFault.{BookFault}
 use Rattle.sno_book.specs.declared.faults.BookFault.TheVariants as fault
+use Rattle.sno_book.specs.declared.openings.TheConstants.{MAX_TEXTS, MAX_ENTRIES}
 
 -- names with their texts, and the journal's room
 pub record Opening : Type 0 where
@@ -23,7 +24,7 @@ opening_code =
 abbrev pub names_in : List (List ℕ × List ℕ) → List (List ℕ)
 names_in texts = map (λ t. t.0) texts
 
--- the place of the text of this name
+-- the place of the text of this name, if there is one
 abbrev pub place_in : Opening → List ℕ → Option ℕ
 place_in opening name = place_of (names_in opening.texts) name
 
@@ -31,20 +32,21 @@ place_in opening name = place_of (names_in opening.texts) name
 abbrev pub start : Opening → State
 start opening = map (λ t. record { name = t.0; text = t.1; version = 0 }) opening.texts
 
--- at most 1,024 texts, no two of one name, and room for at most a million entries
+-- at most 1,024 texts, no two of the same name, and room for at most a million entries
 pub record IsOpening (opening : Opening) : Type 0 where
-  pub few : length opening.texts ≤ 1024
+  pub few : length opening.texts ≤ MAX_TEXTS
   pub apart : first_repeat (names_in opening.texts) ≡ None
-  pub room : opening.room ≤ 1000000
+  pub room : opening.room ≤ MAX_ENTRIES
 
 abbrev pub unless_repeated : Option ℕ → List (List ℕ × List ℕ) → ℕ → Result Opening BookFault
 unless_repeated None texts room = Ok (record { texts = texts; room = room })
 unless_repeated (Some place) texts room = Err (fault.Duplicate place)
 
--- what becomes of texts, unless memory is refused: no more than 1,024, then no name that stands earlier
+-- the opening of these texts, or its first refusal, out of memory aside: more than 1,024 texts, then the first name
+-- that an earlier text has
 abbrev pub opening_of : List (List ℕ × List ℕ) → ℕ → Result Opening BookFault
-opening_of texts room = if nat_lt 1024 (length texts) then Err fault.TooMany else unless_repeated (first_repeat (names_in texts)) texts room
+opening_of texts room = if nat_lt MAX_TEXTS (length texts) then Err fault.TooMany else unless_repeated (first_repeat (names_in texts)) texts room
 
--- texts of the program by value
+-- the program's texts by value
 abbrev pub texts_seen : List (List ℕ × Arc (List ℕ) Global) → List (List ℕ × List ℕ)
 texts_seen texts = map (λ t. (t.0, arc_value t.1)) texts

@@ -1,7 +1,7 @@
 -- What a snapshot and a proposal keep of the view from which they come.
 use Rattle.std.specs.Prelude.{◌≡◌, ℕ, List, [], ◌∷◌, Some, Ok, slice_get}
-use Rattle.sno_statement.specs.Task.{Task}
-use Rattle.sno_statement.specs.Perform.{Done, perform}
+use Rattle.sno_statement.specs.Statement.{Statement}
+use Rattle.sno_statement.specs.Perform.{Outcome, perform}
 use Rattle.sno_book.specs.Views.{View, IsLawful, state_of}
 use Rattle.sno_book.specs.Books.{Book, view_of}
 
@@ -14,14 +14,14 @@ abbrev pub first_view : List Book → View
 first_view [] = record { opening = record { texts = []; room = 0 }; journal = [] }
 first_view (b ∷ books) = view_of b
 
--- the view is lawful, and after it a text of this version and these characters stands at this place
+-- the view is valid, and after it the text at this place has this version and these characters
 pub record Stands (v : View) (place version : ℕ) (text : List ℕ) : Type 0 where
   pub lawful : IsLawful v
   pub name : List ℕ
   pub there : slice_get (state_of v) place ≡ Some (record { name = name; text = text; version = version })
 
--- the outcome is what the statement does to the text that stands at this place after the view
-pub record IsPerformed (v : View) (place version : ℕ) (s : Task) (done : Done) : Type 0 where
+-- the outcome is what the statement does to the text at this place after the view
+pub record IsPerformed (v : View) (place version : ℕ) (s : Statement) (done : Outcome) : Type 0 where
   pub text : List ℕ
   pub stands : Stands v place version text
   pub performed : perform s text ≡ Ok done

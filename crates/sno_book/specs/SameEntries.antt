@@ -1,4 +1,5 @@
--- Whether two statements, two outcomes and two entries are the same. That the same ones are the equal ones is proved.
+-- Whether two statements, two outcomes and two entries are the same. It is proved that they are the same exactly if
+-- they are equal.
 use Rattle.std.specs.Prelude.{ℕ, Bool, false, ◌&&◌, List, Option, nat_eq}
 use Rattle.std.specs.Option.{option_eq}
 use Rattle.std.specs.Cmp.Lexicographic.{pointwise}
@@ -7,9 +8,9 @@ use Rattle.sno_pattern.specs.Identifiers.{same}
 use Rattle.sno_pattern.specs.Definitions.{Definitions}
 use Rattle.sno_read.specs.declared.objects.Part.{Part}
 use Rattle.sno_read.specs.declared.objects.Part.TheVariants.{Quoted, Var}
-use Rattle.sno_statement.specs.Task.{Task}
-use Rattle.sno_statement.specs.Bindings.{Bound}
-use Rattle.sno_statement.specs.Perform.{Done, Matched, Failed, Repeated}
+use Rattle.sno_statement.specs.Statement.{Statement}
+use Rattle.sno_statement.specs.Bindings.{Bindings}
+use Rattle.sno_statement.specs.Perform.{Outcome, Matched, Failed, Repeated}
 use Rattle.sno_statement.specs.declared.binding.Datum.{Datum}
 use Rattle.sno_statement.specs.declared.binding.Datum.TheVariants.{Str, Int}
 use Rattle.sno_book.specs.Entries.{Entry}
@@ -28,8 +29,8 @@ same_object = option_eq (pointwise same_part)
 abbrev pub same_definitions : Definitions → Definitions → Bool
 same_definitions d e = pointwise same d.names e.names && pointwise same_tree d.bodies e.bodies
 
-abbrev pub same_task : Task → Task → Bool
-same_task s t =
+abbrev pub same_statement : Statement → Statement → Bool
+same_statement s t =
     nat_eq s.number t.number
     && (nat_eq s.limit t.limit
     && (option_eq nat_eq s.repeat t.repeat
@@ -46,14 +47,14 @@ abbrev pub same_binding : List ℕ × Datum → List ℕ × Datum → Bool
 same_binding b c = same b.0 c.0 && same_datum b.1 c.1
 
 -- variables with their values, in their order
-abbrev pub same_bound : Bound → Bound → Bool
+abbrev pub same_bound : Bindings → Bindings → Bool
 same_bound = pointwise same_binding
 
-abbrev pub same_done : Done → Done → Bool
-same_done (Matched s e b after) (Matched t f c more) = nat_eq s t && (nat_eq e f && (same_bound b c && option_eq same after more))
-same_done (Failed b) (Failed c) = same_bound b c
-same_done (Repeated m b t) (Repeated n c u) = nat_eq m n && (same_bound b c && same t u)
-same_done _ _ = false
+abbrev pub same_outcome : Outcome → Outcome → Bool
+same_outcome (Matched s e b after) (Matched t f c more) = nat_eq s t && (nat_eq e f && (same_bound b c && option_eq same after more))
+same_outcome (Failed b) (Failed c) = same_bound b c
+same_outcome (Repeated m b t) (Repeated n c u) = nat_eq m n && (same_bound b c && same t u)
+same_outcome _ _ = false
 
 abbrev pub same_entry : Entry → Entry → Bool
-same_entry e f = nat_eq e.version f.version && (same_task e.statement f.statement && same_done e.done f.done)
+same_entry e f = nat_eq e.version f.version && (same_statement e.statement f.statement && same_outcome e.outcome f.outcome)

@@ -1,9 +1,9 @@
--- Whether two patterns are the same. That the same trees are the equal ones is proved.
+-- Whether two patterns are the same. It is proved that two trees are the same exactly if they are equal.
 use Rattle.std.specs.Prelude.{Bool, true, false, ◌&&◌, nat_eq}
 use Rattle.sno_pattern.specs.Identifiers.{same}
 use Rattle.sno_pattern.specs.Tree.{Tree, Lit, Len, Pos, Rpos, Tab, Rtab, AnyOf, NoneOf, Span, Break, Arb, Arbno, Bal, Rem, Fence, Abort, Fail, At, Ref, Seq, Alt, Cond, Imm}
 
--- two patterns of which the first has no parts below it
+-- whether two patterns are the same, if the first has no parts below it
 abbrev pub same_leaf : Tree → Tree → Bool
 same_leaf (Lit s) (Lit t) = same s t
 same_leaf (Len m) (Len n) = nat_eq m n
@@ -25,7 +25,7 @@ same_leaf (At v) (At w) = same v w
 same_leaf (Ref i) (Ref j) = nat_eq i j
 same_leaf _ _ = false
 
--- two patterns: their variants, their characters and numbers, and the parts below them
+-- whether two patterns are the same: their variants, their characters and numbers, and the parts below them
 abbrev pub same_tree : Tree → Tree → Bool
 same_tree (Arbno p) (Arbno q) = same_tree p q
 same_tree (Seq p r) (Seq q s) = same_tree p q && same_tree r s

@@ -3,7 +3,7 @@ use Rattle.std.specs.Prelude.{ℕ, List, refl}
 use Rattle.std.specs.Coded.{Coded, code_by, coded×, coded_list, coded_ℕ}
 use Rattle.sno_book.specs.Views.{View, view_code}
 
--- the place, version and characters of a text, and the view from which they come
+-- the place, version and characters of a text, and the view from which the snapshot comes
 pub record Snapshot : Type 0 where
   pub place : ℕ
   pub version : ℕ

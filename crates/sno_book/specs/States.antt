@@ -12,21 +12,21 @@ pub record VersionedText : Type 0 where
 abbrev pub State : Type 0
 State = List VersionedText
 
--- the text of this name
+-- the text of this name, if there is one
 abbrev pub find : List ℕ → State → Option VersionedText
 find name [] = None
 find name (versioned ∷ state) = if same name versioned.name then Some versioned else find name state
 
--- a new text raises the version by one, also where its characters are those of the old one
+-- a new text raises the version by one, even if its characters are those of the old one
 abbrev pub raise : VersionedText → List ℕ → VersionedText
 raise versioned text = record { name = versioned.name; text = text; version = versioned.version + 1 }
 
--- the new text in place of the text of this name; all else stays
+-- the new text in place of the text of this name; all else is unchanged
 abbrev pub renew : List ℕ → List ℕ → State → State
 renew name text [] = []
 renew name text (versioned ∷ state) = if same name versioned.name then raise versioned text ∷ state else versioned ∷ renew name text state
 
--- the same where there is a new text; where there is none all stays
+-- the same if there is a new text; otherwise all is unchanged
 abbrev pub renew_by : List ℕ → Option (List ℕ) → State → State
 renew_by name None state = state
 renew_by name (Some text) state = renew name text state

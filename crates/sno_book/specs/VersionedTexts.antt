@@ -6,13 +6,13 @@ use Rattle.sno_book.specs.Openings.{names_in}
 use Rattle.sno_book.specs.Views.{View, IsLawful, state_of}
 use Rattle.sno_book.specs.declared.versioned_texts.VersionedText.{VersionedText as StoredText}
 
--- the texts that stand at the places of these names
+-- these texts, each with the name at its place
 abbrev pub with_names : List (List ℕ) → List StoredText → State
 with_names [] stored = []
 with_names (name ∷ names) [] = []
 with_names (name ∷ names) (s ∷ stored) = record { name = name; text = arc_value s.text; version = s.version } ∷ with_names names stored
 
--- the book is lawful, and what stands there is what its entries leave
+-- the view is valid, and the stored texts are what its entries leave
 pub record Keeps (v : View) (stored : List StoredText) : Type 0 where
   pub lawful : IsLawful v
   pub texts : with_names (names_in v.opening.texts) stored ≡ state_of v

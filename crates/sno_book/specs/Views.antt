@@ -18,7 +18,7 @@ view_code = code_by (Opening × List Entry) (coded× opening_code (coded_list en
 abbrev pub state_of : View → State
 state_of v = replay (start v.opening) v.journal
 
--- each entry is a step from the texts after those before it, and there is room for all of them
+-- each entry is a step from the texts after those before it, and there is room for all entries
 pub record IsLawful (v : View) : Type 0 where
   pub opening : IsOpening v.opening
   pub legal : Legal (start v.opening) v.journal
@@ -30,7 +30,7 @@ pub record IsPrefix (earlier later : View) : Type 0 where
   pub more : List Entry
   pub journal : later.journal ≡ earlier.journal ++ more
 
--- of the two views one begins the other
+-- one of the two views begins the other
 abbrev pub Kin : View → View → Type 0
 Kin one other = IsPrefix one other ⊎ IsPrefix other one
 

@@ -15,7 +15,7 @@ fn same_entry(one: &Entry, other: &Entry) -> bool
         && same_outcome(&one.outcome, &other.outcome)
 }
 
-/// Whether the receipt's entry is the journal's at its index.
+/// Whether the receipt's entry is equal to the journal's entry at the receipt's index.
 fn agrees(journal: &[Entry], receipt: &Receipt) -> bool
     ensures { Decides result (Agrees journal.now receipt.now) }
 {
@@ -26,10 +26,11 @@ fn agrees(journal: &[Entry], receipt: &Receipt) -> bool
 }
 
 impl Book {
-    /// Whether each receipt's entry is equal to the journal's entry at the receipt's index, wherever they lie in memory. It takes no
-    /// memory, and the book and the receipts stay as they are.
+    /// Compares each receipt's entry, by value, with the journal's entry at the receipt's index. `Ok` means that all
+    /// are equal. It takes no memory, and the book and the receipts are unchanged.
     ///
-    /// Refused with the first place among the receipts, from 0, at which the entry is another one or the journal has none at that index.
+    /// Refused with the first place among the receipts, from 0, whose entry differs, or for whose index the journal has
+    /// no entry.
     pub fn audit(&self, receipts: &[Receipt]) -> Result<(), usize>
         ensures { Audits result self.now.journal receipts.now }
     {

@@ -7,6 +7,7 @@ ghost use Rattle.sno_book.specs.States.{find};
 ghost use Rattle.sno_book.specs.Views.{IsLawful, Kin, state_of};
 ghost use Rattle.sno_book.specs.Books.{OpensBook, view_of};
 ghost use Rattle.sno_book.specs.Commits.{GivesSnapshot, IsAccepted, IsRefused, IsReady, Fits, beside, refusal};
+ghost use Rattle.sno_book.specs.declared.openings.TheConstants.{MAX_ENTRIES};
 
 use crate::ready::Ready;
 use crate::start::{Start, start_of};
@@ -19,8 +20,9 @@ use std::alloc::Global;
 use std::marker::Model;
 use std::sync::Arc;
 
-/// Named texts with their versions, and the journal of the statements that were accepted on them. By its type each entry of the journal
-/// is a step from the texts as those before it leave them, and the texts and versions are those that all entries leave.
+/// Named texts with their versions, and the journal of the statements that were accepted on them. By its type each
+/// entry of the journal is a step from the texts that the entries before it leave. The texts and versions are those
+/// that all entries leave.
 #[derive(Drop)]
 pub struct Book {
     opening: Arc<Opening>,
@@ -44,13 +46,19 @@ impl Model for Book {
 }
 
 impl Book {
-    /// A book of these texts, each at version 0, with an empty journal that may hold `room` entries, at most 1,000,000.
+    /// Returns a book of these texts, each at version 0. Its journal is empty and may hold `room` entries, at most
+    /// 1,000,000.
     ///
-    /// Refused, in this order: `TooMany` for more than 1,024 texts, `Duplicate` with the first place whose name stands earlier, `Memory`.
+    /// Refused, in this order:
+    ///
+    /// - `TooMany` for more than 1,024 texts;
+    /// - `Duplicate` with the first place whose name an earlier text has;
+    /// - `Memory`.
+    ///
     /// The texts are dropped then.
     #[tactic(auto, using(crate::proofs::BookLaws::keeps_first))]
     pub fn new(alloc: Global, texts: Vec<(TextName, Text)>, room: u32) -> Result<Book, BookFault>
-        requires { room ≤ 1000000 }
+        requires { room ≤ MAX_ENTRIES }
         ensures { OpensBook result texts.items room }
     {
         let Start {
@@ -72,7 +80,7 @@ impl Book {
         self.journal.as_slice()
     }
 
-    /// What the book began with.
+    /// The texts and the room that the book began with.
     pub fn opening(&self) -> &Arc<Opening>
         ensures { arc_value result.now ≡ self.now.opening }
     {
@@ -88,14 +96,15 @@ impl Book {
         self.versioned_texts.len()
     }
 
-    /// Whether there is no text.
+    /// Whether the book has no texts.
     pub fn is_empty(&self) -> bool
         ensures { result ≡ nat_eq (length self.now.opening.texts) 0 }
     {
         self.versioned_texts.is_empty()
     }
 
-    /// The text at a place, from 0, with its name and its version, as all entries of the journal leave it; none from [`Book::len`] on.
+    /// The text at a place, from 0, with its name and its version, as all entries of the journal leave it. `None` if
+    /// the place is [`Book::len`] or more.
     #[tactic(auto, using(crate::proofs::BookLaws::row_there, crate::proofs::BookLaws::row_none, crate::proofs::BookLaws::row_inside))]
     pub fn text(&self, place: usize) -> Option<(&TextName, &Arc<Text>, u64)>
         ensures found { IfSome result (λ t. slice_get (state_of (view_of self.now)) place ≡ Some (record { name = t.0.now; text = arc_value t.1.now; version = t.2 })) }
@@ -118,9 +127,9 @@ impl Book {
         Some((place, text_at(&self.versioned_texts, place)))
     }
 
-    /// The text of this name as it stands, shared.
+    /// Returns a snapshot of the current text of this name. It shares the characters.
     ///
-    /// Refused, in this order: `NoText` exactly where the book has no text of that name, `Memory`. The book stays as it is.
+    /// Refused, in this order: `NoText` exactly if the book has no text of that name, `Memory`. The book is unchanged.
     pub fn snapshot(&self, name: &TextName) -> Result<Snapshot, SnapshotFault>
         ensures { GivesSnapshot result (view_of self.now) name.now }
     {
@@ -129,6 +138,7 @@ impl Book {
         };
         match Arc::try_clone(&versioned.text) {
             Ok(text) => {
+                // for the proof
                 let _ = self.journal();
                 Ok(Snapshot::new(Origin::of(self), place, versioned.version, text))
             }
@@ -136,7 +146,8 @@ impl Book {
         }
     }
 
-    /// Why the text that stands at the proposal's place is not the one that the proposal is for, or why nothing more is accepted.
+    /// Why the current text at the proposal's place is not the one that the proposal is for, or why nothing more is
+    /// accepted.
     fn refusal_beside(&self, versioned: &VersionedText, proposal: &Proposal) -> Option<CommitFault>
         ensures { result ≡ beside (view_of self.now) proposal.now (Some (record { name = []; text = arc_value versioned.now.text; version = versioned.now.version })) }
     {
@@ -152,7 +163,7 @@ impl Book {
         None
     }
 
-    /// Why the proposal is not accepted, if it is not, unless memory is refused.
+    /// The refusal that the proposal gets, if any, out of memory aside.
     #[tactic(auto, using(crate::proofs::BookLaws::refusal_there))]
     fn refusal(&self, proposal: &Proposal) -> Option<CommitFault>
         ensures { result ≡ refusal (view_of self.now) proposal.now }
@@ -173,15 +184,15 @@ impl Book {
         self.journal.len() < self.journal.capacity()
     }
 
-    /// Takes all the memory that accepting a proposal needs, and changes nothing else: texts, journal and room are as they were. The proposal can
-    /// then be accepted by [`Book::finish`], or taken back by [`Ready::back`].
+    /// Takes all the memory that accepting a proposal needs, and changes nothing else: texts, journal and room are as
+    /// they were. The proposal can then be accepted by [`Book::finish`], or taken back by [`Ready::back`].
     ///
-    /// On `Ok` the book keeps memory for one entry more, and the proposal fits it as it stands.
+    /// On `Ok` the book keeps memory for one entry more, and the proposal fits the book.
     ///
-    /// The proposal is of a view of the book: of that view and the book's one begins the other.
+    /// Requires that the proposal's view begins the book's view, or the other way round.
     ///
-    /// Refused as [`Book::commit`] refuses, in its order. After each refusal the book is as it was, the memory that it keeps too, and the same
-    /// proposal comes back.
+    /// Refused as [`Book::commit`] refuses, in its order. After each refusal the book is as it was, and so is the
+    /// memory that it keeps. The same proposal comes back.
     pub fn prepare(&mut self, proposal: Proposal) -> Result<Ready, (CommitFault, Proposal)>
         requires { Kin proposal.origin (view_of self.old) }
         ensures ready { IfOk result (λ ready. IsReady self.old self.new proposal ready) }
@@ -202,12 +213,18 @@ impl Book {
         Ok(ready)
     }
 
-    /// Accepts a proposal that was prepared: its entry is the last of the journal, and its new text, where it has one, is in place, with a version
-    /// one higher, also where the characters are the same. It takes no memory, and the book keeps memory for one entry less than before.
+    /// Accepts a proposal that was prepared. Its entry is now the last of the journal. Its new text, if it has one, is
+    /// in place, with a version one higher, even if the characters are the same as before. It takes no memory, and the
+    /// book keeps memory for one entry less than before.
     ///
-    /// The book keeps memory for one entry more ([`Book::has_spare`]), and the proposal fits it: the text at its place has its name and its version,
-    /// the version can rise, and the journal has fewer entries than there is room for. After [`Book::prepare`] both hold until the book is changed. The proposal is of a
-    /// view of the book: of that view and the book's one begins the other.
+    /// Requires that
+    ///
+    /// - the book keeps memory for one entry more ([`Book::has_spare`]);
+    /// - the proposal fits the book: the text at its place has its name and its version, the version can rise, and the
+    ///   journal has fewer entries than there is room for;
+    /// - the proposal's view begins the book's view, or the other way round.
+    ///
+    /// After [`Book::prepare`] the first two hold until the book is changed.
     pub fn finish(&mut self, ready: Ready) -> Receipt
         requires kept { 0 < self.old.spare }
         requires fits { Fits (view_of self.old) ready }
@@ -228,14 +245,21 @@ impl Book {
         proposal.receipt(index, text)
     }
 
-    /// Accepts a proposal, as [`Book::prepare`] and then [`Book::finish`] do: its entry is the last of the journal, and its new text, where it has
-    /// one, is in place, with a version one higher, also where the characters are the same.
+    /// Accepts a proposal, as [`Book::prepare`] and then [`Book::finish`] do. Its entry is now the last of the journal.
+    /// Its new text, if it has one, is in place, with a version one higher, even if the characters are the same as
+    /// before.
     ///
-    /// The proposal is of a view of the book: of that view and the book's one begins the other. So is one on a snapshot of this book.
+    /// Requires that the proposal's view begins the book's view, or the other way round. This holds for a proposal on a
+    /// snapshot of this book.
     ///
-    /// Refused, in this order: `NoText` where the book has no text of the statement's name, or has it at another place than the
-    /// snapshot's; `Changed` where the text has another version than the snapshot, with both; `Full` where the journal has as many entries as
-    /// there is room for; `Memory`. After each the book is as it was, and the same proposal comes back.
+    /// Refused, in this order:
+    ///
+    /// - `NoText` if the book has no text of the statement's name, or has it at another place than the snapshot's;
+    /// - `Changed` if the text has another version than the snapshot, with both versions;
+    /// - `Full` if the journal has as many entries as there is room for;
+    /// - `Memory`.
+    ///
+    /// After each the book is as it was, and the same proposal comes back.
     pub fn commit(&mut self, proposal: Proposal) -> Result<Receipt, (CommitFault, Proposal)>
         requires { Kin proposal.origin (view_of self.old) }
         ensures accepted { IfOk result (λ receipt. IsAccepted (view_of self.old) (view_of self.new) proposal receipt) }

@@ -2,16 +2,16 @@
 use std::alloc::{AllocError, AllocFailed};
 use thiserror::Error;
 
-/// Why there is no book of some texts. They are dropped then.
+/// Why no book of some texts was made. The texts are dropped then.
 #[derive(Clone, Copy, Debug, PartialEq, Eq, Error)]
 pub enum BookFault {
     /// More than 1,024 texts.
     #[error("too many")]
     TooMany,
-    /// The text at this place has the name of an earlier one; no earlier place does.
+    /// The text at this place has the name of an earlier one. It is the first such place.
     #[error("duplicate at {0}")]
     Duplicate(usize),
-    /// Memory was refused.
+    /// Out of memory.
     #[error("out of memory")]
     Memory,
 }
@@ -38,13 +38,13 @@ impl<T: Drop> From<AllocFailed<T>> for BookFault {
     }
 }
 
-/// Why there is no snapshot. The book is as it was.
+/// Why no snapshot was made. The book is as it was.
 #[derive(Clone, Copy, Debug, PartialEq, Eq, Error)]
 pub enum SnapshotFault {
     /// The book has no text of that name.
     #[error("no text")]
     NoText,
-    /// The text could not be shared.
+    /// Out of memory: the text could not be shared.
     #[error("out of memory")]
     Memory,
 }
@@ -66,7 +66,7 @@ pub enum CommitFault {
     /// The journal has as many entries as it may hold.
     #[error("full")]
     Full,
-    /// Memory was refused.
+    /// Out of memory.
     #[error("out of memory")]
     Memory,
 }

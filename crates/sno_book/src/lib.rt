@@ -1,29 +1,34 @@
 //! The book: named texts with versions, and a journal of the statements that were accepted on them.
 //!
-//! A [`Book`] begins with texts at version 0 and an empty journal. A [`Snapshot`] shares a text as it stands. [`propose`] performs a
-//! statement on a snapshot and makes a [`Proposal`]; it takes no lock and the book needn't be at hand. [`Book::commit`] accepts the
-//! proposal only where the text still has the snapshot's version. It then appends one [`Entry`] to the journal, puts the new text in
-//! place, where the statement replaced something, and raises that text's version by one. A [`Receipt`] says where the entry stands.
+//! A [`Book`] begins with texts at version 0 and an empty journal. A [`Snapshot`] shares a text as it is when the
+//! snapshot is taken. [`propose`] performs a statement on a snapshot and makes a [`Proposal`]. It takes no lock, and
+//! the book needn't be at hand. [`Book::commit`] accepts the proposal only if the text still has the snapshot's
+//! version. It then appends one [`Entry`] to the journal. If the statement replaced something, it puts the new text in
+//! place and raises that text's version by one. A [`Receipt`] says at which index of the journal the entry is.
 //! [`Book::prepare`] and [`Book::finish`] are the two halves of a commit: all that can be refused, and then the step.
 //!
-//! # What is promised, and where
+//! # What is promised, and which call says it
 //!
-//! - **Each entry is a step.** By its type a book's journal is `Legal` from its opening (`specs/Journals.antt`): the text of each
-//!   entry's statement has the entry's version among the texts that the entries before it leave, and the entry's outcome is what the
-//!   statement does to that text. The texts and versions are the `replay` of the journal. [`Book::journal`] and [`Book::text`] say so.
-//! - **A commit is one step, a refusal none** (`Book::commit`, `specs/Commits.antt`). `accepted`: the proposal's entry is appended, it
-//!   has a step from the texts as they were, and the texts are what the step leaves. `refused`: which refusal comes is exact, the book is
-//!   what it was, and the same proposal comes back. `Memory` is answered only where no other refusal holds.
-//! - **A prepared commit isn't refused** (`Book::prepare`, `Book::finish`). What is [`Ready`] holds every share that the commit needs, and the
-//!   book keeps memory for its entry, so `finish` has no refusal and takes no memory. `prepare` changes nothing but the memory that is kept.
-//! - **The version decides.** A [`Snapshot`] and a [`Proposal`] keep the view from which they come, an opening with the entries that followed it,
-//!   without bytes ([`Origin`]). A commit asks for a proposal of a view of the book: of that view and the book's one begins the other (`Kin`,
-//!   `specs/Views.antt`). Where a text has one version after both, it has the same characters ([`kin_agree`]), so no characters are compared.
-//! - **Nothing is made up.** A [`Proposal`] keeps by its type that its outcome is what its statement does to the text that stands at its place
-//!   after its view, and a [`Receipt`] that its entry's outcome is what the statement does to the receipt's text.
+//! - **Each entry is a step.** By its type a book's journal is `Legal` from its opening (`specs/Journals.antt`). Among
+//!   the texts that the earlier entries leave, the text of an entry's statement has the entry's version. The entry's
+//!   outcome is what the statement does to that text. The texts and versions are the `replay` of the journal.
+//!   [`Book::journal`] and [`Book::text`] say so.
+//! - **A commit is one step, and a refusal changes nothing** (`Book::commit`, `specs/Commits.antt`). `accepted`: the
+//!   proposal's entry is appended, it has a step from the texts as they were, and the texts are what the step leaves.
+//!   `refused`: which refusal comes is exact, the book is what it was, and the same proposal comes back. `Memory` is
+//!   returned only if no other refusal holds.
+//! - **A prepared commit isn't refused** (`Book::prepare`, `Book::finish`). A [`Ready`] holds every share that the
+//!   commit needs, and the book keeps memory for its entry. So `finish` has no refusal and takes no memory. `prepare`
+//!   changes only the memory that the book keeps.
+//! - **The version decides.** A [`Snapshot`] and a [`Proposal`] keep the view from which they come, an opening with the
+//!   entries that followed it, without bytes ([`Origin`]). A commit requires that the proposal's view begins the book's
+//!   view, or the other way round (`Kin`, `specs/Views.antt`). If a text has one version after both, it has the same
+//!   characters ([`kin_agree`]), so no characters are compared.
+//! - **Nothing is made up.** By its type a [`Proposal`]'s outcome is what its statement does to the text at its place
+//!   after its view. The outcome of a [`Receipt`]'s entry is what the statement does to the receipt's text.
 //! - **Receipts can be audited.** [`Book::audit`] compares entries by value, wherever they lie in memory.
-//! - **Laws**: [`versions_only_rise`], [`versions_only_rise_in_place`], [`kin_agree`], [`versions_count_entries`], [`fresh_is_free`],
-//!   [`fresh_is_kin`] (`specs/Laws.antt`).
+//! - **Laws**: [`versions_only_rise`], [`versions_only_rise_in_place`], [`kin_agree`], [`versions_count_entries`],
+//!   [`fresh_is_free`], [`fresh_is_kin`] (`specs/Laws.antt`).
 //!
 //! What each file has:
 //!
@@ -37,8 +42,8 @@
 //!
 //! # What is not promised
 //!
-//! That memory is there. A commit costs a look-up of one name and a push: neither the number of texts nor the
-//! journal's length counts, which the benchmark shows and no clause says. Nothing is shared between threads here.
+//! That there is enough memory. A commit costs a look-up of one name and a push. Neither the number of texts nor the
+//! journal's length matters; the benchmark shows that, and no clause says it. Nothing is shared between threads here.
 #![tactic(auto)]
 
 mod audits;
@@ -64,7 +69,7 @@ pub use laws::{
     fresh_is_free, fresh_is_kin, kin_agree, versions_count_entries, versions_only_rise,
     versions_only_rise_in_place,
 };
-pub use openings::Opening;
+pub use openings::{MAX_ENTRIES, MAX_TEXTS, Opening};
 pub use origins::{Origin, ViewSource};
 pub use proposals::{Proposal, propose};
 pub use ready::Ready;

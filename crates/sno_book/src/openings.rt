@@ -10,8 +10,14 @@ use sno_pattern::{Text, TextName};
 use std::marker::Model;
 use std::sync::Arc;
 
-/// The texts and the room that a book was given: at most 1,024 texts, no two of one name, and room for at most 1,000,000 entries. The
-/// readers take no memory.
+/// The most texts that a book has.
+pub const MAX_TEXTS: usize = 1_024;
+
+/// The most entries for which a journal may have room.
+pub const MAX_ENTRIES: u32 = 1_000_000;
+
+/// The texts and the room that a book was given: at most 1,024 texts, no two of one name, and room for at most
+/// 1,000,000 entries. The calls that read it take no memory.
 #[derive(Drop)]
 pub struct Opening {
     texts: IndexMap<TextName, Arc<Text>>,
@@ -42,7 +48,7 @@ impl Opening {
     /// How many entries the journal may hold, at most 1,000,000.
     pub fn room(&self) -> u32
         ensures room { result ≡ self.now.room }
-        ensures small { self.now.room ≤ 1000000 }
+        ensures small { self.now.room ≤ MAX_ENTRIES }
     {
         self.room
     }
@@ -55,21 +61,21 @@ impl Opening {
         self.texts.len()
     }
 
-    /// Whether there is no text.
+    /// Whether there are no texts.
     pub fn is_empty(&self) -> bool
         ensures { result ≡ nat_eq (length self.now.texts) 0 }
     {
         self.texts.is_empty()
     }
 
-    /// The place of the text with this name, from 0.
+    /// The place of the text with this name, from 0, if there is one.
     pub fn place(&self, name: &TextName) -> Option<usize>
         ensures { result ≡ place_of (names_in self.now.texts) name.now }
     {
         self.texts.get_index_of(name)
     }
 
-    /// The text at this place, as it was given, with its name; none from [`Opening::len`] on.
+    /// The text at this place, as it was given, with its name. `None` if the place is [`Opening::len`] or more.
     pub fn row(&self, place: usize) -> Option<(&TextName, &Arc<Text>)>
         ensures { option_map (λ t. (t.0.now, arc_value t.1.now)) result ≡ slice_get self.now.texts place }
     {

@@ -5,7 +5,7 @@ use crate::Book;
 use logbook::{Opening, Rule, Seen, Start};
 use std::marker::Model;
 
-/// A rule that says nothing: a view is kept as it was seen, and nothing is added to it.
+/// A rule that requires nothing: a view is kept as it was seen, and nothing is added to it.
 pub(crate) struct Free;
 
 impl Rule<Book, u64> for Free {
@@ -25,7 +25,7 @@ impl Rule<Book, u64> for Free {
     ghost moves = { λ ask before after answer. Unit {0} };
 }
 
-/// What shows a view, as a book does.
+/// A value that shows a view, as a book does.
 pub trait ViewSource {
     ghost use Rattle.sno_book.specs.Views.{View};
 
@@ -73,14 +73,5 @@ impl Origin {
     {
         let (seen, _pens) = Seen::open_row::<X, Alone>(source, Start::alone(), 0);
         Origin { seen }
-    }
-
-    /// The same view.
-    pub fn again(&self) -> Origin
-        ensures { result ≡ self.now }
-    {
-        Origin {
-            seen: self.seen.again(),
-        }
     }
 }

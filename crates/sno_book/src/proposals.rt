@@ -1,7 +1,7 @@
 //! Proposals: statements performed on snapshots.
 ghost use Rattle.std.specs.Prelude.{◌≡◌, Ok, IfOk};
 ghost use Rattle.std.specs.Arc.{arc_value};
-ghost use Rattle.sno_statement.specs.Perform.{perform, done_of};
+ghost use Rattle.sno_statement.specs.Perform.{perform, outcome_seen};
 ghost use Rattle.sno_book.specs.Origins.{IsPerformed};
 ghost use Rattle.sno_book.specs.Proposals.{GivesProposal, entry_of};
 
@@ -12,110 +12,94 @@ use std::alloc::{AllocError, Global};
 use std::marker::Model;
 use std::sync::Arc;
 
-/// A statement with what came of it, and the place and version of the text that it was performed on. By its type that is what the statement does to
-/// the text that stands there after the view from which the snapshot came. It is accepted by a book of that view where the text still has the
-/// version.
+/// A statement with its outcome, and the place and version of the text that it was performed on. By its type the
+/// outcome is what the statement does to the text at that place after the view from which the snapshot came. A book of
+/// that view accepts it if the text still has that version.
 #[derive(Drop)]
 pub struct Proposal {
-    pub(crate) statement: Arc<Statement>,
+    pub(crate) entry: Entry,
     pub(crate) place: usize,
-    pub(crate) version: u64,
     pub(crate) origin: Origin,
-    pub(crate) outcome: Arc<Outcome>,
 }
 
 impl Model for Proposal {
-    ghost use Rattle.std.specs.Arc.{arc_value};
-    ghost use Rattle.sno_statement.specs.Perform.{done_of};
     ghost use Rattle.sno_book.specs.Origins.{IsPerformed};
-    ghost use Rattle.sno_book.specs.Proposals.{Proposed, proposed_code};
+    ghost use Rattle.sno_book.specs.Proposals.{Proposal, proposal_code};
 
-    ghost Value = { Proposed };
+    ghost Value = { Proposal };
 
-    ghost coded = { proposed_code };
+    ghost coded = { proposal_code };
 
     ghost view = { λ s. record {
-      statement = arc_value s.statement;
+      statement = s.entry.statement;
       place = s.place;
-      version = s.version;
+      version = s.entry.version;
       origin = s.origin;
-      done = done_of (arc_value s.outcome);
+      outcome = s.entry.outcome;
     } };
 
-    ghost invariant = { λ s. IsPerformed s.origin s.place s.version (arc_value s.statement) (done_of (arc_value s.outcome)) };
+    ghost invariant = { λ s. IsPerformed s.origin s.place s.entry.version s.entry.statement s.entry.outcome };
 }
 
 impl Proposal {
     /// The statement.
     pub fn statement(&self) -> &Statement
         ensures statement { result.now ≡ self.now.statement }
-        ensures performed { IsPerformed self.now.origin self.now.place self.now.version self.now.statement self.now.done }
+        ensures performed { IsPerformed self.now.origin self.now.place self.now.version self.now.statement self.now.outcome }
     {
-        &self.statement
+        &self.entry.statement
     }
 
-    /// The version of the text that the statement was performed on.
+    /// The version that the text had when the statement was performed.
     pub fn version(&self) -> u64
         ensures { result ≡ self.now.version }
     {
-        self.version
+        self.entry.version
     }
 
     /// The place of that text.
     pub fn place(&self) -> usize
         ensures place { result ≡ self.now.place }
-        ensures performed { IsPerformed self.now.origin self.now.place self.now.version self.now.statement self.now.done }
+        ensures performed { IsPerformed self.now.origin self.now.place self.now.version self.now.statement self.now.outcome }
     {
         self.place
     }
 
-    /// What came of the statement.
+    /// The outcome of the statement.
     pub fn outcome(&self) -> &Outcome
-        ensures { done_of result.now ≡ self.now.done }
+        ensures { outcome_seen result.now ≡ self.now.outcome }
     {
-        &self.outcome
+        &self.entry.outcome
     }
-}
 
-impl Proposal {
     /// The entry that the proposal makes, which shares its statement and its outcome.
     pub(crate) fn entry(&self) -> Result<Entry, AllocError>
         ensures { IfOk result (λ e. e ≡ entry_of self.now) }
     {
-        Ok(Entry {
-            statement: Arc::try_clone(&self.statement)?,
-            version: self.version,
-            outcome: Arc::try_clone(&self.outcome)?,
-        })
+        self.entry.share()
     }
 
     /// The receipt of an entry at this index, with the text that the statement was performed on.
     pub(crate) fn receipt(self, index: usize, text: Arc<Text>) -> Receipt
-        requires { perform self.statement (arc_value text) ≡ Ok self.done }
+        requires { perform self.statement (arc_value text) ≡ Ok self.outcome }
         ensures { result ≡ record { index = index; entry = entry_of self; text = arc_value text } }
     {
-        let Proposal {
-            statement,
-            version,
-            outcome,
-            ..
-        } = self;
         Receipt {
             index,
-            entry: Entry {
-                statement,
-                version,
-                outcome,
-            },
+            entry: self.entry,
             text,
         }
     }
 }
 
-/// Performs a statement on a snapshot's text. No lock is taken and nobody is waited for.
+/// Performs a statement on a snapshot's text and returns the proposal. It takes no lock and waits for nobody.
 ///
-/// Refused as `perform` refuses: `TooManyTrials` exactly where the match takes more trials than the statement's limit, `TextTooLong`
-/// exactly where the new text would have more than 65,536 characters, and `Memory`.
+/// Refused as `perform` refuses:
+///
+/// - `TooManyTrials` exactly if the match takes more trials than the statement's limit;
+/// - `TextTooLong` exactly if the new text would have more than 65,536 characters;
+/// - `Memory`.
+///
 /// Statement and snapshot are dropped then; the caller's own share of the statement stays.
 pub fn propose(
     alloc: Global,
@@ -132,11 +116,14 @@ pub fn propose(
         origin,
         ..
     } = snapshot;
-    Ok(Proposal {
+    let entry = Entry {
         statement,
-        place,
         version,
-        origin,
         outcome,
+    };
+    Ok(Proposal {
+        entry,
+        place,
+        origin,
     })
 }

@@ -2,7 +2,7 @@
 ghost use Rattle.std.specs.Prelude.{◌≡◌, IfOk, IfErr};
 ghost use Rattle.std.specs.Option.{option_map};
 ghost use Rattle.std.specs.Arc.{arc_value};
-ghost use Rattle.sno_statement.specs.Perform.{done_of};
+ghost use Rattle.sno_statement.specs.Perform.{outcome_seen};
 ghost use Rattle.sno_book.specs.Entries.{after_of};
 ghost use Rattle.sno_book.specs.Origins.{Stands};
 ghost use Rattle.sno_book.specs.Proposals.{entry_of};
@@ -14,8 +14,8 @@ use std::alloc::AllocError;
 use std::marker::Model;
 use std::sync::Arc;
 
-/// A proposal with every share that its commit needs: its entry for the journal, its new text for the book, and the book's text, on which its
-/// statement was performed, for the receipt.
+/// A proposal with every share that its commit needs: its entry for the journal, its new text for the book, and the
+/// text that its statement was performed on for the receipt.
 #[derive(Drop)]
 pub struct Ready {
     pub(crate) proposal: Proposal,
@@ -27,11 +27,11 @@ pub struct Ready {
 impl Model for Ready {
     ghost use Rattle.std.specs.Option.{option_map};
     ghost use Rattle.std.specs.Arc.{arc_value};
-    ghost use Rattle.sno_book.specs.Proposals.{Proposed, proposed_code, IsPrepared};
+    ghost use Rattle.sno_book.specs.Proposals.{Proposal, proposal_code, IsPrepared};
 
-    ghost Value = { Proposed };
+    ghost Value = { Proposal };
 
-    ghost coded = { proposed_code };
+    ghost coded = { proposal_code };
 
     ghost view = { λ s. s.proposal };
 
@@ -40,7 +40,7 @@ impl Model for Ready {
 
 /// The new text of an outcome, shared.
 fn after(outcome: &Outcome) -> Result<Option<Arc<Text>>, AllocError>
-    ensures { IfOk result (λ o. option_map arc_value o ≡ after_of (done_of outcome.now)) }
+    ensures { IfOk result (λ o. option_map arc_value o ≡ after_of (outcome_seen outcome.now)) }
 {
     match outcome.after() {
         Some(text) => Ok(Some(Arc::try_clone(text)?)),
@@ -49,8 +49,8 @@ fn after(outcome: &Outcome) -> Result<Option<Arc<Text>>, AllocError>
 }
 
 impl Ready {
-    /// The proposal with all that its commit needs; or the proposal alone, where memory is refused. The text is the one on which its statement was
-    /// performed.
+    /// Returns the proposal with all that its commit needs. If memory runs out, the proposal alone comes back. The text
+    /// is the one that its statement was performed on.
     pub(crate) fn of(proposal: Proposal, text: &Arc<Text>) -> Result<Ready, Proposal>
         requires { Stands proposal.origin proposal.place proposal.version (arc_value text.now) }
         ensures ready { IfOk result (λ ready. ready ≡ proposal) }
@@ -80,7 +80,7 @@ impl Ready {
         &self.entry
     }
 
-    /// The proposal, as it was before it was prepared. It takes no memory; the shares are dropped.
+    /// The proposal as it was before it was prepared. It takes no memory; the shares are dropped.
     pub fn back(self) -> Proposal
         ensures { result ≡ self }
     {

@@ -3,8 +3,8 @@ ghost use Rattle.std.specs.Prelude.{◌≡◌};
 ghost use Rattle.std.specs.Option.{option_eq, option_map};
 ghost use Rattle.std.specs.Arc.{arc_value};
 ghost use Rattle.sno_pattern.specs.Identifiers.{same};
-ghost use Rattle.sno_statement.specs.Perform.{done_of};
-ghost use Rattle.sno_book.specs.SameEntries.{same_datum, same_binding, same_bound, same_done};
+ghost use Rattle.sno_statement.specs.Perform.{outcome_seen};
+ghost use Rattle.sno_book.specs.SameEntries.{same_datum, same_binding, same_bound, same_outcome};
 
 use sno_pattern::{Name, Text};
 use sno_statement::{Bindings, Datum, Outcome};
@@ -20,7 +20,7 @@ fn same_datum(one: &Datum, other: &Datum) -> bool
     }
 }
 
-/// Whether two bindings are the same, or neither is there.
+/// Whether two bindings are the same, or both are missing.
 fn same_binding(one: Option<(&Name, &Datum)>, other: Option<(&Name, &Datum)>) -> bool
     ensures { result ≡ option_eq same_binding (option_map (λ b. (b.0.now, b.1.now)) one.entry) (option_map (λ b. (b.0.now, b.1.now)) other.entry) }
 {
@@ -48,7 +48,7 @@ fn same_bindings(one: &Bindings, other: &Bindings) -> bool
     true
 }
 
-/// Whether two new texts are the same, or neither is there.
+/// Whether two new texts are the same, or both are missing.
 fn same_after(one: &Option<Arc<Text>>, other: &Option<Arc<Text>>) -> bool
     ensures { result ≡ option_eq same (option_map arc_value one.now) (option_map arc_value other.now) }
 {
@@ -59,10 +59,10 @@ fn same_after(one: &Option<Arc<Text>>, other: &Option<Arc<Text>>) -> bool
     }
 }
 
-/// Whether two outcomes are the same: the cursors, the bindings and the new text, the failure with its bindings, or the number of
-/// matches with the bindings and the new text.
+/// Whether two outcomes are the same. Compared are the cursors, the bindings and the new text; or the failure with its
+/// bindings; or the number of matches with the bindings and the new text.
 pub(crate) fn same_outcome(one: &Outcome, other: &Outcome) -> bool
-    ensures { result ≡ same_done (done_of one.now) (done_of other.now) }
+    ensures { result ≡ same_outcome (outcome_seen one.now) (outcome_seen other.now) }
 {
     match (one, other) {
         (

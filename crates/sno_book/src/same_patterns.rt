@@ -5,7 +5,7 @@ ghost use Rattle.sno_book.specs.SamePatterns.{same_leaf, same_tree};
 
 use sno_pattern::Pattern;
 
-/// Whether two patterns, of which the first has no parts, are the same.
+/// Whether two patterns are the same, if the first has no parts.
 fn same_leaf(one: &Pattern, other: &Pattern) -> bool
     ensures { result ≡ same_leaf (tree_of one.now) (tree_of other.now) }
 {

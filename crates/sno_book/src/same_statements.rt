@@ -6,7 +6,7 @@ ghost use Rattle.std.specs.Cmp.Lexicographic.{pointwise};
 ghost use Rattle.sno_pattern.specs.Identifiers.{same};
 ghost use Rattle.sno_pattern.specs.Tree.{tree_of, trees};
 ghost use Rattle.sno_book.specs.SamePatterns.{same_tree};
-ghost use Rattle.sno_book.specs.SameEntries.{same_part, same_object, same_definitions, same_task};
+ghost use Rattle.sno_book.specs.SameEntries.{same_part, same_object, same_definitions, same_statement};
 
 use crate::same_patterns::same_pattern;
 use sno_pattern::{Names, Pattern, Rules};
@@ -22,7 +22,7 @@ fn same_part(one: &Part, other: &Part) -> bool
     }
 }
 
-/// Whether the parts that stand at one place are the same, as far as both lists reach.
+/// Whether the parts at one place are the same, as far as both lists reach.
 fn same_part_pairs(one: &[Part], other: &[Part]) -> bool
     ensures { result ≡ list_all (λ p. same_part p.0 p.1) (zip one.now other.now) }
 {
@@ -46,7 +46,7 @@ fn same_object(one: Option<&Object>, other: Option<&Object>) -> bool
     }
 }
 
-/// Whether two lists of names have the same name at a place, or neither has one there.
+/// Whether two lists of names have the same name at a place, or both have no name there.
 fn same_name(one: &Names, other: &Names, place: usize) -> bool
     ensures { result ≡ option_eq same (slice_get one.now place) (slice_get other.now place) }
 {
@@ -72,7 +72,7 @@ fn same_names(one: &Names, other: &Names) -> bool
     true
 }
 
-/// Whether the patterns that stand at one place are the same, as far as both lists reach.
+/// Whether the patterns at one place are the same, as far as both lists reach.
 fn same_pattern_pairs(one: &[Pattern], other: &[Pattern]) -> bool
     ensures { result ≡ list_all (λ p. same_tree (tree_of p.0) (tree_of p.1)) (zip one.now other.now) }
 {
@@ -92,10 +92,10 @@ fn same_rules(one: &Rules, other: &Rules) -> bool
     same_names(one.names(), other.names()) && same_patterns(one.bodies(), other.bodies())
 }
 
-/// Whether two statements are the same: number, definitions, pattern, object, text, whether they are anchored, the limit of trials, and
-/// how often they are repeated at most.
+/// Whether two statements are the same: number, definitions, pattern, object, text, whether they are anchored, the
+/// limit of trials, and how often they are repeated at most.
 pub(crate) fn same_statement(one: &Statement, other: &Statement) -> bool
-    ensures { result ≡ same_task one.now other.now }
+    ensures { result ≡ same_statement one.now other.now }
 {
     one.number() == other.number()
         && one.limit() == other.limit()

@@ -8,8 +8,9 @@ use sno_pattern::Text;
 use std::marker::Model;
 use std::sync::Arc;
 
-/// A text as it was when the snapshot was taken. It shares the characters, and stays as it is whatever becomes of the text. By its type the text
-/// stands, with these characters and this version, at its place after the view from which the snapshot comes, which is lawful.
+/// A text as it was when the snapshot was taken. It shares the characters, and doesn't change when the text does. By
+/// its type the text has these characters and this version, at its place, after the view from which the snapshot comes.
+/// That view is valid.
 #[derive(Drop)]
 pub struct Snapshot {
     /// The place of the text in its book, from 0.
@@ -36,7 +37,7 @@ impl Model for Snapshot {
 }
 
 impl Snapshot {
-    /// The text that stands at this place after a view, which is lawful.
+    /// A snapshot of the text at this place after a valid view.
     pub fn new(origin: Origin, place: usize, version: u64, text: Arc<Text>) -> Snapshot
         requires { Stands origin place version (arc_value text) }
         ensures { result ≡ record { place = place; version = version; text = arc_value text; origin = origin } }
@@ -49,10 +50,11 @@ impl Snapshot {
         }
     }
 
-    /// That the text stands at its place after the view.
+    /// After the view the text is at its place.
     pub fn check(&self)
         ensures { Stands self.now.origin self.now.place self.now.version self.now.text }
     {
+        // for the proof
         let _ = &self.place;
     }
 }

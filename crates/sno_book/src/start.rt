@@ -6,16 +6,15 @@ ghost use Rattle.sno_pattern.specs.NameList.{first_repeat};
 ghost use Rattle.sno_book.specs.Openings.{texts_seen, names_in, IsOpening};
 ghost use Rattle.sno_book.specs.Starts.{contents, first_contents, GivesStart};
 ghost use Rattle.sno_book.specs.declared.faults.BookFault.TheVariants.{TooMany, Memory, Duplicate};
+ghost use Rattle.sno_book.specs.declared.openings.TheConstants.{MAX_ENTRIES};
 
+use crate::openings::MAX_TEXTS;
 use crate::versioned_texts::VersionedText;
 use crate::{BookFault, Opening};
 use indexmap::IndexMap;
 use sno_pattern::{Text, TextName};
 use std::alloc::Global;
 use std::sync::Arc;
-
-/// The most texts that a book has.
-const MAX_TEXTS: usize = 1_024;
 
 /// An opening, with its texts at their first versions.
 #[derive(Drop)]
@@ -24,7 +23,8 @@ pub(crate) struct Start {
     pub(crate) versioned_texts: Vec<VersionedText>,
 }
 
-/// Adds a text after the others, shared between the opening and the book, unless its name is there; and says whether it was added.
+/// Adds a text after the others, shared between the opening and the book, unless its name is already there. Returns
+/// whether it was added.
 fn add(
     alloc: Global,
     texts: &mut IndexMap<TextName, Arc<Text>>,
@@ -56,7 +56,7 @@ pub(crate) fn start_of(
     texts: Vec<(TextName, Text)>,
     room: u32,
 ) -> Result<Start, BookFault>
-    requires { room ≤ 1000000 }
+    requires { room ≤ MAX_ENTRIES }
     ensures answer { GivesStart result texts.items room }
     ensures opening { IfOk result (λ start. IsOpening start.opening) }
     ensures first { IfOk result (λ start. contents start.versioned_texts.items ≡ first_contents start.opening.texts) }

@@ -25,7 +25,7 @@ pub(crate) fn text_at(versioned_texts: &[VersionedText], place: usize) -> &Versi
     &versioned_texts[place]
 }
 
-/// The new text, where there is one, in place of the one at a place; its version is one higher.
+/// Puts the new text, if there is one, in place of the one at a place; its version is one higher.
 #[tactic(auto, using(crate::proofs::Places::renewed))]
 pub(crate) fn put(versioned_texts: &mut Vec<VersionedText>, place: usize, after: Option<Arc<Text>>)
     requires inside { place < length versioned_texts.old.items }

@@ -1,11 +1,12 @@
--- What a call from C answers: a status, a number of bytes, and what the buffer has then.
+-- What a call from C returns: a status, a number of bytes, and what the buffer has then.
 use Rattle.std.specs.Prelude.{◌≡◌, ◌<◌, ◌++◌, ℕ, Bool, List, Err, drop, length}
 use Rattle.sno_document.specs.Document.{IsDocument}
-use Rattle.sno_document.specs.declared.faults.RunFault.{RunFault}
+use Rattle.sno_document.specs.declared.faults.DocumentFault.{DocumentFault}
 use Rattle.sno_document.specs.declared.modes.Mode.{Mode}
 use Rattle.sno_rewrite.specs.Reports.{IsReport, status_of_run}
 
--- the buffer begins with the listing of the document's serial run, which has as many bytes as told, and the status says whether a statement was refused
+-- the buffer begins with the listing of the document's serial run, which has `told` bytes, and the status says whether
+-- a statement was refused
 pub record IsListed (mode : Mode) (json : Bool) (document before after : List ℕ) (told status : ℕ) : Type 0 where
   pub lines : List ℕ
   pub refused : ℕ
@@ -14,7 +15,7 @@ pub record IsListed (mode : Mode) (json : Bool) (document before after : List �
   pub written : after ≡ lines ++ drop told before
   pub judged : status ≡ status_of_run refused
 
--- the listing of the document's serial run has as many bytes as told, which is more than the buffer has
+-- the listing of the document's serial run has `told` bytes, which is more than the buffer has
 pub record IsLonger (mode : Mode) (json : Bool) (document before : List ℕ) (told : ℕ) : Type 0 where
   pub lines : List ℕ
   pub refused : ℕ
@@ -22,7 +23,7 @@ pub record IsLonger (mode : Mode) (json : Bool) (document before : List ℕ) (to
   pub counted : told ≡ length lines
   pub longer : length before < told
 
--- the bytes are no document, for one of the faults that a document may have
+-- the bytes are not a document; they have one of the faults that a document may have
 pub record IsFaulty (mode : Mode) (document : List ℕ) : Type 0 where
-  pub fault : RunFault
+  pub fault : DocumentFault
   pub first : IsDocument mode document (Err fault)

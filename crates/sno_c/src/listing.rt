@@ -4,18 +4,16 @@ ghost use Rattle.sno_c.specs.Answers.{IsFaulty, IsListed, IsLonger};
 ghost use Rattle.sno_document.specs.declared.modes.Mode.{Mode};
 ghost use Rattle.sno_rewrite.specs.Reports.{IsReport, status_of_run};
 
-use sno_rewrite::{Options, Report, RunFault, run_serial, status_of};
+use sno_rewrite::{MAX_TRIALS, Options, Report, RunFault, run_serial, status_of};
 use std::alloc::Global;
 
-/// The limit of trials is none: 1 to 1,000,000,000.
+/// The limit of trials is not one of 1 to 1,000,000,000.
 const BAD_LIMIT: u8 = 3;
 
 /// The buffer is too short for the listing.
 const TOO_SHORT: u8 = 5;
 
-const MAX_TRIALS: u32 = 1_000_000_000;
-
-/// Copies the bytes to the beginning of the buffer, which has room for them.
+/// Copies the bytes to the beginning of the buffer, which must be long enough.
 fn copy_to(buffer: &mut [u8], bytes: &[u8])
     requires { length bytes.now ≤ length buffer.old }
     ensures { buffer.new ≡ bytes.now ++ drop (length bytes.now) buffer.old }
@@ -24,7 +22,7 @@ fn copy_to(buffer: &mut [u8], bytes: &[u8])
     room.copy_from_slice(bytes);
 }
 
-/// Puts the line of a fault in the buffer, as much of it as there is room for, and tells how much that is.
+/// Puts the line of a fault in the buffer, as much of it as there is room for, and sets `told` to that many bytes.
 fn put_fault(alloc: Global, fault: &RunFault, buffer: &mut [u8], told: &mut usize)
     ensures rest { drop told.new buffer.new ≡ drop told.new buffer.old }
     ensures same { length buffer.new ≡ length buffer.old }
@@ -39,7 +37,8 @@ fn put_fault(alloc: Global, fault: &RunFault, buffer: &mut [u8], told: &mut usiz
     }
 }
 
-/// Puts the listing in the buffer if there is room for it, and tells its length either way.
+/// Puts the listing in the buffer if there is room for it, sets `told` to its length either way, and returns the
+/// status.
 fn put_listing(report: &Report, buffer: &mut [u8], told: &mut usize) -> u8
     ensures counted { told.new ≡ length report.now.bytes.items }
     ensures longer { result ≡ 5 → (length buffer.old < told.new) × (buffer.new ≡ buffer.old) }
@@ -55,20 +54,22 @@ fn put_listing(report: &Report, buffer: &mut [u8], told: &mut usize) -> u8
     if report.refused == 0 { 0 } else { 1 }
 }
 
-/// Performs the statements of a document in order on its texts, and puts the listing in the buffer, as JSON where `json` is set. `anchor` is whether
-/// statements that don't say otherwise are anchored, and `trials` how many trials a match may take, 1 to 1,000,000,000. It takes memory by `malloc`, and
-/// gives all of it back.
+/// Performs the statements of a document in order on its texts, and puts the listing in the buffer, as JSON if `json`
+/// is true. `anchor` says whether statements that don't say otherwise are anchored. `trials` says how many trials a
+/// match may take, 1 to 1,000,000,000. The function takes memory by `malloc`, and frees all of it.
 ///
-/// What comes back is a status, and `told` is a number of bytes:
+/// It returns a status, and sets `told` to a number of bytes:
 ///
 /// - 0: no statement was refused. The listing is the first `told` bytes of the buffer.
-/// - 1: the same, and statements were refused, as the listing has it.
-/// - 2: the bytes are no document. The first `told` bytes of the buffer are the line of the first fault, as much of it as there is room for.
-/// - 3: the limit of trials is none. `told` is 0.
-/// - 4: memory was refused. The first `told` bytes of the buffer are a line that says so.
-/// - 5: the buffer is too short for the listing, which has `told` bytes. The buffer is as it was.
+/// - 1: the same, but statements were refused, as the listing shows.
+/// - 2: the bytes are not a document. The first `told` bytes of the buffer are the line of the first fault, as much of
+///   it as there is room for.
+/// - 3: the limit of trials is invalid. `told` is 0.
+/// - 4: out of memory. The first `told` bytes of the buffer are a line that says so.
+/// - 5: the buffer is too short for the listing, which has `told` bytes. The buffer is unchanged.
 ///
-/// Past the first `told` bytes the buffer is as it was.
+/// After the first `told` bytes the buffer is unchanged.
+#[tactic(auto, using(crate::proofs::FaultLemmas::faulty))]
 #[unsafe(no_mangle)]
 pub extern "C" fn sno_rewrite_list(
     alloc: Global,
@@ -81,7 +82,7 @@ pub extern "C" fn sno_rewrite_list(
 ) -> u8
     ensures listed { result < 2 → IsListed (record { anchor = anchor; trials = trials }) json document.now buffer.old buffer.new told.new result }
     ensures faulty { result ≡ 2 → IsFaulty (record { anchor = anchor; trials = trials }) document.now }
-    ensures limit { result ≡ 3 ↔ ((trials ≡ 0) ⊎ (1000000000 < trials)) }
+    ensures limit { result ≡ 3 ↔ ((trials ≡ 0) ⊎ (MAX_TRIALS < trials)) }
     ensures longer { result ≡ 5 → IsLonger (record { anchor = anchor; trials = trials }) json document.now buffer.old told.new }
     ensures rest { drop told.new buffer.new ≡ drop told.new buffer.old }
     ensures inside { result < 5 → told.new ≤ length buffer.old }

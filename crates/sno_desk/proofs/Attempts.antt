@@ -1,17 +1,18 @@
--- From one attempt to the next: what a seat has seen only grows, and with each lost try the text's version is one higher at least.
+-- From one attempt to the next: what a seat has seen only grows, and with each lost try the text's version rises by at
+-- least one.
 use Rattle.std.proofs.Common.{◌≡◌, ◌≢◌, ◌≤◌, ◌<◌, ℕ, ◌+◌, true, List, [], length, Some, None, refl, sym, ap, subst, ◌∙◌, arith}
-use Rattle.std.specs.Prelude.{Ok, Err, IsTrue}
+use Rattle.std.specs.Prelude.{Ok, Err, IfOk, IfErr, IsTrue}
 use Rattle.std.specs.List.{list_all}
 use Rattle.std.specs.Char.{is_ascii}
 use Rattle.std.proofs.lemmas.List.{append-nil}
 use mathlib.Core.List.{IsPrefix as Begins}
-use Rattle.sno_statement.specs.Task.{Task}
+use Rattle.sno_statement.specs.Statement.{Statement}
 use Rattle.sno_statement.specs.Perform.{perform}
 use Rattle.sno_statement.specs.declared.outcomes.StatementFault.{StatementFault}
 use Rattle.sno_statement.specs.declared.outcomes.StatementFault.TheVariants as statement
 use Rattle.sno_book.specs.Entries.{Entry}
 use Rattle.sno_book.specs.Openings.{Opening, place_in}
-use Rattle.sno_book.specs.Proposals.{Proposed, Received, Proposes, GivesProposal}
+use Rattle.sno_book.specs.Proposals.{Proposal, Receipt, Proposes, GivesProposal}
 use Rattle.sno_book.specs.Snapshots.{Snapshot}
 use Rattle.sno_book.specs.States.{VersionedText}
 use Rattle.sno_book.specs.Views.{View, IsPrefix}
@@ -24,12 +25,13 @@ use Rattle.sno_desk.specs.declared.faults.CommitFault.TheVariants as commit
 use Rattle.sno_desk.specs.declared.faults.SnapshotFault.{SnapshotFault}
 use Rattle.sno_desk.specs.declared.faults.SnapshotFault.TheVariants as snapshot
 use Rattle.sno_desk.specs.declared.faults.SubmitFault.TheVariants as submit
-use Rattle.sno_desk.specs.Answers.{Answer, AnswersAt, HasRisen, IsNamed, Says, is_lost}
+use Rattle.sno_desk.specs.Answers.{Answer, AnswersAt, DecidesNoText, HasRisen, IsJustified, MayFollow, SpentAt, is_lost, receipts_in}
 use Rattle.sno_desk.specs.Faults.{of_commit, of_snapshot, of_statement}
-use Rattle.sno_desk.specs.Receipts.{IsCause, IsFor}
+use Rattle.sno_desk.specs.Receipts.{IsCause, StandsAfter}
 use Rattle.sno_desk.specs.Seen.{GivesSeen, HasVersion, IsSeen, IsTold, view_after}
+use Rattle.sno_desk.specs.Turns.{IsSubmitted, Position}
 use Rattle.sno_book.proofs.Standing.{standing}
-use Rattle.sno_desk.proofs.Causes.{explained}
+use Rattle.sno_desk.proofs.Causes.{explained, follows}
 
 -- ---- versions
 
@@ -65,20 +67,20 @@ one_place opening name a b h k = let both : Some a ≡ Some b = sym h ∙ k in c
 
 -- ---- the attempts so far
 
--- where this attempt begins, which count from 1, what the seat has seen begins with what it had seen, and the version of the statement's text has risen
--- by one at least with each attempt before
-pub record HasCome (opening : Opening) (earlier seen : List Entry) (s : Task) (attempt : ℕ) : Type 0 where
+-- at the beginning of this attempt, counted from 1: what the seat has seen begins with what it had seen; the version of
+-- the statement's text has risen by at least one with each earlier attempt
+pub record HasCome (opening : Opening) (earlier seen : List Entry) (s : Statement) (attempt : ℕ) : Type 0 where
   pub begins : Begins earlier seen
   pub risen : (place was is : ℕ) → place_in opening s.text ≡ Some place → HasVersion opening earlier place was → HasVersion opening seen place is → was + attempt ≤ is + 1
 
-pub come_first : (opening : Opening) (seen : List Entry) (s : Task) → HasCome opening seen seen s 1
+pub come_first : (opening : Opening) (seen : List Entry) (s : Statement) → HasCome opening seen seen s 1
 come_first opening seen s = record {
   begins = prefix_self seen;
   risen = λ place was is named h k. let same = one_version opening seen place was is h k in omega (arith, same);
 }
 
--- with a lost try the version that the text had, and the one that this try saw
-lost_more : (opening : Opening) (earlier seen after : List Entry) (s : Task) (attempt saw now : ℕ) → HasCome opening earlier seen s attempt → HasRisen opening seen after s 1 saw now
+-- after a lost try: the version that the text had, and the one that this try saw
+lost_more : (opening : Opening) (earlier seen after : List Entry) (s : Statement) (attempt saw now : ℕ) → HasCome opening earlier seen s attempt → HasRisen opening seen after s 1 saw now
     → (place was : ℕ) → place_in opening s.text ≡ Some place → HasVersion opening earlier place was → was + attempt ≤ saw + 1
 lost_more opening earlier seen after s attempt saw now come last place was named h =
     let mid = versioned opening seen s.text place named in
@@ -88,7 +90,7 @@ lost_more opening earlier seen after s attempt saw now come last place was named
     let more : mid.0 + 1 ≤ saw + 1 = last.risen mid.0 there in
     omega (arith, before, more)
 
-pub come_next : (opening : Opening) (earlier seen after : List Entry) (s : Task) (attempt : ℕ) (answer : Answer) → is_lost answer ≡ true → HasCome opening earlier seen s attempt
+pub come_next : (opening : Opening) (earlier seen after : List Entry) (s : Statement) (attempt : ℕ) (answer : Answer) → is_lost answer ≡ true → HasCome opening earlier seen s attempt
     → Begins seen after → AnswersAt 1 opening seen after s answer → HasCome opening earlier after s (attempt + 1)
 come_next opening earlier seen after s attempt (Err (submit.TriesSpent was_seen now)) lost come begins last = record {
   begins = prefix_trans earlier seen after come.begins begins;
@@ -100,18 +102,11 @@ come_next opening earlier seen after s attempt (Err (submit.TriesSpent was_seen 
       let level = one_version opening after last.place is now there last.versioned in
       omega (arith, more, higher, level);
 }
-come_next opening earlier seen after s attempt (Ok receipt) lost come begins last = absurd cc
-come_next opening earlier seen after s attempt (Err submit.NoText) lost come begins last = absurd cc
-come_next opening earlier seen after s attempt (Err submit.GateShut) lost come begins last = absurd cc
-come_next opening earlier seen after s attempt (Err submit.TextTooLong) lost come begins last = absurd cc
-come_next opening earlier seen after s attempt (Err submit.Stopped) lost come begins last = absurd cc
-come_next opening earlier seen after s attempt (Err submit.Full) lost come begins last = absurd cc
-come_next opening earlier seen after s attempt (Err submit.Memory) lost come begins last = absurd cc
-come_next opening earlier seen after s attempt (Err submit.TooManyTrials) lost come begins last = absurd cc
+come_next opening earlier seen after s attempt answer lost come begins last = absurd cc
 
--- ---- the answer of the last attempt is that of all
+-- ---- the result of the last attempt is that of all
 
-pub last_at : (tries : ℕ) (opening : Opening) (earlier seen after : List Entry) (s : Task) (attempt : ℕ) (answer : Answer) → (is_lost answer ≡ true → attempt ≡ tries)
+pub last_at : (tries : ℕ) (opening : Opening) (earlier seen after : List Entry) (s : Statement) (attempt : ℕ) (answer : Answer) → (is_lost answer ≡ true → attempt ≡ tries)
     → HasCome opening earlier seen s attempt → AnswersAt 1 opening seen after s answer → AnswersAt tries opening earlier after s answer
 last_at tries opening earlier seen after s attempt (Err (submit.TriesSpent was_seen now)) all come last =
     let level : attempt ≡ tries = all refl in
@@ -122,7 +117,7 @@ last_at tries opening earlier seen after s attempt (Err (submit.TriesSpent was_s
       since = prefix_trans earlier seen last.between come.begins last.since;
       until = last.until;
       saw = last.saw;
-      done = last.done;
+      outcome = last.outcome;
       performed = last.performed;
       versioned = last.versioned;
       higher = last.higher;
@@ -133,66 +128,66 @@ last_at tries opening earlier seen after s attempt (Ok receipt) all come last =
     let more = prefix_length earlier seen come.begins in
     let many = last.0 in
     (omega (arith, more, many), last.1)
-last_at tries opening earlier seen after s attempt (Err submit.NoText) all come last = tt
-last_at tries opening earlier seen after s attempt (Err submit.GateShut) all come last = tt
-last_at tries opening earlier seen after s attempt (Err submit.TextTooLong) all come last = last
-last_at tries opening earlier seen after s attempt (Err submit.Stopped) all come last = tt
-last_at tries opening earlier seen after s attempt (Err submit.Full) all come last = last
-last_at tries opening earlier seen after s attempt (Err submit.Memory) all come last = tt
-last_at tries opening earlier seen after s attempt (Err submit.TooManyTrials) all come last = last
+last_at tries opening earlier seen after s attempt answer all come last = last
 
-pub last_says : (shuts : ℕ → ℕ → Type 0) (tries : ℕ) (opening : Opening) (earlier seen after : List Entry) (s : Task) (attempt : ℕ) (answer : Answer)
-    → (is_lost answer ≡ true → attempt ≡ tries) → HasCome opening earlier seen s attempt → AnswersAt 1 opening seen after s answer → Says shuts tries 1 s answer → Says shuts tries tries s answer
-last_says shuts tries opening earlier seen after s attempt (Err (submit.TriesSpent was_seen now)) all come last says =
+pub last_justified : (shuts : ℕ → ℕ → Type 0) (tries : ℕ) (opening : Opening) (earlier seen after : List Entry) (s : Statement) (attempt : ℕ) (answer : Answer)
+    → (is_lost answer ≡ true → attempt ≡ tries) → HasCome opening earlier seen s attempt → AnswersAt 1 opening seen after s answer → IsJustified shuts tries 1 s answer → IsJustified shuts tries tries s answer
+last_justified shuts tries opening earlier seen after s attempt (Err (submit.TriesSpent was_seen now)) all come last justified =
     let level : attempt ≡ tries = all refl in
     let was = versioned opening earlier s.text last.place last.named in
     let more = lost_more opening earlier seen after s attempt was_seen now come last last.place was.0 last.named was.1 in
-    let higher : was_seen < now = says.0 in
-    (says.0, omega (arith, more, higher, level))
-last_says shuts tries opening earlier seen after s attempt (Ok receipt) all come last says = says
-last_says shuts tries opening earlier seen after s attempt (Err submit.NoText) all come last says = tt
-last_says shuts tries opening earlier seen after s attempt (Err submit.GateShut) all come last says = says
-last_says shuts tries opening earlier seen after s attempt (Err submit.TextTooLong) all come last says = says
-last_says shuts tries opening earlier seen after s attempt (Err submit.Stopped) all come last says = tt
-last_says shuts tries opening earlier seen after s attempt (Err submit.Full) all come last says = tt
-last_says shuts tries opening earlier seen after s attempt (Err submit.Memory) all come last says = tt
-last_says shuts tries opening earlier seen after s attempt (Err submit.TooManyTrials) all come last says = says
+    let higher : was_seen < now = justified.0 in
+    (justified.0, omega (arith, more, higher, level))
+last_justified shuts tries opening earlier seen after s attempt answer all come last justified = justified
+
+-- so the submit ends with it
+pub submitted : (shuts : ℕ → ℕ → Type 0) (tries : ℕ) (opening : Opening) (seats : ℕ) (first before after : Position) (s : Statement) (attempt : ℕ) (answer : Answer)
+    → (is_lost answer ≡ true → attempt ≡ tries) → before.accepted ≡ first.accepted → HasCome opening first.seen before.seen s attempt → DecidesNoText opening s answer
+    → IsJustified shuts tries 1 s answer → AnswersAt 1 opening before.seen after.seen s answer → Begins before.seen after.seen → IfOk answer (λ r. StandsAfter seats before.accepted r)
+    → IfErr answer (λ e. SpentAt seats before.accepted e) → after.accepted ≡ before.accepted + receipts_in answer → IsSubmitted shuts tries opening seats first after s answer
+submitted shuts tries opening seats first before after s attempt answer all same come no_text justified last begins index spent counted = record {
+  answers = (no_text, last_justified shuts tries opening first.seen before.seen after.seen s attempt answer all come last justified);
+  at = last_at tries opening first.seen before.seen after.seen s attempt answer all come last;
+  begins = prefix_trans first.seen before.seen after.seen come.begins begins;
+  follows = subst (λ (n : ℕ). MayFollow seats n answer) same (follows seats before.accepted answer index spent);
+  counted = counted ∙ ap (λ (n : ℕ). n + receipts_in answer) same;
+}
 
 -- ---- one attempt: the snapshot
 
-pub seen_named : (e : SnapshotFault) (opening : Opening) (seen : List Entry) (s : Task) → GivesSeen (Err e) opening seen s.text → IsNamed opening s (Err (of_snapshot e))
-seen_named snapshot.NoText opening seen s h = h
-seen_named snapshot.Stopped opening seen s h = h
-seen_named snapshot.Memory opening seen s h = h
+pub seen_no_text : (e : SnapshotFault) (opening : Opening) (seen : List Entry) (s : Statement) → GivesSeen (Err e) opening seen s.text → DecidesNoText opening s (Err (of_snapshot e))
+seen_no_text snapshot.NoText opening seen s h = h
+seen_no_text snapshot.Stopped opening seen s h = h
+seen_no_text snapshot.Memory opening seen s h = h
 
-pub seen_says : (e : SnapshotFault) (shuts : ℕ → ℕ → Type 0) (tries : ℕ) (s : Task) → Says shuts tries 1 s (Err (of_snapshot e))
-seen_says snapshot.NoText shuts tries s = tt
-seen_says snapshot.Stopped shuts tries s = tt
-seen_says snapshot.Memory shuts tries s = tt
+pub seen_justified : (e : SnapshotFault) (shuts : ℕ → ℕ → Type 0) (tries : ℕ) (s : Statement) → IsJustified shuts tries 1 s (Err (of_snapshot e))
+seen_justified snapshot.NoText shuts tries s = tt
+seen_justified snapshot.Stopped shuts tries s = tt
+seen_justified snapshot.Memory shuts tries s = tt
 
-pub seen_at : (e : SnapshotFault) (opening : Opening) (before after : List Entry) (s : Task) → AnswersAt 1 opening before after s (Err (of_snapshot e))
+pub seen_at : (e : SnapshotFault) (opening : Opening) (before after : List Entry) (s : Statement) → AnswersAt 1 opening before after s (Err (of_snapshot e))
 seen_at snapshot.NoText opening before after s = tt
 seen_at snapshot.Stopped opening before after s = tt
 seen_at snapshot.Memory opening before after s = tt
 
--- where the name has a place there is a text of it
+-- if the name has a place, `place_in` doesn't return `None`
 pub has_place : (opening : Opening) (name : List ℕ) (place : ℕ) → place_in opening name ≡ Some place → place_in opening name ≢ None
 has_place opening name place h = λ q. cc
 
 -- ---- one attempt: the statement on the snapshot
 
-pub performed_named : (e : StatementFault) (opening : Opening) (s : Task) → place_in opening s.text ≢ None → IsNamed opening s (Err (of_statement e))
-performed_named statement.TextTooLong opening s h = h
-performed_named statement.Memory opening s h = h
-performed_named statement.TooManyTrials opening s h = h
+pub performed_no_text : (e : StatementFault) (opening : Opening) (s : Statement) → place_in opening s.text ≢ None → DecidesNoText opening s (Err (of_statement e))
+performed_no_text statement.TextTooLong opening s h = h
+performed_no_text statement.Memory opening s h = h
+performed_no_text statement.TooManyTrials opening s h = h
 
-pub performed_says : (e : StatementFault) (shuts : ℕ → ℕ → Type 0) (tries : ℕ) (s : Task) (taken : Snapshot) → length taken.text ≤ 65536 → IsTrue (list_all is_ascii taken.text)
-    → GivesProposal (Err e) s taken → Says shuts tries 1 s (Err (of_statement e))
-performed_says statement.TextTooLong shuts tries s taken short ascii h = record { text = taken.text; short = short; ascii = ascii; performed = h }
-performed_says statement.Memory shuts tries s taken short ascii h = tt
-performed_says statement.TooManyTrials shuts tries s taken short ascii h = record { text = taken.text; short = short; ascii = ascii; performed = h }
+pub performed_justified : (e : StatementFault) (shuts : ℕ → ℕ → Type 0) (tries : ℕ) (s : Statement) (taken : Snapshot) → length taken.text ≤ 65536 → IsTrue (list_all is_ascii taken.text)
+    → GivesProposal (Err e) s taken → IsJustified shuts tries 1 s (Err (of_statement e))
+performed_justified statement.TextTooLong shuts tries s taken short ascii h = record { text = taken.text; short = short; ascii = ascii; performed = h }
+performed_justified statement.Memory shuts tries s taken short ascii h = tt
+performed_justified statement.TooManyTrials shuts tries s taken short ascii h = record { text = taken.text; short = short; ascii = ascii; performed = h }
 
-pub performed_at : (e : StatementFault) (opening : Opening) (before seen : List Entry) (s : Task) (taken : Snapshot) → IsSeen opening seen s.text taken → GivesProposal (Err e) s taken
+pub performed_at : (e : StatementFault) (opening : Opening) (before seen : List Entry) (s : Statement) (taken : Snapshot) → IsSeen opening seen s.text taken → GivesProposal (Err e) s taken
     → AnswersAt 1 opening before seen s (Err (of_statement e))
 performed_at statement.TextTooLong opening before seen s taken h given =
     record { place = taken.place; named = h.place; held = text_at opening taken.place taken.text taken.version; there = h.there; performed = given }
@@ -203,14 +198,14 @@ performed_at statement.TooManyTrials opening before seen s taken h given =
 -- ---- one attempt: the commit
 
 -- a proposal of the statement on what the seat has seen
-pub record IsProposed (opening : Opening) (seen : List Entry) (s : Task) (p : Proposed) : Type 0 where
+pub record IsProposed (opening : Opening) (seen : List Entry) (s : Statement) (p : Proposal) : Type 0 where
   pub statement : p.statement ≡ s
   pub named : place_in opening s.text ≡ Some p.place
   pub versioned : HasVersion opening seen p.place p.version
-  pub performed : perform s versioned.text ≡ Ok p.done
+  pub performed : perform s versioned.text ≡ Ok p.outcome
   pub prefix : IsPrefix p.origin (view_after opening seen)
 
-pub proposed : (opening : Opening) (seen : List Entry) (s : Task) (taken : Snapshot) (p : Proposed) → IsSeen opening seen s.text taken → Proposes p s taken → IsProposed opening seen s p
+pub proposed : (opening : Opening) (seen : List Entry) (s : Statement) (taken : Snapshot) (p : Proposal) → IsSeen opening seen s.text taken → Proposes p s taken → IsProposed opening seen s p
 proposed opening seen s taken p h made =
     let origin : view_after opening seen ≡ p.origin = sym (made.origin ∙ h.origin) in
     let whole : IsPrefix (view_after opening seen) (view_after opening seen) = record { opening = refl; more = []; journal = sym (append-nil seen) } in
@@ -221,26 +216,23 @@ proposed opening seen s taken p h made =
       statement = made.statement;
       named = h.place ∙ ap (λ (k : ℕ). Some k) (sym made.place);
       versioned = record { text = taken.text; name = name; there = ap (λ (k : ℕ). text_after opening seen k) made.place ∙ at };
-      performed = made.done;
+      performed = made.outcome;
       prefix = subst (λ (v : View). IsPrefix v (view_after opening seen)) origin whole;
     }
 
--- the same from what the calls answer
-pub proposed_on : (opening : Opening) (seen : List Entry) (s its : Task) (name : List ℕ) (taken : Snapshot) (p : Proposed) → name ≡ s.text → its ≡ s → IsSeen opening seen name taken → Proposes p its taken
+-- the same from the results of the calls
+pub proposed_on : (opening : Opening) (seen : List Entry) (s its : Statement) (name : List ℕ) (taken : Snapshot) (p : Proposal) → name ≡ s.text → its ≡ s → IsSeen opening seen name taken → Proposes p its taken
     → IsProposed opening seen s p
 proposed_on opening seen s its name taken p called same h made =
-    proposed opening seen s taken p (subst (λ (n : List ℕ). IsSeen opening seen n taken) called h) (subst (λ (t : Task). Proposes p t taken) same made)
+    proposed opening seen s taken p (subst (λ (n : List ℕ). IsSeen opening seen n taken) called h) (subst (λ (t : Statement). Proposes p t taken) same made)
 
-pub committed_named : (e : CommitFault) (opening : Opening) (seen after : List Entry) (s : Task) (p : Proposed) → IsProposed opening seen s p → IsCause e (view_after opening after) p → IsNamed opening s (Err (of_commit e))
-committed_named commit.NoText opening seen after s p h why =
-    let away = explained (view_after opening after) p book.NoText why in absurd (away (ap (λ (t : Task). place_in opening t.text) h.statement ∙ h.named))
-committed_named (commit.Changed was now) opening seen after s p h why = has_place opening s.text p.place h.named
-committed_named commit.Full opening seen after s p h why = has_place opening s.text p.place h.named
-committed_named commit.Memory opening seen after s p h why = has_place opening s.text p.place h.named
-committed_named commit.Stopped opening seen after s p h why = has_place opening s.text p.place h.named
+pub committed_no_text : (e : CommitFault) (opening : Opening) (seen after : List Entry) (s : Statement) (p : Proposal) → IsProposed opening seen s p → IsCause e (view_after opening after) p → DecidesNoText opening s (Err (of_commit e))
+committed_no_text commit.NoText opening seen after s p h why =
+    let away = explained (view_after opening after) p book.NoText why in absurd (away (ap (λ (t : Statement). place_in opening t.text) h.statement ∙ h.named))
+committed_no_text e opening seen after s p h why = has_place opening s.text p.place h.named
 
 -- a text that changed has risen past the proposal's version
-changed : (opening : Opening) (seen after : List Entry) (s : Task) (p : Proposed) (was now : ℕ) → IsProposed opening seen s p → Begins seen after → IsCause (commit.Changed was now) (view_after opening after) p → was < now
+changed : (opening : Opening) (seen after : List Entry) (s : Statement) (p : Proposal) (was now : ℕ) → IsProposed opening seen s p → Begins seen after → IsCause (commit.Changed was now) (view_after opening after) p → was < now
 changed opening seen after s p was now h begins why =
     let told = explained (view_after opening after) p (book.Changed was now) why in
     let up = rises opening seen after p.place p.version now begins h.versioned told.2 in
@@ -248,15 +240,12 @@ changed opening seen after s p was now h begins why =
     let apart : now ≢ was = told.1 in
     omega (arith, up, is, apart)
 
-pub committed_says : (e : CommitFault) (shuts : ℕ → ℕ → Type 0) (tries : ℕ) (opening : Opening) (seen after : List Entry) (s : Task) (p : Proposed) → IsProposed opening seen s p → Begins seen after
-    → IsCause e (view_after opening after) p → Says shuts tries 1 s (Err (of_commit e))
-committed_says (commit.Changed was now) shuts tries opening seen after s p h begins why = let up = changed opening seen after s p was now h begins why in (up, omega (arith, up))
-committed_says commit.NoText shuts tries opening seen after s p h begins why = tt
-committed_says commit.Full shuts tries opening seen after s p h begins why = tt
-committed_says commit.Memory shuts tries opening seen after s p h begins why = tt
-committed_says commit.Stopped shuts tries opening seen after s p h begins why = tt
+pub committed_justified : (e : CommitFault) (shuts : ℕ → ℕ → Type 0) (tries : ℕ) (opening : Opening) (seen after : List Entry) (s : Statement) (p : Proposal) → IsProposed opening seen s p → Begins seen after
+    → IsCause e (view_after opening after) p → IsJustified shuts tries 1 s (Err (of_commit e))
+committed_justified (commit.Changed was now) shuts tries opening seen after s p h begins why = let up = changed opening seen after s p was now h begins why in (up, omega (arith, up))
+committed_justified e shuts tries opening seen after s p h begins why = tt
 
-pub committed_at : (e : CommitFault) (opening : Opening) (before seen after : List Entry) (s : Task) (p : Proposed) → IsProposed opening seen s p → Begins before seen → Begins seen after
+pub committed_at : (e : CommitFault) (opening : Opening) (before seen after : List Entry) (s : Statement) (p : Proposal) → IsProposed opening seen s p → Begins before seen → Begins seen after
     → IsCause e (view_after opening after) p → AnswersAt 1 opening before after s (Err (of_commit e))
 committed_at (commit.Changed was now) opening before seen after s p h first then_on why =
     let up = changed opening seen after s p was now h then_on why in
@@ -273,13 +262,12 @@ committed_at (commit.Changed was now) opening before seen after s p h first then
         name = h.versioned.name;
         there = h.versioned.there ∙ ap (λ (v : ℕ). Some (held h.versioned.name h.versioned.text v)) (sym is);
       };
-      done = p.done;
+      outcome = p.outcome;
       performed = h.performed;
       versioned = told.2;
       higher = up;
       risen = λ version k. let below = rises opening before seen p.place version p.version first k h.versioned in omega (arith, below, is);
     }
-committed_at commit.NoText opening before seen after s p h first then_on why = tt
 committed_at commit.Full opening before seen after s p h first then_on why =
     let told = explained (view_after opening after) p book.Full why in
     let same = one_text opening seen after p.place p.version then_on h.versioned told.1 in (
@@ -289,17 +277,12 @@ committed_at commit.Full opening before seen after s p h first then_on why =
         named = h.named;
         held = held told.1.name told.1.text p.version;
         there = told.1.there;
-        done = p.done;
-        performed = subst (λ (l : List ℕ). perform s l ≡ Ok p.done) same h.performed;
+        outcome = p.outcome;
+        performed = subst (λ (l : List ℕ). perform s l ≡ Ok p.outcome) same h.performed;
       },
     )
-committed_at commit.Memory opening before seen after s p h first then_on why = tt
-committed_at commit.Stopped opening before seen after s p h first then_on why = tt
+committed_at e opening before seen after s p h first then_on why = tt
 
-pub received_at : (opening : Opening) (before seen after : List Entry) (s : Task) (receipt : Received) → Begins before seen → length seen ≤ receipt.index → IsTold opening after receipt
+pub received_at : (opening : Opening) (before seen after : List Entry) (s : Statement) (receipt : Receipt) → Begins before seen → length seen ≤ receipt.index → IsTold opening after receipt
     → AnswersAt 1 opening before after s (Ok receipt)
 received_at opening before seen after s receipt begins later told = let more = prefix_length before seen begins in (omega (arith, more, later), told)
-
-pub received_says : (shuts : ℕ → ℕ → Type 0) (tries : ℕ) (opening : Opening) (seen : List Entry) (s : Task) (p : Proposed) (receipt : Received) → IsProposed opening seen s p → IsFor receipt p
-    → Says shuts tries 1 s (Ok receipt)
-received_says shuts tries opening seen s p receipt h is = ap (λ (e : Entry). e.statement) is.entry ∙ h.statement

@@ -1,4 +1,4 @@
--- Which of the crate's types may cross threads, from what is known of the types below.
+-- Which of the crate's types may cross threads, given which of the types that they use may.
 use denote.RattleType.{RattleType}
 use denote.Builtin.{Array}
 use mathlib.Core.List.{List, [], ◌∷◌}
@@ -30,14 +30,14 @@ use Rattle.sno_book.specs.contracts.entries.Receipt as Receipt
 use Rattle.sno_book.specs.contracts.openings.Opening as Opening
 use Rattle.sno_published.proofs.fronts.Front.TheSendSync as front
 use Rattle.sno_published.proofs.histories.History.TheSendSync as history
-use Rattle.sno_published.proofs.operations.Given.TheSendSync as given
+use Rattle.sno_published.proofs.operations.Completion.TheSendSync as completion
 use Rattle.sno_published.proofs.tables.Table.TheSendSync as table
 use Rattle.sno_published.proofs.viewers.Viewer.TheSendSync as viewer
 use Rattle.sno_published.specs.contracts.fronts.Front as Front
 use Rattle.sno_published.specs.contracts.histories.History as History
-use Rattle.sno_published.specs.contracts.keeping.Kept as Kept
-use Rattle.sno_published.specs.contracts.keeping.KeptProtocolTableSeeing.TheImpl as keeps
-use Rattle.sno_published.specs.contracts.operations.Given as Given
+use Rattle.sno_published.specs.contracts.view_rule.ViewRule as ViewRule
+use Rattle.sno_published.specs.contracts.view_rule.ViewRuleProtocolTableSeenEntries.TheImpl as keeps
+use Rattle.sno_published.specs.contracts.operations.Completion as Completion
 use Rattle.sno_published.specs.contracts.operations.Operation as Operation
 use Rattle.sno_published.specs.contracts.operations.Operation.TheInside as OperationInside
 use Rattle.sno_published.specs.contracts.screens.Screen as Screen
@@ -54,8 +54,6 @@ use Rattle.sno_desk.specs.contracts.locked.Locked as Locked
 use Rattle.sno_desk.specs.contracts.locked.Locked.TheInside as LockedInside
 use Rattle.sno_desk.specs.contracts.seats.Seat as Seat
 use Rattle.sno_desk.specs.contracts.shown.Shown as Shown
-use Rattle.sno_desk.specs.contracts.windows.Window as Window
-use Rattle.sno_desk.specs.contracts.windows.Window.TheInside as Inside
 
 -- a book, from its entries
 pub book_send : IsSend Entry.the_row → IsSend Book.the_row
@@ -79,35 +77,29 @@ Reply = Result.the_row Receipt.the_row SubmitFault.the_row
 abbrev Replies : RattleType
 Replies = VecDeque.the_row Reply Global.the_row ghosts
 
-window_inside : (L : RattleType) (n : NamingGhosts L.Denot) (g : Ghosts L.Denot) → IsSend (Inside.the_row L n g)
-window_inside L n g = declared_send (Inside.the_type L n g) (Arc-send Opening.the_row opening.the_send opening.the_sync, (as_row_send (Viewer.the_field L n g) (viewer.the_send L n g), tt))
-
-window_send : (L : RattleType) (n : NamingGhosts L.Denot) (g : Ghosts L.Denot) → IsSend (Window.the_row L n g)
-window_send L n g = view_send _ _ _ _ _ (window_inside L n g)
-
 replies_send : IsSend Receipt.the_row → IsSend (Option.the_row Replies)
 replies_send receipt =
     let reply : IsSend Reply = result.the_send Receipt.the_row SubmitFault.the_row receipt (search sendable depth 20) in
     option.the_send Replies (Deque-send Reply reply)
 
 pub seat_send : (L : RattleType) (n : NamingGhosts L.Denot) (g : Ghosts L.Denot) → IsSend Receipt.the_row → IsSend (Seat.the_row L n g)
-seat_send L n g receipt = declared_send (Seat.the_type L n g) (search sendable, (share.the_send L g, (as_row_send (Window.the_field L n g) (window_send L n g), (replies_send receipt, tt))))
+seat_send L n g receipt = declared_send (Seat.the_type L n g) (search sendable, (share.the_send L g, (as_row_send (Viewer.the_field L n g) (viewer.the_send L n g), (replies_send receipt, tt))))
 
--- ---- what lies under the lock
+-- ---- what is under the lock
 
 module _ (L : RattleType) (n : NamingGhosts L.Denot) (g : Ghosts L.Denot) (entry : IsSend Entry.the_row) where
   operation_send : IsSend (Operation.the_row L n g)
   operation_send =
-      let slot = Arc-send (OnceLock.the_row (Given.the_row L n g)) (once.the_send (Given.the_row L n g) (given.the_send L n g)) (once.the_sync (Given.the_row L n g) (given.the_send L n g) (given.the_sync L n g)) in
+      let slot = Arc-send (OnceLock.the_row (Completion.the_row L n g)) (once.the_send (Completion.the_row L n g) (completion.the_send L n g)) (once.the_sync (Completion.the_row L n g) (completion.the_send L n g) (completion.the_sync L n g)) in
       view_send _ _ _ _ _ (declared_send (OperationInside.the_type L n g) (as_row_send Entry.the_field entry, (as_row_send Front.the_field front.the_send, (as_row_send Front.the_field front.the_send, (slot, tt)))))
 
   -- what one reader has seen
-  abbrev Seeing : RattleType
-  Seeing = Array Entry.the_row (tt {0}) 0
+  abbrev SeenEntries : RattleType
+  SeenEntries = Array Entry.the_row (tt {0}) 0
 
-  writer_send : IsSend (Writer.the_row (Table.the_row L n g) (Operation.the_row L n g) Seeing (Kept.the_row L) Global.the_row Seeing (absorbs.ghosts L n absorbs.no_dict g absorbs.no_dict)
+  writer_send : IsSend (Writer.the_row (Table.the_row L n g) (Operation.the_row L n g) SeenEntries (ViewRule.the_row L) Global.the_row SeenEntries (absorbs.ghosts L n absorbs.no_dict g absorbs.no_dict)
       (keeps.ghosts L n keeps.no_dict g keeps.no_dict) ghosts)
-  writer_send = writer.the_send (Table.the_row L n g) (Operation.the_row L n g) Seeing (Kept.the_row L) Global.the_row Seeing (absorbs.ghosts L n absorbs.no_dict g absorbs.no_dict)
+  writer_send = writer.the_send (Table.the_row L n g) (Operation.the_row L n g) SeenEntries (ViewRule.the_row L) Global.the_row SeenEntries (absorbs.ghosts L n absorbs.no_dict g absorbs.no_dict)
       (keeps.ghosts L n keeps.no_dict g keeps.no_dict) ghosts (table.the_send L n g) operation_send send (table.the_sync L n g) sync frees
 
   screen_send : IsSend (Screen.the_row L (absorbs.ghosts L n absorbs.no_dict g absorbs.no_dict) n g)

@@ -1,6 +1,6 @@
 pub mod Attempts
 pub mod Causes
 pub mod Crossings
-pub mod Openings
+pub mod OpeningLemmas
 pub mod Turns
 pub mod Viewings

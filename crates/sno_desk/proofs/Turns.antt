@@ -1,4 +1,4 @@
--- Dealing out in turn.
+-- Dealing out jobs in turn.
 use Rattle.std.proofs.Common.{◌≡◌, ◌<◌, ◌≤◌, ◌⊎◌, inl, inr, ℕ, zero, suc, ◌+◌, ◌-◌, true, false, List, [], ◌∷◌, ◌++◌, ◌∙◌, length, get_or, map, refl, sym, ap, subst, append_assoc, length-append, arith}
 use Rattle.std.specs.Prelude.{sum, Option, Some, None, sum_by}
 use Rattle.std.proofs.Math.Dec.{leb}
@@ -6,14 +6,14 @@ use Rattle.std.proofs.lemmas.Bool.Decides.{leb_tells}
 use Rattle.std.proofs.lemmas.List.Sums.{sum-map, sum_by-cons}
 use Rattle.std.proofs.lemmas.List.{append-nil, get_or-map, length-map, map-append}
 use mathlib.Core.List.{IsPrefix as Begins}
-use Rattle.sno_statement.specs.Task.{Task}
+use Rattle.sno_statement.specs.Statement.{Statement}
 use Rattle.sno_published.proofs.Prefixes.{prefix_self, prefix_trans}
 use Rattle.sno_book.specs.Entries.{Entry}
 use Rattle.sno_book.specs.Openings.{Opening}
 use Rattle.sno_desk.specs.Answers.{Answer, Answers, receipts_in}
 use Rattle.sno_desk.specs.Turns.{AllAnswer, BeginsWith, Deals, Goes, HasGrown, HasTurns, HasWorked, InTurn, IsSubmitted, Position, every, position, shares_after}
 
--- a seat that did nothing has gone on
+-- a seat that did nothing has grown in the sense of `HasGrown`
 pub grown_self : (p : Position) → HasGrown p p
 grown_self p = record { accepted = omega arith; begins = prefix_self p.seen }
 
@@ -32,18 +32,18 @@ grown_still before now after g counted seen =
     let one : before.accepted ≤ now.accepted = g.accepted in
     record { accepted = omega arith; begins = subst (λ (l : List Entry). Begins before.seen l) (sym seen) g.begins }
 
-pub goes_none : (A : Position → Position → Task → Answer → Type 0) (before : Position) (all : List Task) → Goes A before before all all []
+pub goes_none : (A : Position → Position → Statement → Answer → Type 0) (before : Position) (all : List Statement) → Goes A before before all all []
 goes_none A before all = record { on = λ after more h. h }
 
 -- the job whose turn it is has its reply
-pub goes_one : (A : Position → Position → Task → Answer → Type 0) (before now next : Position) (all : List Task) (count wait : ℕ) (s : Task) (jobs : List Task)
+pub goes_one : (A : Position → Position → Statement → Answer → Type 0) (before now next : Position) (all : List Statement) (count wait : ℕ) (s : Statement) (jobs : List Statement)
     (replies : List Answer) (r : Answer)
     → wait ≡ 0 → A now next s r → Goes A before now all (every count wait (s ∷ jobs)) replies → Goes A before next all (every count (count - 1) jobs) (replies ++ r ∷ [])
 goes_one A before now next all count zero s jobs replies r e a g = record { on = λ after more h. rw append_assoc (g.on after (r ∷ more) (next, a, h)) }
 goes_one A before now next all count (suc wait) s jobs replies r e a g = absurd (omega arith)
 
--- a job that is another seat's is passed over
-pub goes_by : (A : Position → Position → Task → Answer → Type 0) (before now : Position) (all : List Task) (count wait next : ℕ) (s : Task) (jobs : List Task)
+-- a job of another seat is passed over
+pub goes_by : (A : Position → Position → Statement → Answer → Type 0) (before now : Position) (all : List Statement) (count wait next : ℕ) (s : Statement) (jobs : List Statement)
     (replies : List Answer)
     → next + 1 ≡ wait → Goes A before now all (every count wait (s ∷ jobs)) replies → Goes A before now all (every count next jobs) replies
 goes_by A before now all count zero next s jobs replies e g = absurd (omega arith)
@@ -51,31 +51,31 @@ goes_by A before now all count (suc wait) next s jobs replies e g =
     let q : wait ≡ next = omega arith in
     let P : ℕ → Type 0 = λ w. Goes A before now all (every count w jobs) replies in subst P q g
 
-pub goes_end : (A : Position → Position → Task → Answer → Type 0) (before now : Position) (all : List Task) (count wait : ℕ) (left : List Task)
+pub goes_end : (A : Position → Position → Statement → Answer → Type 0) (before now : Position) (all : List Statement) (count wait : ℕ) (left : List Statement)
     (replies : List Answer) → left ≡ [] → Goes A before now all (every count wait left) replies → InTurn A before now all replies
 goes_end A before now all count wait left replies none g =
-    let P : List Task → Type 0 = λ l. Goes A before now all (every count wait l) replies in
+    let P : List Statement → Type 0 = λ l. Goes A before now all (every count wait l) replies in
     let h = subst P none g in
     rw append-nil at (h.on now [] refl)
 
 -- ---- the replies of one seat
 
-as_many : (A : Position → Position → Task → Answer → Type 0) (before after : Position) (jobs : List Task) (replies : List Answer) → InTurn A before after jobs replies → length replies ≡ length jobs
+as_many : (A : Position → Position → Statement → Answer → Type 0) (before after : Position) (jobs : List Statement) (replies : List Answer) → InTurn A before after jobs replies → length replies ≡ length jobs
 as_many A before after [] [] a = refl
 as_many A before after [] (r ∷ replies) a = absurd a
 as_many A before after (s ∷ jobs) [] a = absurd a
 as_many A before after (s ∷ jobs) (r ∷ replies) a = ap (λ n. suc n) (as_many A a.0 after jobs replies a.2)
 
--- each is an answer to its job, and the seat has accepted as many more as there are receipts
+-- each reply is a result for its job, and the seat has accepted as many more as there are receipts
 module _ (shuts : ℕ → ℕ → Type 0) (tries : ℕ) (opening : Opening) (seats : ℕ) where
-  each_answers : (before after : Position) (jobs : List Task) (replies : List Answer) → InTurn (IsSubmitted shuts tries opening seats) before after jobs replies
+  each_answers : (before after : Position) (jobs : List Statement) (replies : List Answer) → InTurn (IsSubmitted shuts tries opening seats) before after jobs replies
       → AllAnswer (Answers shuts tries opening) jobs replies
   each_answers before after [] [] a = tt
   each_answers before after [] (r ∷ replies) a = absurd a
   each_answers before after (s ∷ jobs) [] a = absurd a
   each_answers before after (s ∷ jobs) (r ∷ replies) a = (a.1.answers, each_answers a.0 after jobs replies a.2)
 
-  all_counted : (before after : Position) (jobs : List Task) (replies : List Answer) → InTurn (IsSubmitted shuts tries opening seats) before after jobs replies
+  all_counted : (before after : Position) (jobs : List Statement) (replies : List Answer) → InTurn (IsSubmitted shuts tries opening seats) before after jobs replies
       → after.accepted ≡ before.accepted + sum_by receipts_in replies
   all_counted before after [] [] a = let same = ap (λ (p : Position). p.accepted) a in omega (arith, same)
   all_counted before after [] (r ∷ replies) a = absurd a
@@ -88,7 +88,7 @@ module _ (shuts : ℕ → ℕ → Type 0) (tries : ℕ) (opening : Opening) (sea
 
 -- ---- the replies of all seats
 
--- the place at which two lists of one length are as long in each seat's turns
+-- two lists of the same length have equally many elements in each seat's turns
 turns_alike : {X Y : Type 0} (count first : ℕ) (xs : List X) (ys : List Y) → length xs ≡ length ys → length (every count first xs) ≡ length (every count first ys)
 turns_alike count first [] [] e = refl
 turns_alike count first [] (y ∷ ys) e = absurd (omega arith)
@@ -117,8 +117,8 @@ deals_at {X} count first (queue ∷ queues) replies d zero place e h =
     let P : ℕ → Type 0 = λ p. BeginsWith queue (every count p replies) in subst P same d.0
 deals_at count first (queue ∷ queues) replies d (suc k) place e h = deals_at count (suc first) queues replies d.1 k place (omega arith) (omega arith)
 
--- the replies in the order of the jobs answer them, where those of each seat do
-pub answer_all : (A : Task → Answer → Type 0) (count : ℕ) → 1 ≤ count → (jobs : List Task) (replies : List Answer)
+-- if the replies of each seat are for its jobs, the replies in the order of the jobs are for all jobs
+pub answer_all : (A : Statement → Answer → Type 0) (count : ℕ) → 1 ≤ count → (jobs : List Statement) (replies : List Answer)
     → length replies ≡ length jobs → ((k : ℕ) → k < count → AllAnswer A (every count k jobs) (every count k replies)) → AllAnswer A jobs replies
 answer_all A count some [] [] e each = tt
 answer_all A count some [] (r ∷ replies) e each = absurd (omega arith)
@@ -127,7 +127,7 @@ answer_all A count some (s ∷ jobs) (r ∷ replies) e each =
     let front = each 0 (omega arith) in
     (front.0, answer_all A count some jobs replies (omega arith) (λ k h. later A count jobs replies k front.1 (λ inside. each (suc k) inside) (leb_tells (suc (suc k)) count) h))
   where
-    later : (A : Task → Answer → Type 0) (count : ℕ) (jobs : List Task) (replies : List Answer) (k : ℕ)
+    later : (A : Statement → Answer → Type 0) (count : ℕ) (jobs : List Statement) (replies : List Answer) (k : ℕ)
         → AllAnswer A (every count (count - 1) jobs) (every count (count - 1) replies)
         → (suc k < count → AllAnswer A (every count k jobs) (every count k replies))
         → ((leb (suc (suc k)) count ≡ true) × (suc (suc k) ≤ count)) ⊎ ((leb (suc (suc k)) count ≡ false) × (count < suc (suc k))) → k < count → AllAnswer A (every count k jobs) (every count k replies)
@@ -136,7 +136,7 @@ answer_all A count some (s ∷ jobs) (r ∷ replies) e each =
         let same : count - 1 ≡ k = omega arith in
         let P : ℕ → Type 0 = λ m. AllAnswer A (every count m jobs) (every count m replies) in subst P same last
 
--- the shares, from what each seat's is
+-- all shares, from each seat's share
 raised_all : (count first : ℕ) (before after : List ℕ) (replies : List Answer) → length after ≡ length before
     → ((k place : ℕ) → place ≡ first + k → k < length before → get_or after k 0 ≡ get_or before k 0 + sum_by receipts_in (every count place replies))
     → after ≡ shares_after count first before replies
@@ -152,8 +152,8 @@ first_of : {X : Type 0} (xs : List X) (k : ℕ) → k < length xs → X
 first_of [] k h = absurd (omega arith)
 first_of (x ∷ xs) k h = x
 
--- what one seat's replies are, by what it kept
-replies_of_seat : (A : Position → Position → Task → Answer → Type 0) (jobs : List Task) (mine : List Answer) (before after : Position)
+-- one seat's replies, from what it kept
+replies_of_seat : (A : Position → Position → Statement → Answer → Type 0) (jobs : List Statement) (mine : List Answer) (before after : Position)
     (kept : Option (List Answer)) (queue : List Answer)
     → HasWorked A jobs before after kept → kept ≡ Some queue → BeginsWith queue mine → length mine ≡ length jobs → InTurn A before after jobs mine
 replies_of_seat A jobs mine before after None queue worked kept b e = absurd cc
@@ -166,7 +166,7 @@ replies_of_seat A jobs mine before after (Some replies) queue worked kept b e =
     subst P whole worked
 
 -- as many replies as jobs are kept
-kept_turns : (A : Position → Position → Task → Answer → Type 0) (jobs : List Task) (before after : Position) (kept : Option (List Answer)) (queue : List Answer)
+kept_turns : (A : Position → Position → Statement → Answer → Type 0) (jobs : List Statement) (before after : Position) (kept : Option (List Answer)) (queue : List Answer)
     → HasWorked A jobs before after kept → kept ≡ Some queue → length queue ≡ length jobs
 kept_turns A jobs before after None queue worked kept = absurd cc
 kept_turns A jobs before after (Some replies) queue worked kept =
@@ -174,7 +174,7 @@ kept_turns A jobs before after (Some replies) queue worked kept =
     let P : List Answer → Type 0 = λ l. length l ≡ length jobs in
     subst P same (as_many A before after jobs replies worked)
 
-turns_all : {X : Type 0} (count first : ℕ) (queues : List (List X)) (jobs : List Task)
+turns_all : {X : Type 0} (count first : ℕ) (queues : List (List X)) (jobs : List Statement)
     → ((k place : ℕ) → place ≡ first + k → k < length queues → length (get_or queues k []) ≡ length (every count place jobs)) → HasTurns count first queues jobs
 turns_all count first [] jobs each = tt
 turns_all count first (queue ∷ queues) jobs each = (
@@ -186,11 +186,11 @@ module _ {X Q : Type 0} (share : X → ℕ) (view : X → List Entry) (kept : X 
   abbrev at : X → Position
   at x = position (share x) (view x)
 
-  abbrev Submitted : Position → Position → Task → Answer → Type 0
+  abbrev Submitted : Position → Position → Statement → Answer → Type 0
   Submitted = IsSubmitted shuts tries opening seats
 
-  -- the seats at work, then their replies taken and put in order: each seat's jobs have their answers in turn
-  pub record Settles (jobs : List Task) (before worked after : List X) (queues : List Q) (replies : List Answer) : Type 0 where
+  -- the seats work, and then their replies are taken and put in order: each seat's jobs have their replies in turn
+  pub record Settles (jobs : List Statement) (before worked after : List X) (queues : List Q) (replies : List Answer) : Type 0 where
     pub some : 1 ≤ length before
     pub worked_as_many : length worked ≡ length before
     pub after_as_many : length after ≡ length before
@@ -202,7 +202,7 @@ module _ {X Q : Type 0} (share : X → ℕ) (view : X → List Entry) (kept : X 
     pub dealt : Deals (length before) 0 (map items queues) replies
     pub in_all : length replies ≡ length jobs
 
-  at_seat : (jobs : List Task) (before worked after : List X) (queues : List Q) (replies : List Answer)
+  at_seat : (jobs : List Statement) (before worked after : List X) (queues : List Q) (replies : List Answer)
       → Settles jobs before worked after queues replies → (k : ℕ) (d : X) (e : Q) → k < length before
       → InTurn Submitted (at (get_or before k d)) (at (get_or after k d)) (every (length before) k jobs) (every (length before) k replies)
   at_seat jobs before worked after queues replies s k d e h =
@@ -217,7 +217,7 @@ module _ {X Q : Type 0} (share : X → ℕ) (view : X → List Entry) (kept : X 
       subst seen (sym (s.same_view k d h)) (subst count (sym (s.same k d h)) mine)
 
   -- the replies that are taken from the seats at work
-  pub taken_turns : (jobs : List Task) (before worked : List X) (queues : List Q) → length queues ≡ length before
+  pub taken_turns : (jobs : List Statement) (before worked : List X) (queues : List Q) → length queues ≡ length before
       → ((k : ℕ) (d : X) → k < length before → HasWorked Submitted (every (length before) k jobs) (at (get_or before k d)) (at (get_or worked k d)) (kept (get_or worked k d)))
       → ((k : ℕ) (d : X) (e : Q) → k < length before → kept (get_or worked k d) ≡ Some (items (get_or queues k e)))
       → HasTurns (length before) 0 (map items queues) jobs
@@ -235,7 +235,7 @@ module _ {X Q : Type 0} (share : X → ℕ) (view : X → List Entry) (kept : X 
       let P : ℕ → Type 0 = λ m. length (get_or (map items queues) k []) ≡ length (every (length before) m jobs) in
       subst P same (there ∙ mine))
 
-  pub settled_answers : (jobs : List Task) (before worked after : List X) (queues : List Q) (replies : List Answer)
+  pub settled_answers : (jobs : List Statement) (before worked after : List X) (queues : List Q) (replies : List Answer)
       → Settles jobs before worked after queues replies → AllAnswer (Answers shuts tries opening) jobs replies
   settled_answers jobs before worked after queues replies s =
       answer_all (Answers shuts tries opening) (length before) s.some jobs replies s.in_all
@@ -244,13 +244,13 @@ module _ {X Q : Type 0} (share : X → ℕ) (view : X → List Entry) (kept : X 
       each_answers shuts tries opening seats (at (get_or before k d)) (at (get_or after k d)) (every (length before) k jobs) (every (length before) k replies)
       (at_seat jobs before worked after queues replies s k d (first_of queues k (rw s.queues_as_many h)) h))
 
-  pub settled_turns : (jobs : List Task) (before worked after : List X) (queues : List Q) (replies : List Answer)
+  pub settled_turns : (jobs : List Statement) (before worked after : List X) (queues : List Q) (replies : List Answer)
       → Settles jobs before worked after queues replies → (k : ℕ) (d : X) → k < length before
       → InTurn Submitted (at (get_or before k d)) (at (get_or after k d)) (every (length before) k jobs) (every (length before) k replies)
   settled_turns jobs before worked after queues replies s k d h =
       at_seat jobs before worked after queues replies s k d (first_of queues k (rw s.queues_as_many h)) h
 
-  pub settled_shares : (jobs : List Task) (before worked after : List X) (queues : List Q) (replies : List Answer)
+  pub settled_shares : (jobs : List Statement) (before worked after : List X) (queues : List Q) (replies : List Answer)
       → Settles jobs before worked after queues replies → map share after ≡ shares_after (length before) 0 (map share before) replies
   settled_shares jobs before worked after queues replies s =
       raised_all (length before) 0 (map share before) (map share after) replies (simp length-map s.after_as_many)
@@ -291,7 +291,7 @@ turned count queue rest queues r replies many e d = (
   deals_later count 0 queues r replies (deals_front count 0 queues rest replies d),
 )
 
--- the first queue's first reply, and that queue as the last
+-- the first reply of the first queue, and that queue put last
 pub taken_in_turn : {X Q : Type 0} (items : Q → List X) (before mids after : List Q) (queue rest : Q) (r : X) (replies : List X)
     → before ≡ queue ∷ mids → items queue ≡ r ∷ items rest → after ≡ mids ++ rest ∷ []
     → Deals (length before) 0 (map items after) replies → Deals (length before) 0 (map items before) (r ∷ replies)
@@ -309,19 +309,19 @@ deals_none count first [] = tt
 deals_none count first (queue ∷ queues) = (record { left = queue; joined = refl }, deals_none count (suc first) queues)
 
 -- ---- how many replies the queues have
-turns_earlier : {X : Type 0} (count first : ℕ) (queues : List (List X)) (job : Task) (jobs : List Task) → HasTurns count (suc first) queues (job ∷ jobs) → HasTurns count first queues jobs
+turns_earlier : {X : Type 0} (count first : ℕ) (queues : List (List X)) (job : Statement) (jobs : List Statement) → HasTurns count (suc first) queues (job ∷ jobs) → HasTurns count first queues jobs
 turns_earlier count first [] job jobs h = tt
 turns_earlier count first (queue ∷ queues) job jobs h = (h.0, turns_earlier count (suc first) queues job jobs h.1)
 
-turns_with_last : {X : Type 0} (count first place : ℕ) (queues : List (List X)) (last : List X) (jobs : List Task) → place ≡ first + length queues
+turns_with_last : {X : Type 0} (count first place : ℕ) (queues : List (List X)) (last : List X) (jobs : List Statement) → place ≡ first + length queues
     → length last ≡ length (every count place jobs) → HasTurns count first queues jobs → HasTurns count first (queues ++ last ∷ []) jobs
 turns_with_last count first place [] last jobs e many h =
     let same : place ≡ first = omega arith in
     let P : ℕ → Type 0 = λ p. length last ≡ length (every count p jobs) in (subst P same many, tt)
 turns_with_last count first place (queue ∷ queues) last jobs e many h = (h.0, turns_with_last count (suc first) place queues last jobs (omega arith) many h.1)
 
--- the first queue without its first reply, and past the others
-pub turns_in_turn : {X Q : Type 0} (items : Q → List X) (before mids after : List Q) (queue rest : Q) (r : X) (job : Task) (jobs : List Task)
+-- the first queue without its first reply, put after the others
+pub turns_in_turn : {X Q : Type 0} (items : Q → List X) (before mids after : List Q) (queue rest : Q) (r : X) (job : Statement) (jobs : List Statement)
     → before ≡ queue ∷ mids → items queue ≡ r ∷ items rest → after ≡ mids ++ rest ∷ []
     → HasTurns (length before) 0 (map items before) (job ∷ jobs) → HasTurns (length before) 0 (map items after) jobs
 turns_in_turn {X} items before mids after queue rest r job jobs was one is h =
@@ -337,13 +337,13 @@ turns_in_turn {X} items before mids after queue rest r job jobs was one is h =
     subst Q' (sym rows) (turns_with_last count 0 (count - 1) (map items mids) (items rest) jobs (omega arith) left (turns_earlier count 0 (map items mids) job jobs front.1))
 
 -- while there are jobs the first queue has a reply
-pub first_has_one : {X Q : Type 0} (items : Q → List X) (queues : List Q) (d : Q) (job : Task) (jobs : List Task) → 0 < length queues
+pub first_has_one : {X Q : Type 0} (items : Q → List X) (queues : List Q) (d : Q) (job : Statement) (jobs : List Statement) → 0 < length queues
     → HasTurns (length queues) 0 (map items queues) (job ∷ jobs) → 0 < length (items (get_or queues 0 d))
 first_has_one items [] d job jobs some h = absurd (omega arith)
 first_has_one items (queue ∷ queues) d job jobs some h = let many = h.0 in omega (arith, many)
 
 -- ---- all shares together
--- the receipts among the turns of so many seats, from one on
+-- the receipts among the turns of some seats, from one seat on
 abbrev turns_total : ℕ → ℕ → ℕ → List Answer → ℕ
 turns_total count first zero replies = 0
 turns_total count first (suc seats) replies = sum_by receipts_in (every count first replies) + turns_total count (suc first) seats replies
@@ -384,7 +384,7 @@ raised_total count first (share ∷ shares) replies =
     let b = sum_by-cons (λ n. n) share shares in
     omega (arith, rest, a, b)
 
--- all shares have risen by all receipts
+-- all shares together have risen by the number of all receipts
 pub shares_total : {X : Type 0} (share : X → ℕ) (before after : List X) (replies : List Answer) → 1 ≤ length before
     → map share after ≡ shares_after (length before) 0 (map share before) replies → sum_by share after ≡ sum_by share before + sum_by receipts_in replies
 shares_total share [] after replies some e = absurd (omega arith)

@@ -1,4 +1,4 @@
--- What a seat is answered from what its viewer sees.
+-- What a seat returns, from what its viewer sees.
 use Rattle.std.proofs.Common.{◌≡◌, ◌≢◌, ◌≤◌, ℕ, List, [], length, Some, None, sym, subst}
 use Rattle.std.specs.Prelude.{slice_index_or}
 use Rattle.sno_book.specs.Entries.{Entry}
@@ -10,11 +10,11 @@ use Rattle.sno_published.specs.Tables.{text_after, text_at}
 use Rattle.sno_desk.specs.Seen.{view_after}
 use Rattle.sno_book.proofs.Standing.{standing}
 
--- at the place of a name a text stands after any entries
+-- at the place of a name there is a text after any entries
 pub stays_there : (opening : Opening) (entries : List Entry) (name : List ℕ) (place : ℕ) → place_in opening name ≡ Some place → text_after opening entries place ≢ None
 stays_there opening entries name place at none = let stood = standing opening entries name place at in absurd (cc (stood.there, none))
 
--- a text that was found after legal entries stands there
+-- a text that was found after legal entries is at its place there
 pub stands_after : (opening : Opening) (origin : View) (seen : List Entry) (place version : ℕ) (text : List ℕ) → origin ≡ view_after opening seen → IsOpening opening
     → Legal (start opening) seen → length seen ≤ opening.room → Some (text_at opening place text version) ≡ text_after opening seen place → Stands origin place version text
 stands_after opening origin seen place version text from opens legal within found =

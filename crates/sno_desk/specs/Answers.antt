@@ -1,15 +1,15 @@
--- What a submit answers.
+-- What a submit returns.
 use Rattle.std.specs.Prelude.{◌≡◌, ◌≢◌, ◌<◌, ◌≤◌, ◌+◌, ℕ, Bool, true, false, List, length, Some, None, Result, Ok, Err, IsTrue}
 use Rattle.std.specs.List.{list_all}
 use Rattle.std.specs.Char.{is_ascii}
 use mathlib.Core.List.{IsPrefix as Begins}
-use Rattle.sno_statement.specs.Task.{Task}
-use Rattle.sno_statement.specs.Perform.{Done, perform}
+use Rattle.sno_statement.specs.Statement.{Statement}
+use Rattle.sno_statement.specs.Perform.{Outcome, perform}
 use Rattle.sno_statement.specs.declared.outcomes.StatementFault.{StatementFault}
 use Rattle.sno_statement.specs.declared.outcomes.StatementFault.TheVariants as statement
 use Rattle.sno_book.specs.Entries.{Entry}
 use Rattle.sno_book.specs.Openings.{Opening, place_in}
-use Rattle.sno_book.specs.Proposals.{Received}
+use Rattle.sno_book.specs.Proposals.{Receipt}
 use Rattle.sno_book.specs.States.{VersionedText}
 use Rattle.sno_published.specs.Tables.{text_after}
 use Rattle.sno_desk.specs.Seen.{HasVersion, IsTold}
@@ -17,55 +17,46 @@ use Rattle.sno_desk.specs.Receipts.{CanStandAt, StandsAfter}
 use Rattle.sno_desk.specs.declared.faults.SubmitFault.{SubmitFault}
 use Rattle.sno_desk.specs.declared.faults.SubmitFault.TheVariants as submit
 
--- a receipt, or why there is none
+-- a receipt, or the reason why nothing was accepted
 abbrev pub Answer : Type 0
-Answer = Result Received SubmitFault
+Answer = Result Receipt SubmitFault
 
--- a gate may be shut for the statement with this number at one of its attempts, which count from 1 to `tries`
+-- the gate may be shut for the statement with this number at one of its attempts, counted from 1 to `tries`
 pub record MayShut (shuts : ℕ → ℕ → Type 0) (number tries : ℕ) : Type 0 where
   pub attempt : ℕ
   pub first : 1 ≤ attempt
   pub last : attempt ≤ tries
   pub shut : shuts number attempt
 
--- there is a text, of ASCII characters and no more than a text may have, on which performing the statement is refused so
-pub record IsRefusedOnSome (s : Task) (refused : StatementFault) : Type 0 where
+-- there is a text, of ASCII characters and no longer than a text may be, on which performing the statement gets this
+-- refusal
+pub record IsRefusedOnSome (s : Statement) (refused : StatementFault) : Type 0 where
   pub text : List ℕ
   pub short : length text ≤ 65536
   pub ascii : IsTrue (list_all is_ascii text)
   pub performed : perform s text ≡ Err refused
 
--- no text exactly where the opening has none of the statement's name
-abbrev pub IsNamed : Opening → Task → Answer → Type 0
-IsNamed opening s (Ok receipt) = place_in opening s.text ≢ None
-IsNamed opening s (Err submit.NoText) = place_in opening s.text ≡ None
-IsNamed opening s (Err submit.GateShut) = place_in opening s.text ≢ None
-IsNamed opening s (Err submit.TextTooLong) = place_in opening s.text ≢ None
-IsNamed opening s (Err submit.Stopped) = place_in opening s.text ≢ None
-IsNamed opening s (Err submit.Full) = place_in opening s.text ≢ None
-IsNamed opening s (Err submit.Memory) = place_in opening s.text ≢ None
-IsNamed opening s (Err (submit.TriesSpent seen now)) = place_in opening s.text ≢ None
-IsNamed opening s (Err submit.TooManyTrials) = place_in opening s.text ≢ None
+-- `NoText` exactly if the opening has no text of the statement's name
+abbrev pub DecidesNoText : Opening → Statement → Answer → Type 0
+DecidesNoText opening s (Err submit.NoText) = place_in opening s.text ≡ None
+DecidesNoText opening s answer = place_in opening s.text ≢ None
 
--- the receipt's entry has the statement; the gate was shut only where it may be; the statement is refused so on some text; the text rose from the version
--- that the last try saw to a higher one, which is at least the number of tries
-abbrev pub Says : (ℕ → ℕ → Type 0) → ℕ → ℕ → Task → Answer → Type 0
-Says shuts tries lost s (Ok receipt) = receipt.entry.statement ≡ s
-Says shuts tries lost s (Err submit.NoText) = Unit {0}
-Says shuts tries lost s (Err submit.GateShut) = MayShut shuts s.number tries
-Says shuts tries lost s (Err submit.TextTooLong) = IsRefusedOnSome s statement.TextTooLong
-Says shuts tries lost s (Err submit.Stopped) = Unit {0}
-Says shuts tries lost s (Err submit.Full) = Unit {0}
-Says shuts tries lost s (Err submit.Memory) = Unit {0}
-Says shuts tries lost s (Err (submit.TriesSpent seen now)) = (seen < now) × (lost ≤ now)
-Says shuts tries lost s (Err submit.TooManyTrials) = IsRefusedOnSome s statement.TooManyTrials
+-- the receipt's entry has the statement; the gate was shut only if it may be; the statement gets this refusal on some
+-- text; or the text rose from the version that the last try saw to a higher one, which is at least the number of tries
+abbrev pub IsJustified : (ℕ → ℕ → Type 0) → ℕ → ℕ → Statement → Answer → Type 0
+IsJustified shuts tries lost s (Ok receipt) = receipt.entry.statement ≡ s
+IsJustified shuts tries lost s (Err submit.GateShut) = MayShut shuts s.number tries
+IsJustified shuts tries lost s (Err submit.TextTooLong) = IsRefusedOnSome s statement.TextTooLong
+IsJustified shuts tries lost s (Err submit.TooManyTrials) = IsRefusedOnSome s statement.TooManyTrials
+IsJustified shuts tries lost s (Err (submit.TriesSpent seen now)) = (seen < now) × (lost ≤ now)
+IsJustified shuts tries lost s answer = Unit {0}
 
--- what a submit may answer, whatever its seat has seen
-abbrev pub Answers : (ℕ → ℕ → Type 0) → ℕ → Opening → Task → Answer → Type 0
-Answers shuts tries opening s answer = IsNamed opening s answer × Says shuts tries tries s answer
+-- what a submit may return, whatever its seat has seen
+abbrev pub Answers : (ℕ → ℕ → Type 0) → ℕ → Opening → Statement → Answer → Type 0
+Answers shuts tries opening s answer = DecidesNoText opening s answer × IsJustified shuts tries tries s answer
 
--- performing the statement on the text of its name, as these entries leave it, is refused so
-pub record IsRefusedOn (opening : Opening) (entries : List Entry) (s : Task) (refused : StatementFault) : Type 0 where
+-- performing the statement on the text of its name, as these entries leave it, gets this refusal
+pub record IsRefusedOn (opening : Opening) (entries : List Entry) (s : Statement) (refused : StatementFault) : Type 0 where
   pub place : ℕ
   pub named : place_in opening s.text ≡ Some place
   pub held : VersionedText
@@ -73,70 +64,55 @@ pub record IsRefusedOn (opening : Opening) (entries : List Entry) (s : Task) (re
   pub performed : perform s held.text ≡ Err refused
 
 -- performing the statement on the text of its name, as these entries leave it, is not refused
-pub record IsPerformedOn (opening : Opening) (entries : List Entry) (s : Task) : Type 0 where
+pub record IsPerformedOn (opening : Opening) (entries : List Entry) (s : Statement) : Type 0 where
   pub place : ℕ
   pub named : place_in opening s.text ≡ Some place
   pub held : VersionedText
   pub there : text_after opening entries place ≡ Some held
-  pub done : Done
-  pub performed : perform s held.text ≡ Ok done
+  pub outcome : Outcome
+  pub performed : perform s held.text ≡ Ok outcome
 
--- the last try saw the text of the statement's name, at this version, at some point between the earlier entries and the later ones, and performing the statement
--- on it is not refused; after the later ones the text has a higher version; and with each lost try before the last its version had risen by one at least
-pub record HasRisen (opening : Opening) (earlier later : List Entry) (s : Task) (lost seen now : ℕ) : Type 0 where
+-- the last try saw the text of the statement's name at this version, at some point between the earlier entries and the
+-- later ones. Performing the statement on it is not refused. After the later entries the text has a higher version.
+-- With each lost try before the last its version had risen by at least one
+pub record HasRisen (opening : Opening) (earlier later : List Entry) (s : Statement) (lost seen now : ℕ) : Type 0 where
   pub place : ℕ
   pub named : place_in opening s.text ≡ Some place
   pub between : List Entry
   pub since : Begins earlier between
   pub until : Begins between later
   pub saw : HasVersion opening between place seen
-  pub done : Done
-  pub performed : perform s saw.text ≡ Ok done
+  pub outcome : Outcome
+  pub performed : perform s saw.text ≡ Ok outcome
   pub versioned : HasVersion opening later place now
   pub higher : seen < now
   pub risen : (version : ℕ) → HasVersion opening earlier place version → version + lost ≤ seen + 1
 
--- what the answer says of what the seat had seen before and has seen now
-abbrev pub AnswersAt : ℕ → Opening → List Entry → List Entry → Task → Answer → Type 0
+-- what a result says of what the seat had seen before and has seen now
+abbrev pub AnswersAt : ℕ → Opening → List Entry → List Entry → Statement → Answer → Type 0
 AnswersAt tries opening before after s (Ok receipt) = (length before ≤ receipt.index) × IsTold opening after receipt
-AnswersAt tries opening before after s (Err submit.NoText) = Unit {0}
-AnswersAt tries opening before after s (Err submit.GateShut) = Unit {0}
 AnswersAt tries opening before after s (Err submit.TextTooLong) = IsRefusedOn opening after s statement.TextTooLong
-AnswersAt tries opening before after s (Err submit.Stopped) = Unit {0}
-AnswersAt tries opening before after s (Err submit.Full) = (length after ≡ opening.room) × IsPerformedOn opening after s
-AnswersAt tries opening before after s (Err submit.Memory) = Unit {0}
-AnswersAt tries opening before after s (Err (submit.TriesSpent seen now)) = HasRisen opening before after s tries seen now
 AnswersAt tries opening before after s (Err submit.TooManyTrials) = IsRefusedOn opening after s statement.TooManyTrials
+AnswersAt tries opening before after s (Err submit.Full) = (length after ≡ opening.room) × IsPerformedOn opening after s
+AnswersAt tries opening before after s (Err (submit.TriesSpent seen now)) = HasRisen opening before after s tries seen now
+AnswersAt tries opening before after s answer = Unit {0}
 
--- tries are spent at a version that a text can have
+-- `TriesSpent` names a current version that a text can have
 abbrev pub SpentAt : ℕ → ℕ → SubmitFault → Type 0
 SpentAt seats accepted (submit.TriesSpent seen now) = CanStandAt seats accepted now
-SpentAt seats accepted submit.NoText = Unit {0}
-SpentAt seats accepted submit.GateShut = Unit {0}
-SpentAt seats accepted submit.TextTooLong = Unit {0}
-SpentAt seats accepted submit.Stopped = Unit {0}
-SpentAt seats accepted submit.Full = Unit {0}
-SpentAt seats accepted submit.Memory = Unit {0}
-SpentAt seats accepted submit.TooManyTrials = Unit {0}
+SpentAt seats accepted fault = Unit {0}
 
--- the text changed under the try
+-- the text changed during the try
 abbrev pub is_lost : Answer → Bool
-is_lost (Ok receipt) = false
 is_lost (Err (submit.TriesSpent seen now)) = true
-is_lost (Err submit.NoText) = false
-is_lost (Err submit.GateShut) = false
-is_lost (Err submit.TextTooLong) = false
-is_lost (Err submit.Stopped) = false
-is_lost (Err submit.Full) = false
-is_lost (Err submit.Memory) = false
-is_lost (Err submit.TooManyTrials) = false
+is_lost answer = false
 
--- how many receipts an answer is: one or none
+-- how many receipts a result has: one or zero
 abbrev pub receipts_in : Answer → ℕ
 receipts_in (Ok receipt) = 1
 receipts_in (Err fault) = 0
 
--- an answer that a seat may have after it has accepted so many
+-- a result that a seat may get after it has accepted this many
 abbrev pub MayFollow : ℕ → ℕ → Answer → Type 0
 MayFollow seats accepted (Ok receipt) = StandsAfter seats accepted receipt
 MayFollow seats accepted (Err fault) = SpentAt seats accepted fault

@@ -1,4 +1,4 @@
--- Refusals of the lower calls, as the desk's calls answer them.
+-- Refusals of the lower calls, as the desk's calls return them.
 use Rattle.sno_book.specs.declared.faults.CommitFault.{CommitFault as BookRefusal}
 use Rattle.sno_book.specs.declared.faults.CommitFault.TheVariants as book
 use Rattle.sno_published.specs.declared.faults.ViewFault.{ViewFault}
@@ -12,7 +12,7 @@ use Rattle.sno_desk.specs.declared.faults.SnapshotFault.TheVariants as snapshot
 use Rattle.sno_desk.specs.declared.faults.SubmitFault.{SubmitFault}
 use Rattle.sno_desk.specs.declared.faults.SubmitFault.TheVariants as submit
 
--- where a viewer sees nothing more its seat is stopped
+-- if a viewer sees nothing more, its seat is stopped
 abbrev pub of_view : ViewFault → SnapshotFault
 of_view shown.Ended = snapshot.Stopped
 of_view shown.Behind = snapshot.Stopped
@@ -34,7 +34,7 @@ of_statement statement.TextTooLong = submit.TextTooLong
 of_statement statement.Memory = submit.Memory
 of_statement statement.TooManyTrials = submit.TooManyTrials
 
--- a text that rose under the last try has spent them all
+-- a text that rose during the last try has used up all tries
 abbrev pub of_commit : CommitFault → SubmitFault
 of_commit commit.Stopped = submit.Stopped
 of_commit commit.NoText = submit.NoText

@@ -1,5 +1,6 @@
 pub mod Answers
 pub mod Closings
+pub mod Commits
 pub mod Faults
 pub mod Receipts
 pub mod Seen

@@ -4,7 +4,7 @@ use mathlib.Core.List.{IsPrefix as Begins}
 use Rattle.sno_book.specs.Entries.{Entry}
 use Rattle.sno_book.specs.Journals.{Legal}
 use Rattle.sno_book.specs.Openings.{Opening, place_in, start}
-use Rattle.sno_book.specs.Proposals.{Received}
+use Rattle.sno_book.specs.Proposals.{Receipt}
 use Rattle.sno_book.specs.Snapshots.{Snapshot}
 use Rattle.sno_book.specs.Views.{View}
 use Rattle.sno_published.specs.Tables.{text_after, text_at}
@@ -22,22 +22,21 @@ pub record IsSeen (opening : Opening) (seen : List Entry) (name : List ℕ) (tak
   pub place : place_in opening name ≡ Some taken.place
   pub there : text_after opening seen taken.place ≡ Some (text_at opening taken.place taken.text taken.version)
 
--- no text exactly where the opening has none of that name
+-- `NoText` exactly if the opening has no text of that name
 abbrev pub GivesSeen : Result Snapshot SnapshotFault → Opening → List Entry → List ℕ → Type 0
 GivesSeen (Ok taken) opening seen name = IsSeen opening seen name taken
 GivesSeen (Err snapshot.NoText) opening seen name = place_in opening name ≡ None
-GivesSeen (Err snapshot.Stopped) opening seen name = place_in opening name ≢ None
-GivesSeen (Err snapshot.Memory) opening seen name = place_in opening name ≢ None
+GivesSeen (Err fault) opening seen name = place_in opening name ≢ None
 
--- where nothing was entered nothing more is seen; where memory was refused, what is shown was seen
-abbrev pub StaysBehind : SnapshotFault → Viewing → Viewing → Type 0
-StaysBehind snapshot.NoText before after = after.seen ≡ before.seen
-StaysBehind snapshot.Stopped before after = after.seen ≡ before.seen
-StaysBehind snapshot.Memory before after = after.seen ≡ after.shown
+-- after `Memory` what is shown was seen; after another refusal nothing more is seen
+abbrev pub IsViewAfter : SnapshotFault → Viewing → Viewing → Type 0
+IsViewAfter snapshot.Memory before after = after.seen ≡ after.shown
+IsViewAfter fault before after = after.seen ≡ before.seen
 
--- the seat was told a legal list, of as many entries as stand before the receipt's and that one as the last: what it has seen begins with the list. The
--- receipt's text is that of its statement's name, with the entry's version, as the entries before its own leave it
-pub record IsTold (opening : Opening) (seen : List Entry) (receipt : Received) : Type 0 where
+-- the seat was told a legal list that ends in the receipt's entry, with as many entries before it as the receipt's
+-- index. What the seat has seen begins with that list. The receipt's text is that of its statement's name, with the
+-- entry's version, as the entries before its own leave it
+pub record IsTold (opening : Opening) (seen : List Entry) (receipt : Receipt) : Type 0 where
   pub front : List Entry
   pub legal : Legal (start opening) (front ++ receipt.entry ∷ [])
   pub many : length front ≡ receipt.index

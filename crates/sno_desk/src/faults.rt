@@ -5,10 +5,10 @@ use sno_statement::StatementFault;
 use std::alloc::{AllocError, AllocFailed};
 use thiserror::Error;
 
-/// Why there is no desk. The book comes back as it was.
+/// Why no desk was made. The book comes back as it was.
 #[derive(Clone, Copy, Debug, PartialEq, Eq, Error)]
 pub enum DeskFault {
-    /// Memory was refused.
+    /// Out of memory.
     #[error("out of memory")]
     Memory,
     /// There was no place for a reader.
@@ -16,16 +16,16 @@ pub enum DeskFault {
     NoReader,
 }
 
-/// Why a seat has no snapshot.
+/// Why a seat got no snapshot.
 #[derive(Clone, Copy, Debug, PartialEq, Eq, Error)]
 pub enum SnapshotFault {
     /// The desk's opening has no text of that name.
     #[error("no text")]
     NoText,
-    /// Nothing is shown to the seat any more, or less than it was told of, which no lawful run meets.
+    /// Nothing is shown to the seat any more, or less than it was told of, which no legal run meets.
     #[error("stopped")]
     Stopped,
-    /// The text could not be shared.
+    /// Out of memory: the text could not be shared.
     #[error("out of memory")]
     Memory,
 }
@@ -33,8 +33,8 @@ pub enum SnapshotFault {
 /// Why a proposal is not accepted at a desk. No entry was added.
 #[derive(Clone, Copy, Debug, PartialEq, Eq, Error)]
 pub enum CommitFault {
-    /// The desk was stopped by a publish that was refused, or nothing is shown to the seat any more, or the seat has seen more than the journal has, which
-    /// no lawful run meets.
+    /// An earlier publish was refused and stopped the desk, nothing is shown to the seat any more, or the seat has seen
+    /// more than the journal has. No legal run meets the last.
     #[error("stopped")]
     Stopped,
     /// The opening has no text of the statement's name, or has it at another place than the snapshot's.
@@ -51,7 +51,7 @@ pub enum CommitFault {
     /// The journal has as many entries as it may hold.
     #[error("full")]
     Full,
-    /// Memory was refused. Where it was refused to the publish itself, the desk is stopped.
+    /// Out of memory. If the publish itself ran out of memory, the desk is stopped.
     #[error("out of memory")]
     Memory,
 }
@@ -68,13 +68,14 @@ pub enum SubmitFault {
     /// The new text would have had more than 65,536 characters.
     #[error("text too long")]
     TextTooLong,
-    /// The desk was stopped, or nothing is shown to the seat any more, or the seat has seen more than the journal has, which no lawful run meets.
+    /// The desk was stopped, nothing is shown to the seat any more, or the seat has seen more than the journal has. No
+    /// legal run meets the last.
     #[error("stopped")]
     Stopped,
     /// The journal has as many entries as it may hold.
     #[error("full")]
     Full,
-    /// Memory was refused.
+    /// Out of memory.
     #[error("out of memory")]
     Memory,
     /// The text changed under the statement at each of its tries.
@@ -93,18 +94,18 @@ pub enum SubmitFault {
 /// Why a desk could not be closed as it should. The book comes back.
 #[derive(Clone, Copy, Debug, PartialEq, Eq, Error)]
 pub enum CloseFault {
-    /// The book's opening is not the desk's. No lawful run meets this.
+    /// The book's opening is not the desk's. No legal run meets this.
     #[error("another opening")]
     Opening,
-    /// The book's journal does not begin with what one of the seats has seen or was told of. No lawful run meets this.
+    /// The book's journal does not begin with what one of the seats has seen or was told of. No legal run meets this.
     #[error("another journal")]
     Journal,
 }
 
-/// Why there are no replies of workers. Some jobs may have been accepted then; desk and seats are lawful.
+/// Why workers returned no replies. Some jobs may have been accepted then. The desk and its seats are valid.
 #[derive(Clone, Copy, Debug, PartialEq, Eq, Error)]
 pub enum WorkersFault {
-    /// Memory was refused.
+    /// Out of memory.
     #[error("out of memory")]
     Memory,
 }

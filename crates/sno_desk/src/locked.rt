@@ -1,17 +1,31 @@
-//! What lies under a desk's lock.
-ghost use Rattle.std.specs.Prelude.{◌≡◌, length};
+//! What is under a desk's lock.
+ghost use Rattle.std.specs.Prelude.{◌≡◌, ◌<◌, Decides, IfOk, IfErr, OnErr, None, length, sum_by};
+ghost use Rattle.std.specs.List.{All};
+ghost use mathlib.Core.List.{IsPrefix as Begins};
+ghost use Rattle.sno_book.specs.Books.{view_of};
+ghost use Rattle.sno_book.specs.Commits.{Fits, refusal};
+ghost use Rattle.sno_book.specs.Origins.{IsPerformed};
+ghost use Rattle.sno_book.specs.Views.{IsPrefix, Kin};
+ghost use Rattle.sno_desk.specs.Commits.{IsCommitted, IsReturned};
+ghost use Rattle.sno_desk.specs.Seen.{view_after};
+ghost use Rattle.sno_desk.specs.Shown.{entries_of};
+ghost use Rattle.sno_desk.specs.Turns.{position};
+ghost use Rattle.sno_desk.specs.declared.faults.CommitFault.TheVariants.{Memory};
 
+use crate::seats::{are_within, gather};
 use crate::shown::Shown;
-use sno_book::Book;
-use sno_published::Naming;
+use crate::{CommitFault, Seat};
+use sno_book::{Book, Proposal, Ready, Receipt, kin_agree, versions_count_entries};
+use sno_published::{Naming, Screen, Unpublished};
+use std::alloc::Global;
 use std::marker::Model;
 use std::sync::Wait;
 use std::sync::ledger::{self, Share};
 
-/// The book, what is shown of it, and the ledger's total, which is the number of the journal's entries. What is shown is the journal, whether the desk
-/// is stopped or not. So the lock is never let go with an entry that no seat counts or no reader sees, nor with a count for which there is no entry.
-/// There is always something shown; it is away only while it is published to. `rest` is what is left of the ledger's shares when each seat has its
-/// part: nothing.
+/// The book, what is shown of it, and the ledger's total, which is the number of the journal's entries. What is shown
+/// is the journal, whether the desk is stopped or not. So the lock is never released with an entry that no seat counts
+/// or no reader sees, nor with a count without its entry. Something is always shown, except while it is being published
+/// to. `rest` is what is left of the ledger's shares when each seat has its part: nothing.
 pub(crate) struct Locked<L: Naming> {
     pub(crate) book: Book,
     pub(crate) shown: Option<Shown<L>>,
@@ -41,8 +55,133 @@ fn end_shown<L: Naming, R: Wait>(rt: &R, shown: Option<Shown<L>>) {
     }
 }
 
+/// Publishes a proposal that was prepared. If that succeeds, accepts it and counts it, both for the seat and in the
+/// total. Also returns what is shown now.
+fn publish<L: Naming, R: Wait>(
+    rt: &R,
+    alloc: Global,
+    screen: Screen<L>,
+    book: &mut Book,
+    total: &mut ledger::Book<L>,
+    seat: &mut Seat<L>,
+    ready: Ready,
+) -> (Shown<L>, Result<Receipt, (CommitFault, Proposal)>)
+    requires opening { book.old.opening ≡ L.opening }
+    requires level { (screen ≡ book.old.journal) × (seat.old.viewer.seen ≡ book.old.journal) }
+    requires total { length book.old.journal ≡ total.old.total }
+    requires kept { 0 < book.old.spare }
+    requires free { refusal (view_of book.old) ready ≡ None }
+    requires fits { Fits (view_of book.old) ready }
+    requires performed { IsPerformed ready.origin ready.place ready.version ready.statement ready.outcome }
+    requires kin { Kin ready.origin (view_of book.old) }
+    ensures opening { book.new.opening ≡ L.opening }
+    ensures shown { entries_of result.0 ≡ book.new.journal }
+    ensures total { length book.new.journal ≡ total.new.total }
+    ensures committed { IfOk result.1 (λ r. IsCommitted L.opening L.parts (position seat.old.accepted seat.old.viewer.seen) (position seat.new.accepted seat.new.viewer.seen) ready r) }
+    ensures begins { Begins seat.old.viewer.seen seat.new.viewer.seen }
+    ensures back { IfErr result.1 (λ r. (r.0 ≡ Memory) × (r.1 ≡ ready)) }
+    ensures same { OnErr result.1 (seat.new.accepted ≡ seat.old.accepted) }
+    ensures seen { OnErr result.1 (seat.new.viewer.seen ≡ seat.old.viewer.seen) }
+{
+    // for the proof
+    kin_agree();
+    versions_count_entries();
+    let _ = book.journal();
+    let _ = book.opening().room();
+    seat.audit(total);
+    let screen = match screen.publish(rt, alloc, ready.entry()) {
+        Ok(screen) => screen,
+        Err(Unpublished::Memory(screen)) => {
+            return (
+                Shown::Open(screen),
+                Err((CommitFault::Memory, ready.back())),
+            );
+        }
+        Err(Unpublished::Stopped(spent)) => {
+            return (
+                Shown::Stopped(spent),
+                Err((CommitFault::Memory, ready.back())),
+            );
+        }
+    };
+    let receipt = book.finish(ready);
+    // for the proof
+    let _ = book.journal();
+    seat.learn(screen.table());
+    seat.count(total);
+    (Shown::Open(screen), Ok(receipt))
+}
+
 impl<L: Naming> Locked<L> {
-    /// Ends what is shown, and with it the book.
+    /// Commits the proposal to the book. If it is accepted, it is also published and counted.
+    pub(crate) fn commit<R: Wait>(
+        &mut self,
+        rt: &R,
+        alloc: Global,
+        seat: &mut Seat<L>,
+        proposal: Proposal,
+    ) -> Result<Receipt, (CommitFault, Proposal)>
+        requires view { IsPrefix proposal.origin (view_after L.opening seat.old.viewer.seen) }
+        ensures committed { IfOk result (λ r. IsCommitted L.opening L.parts (position seat.old.accepted seat.old.viewer.seen) (position seat.new.accepted seat.new.viewer.seen) proposal r) }
+        ensures refused { IfErr result (λ r. IsReturned L.opening L.parts (position seat.old.accepted seat.old.viewer.seen) (position seat.new.accepted seat.new.viewer.seen) proposal r.0 r.1) }
+        ensures begins { Begins seat.old.viewer.seen seat.new.viewer.seen }
+    {
+        let Some(screen) = Shown::take_screen(rt, &mut self.shown) else {
+            return Err((CommitFault::Stopped, proposal));
+        };
+        if !seat.see_all(screen.table()) {
+            Shown::Open(screen).put(rt, &mut self.shown);
+            return Err((CommitFault::Stopped, proposal));
+        }
+        // for the proof
+        versions_count_entries();
+        let _ = self.book.journal();
+        let _ = proposal.statement();
+        seat.audit(&mut self.total);
+        let ready = match self.book.prepare(proposal) {
+            Ok(ready) => ready,
+            Err((fault, proposal)) => {
+                Shown::Open(screen).put(rt, &mut self.shown);
+                return Err((CommitFault::from(fault), proposal));
+            }
+        };
+        let (shown, answer) = publish(
+            rt,
+            alloc,
+            screen,
+            &mut self.book,
+            &mut self.total,
+            seat,
+            ready,
+        );
+        shown.put(rt, &mut self.shown);
+        answer
+    }
+
+    /// Whether the journal begins with all that each of the seats has seen.
+    pub(crate) fn has_all(&self, seats: &[Seat<L>]) -> bool
+        ensures { Decides result (All (λ s. Begins s.viewer.seen self.now.journal) seats.now) }
+    {
+        match &self.shown {
+            Some(shown) => are_within(seats, shown.table()),
+            None => false,
+        }
+    }
+
+    /// The book, if these are all seats of the desk. Its journal has as many entries as they have accepted.
+    pub(crate) fn into_book<R: Wait>(self, rt: &R, seats: Vec<Seat<L>>) -> Book
+        requires all { length seats.items ≡ L.parts }
+        ensures book { result ≡ self }
+        ensures counted { length result.journal ≡ sum_by (λ s. s.accepted) seats.items }
+    {
+        let (book, mut total, mut rest) = self.into_parts(rt);
+        gather(seats, &mut rest);
+        // for the proof
+        total.audit(&mut rest);
+        book
+    }
+
+    /// Ends what is shown, and the book too.
     pub(crate) fn end<R: Wait>(self, rt: &R) {
         let Locked {
             book: _book,
@@ -53,8 +192,8 @@ impl<L: Naming> Locked<L> {
         end_shown(rt, shown);
     }
 
-    /// The book with the ledger's total and the rest of its shares; what was shown is ended.
-    pub(crate) fn into_parts<R: Wait>(self, rt: &R) -> (Book, ledger::Book<L>, Share<L>)
+    /// The book with the ledger's total and the rest of its shares. What was shown is ended.
+    fn into_parts<R: Wait>(self, rt: &R) -> (Book, ledger::Book<L>, Share<L>)
         ensures book { result.0 ≡ self }
         ensures counted { length result.0.journal ≡ result.1.total }
         ensures none { (result.2.parts ≡ 0) × (result.2.amount ≡ 0) }

@@ -1,35 +1,33 @@
 //! Seats.
-ghost use Rattle.std.specs.Prelude.{◌≡◌, ◌+◌, ◌<◌, ◌≤◌, ◌^◌, Decides, MatchBool, OnOk, IfErr, length};
-ghost use Rattle.std.specs.Arc.{arc_value};
+ghost use Rattle.std.specs.Prelude.{◌≡◌, ◌+◌, ◌<◌, ◌≤◌, ◌^◌, Decides, MatchBool, OnOk, IfErr, length, sum_by};
+ghost use Rattle.std.specs.List.{All};
 ghost use mathlib.Core.List.{IsPrefix};
-ghost use Rattle.sno_desk.specs.Seen.{GivesSeen, StaysBehind};
+ghost use Rattle.sno_desk.specs.Seen.{GivesSeen, IsViewAfter};
 
-use crate::windows::Window;
 use crate::{SnapshotFault, SubmitFault};
-use sno_book::{Opening, Receipt, Snapshot};
+use sno_book::{Origin, Receipt, Snapshot};
 use sno_pattern::TextName;
 use sno_published::{Naming, Table, Viewer};
 use std::collections::VecDeque;
-use std::sync::Arc;
 use std::sync::ledger::{self, Share};
 
-/// What a submit answers.
+/// What a submit returns.
 pub type Reply = Result<Receipt, SubmitFault>;
 
-/// A place at a desk. It counts the proposals that were accepted through it, and holds that count as its share of the desk's ledger. It sees the texts
-/// without the lock, and what it has seen never goes back.
+/// A place at a desk. It counts the proposals that were accepted through it, and holds that count as its share of the
+/// desk's ledger. It sees the texts without the lock, and what it has seen never goes back.
 #[derive(Drop)]
 pub struct Seat<L: Naming> {
     pub(crate) accepted: u64,
     pub(crate) share: Share<L>,
-    pub(crate) viewer: Window<L>,
+    pub(crate) viewer: Viewer<L>,
     pub(crate) replies: Option<VecDeque<Reply>>,
     ghost one_part: { share.parts ≡ 1 },
     ghost backed: { share.amount ≡ accepted },
 }
 
 impl<L: Naming> Seat<L> {
-    /// How many proposals were accepted through this seat. It begins as 0.
+    /// How many proposals were accepted through this seat, from 0.
     pub fn accepted(&self) -> u64
         ensures { result ≡ self.now.accepted }
     {
@@ -40,31 +38,48 @@ impl<L: Naming> Seat<L> {
     pub fn seen(&self) -> u64
         ensures { result ≡ length self.now.viewer.seen }
     {
-        self.viewer.viewer.seen()
+        self.viewer.seen()
     }
 
-    /// The text of this name as it is shown, shared. It takes no lock and waits for nobody. On `Ok` it is the text at the place that the name has in
-    /// the opening, as the entries leave it that the seat has seen now; these begin with all that the seat had seen or was told of.
+    /// Returns a snapshot of the text of this name as it is shown. It takes no lock and waits for nobody. On `Ok` it is
+    /// the text at the place that the name has in the opening, as the entries that the seat has seen now leave it.
+    /// These entries begin with all that the seat had seen or was told of.
     ///
-    /// Refused, in this order: `NoText` exactly where the opening has no text of that name, and nothing more is seen; `Stopped`, and nothing more is
-    /// seen; `Memory`, and what is shown was seen.
+    /// Refused, in this order:
+    ///
+    /// - `NoText`, exactly if the opening has no text of that name, and nothing more is seen;
+    /// - `Stopped`, and nothing more is seen;
+    /// - `Memory`, and what is shown was seen.
     pub fn snapshot(&mut self, name: &TextName) -> Result<Snapshot, SnapshotFault>
         ensures gives { GivesSeen result L.opening self.new.viewer.seen name.now }
         ensures begins { IsPrefix self.old.viewer.seen self.new.viewer.seen }
         ensures shown { OnOk result (self.new.viewer.seen ≡ self.new.viewer.shown) }
-        ensures behind { IfErr result (λ e. StaysBehind e self.old.viewer self.new.viewer) }
+        ensures behind { IfErr result (λ e. IsViewAfter e self.old.viewer self.new.viewer) }
         ensures same { self.new.accepted ≡ self.old.accepted }
     {
-        self.viewer.snapshot(name)
+        let Some(place) = self.viewer.opening().place(name) else {
+            return Err(SnapshotFault::NoText);
+        };
+        let Some((text, version)) = self.viewer.text(place)? else {
+            return Err(SnapshotFault::NoText);
+        };
+        // for the proof
+        let _ = self.viewer.seen();
+        let _ = self.viewer.opening().len();
+        Ok(Snapshot::new(Origin::of(&self.viewer), place, version, text))
     }
 
-    /// Sees all that a table shows, which it is told first, and says whether it has seen just that.
+    /// Is told what a table shows, and sees all that is shown. Returns whether it has seen just what the table shows.
     pub(crate) fn see_all(&mut self, table: &Table<L>) -> bool
         ensures begins { IsPrefix self.old.viewer.seen self.new.viewer.seen }
         ensures level { MatchBool result (self.new.viewer.seen ≡ table.now) (Unit {0}) }
         ensures accepted { self.new.accepted ≡ self.old.accepted }
     {
-        self.viewer.see_all(table)
+        self.learn(table);
+        match self.viewer.enter() {
+            Ok(()) => self.viewer.is_level(table),
+            Err(_) => false,
+        }
     }
 
     /// Is told what a table shows.
@@ -83,23 +98,23 @@ impl<L: Naming> Seat<L> {
         self.viewer.is_within(table)
     }
 
-    /// A seat with a part of the ledger and nothing accepted.
-    pub(crate) fn new(share: Share<L>, opening: Arc<Opening>, viewer: Viewer<L>) -> Seat<L>
+    /// A seat with a part of the ledger, through which nothing was accepted yet.
+    pub(crate) fn new(share: Share<L>, viewer: Viewer<L>) -> Seat<L>
         requires part { share.parts ≡ 1 }
         requires amount { share.amount ≡ 0 }
-        requires opening { arc_value opening ≡ L.opening }
         ensures accepted { result.accepted ≡ 0 }
         ensures viewer { result.viewer ≡ viewer }
     {
         Seat {
             accepted: 0,
             share,
-            viewer: Window { opening, viewer },
+            viewer,
             replies: None,
         }
     }
 
-    /// Compares the seat's share with the total: it is no higher, and where there is no other seat it is the total. Nothing is changed.
+    /// Compares the seat's share with the total: it is no higher, and if there is no other seat it is the total.
+    /// Nothing is changed.
     pub(crate) fn audit(&mut self, total: &mut ledger::Book<L>)
         ensures backed { self.old.accepted ≤ total.old.total }
         ensures alone { L.parts ≡ 1 → self.old.accepted ≡ total.old.total }
@@ -110,7 +125,7 @@ impl<L: Naming> Seat<L> {
         total.audit(&mut self.share);
     }
 
-    /// Counts one more accepted proposal, in the total too.
+    /// Counts one more accepted proposal, both for the seat and in the total.
     pub(crate) fn count(&mut self, total: &mut ledger::Book<L>)
         requires { self.old.accepted + 1 < 2 ^ 64 }
         ensures accepted { self.new.accepted ≡ self.old.accepted + 1 }
@@ -121,7 +136,7 @@ impl<L: Naming> Seat<L> {
         self.accepted += 1;
     }
 
-    /// Takes the replies that the seat has kept away from it.
+    /// Takes from the seat the replies that it has kept, and returns them.
     pub(crate) fn take_replies(&mut self) -> Option<VecDeque<Reply>>
         ensures taken { result ≡ self.old.replies }
         ensures viewer { self.new.viewer ≡ self.old.viewer }
@@ -137,5 +152,28 @@ impl<L: Naming> Seat<L> {
     {
         let Seat { share, .. } = self;
         share
+    }
+}
+
+/// Whether a table shows all that each of the seats has seen.
+pub(crate) fn are_within<L: Naming>(seats: &[Seat<L>], table: &Table<L>) -> bool
+    ensures { Decides result (All (λ s. IsPrefix s.viewer.seen table.now) seats.now) }
+{
+    for seat in seats {
+        if !seat.is_within(table) {
+            return false;
+        }
+    }
+    true
+}
+
+/// Returns `rest` together with the shares of all seats.
+pub(crate) fn gather<L: Naming>(seats: Vec<Seat<L>>, rest: &mut Share<L>)
+    requires none { (rest.old.parts ≡ 0) × (rest.old.amount ≡ 0) }
+    ensures parts { rest.new.parts ≡ length seats.items }
+    ensures amount { rest.new.amount ≡ sum_by (λ s. s.accepted) seats.items }
+{
+    for seat in seats {
+        rest.merge(seat.into_share());
     }
 }

@@ -1,6 +1,7 @@
 //! What readers see of a desk.
-ghost use Rattle.std.specs.Prelude.{◌≡◌, Some};
+ghost use Rattle.std.specs.Prelude.{◌≡◌, Some, MatchOption};
 ghost use Rattle.sno_desk.specs.Shown.{entries_of};
+ghost use Rattle.sno_desk.specs.declared.shown.Shown.TheVariants.{Open};
 
 use sno_published::{Naming, Screen, Spent, Table};
 use std::sync::Wait;
@@ -32,12 +33,26 @@ impl<L: Naming> Shown<L> {
         }
     }
 
-    /// Puts this into its place; what stood there is ended.
+    /// Puts this into its place, and ends what was there.
     pub(crate) fn put<R: Wait>(self, rt: &R, place: &mut Option<Shown<L>>)
         ensures { place.new ≡ Some self }
     {
         if let Some(other) = place.replace(self) {
             other.end(rt);
+        }
+    }
+
+    /// Takes the screen out of its place, if more can be published. Otherwise the place is unchanged.
+    pub(crate) fn take_screen<R: Wait>(rt: &R, place: &mut Option<Shown<L>>) -> Option<Screen<L>>
+        ensures { MatchOption result (place.new ≡ place.old) (λ screen. place.old ≡ Some (Open screen)) }
+    {
+        match place.take() {
+            Some(Shown::Open(screen)) => Some(screen),
+            Some(stopped) => {
+                stopped.put(rt, place);
+                None
+            }
+            None => None,
         }
     }
 }

@@ -3,11 +3,12 @@ ghost use Rattle.std.specs.Prelude.{◌≡◌, ◌+◌, ◌<◌, ◌≤◌, ℕ,
 ghost use Rattle.std.specs.Option.{option_map};
 ghost use Rattle.std.specs.Thread.{IsSend, IsSync};
 ghost use Rattle.std.specs.Arc.{arc_value};
-ghost use Rattle.sno_statement.specs.Task.{Task};
+ghost use Rattle.sno_statement.specs.Statement.{Statement as Job};
 ghost use Rattle.sno_desk.specs.Answers.{Answers, receipts_in};
 ghost use Rattle.sno_desk.specs.Turns.{AllAnswer, Goes, HasGrown, HasWorked, InTurn, IsSubmitted, Position, every, position, shares_after};
 
-use crate::gathering::{collect, in_order};
+use crate::reply_queues::{collect, in_order};
+use crate::submissions::Submission;
 use crate::{Desk, Gate, Reply, Seat, WorkersFault};
 use sno_book::{Book, Entry, Receipt};
 use sno_published::Naming;
@@ -31,8 +32,8 @@ struct Shift<'a, L: Naming, G: Gate> {
 }
 
 impl<L: Naming, G: Gate> Shift<'_, L, G> {
-    /// Submits this job if it is the seat's turn, which it is when no job of another seat is to be passed over first. The reply is kept after the
-    /// others. Answers how many jobs of other seats come before the seat's next one.
+    /// Submits this job if it is the seat's turn: if no job of another seat is to be passed over first. The reply is
+    /// kept after the others. Returns how many jobs of other seats come before the seat's next one.
     #[tactic(auto, using(crate::proofs::Turns::goes_one, crate::proofs::Turns::goes_by, crate::proofs::Turns::grown_self, crate::proofs::Turns::grown_by, crate::proofs::Causes::follows))]
     fn turn<R: Wait>(
         &self,
@@ -43,7 +44,7 @@ impl<L: Naming, G: Gate> Shift<'_, L, G> {
         wait: usize,
         replies: &mut VecDeque<Reply>,
     ) -> Result<usize, AllocError>
-        ensures goes { IfOk result (λ next. (before : Position) (all jobs : List Task)
+        ensures goes { IfOk result (λ next. (before : Position) (all jobs : List Job)
             → Goes (IsSubmitted (G.shuts self.now.gate.now) self.now.tries L.opening L.parts) before (position seat.old.accepted seat.old.viewer.seen) all (every self.now.workers wait (arc_value job.now ∷ jobs)) replies.old.items
             → Goes (IsSubmitted (G.shuts self.now.gate.now) self.now.tries L.opening L.parts) before (position seat.new.accepted seat.new.viewer.seen) all (every self.now.workers next jobs) replies.new.items) }
         ensures grown { HasGrown (position seat.old.accepted seat.old.viewer.seen) (position seat.new.accepted seat.new.viewer.seen) }
@@ -51,10 +52,14 @@ impl<L: Naming, G: Gate> Shift<'_, L, G> {
         if wait > 0 {
             return Ok(wait - 1);
         }
-        let reply = self
-            .desk
-            .submit_shared(rt, alloc, seat, job, self.tries, self.gate);
-        replies.push_back(reply)?;
+        let submission = Submission {
+            desk: self.desk,
+            alloc,
+            statement: job,
+            tries: self.tries,
+            gate: self.gate,
+        };
+        replies.push_back(submission.reply(rt, seat))?;
         Ok(self.workers - 1)
     }
 
@@ -79,7 +84,7 @@ impl<L: Naming, G: Gate> Shift<'_, L, G> {
         Ok(replies)
     }
 
-    /// Submits the jobs of one seat, which keeps the replies.
+    /// Submits the jobs of one seat. The seat keeps the replies.
     fn work<R: Wait>(&self, rt: &R, alloc: Global, seat: &mut Seat<L>, first: usize)
         ensures worked { HasWorked (IsSubmitted (G.shuts self.now.gate.now) self.now.tries L.opening L.parts) (every self.now.workers first (map arc_value self.now.jobs.now))
             (position seat.old.accepted seat.old.viewer.seen) (position seat.new.accepted seat.new.viewer.seen) (option_map (λ q. q.items) seat.new.replies) }
@@ -92,13 +97,14 @@ impl<L: Naming, G: Gate> Shift<'_, L, G> {
     }
 }
 
-/// That a value of this type may go to another thread, and be shared there. It does nothing: its contract is used more than once.
+/// A value of this type may go to another thread, and be shared there. The function does nothing: its contract is used
+/// more than once.
 fn may_cross<T: Send + Sync>()
     ensures sends { IsSend T.row }
     ensures shares { IsSync T.row }
 {}
 
-/// All seats at work, each with the jobs of its place.
+/// Lets all seats work, each on the jobs of its place.
 fn work_all<L: Naming + Send + Sync, G: Gate + Sync, R: Threads + Wait + Sync>(
     rt: &R,
     alloc: Global,
@@ -138,19 +144,23 @@ fn work_all<L: Naming + Send + Sync, G: Gate + Sync, R: Threads + Wait + Sync>(
     thread::for_each_mut(rt, seats, workers, &worker);
 }
 
-/// Submits the jobs through the seats, each of which has a worker of its own: job `i` goes to the seat `i` modulo their number, and each
-/// worker submits its jobs in order, with so many tries for each. The workers run in threads, or one after the other where no thread can be made.
+/// Submits the jobs through the seats, each of which has a worker of its own. Job `i` goes to the seat `i` modulo their
+/// number. Each worker submits its jobs in order, with `tries` tries for each. The workers run in threads, or one after
+/// the other if no thread can be made.
 ///
-/// From 1 to 16 seats of this desk, and 1 to 1,000 tries.
+/// Requires from 1 to 16 seats of this desk, and 1 to 1,000 tries.
 ///
-/// On `Ok` there are as many replies as jobs, in the order of the jobs, and each is an answer of [`Desk::submit`] to the job at its place. The replies of
-/// one seat are those of its submits one after the other: each began with what the seat had accepted and seen after the one before, and the last left it as it is
-/// now. So of its receipts each has a higher index than the one before; the j-th, from 0, has an index of at least the seat's share before the call plus
-/// j, and exactly that if there is no other seat. Each share is higher by the number of receipts among its seat's replies, and all together by the number of
-/// all receipts.
+/// On `Ok` there are as many replies as jobs, in the order of the jobs, and each is a result of [`Desk::submit`] for
+/// the job at its place. The replies of one seat are those of its submits one after the other. Each began with what the
+/// seat had accepted and seen after the one before, and the last left the seat as it is now. So each of its receipts
+/// has a higher index than the one before. The j-th, from 0, has an index of at least the seat's share before the call
+/// plus j, and exactly that if there is no other seat. Each share is higher by the number of receipts among its seat's
+/// replies, and all shares together by the number of all receipts.
 ///
-/// Refused: `Memory`. Some jobs may have been accepted then and their replies lost; each share counts what was accepted through its seat, and
-/// the desk can still be used and closed. With each answer no share is lower than before, and what a seat has seen begins with what it had seen.
+/// Refused: `Memory`. Some jobs may have been accepted then and their replies lost. Each share counts what was accepted
+/// through its seat, and the desk can still be used and closed.
+///
+/// With each result no share is lower than before, and what a seat has seen begins with what it had seen.
 pub fn run_workers<L: Naming + Send + Sync, G: Gate + Sync, R: Threads + Wait + Sync>(
     rt: &R,
     alloc: Global,

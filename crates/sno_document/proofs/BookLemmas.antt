@@ -1,4 +1,4 @@
--- What a book answers for the texts of a document.
+-- What a book returns for the texts of a document.
 use Rattle.std.proofs.Common.{◌≡◌, ℕ, ◌+◌, ◌<◌, ◌≤◌, ◌^◌, Bool, true, false, cond, List, [], length, nat_lt, Option, Some, None, Ok, Err, refl, ap, sym, arith}
 use Rattle.std.proofs.Math.ListN.{length-map}
 use Rattle.std.proofs.lemmas.Bool.{ltb-true}
@@ -7,7 +7,7 @@ use Rattle.sno_book.specs.Openings as opening
 use Rattle.sno_book.specs.Openings.{Opening, opening_of, names_in}
 use Rattle.sno_book.specs.declared.faults.BookFault.TheVariants as book
 use Rattle.sno_document.specs.Document.{NamedTexts, unless_repeated, distinct}
-use Rattle.sno_document.specs.declared.faults.RunFault.TheVariants.{TextDuplicate}
+use Rattle.sno_document.specs.declared.faults.DocumentFault.TheVariants.{TextDuplicate}
 use Rattle.sno_document.proofs.PlaceLemmas.{repeat_inside}
 
 found : (o : Option ℕ) (texts : NamedTexts) (room : ℕ) (b : Opening) → opening.unless_repeated o texts room ≡ Ok b
@@ -53,6 +53,6 @@ many_if : (long : Bool) (texts : NamedTexts) (room : ℕ) → cond long (Err boo
 many_if true texts room h = refl
 many_if false texts room h = never (first_repeat (names_in texts)) texts room h
 
--- texts that are few are not too many
+-- at most 1,024 texts are not too many
 pub never_many : (texts : NamedTexts) (room : ℕ) → opening_of texts room ≡ Err book.TooMany → length texts ≤ 1024 → ⊥
 never_many texts room h few = let long = ltb-true 1024 (length texts) (many_if (nat_lt 1024 (length texts)) texts room h) in omega (arith, long, few)

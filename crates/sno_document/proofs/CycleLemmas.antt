@@ -1,4 +1,4 @@
--- Definitions that refer to definitions alone, and the first of a cycle of them.
+-- Definitions that refer only to definitions, and the first of a cycle of them.
 use Rattle.std.proofs.Common.{◌≡◌, ℕ, ◌+◌, ◌<◌, Bool, true, false, not, ◌&&◌, cond, List, [], ◌∷◌, length, Option, Some, None, slice_get, refl, sym, subst, ◌∙◌, IsTrue}
 use Rattle.std.specs.List.{list_all, position_from}
 use Rattle.std.proofs.lemmas.Option.{slice_get_within}
@@ -13,7 +13,7 @@ none_bad : (n i : ℕ) (bodies : List Tree) → list_all (refs_below n) bodies �
 none_bad n i [] h = refl
 none_bad n i (p ∷ bodies) h = none_later (refs_below n p) i _ _ (none_bad n (i + 1) bodies) h
 
--- no definition refers past the last
+-- no definition refers to a place after the last
 pub no_bad_ref : (n place : ℕ) (bodies : List Tree) → n ≡ length bodies → IsTrue (list_all (refs_below n) bodies) → first_bad_ref bodies ≡ Some place → ⊥
 no_bad_ref n place bodies as_many covered bad =
     let none : first_bad_ref bodies ≡ None = none_bad (length bodies) 0 bodies (subst (λ k. IsTrue (list_all (refs_below k) bodies)) as_many covered) in

@@ -1,4 +1,4 @@
--- Bytes have one answer.
+-- Bytes have only one result.
 use Rattle.std.proofs.Common.{◌≡◌, ℕ, List, [], ◌∷◌, Result, Ok, Err, refl, sym, ap, subst, ◌∙◌, inl, inr, arith}
 use Rattle.std.proofs.lemmas.Bool.{cases_lt}
 use Rattle.serde_json.specs.Data.{Data}
@@ -9,7 +9,7 @@ use Rattle.sno_pattern.specs.Admission.{IsWay, IsFirstCycle}
 use Rattle.sno_pattern.proofs.Cycles.{not_guarded}
 use Rattle.sno_document.specs.Shape.{Rows, rows_of}
 use Rattle.sno_document.specs.Document.{Document, IsAdmitted, IsDocument, value_in, definitions_of, document_with}
-use Rattle.sno_document.specs.declared.faults.RunFault.{RunFault}
+use Rattle.sno_document.specs.declared.faults.DocumentFault.{DocumentFault}
 use Rattle.sno_document.specs.declared.modes.Mode.{Mode}
 
 more_way : (bodies : List Tree) (i x : ℕ) (rest : List ℕ) (j : ℕ) → Chain bodies i x → IsWay bodies x rest j → Chain bodies i j
@@ -20,7 +20,7 @@ way_chain : (bodies : List Tree) (i : ℕ) (rest : List ℕ) (j : ℕ) → IsWay
 way_chain bodies i [] j w = Chain.one w
 way_chain bodies i (x ∷ rest) j w = more_way bodies i x rest j (Chain.one w.0) w.1
 
--- the first definition on a cycle is one alone
+-- there is only one first definition on a cycle
 first_same : (bodies : List Tree) (i : ℕ) (others : List ℕ) (k : ℕ) (more : List ℕ) → IsFirstCycle bodies (i ∷ others) → IsFirstCycle bodies (k ∷ more) → i ≡ k
 first_same bodies i others k more h g =
     elim (cases_lt h.0 g.0) [
@@ -31,7 +31,7 @@ first_same bodies i others k more h g =
       ]
     ]
 
-admitted_once : (rules : Definitions) (r s : Result Definitions RunFault) → IsAdmitted rules r → IsAdmitted rules s → r ≡ s
+admitted_once : (rules : Definitions) (r s : Result Definitions DocumentFault) → IsAdmitted rules r → IsAdmitted rules s → r ≡ s
 admitted_once rules _ _ (IsAdmitted.guarded h) (IsAdmitted.guarded g) = refl
 admitted_once rules _ _ (IsAdmitted.guarded h) (IsAdmitted.cycle i others c is) = absurd (not_guarded rules.bodies (i ∷ others) c h)
 admitted_once rules _ _ (IsAdmitted.cycle i others c is) (IsAdmitted.guarded g) = absurd (not_guarded rules.bodies (i ∷ others) c g)
@@ -48,8 +48,8 @@ module _ (bytes : List ℕ) (d e : Data) (a : value_in bytes ≡ Ok d) (b : valu
     same_definitions : definitions_of rows.patterns ≡ definitions_of more.patterns
     same_definitions = ap (λ (r : Rows). definitions_of r.patterns) same_rows
 
--- what bytes stand for, or their first fault, is one alone
-pub one_answer : (mode : Mode) (bytes : List ℕ) (r s : Result Document RunFault) → IsDocument mode bytes r → IsDocument mode bytes s → r ≡ s
+-- bytes represent only one document or have only one first fault
+pub one_answer : (mode : Mode) (bytes : List ℕ) (r s : Result Document DocumentFault) → IsDocument mode bytes r → IsDocument mode bytes s → r ≡ s
 one_answer mode bytes _ _ (IsDocument.no_value h) (IsDocument.no_value g) = cc
 one_answer mode bytes _ _ (IsDocument.no_value h) (IsDocument.no_rows e b q) = cc
 one_answer mode bytes _ _ (IsDocument.no_value h) (IsDocument.no_definitions e more b q y) = cc

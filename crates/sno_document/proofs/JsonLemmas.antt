@@ -28,6 +28,6 @@ none_by : (b : Bool) (o : Option Data) → (b ≡ true → o ≡ None) → cond 
 none_by true o h = h refl
 none_by false o h = refl
 
--- bytes that are none
+-- bytes that are not JSON
 pub json_none : (bytes : List ℕ) → (IsUtf8 bytes → read bytes ≡ None) → json_of bytes ≡ None
 json_none bytes h = none_by (is_utf8 bytes) (read bytes) (λ b. h (IsUtf8-from_is_utf8 bytes b))

@@ -1,4 +1,4 @@
--- A place that is answered for a list lies in it.
+-- A place that is returned for a list lies in it.
 use Rattle.std.proofs.Common.{◌≡◌, ℕ, suc, ◌+◌, ◌<◌, ◌≤◌, ◌^◌, Bool, true, false, cond, List, [], ◌∷◌, ◌++◌, length, Option, Some, None, Result, Err, nat_lt, arith}
 use Rattle.std.specs.List.{list_any, position_from}
 use Rattle.sno_pattern.specs.Identifiers.{same, is_reserved}

@@ -1,4 +1,4 @@
--- What a text spells refers to definitions alone.
+-- A pattern that a text spells refers only to definitions.
 use Rattle.std.proofs.Common.{◌≡◌, ℕ, true, List, length, Some, refl, IsTrue, arith}
 use Rattle.std.proofs.lemmas.Bool.{and_from, lt-ltb}
 use Rattle.sno_pattern.specs.Tree.{Tree, refs_below}

@@ -1,4 +1,4 @@
--- Trees and the values that they stand for.
+-- Trees and the values that they represent.
 use Rattle.std.proofs.Common.{◌≡◌, ℕ, Bool, true, false, cond, ◌&&◌, List, [], ◌∷◌, map, Option, Some, None, option_map, option_and_then, is_some, unwrap_or, Global, Bor, refl, ap, sym, ◌∙◌, bytes_eq}
 use Rattle.std.proofs.lemmas.Slice.Eq.{bytes_eq-Decides}
 use Rattle.json.specs.Json as json
@@ -37,7 +37,7 @@ object_read : (b : Bool) (ms : Members) → option_map object (cond b (Some ms) 
 object_read true ms = refl
 object_read false ms = refl
 
--- a tree is read as its value where its numbers are in range
+-- a tree is read as its value if its numbers are in range
 mutual
   pub tree_read : (j : json.Json) → of_json j ≡ cond (is_in_range j) (Some (data_of j)) None
   tree_read json.null = refl
@@ -58,7 +58,7 @@ mutual
       rw (tree_read j) (member_read (is_in_range j) (are_members_in_range ms) (data_of j) (λ d. of_members ms (put k d done))
       (data_members ms (put k (data_of j) done)) (members_read ms (put k (data_of j) done)))
 
--- the member of a name among those of a tree, or else among those before it
+-- the member of a name among those of a tree, or otherwise among those before it
 abbrev later_or : Option Data → Option Data → Option Data
 later_or None earlier = earlier
 later_or (Some d) earlier = Some d
@@ -92,7 +92,7 @@ or_none : (o : Option Data) → later_or o None ≡ o
 or_none None = refl
 or_none (Some d) = refl
 
--- what a name finds in the value is the value of what it finds in the tree
+-- the member found in the value is the value of the member found in the tree
 member_seen : (name : List ℕ) (j : json.Json) → get name (data_of j) ≡ option_map data_of (found.get name j)
 member_seen name json.null = refl
 member_seen name (json.boolean b) = refl
@@ -105,13 +105,13 @@ seen_of : (r : Option (Bor (Value Global))) → option_map (λ v. tree_seen v.no
 seen_of None = refl
 seen_of (Some v) = refl
 
--- the same of the program's tree
+-- the same for the program's tree
 pub member_found : (name : List ℕ) (v : Value Global) (r : Option (Bor (Value Global)))
     → option_map (λ v. value_view v.now) r ≡ found.get name (value_view v)
     → option_map (λ v. tree_seen v.now) r ≡ get name (tree_seen v)
 member_found name v r is = seen_of r ∙ ap (option_map data_of) is ∙ sym (member_seen name (value_view v))
 
--- a string of the tree is one of the value
+-- a string of the tree is a string of the value
 pub string_seen : (j : json.Json) → as_str (data_of j) ≡ found.as_str j
 string_seen json.null = refl
 string_seen (json.boolean b) = refl
@@ -138,12 +138,12 @@ in_range_read : (b : Bool) (text : List ℕ) (j : json.Json) → is_in_range j �
     → read text ≡ cond b (Some (data_of j)) None
 in_range_read b text j in_range is = ap (option_and_then of_json) is ∙ tree_read j ∙ ap (λ (c : Bool). cond c (Some (data_of j)) None) in_range
 
--- bytes that are a tree have its value, where the numbers are in range
+-- if bytes are a tree and its numbers are in range, they have its value
 pub tree_json : (bytes text : List ℕ) (j : json.Json) → text ≡ bytes → IsUtf8 bytes → tree_of_text text ≡ Some j
     → is_in_range j ≡ true → json_of bytes ≡ Some (data_of j)
 tree_json bytes text j same utf8 is in_range = json_found bytes (data_of j) utf8 (ap read (sym same) ∙ in_range_read true text j in_range is)
 
--- and none, where one is out of range
+-- and no value if one is out of range
 pub tree_no_json : (bytes text : List ℕ) (j : json.Json) → text ≡ bytes → tree_of_text text ≡ Some j
     → is_in_range j ≡ false → json_of bytes ≡ None
 tree_no_json bytes text j same is out = json_none bytes (λ _. ap read (sym same) ∙ in_range_read false text j out is)

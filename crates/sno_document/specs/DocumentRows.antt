@@ -1,4 +1,4 @@
--- The rows of a document, as the program borrows them, by value.
+-- The rows of a document, borrowed by the program, by value.
 use Rattle.std.specs.Prelude.{ℕ, List, map}
 use Rattle.std.specs.Option.{option_map}
 use Rattle.std.specs.Borrow.{Bor}

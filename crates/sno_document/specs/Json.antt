@@ -6,7 +6,7 @@ use Rattle.serde_json.specs.Data.{Num, Data, null, Items, no_items, item}
 use Rattle.serde_json.specs.Read.{read}
 use Rattle.serde_json.specs.Find.{get, as_str, as_bool, as_number, as_array}
 
--- the value that bytes stand for, where they are JSON in UTF-8
+-- the value that bytes represent, if they are JSON in UTF-8
 abbrev pub json_of : List ℕ → Option Data
 json_of bytes = if is_utf8 bytes then read bytes else None
 
@@ -15,7 +15,7 @@ abbrev pub elements : Items → List Data
 elements no_items = []
 elements (item d ds) = d ∷ elements ds
 
--- an array, or none of its elements where the member is missing
+-- the elements of an array, and no elements if the member is missing
 abbrev pub array_or_none : Option Data → Option (List Data)
 array_or_none None = Some []
 array_or_none (Some d) = option_map elements (as_array d)
@@ -27,7 +27,7 @@ array_at key d = array_or_none (get key d)
 abbrev pub string_at : List ℕ → Data → Option (List ℕ)
 string_at key d = option_and_then as_str (get key d)
 
--- a string; none where the member is missing or null
+-- a string; `Some None` if the member is missing or null
 abbrev pub string_or_none : Option Data → Option (Option (List ℕ))
 string_or_none None = Some None
 string_or_none (Some null) = Some None
@@ -36,7 +36,7 @@ string_or_none (Some d) = option_map (λ s. Some s) (as_str d)
 abbrev pub optional_string_at : List ℕ → Data → Option (Option (List ℕ))
 optional_string_at key d = string_or_none (get key d)
 
--- true or false; none where the member is missing
+-- true or false; `Some None` if the member is missing
 abbrev pub bool_or_none : Option Data → Option (Option Bool)
 bool_or_none None = Some None
 bool_or_none (Some d) = option_map (λ b. Some b) (as_bool d)
@@ -44,7 +44,7 @@ bool_or_none (Some d) = option_map (λ b. Some b) (as_bool d)
 abbrev pub optional_bool_at : List ℕ → Data → Option (Option Bool)
 optional_bool_at key d = bool_or_none (get key d)
 
--- a number; none where the member is missing or null
+-- a number; `Some None` if the member is missing or null
 abbrev pub number_or_none : Option Data → Option (Option Num)
 number_or_none None = Some None
 number_or_none (Some null) = Some None

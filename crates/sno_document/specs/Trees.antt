@@ -1,4 +1,5 @@
--- The value that a tree of JSON stands for. A tree is a value as `Json` reads it but for its numbers: one may be out of range.
+-- The value that a tree of JSON represents. A tree is a value as `Json` reads it, except that its numbers may be out of
+-- range.
 use Rattle.std.specs.Prelude.{ℕ, Bool, true, ◌&&◌, List, Option, option_and_then, unwrap_or, is_some}
 use Rattle.std.specs.declared.alloc.Global.{Global}
 use Rattle.json.specs.Json as json
@@ -8,7 +9,7 @@ use Rattle.json.specs.declared.value.Value.{Value}
 use Rattle.serde_json.specs.Data.{Num, Data, null, boolean, number, string, array, object, Items, no_items, item, Members, no_members, put, unsigned}
 use Rattle.serde_json.specs.Read.{number_of, max_depth}
 
--- the tree that a text is, if it is one
+-- the tree of a text, if it has one
 abbrev pub tree_of_text : List ℕ → Option json.Json
 tree_of_text text = option_and_then (λ p. json.if_last p.0 p.1) (json.value max_depth (tokens text))
 
@@ -30,11 +31,12 @@ abbrev mutual
   are_members_in_range json.no_members = true
   are_members_in_range (json.member k j ms) = is_in_range j && are_members_in_range ms
 
--- the number that its text stands for, 0 where it is out of range
+-- the number that its text represents, or 0 if it is out of range
 abbrev pub number_seen : List ℕ → Num
 number_seen s = unwrap_or (number_of s) (unsigned 0)
 
--- The value of a tree, with 0 for a number out of range. The members go in one after another, so the last value of a key stays.
+-- The value of a tree, with 0 for a number out of range. The members are added one after another, so the last value of
+-- a key stays.
 abbrev mutual
   pub data_of : json.Json → Data
   data_of json.null = null

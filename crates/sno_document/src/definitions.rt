@@ -8,9 +8,9 @@ ghost use Rattle.sno_document.specs.Faults.{Gives};
 ghost use Rattle.sno_document.specs.DocumentRows.{pair_seen};
 ghost use Rattle.sno_document.specs.Drafts.{drafted_seen, IsDrafted, Admits};
 ghost use Rattle.sno_document.specs.Document.{names_from, check_names, reading, bodies_from, definitions_of};
-ghost use Rattle.sno_document.specs.declared.faults.RunFault.TheVariants.{PatternRead};
+ghost use Rattle.sno_document.specs.declared.faults.DocumentFault.TheVariants.{PatternRead};
 
-use crate::RunFault;
+use crate::DocumentFault;
 use crate::document_rows::PairRow;
 use sno_pattern::{Name, Names, NamesFault, Pattern, Rules, RulesFault};
 use sno_read::{ReadFault, read_pattern};
@@ -18,7 +18,7 @@ use std::alloc::Global;
 
 const MAX_DEFINITIONS: usize = 64;
 
-fn names_in(alloc: Global, rows: &[PairRow<'_>]) -> Result<Vec<Name>, RunFault>
+fn names_in(alloc: Global, rows: &[PairRow<'_>]) -> Result<Vec<Name>, DocumentFault>
     ensures names { Gives (λ v. v.items) result (names_from 1 [] (map pair_seen rows.now)) }
     ensures as_many { IfOk result (λ v. length v.items ≡ length rows.now) }
 {
@@ -26,42 +26,42 @@ fn names_in(alloc: Global, rows: &[PairRow<'_>]) -> Result<Vec<Name>, RunFault>
     for (name, _) in rows {
         match Name::read(name.as_bytes()) {
             Some(name) => names.push(name)?,
-            None => return Err(RunFault::PatternName(names.len() + 1)),
+            None => return Err(DocumentFault::PatternName(names.len() + 1)),
         }
     }
     Ok(names)
 }
 
 #[tactic(auto, using(crate::proofs::PlaceLemmas::reserved_place, crate::proofs::PlaceLemmas::duplicate_place))]
-fn check_names(alloc: Global, names: &[Name]) -> Result<Names, RunFault>
-    requires { length names.now ≤ 64 }
+fn check_names(alloc: Global, names: &[Name]) -> Result<Names, DocumentFault>
+    requires { length names.now ≤ MAX_DEFINITIONS }
     ensures { Gives (λ n. n) result (check_names (names_of names.now)) }
 {
     match Names::new(alloc, names) {
         Ok(names) => Ok(names),
-        Err(NamesFault::TooMany) => Err(RunFault::TooManyPatterns),
-        Err(NamesFault::Reserved(place)) => Err(RunFault::PatternReserved(place + 1)),
-        Err(NamesFault::Duplicate(place)) => Err(RunFault::PatternDuplicate(place + 1)),
-        Err(NamesFault::Memory) => Err(RunFault::Memory),
+        Err(NamesFault::TooMany) => Err(DocumentFault::TooManyPatterns),
+        Err(NamesFault::Reserved(place)) => Err(DocumentFault::PatternReserved(place + 1)),
+        Err(NamesFault::Duplicate(place)) => Err(DocumentFault::PatternDuplicate(place + 1)),
+        Err(NamesFault::Memory) => Err(DocumentFault::Memory),
     }
 }
 
 /// The pattern of the definition at a place. Its references are to definitions.
 #[tactic(auto, using(crate::proofs::References::spelled_covered))]
-fn body(alloc: Global, names: &Names, place: usize, text: &str) -> Result<Pattern, RunFault>
-    requires { place < 64 }
+fn body(alloc: Global, names: &Names, place: usize, text: &str) -> Result<Pattern, DocumentFault>
+    requires { place < MAX_DEFINITIONS }
     ensures read { Gives tree_of result (reading (λ e. PatternRead (place + 1) e) (pattern_of names.now place text.now)) }
     ensures covered { IfOk result (λ p. IsTrue (refs_below (length names.now) (tree_of p))) }
 {
     match read_pattern(alloc, names, place, text.as_bytes()) {
         Ok(pattern) => Ok(pattern),
-        Err(ReadFault::Memory) => Err(RunFault::Memory),
-        Err(fault) => Err(RunFault::PatternRead(place + 1, fault)),
+        Err(ReadFault::Memory) => Err(DocumentFault::Memory),
+        Err(fault) => Err(DocumentFault::PatternRead(place + 1, fault)),
     }
 }
 
-fn bodies(alloc: Global, names: &Names, rows: &[PairRow<'_>]) -> Result<Vec<Pattern>, RunFault>
-    requires { length rows.now ≤ 64 }
+fn bodies(alloc: Global, names: &Names, rows: &[PairRow<'_>]) -> Result<Vec<Pattern>, DocumentFault>
+    requires { length rows.now ≤ MAX_DEFINITIONS }
     ensures bodies { Gives (λ v. trees v.items) result (bodies_from names.now 0 [] (map pair_seen rows.now)) }
     ensures covered { IfOk result (λ v. IsTrue (list_all (refs_below (length names.now)) (trees v.items))) }
     ensures as_many { IfOk result (λ v. length v.items ≡ length rows.now) }
@@ -83,12 +83,12 @@ pub(crate) struct Drafted {
 
 /// The definitions, before they are admitted: as many bodies as names, and their references are to definitions.
 #[tactic(auto, unfolding(crate::specs::Document::definitions_of))]
-pub(crate) fn definitions(alloc: Global, rows: &[PairRow<'_>]) -> Result<Drafted, RunFault>
+pub(crate) fn definitions(alloc: Global, rows: &[PairRow<'_>]) -> Result<Drafted, DocumentFault>
     ensures definitions { Gives drafted_seen result (definitions_of (map pair_seen rows.now)) }
     ensures sound { IfOk result IsDrafted }
 {
     if rows.len() > MAX_DEFINITIONS {
-        return Err(RunFault::TooManyPatterns);
+        return Err(DocumentFault::TooManyPatterns);
     }
     let written = names_in(alloc, rows)?;
     let names = check_names(alloc, &written)?;
@@ -100,8 +100,9 @@ pub(crate) fn definitions(alloc: Global, rows: &[PairRow<'_>]) -> Result<Drafted
     })
 }
 
-/// The definitions admitted; `Unguarded` with the first that lies on a cycle of references that takes no character.
-pub(crate) fn admit(alloc: Global, drafted: Drafted) -> Result<Rules, RunFault>
+/// Returns the admitted definitions. `Unguarded` with the first definition on a cycle of references that takes no
+/// character.
+pub(crate) fn admit(alloc: Global, drafted: Drafted) -> Result<Rules, DocumentFault>
     requires { IsDrafted drafted }
     ensures { Admits (drafted_seen drafted) result }
 {
@@ -112,10 +113,10 @@ pub(crate) fn admit(alloc: Global, drafted: Drafted) -> Result<Rules, RunFault>
     } = drafted;
     match Rules::admit(alloc, names, bodies) {
         Ok(rules) => Ok(rules),
-        Err(RulesFault::Memory) => Err(RunFault::Memory),
+        Err(RulesFault::Memory) => Err(DocumentFault::Memory),
         Err(RulesFault::BadRef(_)) => unreachable!(),
         Err(RulesFault::Unguarded(cycle)) => match cycle.first() {
-            Some(first) => Err(RunFault::Unguarded(written[*first])),
+            Some(first) => Err(DocumentFault::Unguarded(written[*first])),
             None => unreachable!(),
         },
     }

@@ -1,11 +1,11 @@
-//! A document as it is written: its rows, whose strings are borrowed as those of the tree are.
+//! A document as it is written: its rows. Their strings are borrowed, as those of the tree are.
 ghost use Rattle.std.specs.Prelude.{◌≡◌, map, [], codes};
 ghost use Rattle.sno_document.specs.Faults.{Gives};
 ghost use Rattle.sno_document.specs.Shape.{pair_row, statement_row, each_row, pairs_at, statements_at, arrays_of, rows_of};
 ghost use Rattle.sno_document.specs.Trees.{tree_seen};
 ghost use Rattle.sno_document.specs.DocumentRows.{pair_seen, statement_seen, rows_seen};
 
-use crate::RunFault;
+use crate::DocumentFault;
 use crate::members::{
     elements, is_object, member, optional_bool_at, optional_number_at, optional_string_at,
     string_at,
@@ -34,12 +34,12 @@ pub(crate) struct Rows<'t> {
     pub(crate) statements: Vec<StatementRow<'t>>,
 }
 
-fn pair_row<'t>(value: &Value<'t>, first: &str, second: &str) -> Result<PairRow<'t>, RunFault>
+fn pair_row<'t>(value: &Value<'t>, first: &str, second: &str) -> Result<PairRow<'t>, DocumentFault>
     ensures { Gives pair_seen result (pair_row first.now second.now (tree_seen value.now)) }
 {
     match (string_at(value, first), string_at(value, second)) {
         (Some(a), Some(b)) => Ok((a, b)),
-        _ => Err(RunFault::Shape),
+        _ => Err(DocumentFault::Shape),
     }
 }
 
@@ -48,7 +48,7 @@ fn pair_rows<'t>(
     values: &[Value<'t>],
     first: &str,
     second: &str,
-) -> Result<Vec<PairRow<'t>>, RunFault>
+) -> Result<Vec<PairRow<'t>>, DocumentFault>
     ensures { Gives (λ v. map pair_seen v.items) result (each_row (pair_row first.now second.now) [] (map tree_seen values.now)) }
 {
     let mut rows = Vec::new(alloc);
@@ -58,14 +58,14 @@ fn pair_rows<'t>(
     Ok(rows)
 }
 
-fn statement_row<'t>(value: &Value<'t>) -> Result<StatementRow<'t>, RunFault>
+fn statement_row<'t>(value: &Value<'t>) -> Result<StatementRow<'t>, DocumentFault>
     ensures { Gives statement_seen result (statement_row (tree_seen value.now)) }
 {
-    let text = string_at(value, "text").ok_or(RunFault::Shape)?;
-    let pattern = string_at(value, "pattern").ok_or(RunFault::Shape)?;
-    let object = optional_string_at(value, "object").ok_or(RunFault::Shape)?;
-    let anchored = optional_bool_at(value, "anchored").ok_or(RunFault::Shape)?;
-    let repeat = optional_number_at(value, "repeat").ok_or(RunFault::Shape)?;
+    let text = string_at(value, "text").ok_or(DocumentFault::Shape)?;
+    let pattern = string_at(value, "pattern").ok_or(DocumentFault::Shape)?;
+    let object = optional_string_at(value, "object").ok_or(DocumentFault::Shape)?;
+    let anchored = optional_bool_at(value, "anchored").ok_or(DocumentFault::Shape)?;
+    let repeat = optional_number_at(value, "repeat").ok_or(DocumentFault::Shape)?;
     Ok(StatementRow {
         text,
         pattern,
@@ -78,7 +78,7 @@ fn statement_row<'t>(value: &Value<'t>) -> Result<StatementRow<'t>, RunFault>
 fn statement_rows<'t>(
     alloc: Global,
     values: &[Value<'t>],
-) -> Result<Vec<StatementRow<'t>>, RunFault>
+) -> Result<Vec<StatementRow<'t>>, DocumentFault>
     ensures { Gives (λ v. map statement_seen v.items) result (each_row statement_row [] (map tree_seen values.now)) }
 {
     let mut rows = Vec::new(alloc);
@@ -88,7 +88,7 @@ fn statement_rows<'t>(
     Ok(rows)
 }
 
-/// The rows of an array of pairs, none where it is missing.
+/// The rows of an array of pairs; no rows if it is missing.
 #[tactic(auto, unfolding(crate::specs::Shape::pairs_at))]
 fn pairs_at<'t>(
     alloc: Global,
@@ -96,35 +96,38 @@ fn pairs_at<'t>(
     key: &str,
     first: &str,
     second: &str,
-) -> Result<Vec<PairRow<'t>>, RunFault>
+) -> Result<Vec<PairRow<'t>>, DocumentFault>
     ensures { Gives (λ v. map pair_seen v.items) result (pairs_at key.now first.now second.now (tree_seen value.now)) }
 {
     let Some(array) = member(value, key) else {
         return Ok(Vec::new(alloc));
     };
     match elements(array) {
-        None => Err(RunFault::Shape),
+        None => Err(DocumentFault::Shape),
         Some(values) => pair_rows(alloc, values, first, second),
     }
 }
 
-/// The rows of the statements, none where they are missing.
+/// The rows of the statements; no rows if they are missing.
 #[tactic(auto, unfolding(crate::specs::Shape::statements_at))]
-fn statements_at<'t>(alloc: Global, value: &Value<'t>) -> Result<Vec<StatementRow<'t>>, RunFault>
+fn statements_at<'t>(
+    alloc: Global,
+    value: &Value<'t>,
+) -> Result<Vec<StatementRow<'t>>, DocumentFault>
     ensures { Gives (λ v. map statement_seen v.items) result (statements_at (tree_seen value.now)) }
 {
     let Some(array) = member(value, "statements") else {
         return Ok(Vec::new(alloc));
     };
     match elements(array) {
-        None => Err(RunFault::Shape),
+        None => Err(DocumentFault::Shape),
         Some(values) => statement_rows(alloc, values),
     }
 }
 
 /// The three arrays of an object.
 #[tactic(auto, unfolding(crate::specs::Shape::arrays_of))]
-fn arrays_of<'t>(alloc: Global, value: &Value<'t>) -> Result<Rows<'t>, RunFault>
+fn arrays_of<'t>(alloc: Global, value: &Value<'t>) -> Result<Rows<'t>, DocumentFault>
     ensures { Gives rows_seen result (arrays_of (tree_seen value.now)) }
 {
     let patterns = pairs_at(alloc, value, "patterns", "name", "pattern")?;
@@ -137,12 +140,12 @@ fn arrays_of<'t>(alloc: Global, value: &Value<'t>) -> Result<Rows<'t>, RunFault>
     })
 }
 
-/// The rows of a document; `Shape` where a member is of another kind, or a missing one has no meaning.
-pub(crate) fn rows_of<'t>(alloc: Global, value: &Value<'t>) -> Result<Rows<'t>, RunFault>
+/// The rows of a document. `Shape` if a member is of another kind, or if one is missing that must be there.
+pub(crate) fn rows_of<'t>(alloc: Global, value: &Value<'t>) -> Result<Rows<'t>, DocumentFault>
     ensures { Gives rows_seen result (rows_of (tree_seen value.now)) }
 {
     if !is_object(value) {
-        return Err(RunFault::Shape);
+        return Err(DocumentFault::Shape);
     }
     arrays_of(alloc, value)
 }

@@ -1,6 +1,6 @@
 //! Documents.
 ghost use Rattle.std.specs.Prelude.{map, IfOk};
-ghost use Rattle.sno_statement.specs.Task.{IsLimit};
+ghost use Rattle.sno_statement.specs.Statement.{IsLimit};
 ghost use Rattle.sno_document.specs.Faults.{Gives};
 ghost use Rattle.sno_document.specs.DocumentRows.{rows_seen};
 ghost use Rattle.sno_document.specs.Document.{document_with};
@@ -11,7 +11,7 @@ use crate::document_rows::{Rows, rows_of};
 use crate::statements::statements;
 use crate::texts::texts;
 use crate::trees::value_in;
-use crate::{Mode, RunFault};
+use crate::{DocumentFault, Mode};
 use json::Scratch;
 use sno_book::Book;
 use sno_pattern::Rules;
@@ -19,15 +19,15 @@ use sno_statement::Statement;
 use std::alloc::Global;
 use std::sync::Arc;
 
-/// The most bytes that a document has.
+/// The most bytes that a document may have.
 pub const MAX_DOCUMENT: usize = 16_777_216;
 
-/// What a document stands for, with its texts in a book.
+/// What a document represents, with its texts in a book.
 #[derive(Drop)]
 pub struct Document {
     /// The definitions, admitted.
     pub rules: Arc<Rules>,
-    /// The texts, in a book without an entry.
+    /// The texts, in a book without entries.
     pub book: Book,
     /// The statements, in the document's order, numbered from 1.
     pub statements: Vec<Arc<Statement>>,
@@ -40,7 +40,7 @@ fn document_with(
     rules: Rules,
     mode: Mode,
     rows: &Rows<'_>,
-) -> Result<Document, RunFault>
+) -> Result<Document, DocumentFault>
     requires { IsLimit mode.trials }
     ensures document { Gives document_seen result (document_with rules mode (rows_seen rows.now)) }
     ensures ready { IfOk result (λ d. IsReady d) }
@@ -55,12 +55,18 @@ fn document_with(
     })
 }
 
-/// The document that the bytes are, whose book has no entry yet and room for 1,000,000. `mode` has what its statements don't say themselves, and trials
-/// from 1 to 1,000,000,000.
+/// Returns the document that the bytes are. Its book has no entries yet, and room for 1,000,000. `mode` has what the
+/// document's statements don't say themselves, with 1 to 1,000,000,000 trials.
 ///
-/// Refused with the first fault, in this order: `DocumentTooLong`, `NotJson`, `Shape`; those of the definitions, `Unguarded` last; those of the texts; those
-/// of the statements; each as `specs/Document.antt` checks them. `Memory` may come in the place of any answer. Nothing is left of the document then.
-pub fn read_document(alloc: Global, bytes: &[u8], mode: Mode) -> Result<Document, RunFault>
+/// Refused with the first fault, in this order, each as `specs/Document.antt` checks it:
+///
+/// - `DocumentTooLong`, `NotJson`, `Shape`;
+/// - the faults of the definitions, `Unguarded` last;
+/// - those of the texts;
+/// - those of the statements.
+///
+/// `Memory` may come instead of any result. After a refusal nothing is left of the document.
+pub fn read_document(alloc: Global, bytes: &[u8], mode: Mode) -> Result<Document, DocumentFault>
     requires { IsLimit mode.trials }
     ensures document { Reads mode bytes.now result }
     ensures ready { IfOk result (λ d. IsReady d) }

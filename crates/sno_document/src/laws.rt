@@ -1,7 +1,7 @@
 //! Laws of the definitions. The functions do nothing; each contract is the law.
 ghost use Rattle.sno_document.specs.Laws.{OneAnswer};
 
-/// Bytes are one document or none, and where they are none they have one first fault.
+/// Bytes are one document, or are not a document and have one first fault.
 #[tactic(auto, using(crate::proofs::DocumentLaw::one_answer))]
 pub fn one_answer()
     ensures { OneAnswer }

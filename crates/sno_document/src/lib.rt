@@ -1,13 +1,16 @@
-//! Documents: JSON with definitions, texts and statements, checked in a fixed order, and the first fault of what is no document.
+//! Documents: JSON with definitions, texts and statements, checked in a fixed order, and the first fault of input that
+//! is not a document.
 //!
-//! [`read_document`] takes the bytes to a [`Document`], whose texts stand in a book, or to the first fault of the bytes, by `IsDocument` of
-//! `specs/Document.antt`. Bytes have one answer ([`one_answer`]). `RunFault::Memory` is a further answer.
+//! [`read_document`] takes the bytes to a [`Document`], whose texts are in a book, or to the first fault of the bytes,
+//! by `IsDocument` of `specs/Document.antt`. Bytes have only one such result ([`one_answer`]). `DocumentFault::Memory` is a
+//! further result.
 //!
 //! | File | What it does |
 //! |---|---|
-//! | `faults` | `RunFault`, with the line of each, and `status_of` |
+//! | `faults` | `DocumentFault`, with the line of each |
 //! | `trees`, `members`, `document_rows` | the JSON tree of the bytes; its members; the rows of the document as it is written |
 //! | `definitions`, `texts`, `statements`, `documents` | the checks, in the order of the document |
+//! | `rounds` | how often a statement is to be repeated |
 //! | `laws` | what follows from the definitions |
 //!
 //! `Book` is that of `sno_book`, `Statement` that of `sno_statement`, `Name` and `Rules` those of `sno_pattern`, and `ReadFault` that of
@@ -21,12 +24,13 @@ mod faults;
 mod laws;
 mod members;
 mod modes;
+mod rounds;
 mod statements;
 mod texts;
 mod trees;
 
 pub use documents::{Document, MAX_DOCUMENT, read_document};
-pub use faults::{RunFault, status_of};
+pub use faults::DocumentFault;
 pub use laws::one_answer;
 pub use modes::Mode;
 pub use sno_book::Book;

@@ -14,7 +14,7 @@ pub(crate) fn is_object(value: &Value<'_>) -> bool
     matches!(value, Value::Object(_))
 }
 
-/// The member with this key, the last one where there are more.
+/// The member with this key; the last one if there are several.
 #[tactic(auto, using(crate::proofs::TreeLemmas::member_found))]
 pub(crate) fn member<'v, 't>(value: &'v Value<'t>, key: &str) -> Option<&'v Value<'t>>
     ensures { option_map (λ v. tree_seen v.now) result ≡ get key.now (tree_seen value.now) }
@@ -22,7 +22,7 @@ pub(crate) fn member<'v, 't>(value: &'v Value<'t>, key: &str) -> Option<&'v Valu
     value.get(key)
 }
 
-/// The elements of an array; nothing where it is none.
+/// The elements of an array. `None` for another kind.
 pub(crate) fn elements<'v, 't>(value: &'v Value<'t>) -> Option<&'v [Value<'t>]>
     ensures { option_map (λ s. map tree_seen s.now) result ≡ option_map elements (as_array (tree_seen value.now)) }
 {
@@ -48,7 +48,7 @@ fn bool_of(value: &Value<'_>) -> Option<bool>
     value.as_bool()
 }
 
-/// A string; nothing where the member is missing or of another kind.
+/// A string. `None` if the member is missing or of another kind.
 pub(crate) fn string_at<'t>(value: &Value<'t>, key: &str) -> Option<&'t str>
     ensures { option_map (λ s. s.now) result ≡ string_at key.now (tree_seen value.now) }
 {
@@ -58,7 +58,7 @@ pub(crate) fn string_at<'t>(value: &Value<'t>, key: &str) -> Option<&'t str>
     }
 }
 
-/// A string, or none where it is null; nothing where it is of another kind.
+/// A string, or `Some(None)` for null. `None` for another kind.
 fn string_or_none<'t>(value: &Value<'t>) -> Option<Option<&'t str>>
     ensures { option_map (λ o. option_map (λ s. s.now) o) result ≡ string_or_none (Some (tree_seen value.now)) }
 {
@@ -69,7 +69,7 @@ fn string_or_none<'t>(value: &Value<'t>) -> Option<Option<&'t str>>
     }
 }
 
-/// A string, or none where the member is missing or null; nothing where it is of another kind.
+/// A string, or `Some(None)` if the member is missing or null. `None` if it is of another kind.
 pub(crate) fn optional_string_at<'t>(value: &Value<'t>, key: &str) -> Option<Option<&'t str>>
     ensures { option_map (λ o. option_map (λ s. s.now) o) result ≡ optional_string_at key.now (tree_seen value.now) }
 {
@@ -79,7 +79,7 @@ pub(crate) fn optional_string_at<'t>(value: &Value<'t>, key: &str) -> Option<Opt
     }
 }
 
-/// True or false, or none where the member is missing; nothing where it is of another kind.
+/// True or false, or `Some(None)` if the member is missing. `None` if it is of another kind.
 pub(crate) fn optional_bool_at(value: &Value<'_>, key: &str) -> Option<Option<bool>>
     ensures { result ≡ optional_bool_at key.now (tree_seen value.now) }
 {
@@ -89,7 +89,7 @@ pub(crate) fn optional_bool_at(value: &Value<'_>, key: &str) -> Option<Option<bo
     }
 }
 
-/// The text of a number, or none where it is null; nothing where it is of another kind.
+/// The text of a number, or `Some(None)` for null. `None` for another kind.
 fn number_or_none<'t>(value: &Value<'t>) -> Option<Option<&'t str>>
     ensures { option_map (λ o. option_map (λ s. number_seen s.now) o) result ≡ number_or_none (Some (tree_seen value.now)) }
 {
@@ -100,7 +100,7 @@ fn number_or_none<'t>(value: &Value<'t>) -> Option<Option<&'t str>>
     }
 }
 
-/// The text of a number, or none where the member is missing or null; nothing where it is of another kind.
+/// The text of a number, or `Some(None)` if the member is missing or null. `None` if it is of another kind.
 pub(crate) fn optional_number_at<'t>(value: &Value<'t>, key: &str) -> Option<Option<&'t str>>
     ensures { option_map (λ o. option_map (λ s. number_seen s.now) o) result ≡ optional_number_at key.now (tree_seen value.now) }
 {

@@ -4,16 +4,16 @@ ghost use Rattle.std.specs.Option.{option_copied, option_map};
 ghost use Rattle.std.specs.Arc.{arc_value};
 ghost use Rattle.sno_pattern.specs.Tree.{tree_of, refs_below};
 ghost use Rattle.sno_read.specs.Reading.{pattern_of};
-ghost use Rattle.sno_statement.specs.Task.{IsLimit, IsRepeat};
+ghost use Rattle.sno_statement.specs.Statement.{IsLimit, IsRepeat};
 ghost use Rattle.sno_document.specs.Faults.{Gives};
 ghost use Rattle.sno_document.specs.DocumentRows.{statement_seen};
 ghost use Rattle.sno_document.specs.Document.{reading, object_row, text_name_row, task_row, statements_from, statements_of, usual_row, repeat_row};
 ghost use Rattle.sno_document.specs.Trees.{number_seen};
-ghost use Rattle.sno_document.specs.declared.faults.RunFault.TheVariants.{StatementPattern};
+ghost use Rattle.sno_document.specs.declared.faults.DocumentFault.TheVariants.{StatementPattern};
 
 use crate::document_rows::StatementRow;
-use crate::trees::rounds_in;
-use crate::{Mode, RunFault};
+use crate::rounds::rounds_in;
+use crate::{DocumentFault, Mode};
 use sno_pattern::{NameFault, Names, Pattern, Rules, TextName};
 use sno_read::{Object, ReadFault, read_object, read_pattern};
 use sno_statement::Statement;
@@ -22,13 +22,13 @@ use std::sync::Arc;
 
 const MAX_STATEMENTS: usize = 1_000_000;
 
-/// The object of statement number `number`, where it has one.
+/// The object of statement number `number`, if it has one.
 fn object(
     alloc: Global,
     names: &Names,
     number: usize,
     text: Option<&str>,
-) -> Result<Option<Object>, RunFault>
+) -> Result<Option<Object>, DocumentFault>
     ensures { Gives (λ o. o) result (object_row names.now number (option_map (λ s. s.now) text.entry)) }
 {
     let Some(text) = text else {
@@ -36,41 +36,46 @@ fn object(
     };
     match read_object(alloc, names, text.as_bytes()) {
         Ok(object) => Ok(Some(object)),
-        Err(ReadFault::Memory) => Err(RunFault::Memory),
-        Err(fault) => Err(RunFault::StatementObject(number, fault)),
+        Err(ReadFault::Memory) => Err(DocumentFault::Memory),
+        Err(fault) => Err(DocumentFault::StatementObject(number, fault)),
     }
 }
 
 /// The pattern of statement number `number`. Its references are to definitions.
 #[tactic(auto, using(crate::proofs::References::spelled_covered))]
-fn pattern(alloc: Global, names: &Names, number: usize, text: &str) -> Result<Pattern, RunFault>
+fn pattern(
+    alloc: Global,
+    names: &Names,
+    number: usize,
+    text: &str,
+) -> Result<Pattern, DocumentFault>
     ensures read { Gives tree_of result (reading (λ e. StatementPattern number e) (pattern_of names.now (length names.now) text.now)) }
     ensures covered { IfOk result (λ p. IsTrue (refs_below (length names.now) (tree_of p))) }
 {
     match read_pattern(alloc, names, names.len(), text.as_bytes()) {
         Ok(pattern) => Ok(pattern),
-        Err(ReadFault::Memory) => Err(RunFault::Memory),
-        Err(fault) => Err(RunFault::StatementPattern(number, fault)),
+        Err(ReadFault::Memory) => Err(DocumentFault::Memory),
+        Err(fault) => Err(DocumentFault::StatementPattern(number, fault)),
     }
 }
 
 /// The name of the text of statement number `number`.
-fn text_name(alloc: Global, number: usize, name: &str) -> Result<TextName, RunFault>
+fn text_name(alloc: Global, number: usize, name: &str) -> Result<TextName, DocumentFault>
     ensures { Gives (λ n. n) result (text_name_row number name.now) }
 {
     match TextName::new(alloc, name.as_bytes()) {
         Ok(name) => Ok(name),
-        Err(NameFault::Bad) => Err(RunFault::StatementName(number)),
-        Err(NameFault::Memory) => Err(RunFault::Memory),
+        Err(NameFault::Bad) => Err(DocumentFault::StatementName(number)),
+        Err(NameFault::Memory) => Err(DocumentFault::Memory),
     }
 }
 
-/// How often statement number `number` is repeated at most, where it says so. It has to have an object.
+/// How often statement number `number` is repeated at most, if it says so. It must have an object then.
 fn repeat(
     number: usize,
     object: Option<&Object>,
     written: Option<&str>,
-) -> Result<Option<u32>, RunFault>
+) -> Result<Option<u32>, DocumentFault>
     ensures repeat { Gives (λ r. r) result (repeat_row number (option_copied object.entry) (option_map (λ s. number_seen s.now) written.entry)) }
     ensures within { IfOk result (λ r. IfSome r (λ rounds. IsRepeat (option_copied object.entry) rounds)) }
 {
@@ -79,7 +84,7 @@ fn repeat(
     };
     match (object, rounds_in(written)) {
         (Some(_), Some(rounds)) => Ok(Some(rounds)),
-        _ => Err(RunFault::StatementRepeat(number)),
+        _ => Err(DocumentFault::StatementRepeat(number)),
     }
 }
 
@@ -91,8 +96,8 @@ fn usual_statement(
     anchor: bool,
     number: usize,
     row: &StatementRow<'_>,
-) -> Result<Statement, RunFault>
-    requires { number ≤ 1000000 }
+) -> Result<Statement, DocumentFault>
+    requires { number ≤ MAX_STATEMENTS }
     ensures { Gives (λ s. s) result (usual_row (arc_value rules.now) anchor number (statement_seen row.now)) }
 {
     let name = text_name(alloc, number, row.text)?;
@@ -109,7 +114,7 @@ fn usual_statement(
     ))
 }
 
-/// Statement number `number`, by the mode, and repeated where it says so.
+/// Statement number `number`, by the mode, and repeated if it says so.
 #[tactic(auto, unfolding(crate::specs::Document::task_row))]
 fn statement(
     alloc: Global,
@@ -117,8 +122,8 @@ fn statement(
     mode: Mode,
     number: usize,
     row: &StatementRow<'_>,
-) -> Result<Statement, RunFault>
-    requires number { number ≤ 1000000 }
+) -> Result<Statement, DocumentFault>
+    requires number { number ≤ MAX_STATEMENTS }
     requires limit { IsLimit mode.trials }
     ensures { Gives (λ s. s) result (task_row (arc_value rules.now) mode number (statement_seen row.now)) }
 {
@@ -138,13 +143,13 @@ pub(crate) fn statements(
     rules: &Arc<Rules>,
     mode: Mode,
     rows: &[StatementRow<'_>],
-) -> Result<Vec<Arc<Statement>>, RunFault>
+) -> Result<Vec<Arc<Statement>>, DocumentFault>
     requires { IsLimit mode.trials }
     ensures statements { Gives (λ v. map arc_value v.items) result (statements_of (arc_value rules.now) mode (map statement_seen rows.now)) }
-    ensures few { IfOk result (λ v. length v.items ≤ 1000000) }
+    ensures few { IfOk result (λ v. length v.items ≤ MAX_STATEMENTS) }
 {
     if rows.len() > MAX_STATEMENTS {
-        return Err(RunFault::TooManyStatements);
+        return Err(DocumentFault::TooManyStatements);
     }
     let mut statements = Vec::new(alloc);
     for (place, row) in rows.iter().enumerate() {

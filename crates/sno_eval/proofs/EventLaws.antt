@@ -7,7 +7,7 @@ use Rattle.sno_pattern.specs.declared.events.Event.{Event}
 use Rattle.sno_pattern.specs.declared.events.Event.TheVariants.{Try, Set, End, Halt}
 use Rattle.sno_eval.specs.Steps.{is_halt}
 
--- where nothing fails the whole match, both lists are cut alone
+-- if nothing fails the whole match, each list is cut on its own
 pub cut_unhalted : (l m : List Event) → list_any is_halt l ≡ false → cut (l ++ m) ≡ cut l ++ cut m
 cut_unhalted [] m h = refl
 cut_unhalted (Try ∷ l) m h = ap (λ r. Try ∷ r) (cut_unhalted l m h)
@@ -15,7 +15,7 @@ cut_unhalted (Set t ∷ l) m h = ap (λ r. Set t ∷ r) (cut_unhalted l m h)
 cut_unhalted (End e a ∷ l) m h = ap (λ r. End e a ∷ r) (cut_unhalted l m h)
 cut_unhalted (Halt ∷ l) m h = cc
 
--- what stands after a Halt is cut off
+-- what comes after a Halt is cut off
 pub cut_halted : (l m : List Event) → list_any is_halt l ≡ true → cut (l ++ m) ≡ cut l
 cut_halted [] m h = cc
 cut_halted (Try ∷ l) m h = ap (λ r. Try ∷ r) (cut_halted l m h)
@@ -31,7 +31,7 @@ halts_before a (Set t ∷ l) = halts_before a l
 halts_before a (End e b ∷ l) = halts_before a l
 halts_before a (Halt ∷ l) = refl
 
--- where a Halt is found the list is cut after it
+-- if a Halt is found, the list is cut after it
 found_from : (i : ℕ) (l : List Event) (p : ℕ) → position_from is_halt i l ≡ Some p → (i ≤ p) × (take (suc p - i) l ≡ cut l)
 found_from i [] p h = cc
 found_from i (Try ∷ l) p h =
@@ -54,7 +54,7 @@ found_from i (Halt ∷ l) p h =
 pub cut_found : (l : List Event) (p : ℕ) → position is_halt l ≡ Some p → take (p + 1) l ≡ cut l
 cut_found l p h = let e : p + 1 ≡ suc p - 0 = omega arith in ap (λ k. take k l) e ∙ (found_from 0 l p (sym (position_from-zero is_halt l) ∙ h)).1
 
--- where none is found the list stays
+-- if no Halt is found, the list stays
 none_from : (i : ℕ) (l : List Event) → position_from is_halt i l ≡ None → l ≡ cut l
 none_from i [] h = refl
 none_from i (Try ∷ l) h = ap (λ m. Try ∷ m) (none_from (i + 1) l h)

@@ -12,7 +12,7 @@ use Rattle.sno_pattern.specs.declared.events.Event.TheVariants.{Try, Set, End, H
 use Rattle.sno_eval.specs.Steps.{is_halt}
 use Rattle.sno_eval.proofs.EventLaws.{go_on_halted, go_on_unhalted}
 
--- the event at an index stands in front of what is left there
+-- the event at an index is the first of what is left there
 pub left_at : (l : List Event) (i : ℕ) (x y : Event) → i < length l → x ≡ get_or l i x → x ≡ y → drop i l ≡ y ∷ drop (i + 1) l
 left_at l i x y h is_item is = drop_more l i x h ∙ ap (λ z. z ∷ drop (i + 1) l) (sym is_item ∙ is)
 
@@ -40,7 +40,7 @@ module _ (f : ℕ → List Event) (total : List Event) where
       ∙ sym (ap (λ m. all ++ m) (go_on_unhalted c a rest f (sym (unhalted ∙ ap (list_any is_halt) same))))
       ∙ sym (ap (λ m. all ++ go_on m f) is) ∙ e
 
-  -- what follows an End is the last, where it fails the whole match
+  -- what follows an End is the last, if it fails the whole match
   pub go_on_last : (all new l rest later : List Event) (c : ℕ) (a : CondList) → l ≡ End c a ∷ rest → later ≡ f c → true ≡ list_any is_halt later → new ≡ all ++ cut (put_before a later) → all ++ go_on l f ≡ total → new ≡ total
   go_on_last all new l rest later c a is same halted added e =
       added

@@ -28,7 +28,7 @@ both_sides t bodies k c whole left right p q l m n is same_left same_right does_
     ap cut (joined ∙ ap (λ x. x ++ m) (does_l ∙ ap (λ x. results t bodies k x c) same_left) ∙ ap (λ x. results t bodies k left c ++ x) (does_m ∙ ap (λ x. results t bodies k x c) same_right))
     ∙ sym (ap (λ x. results t bodies k x c) is)
 
--- the left side alone, where it fails the whole match
+-- the left side alone, if it fails the whole match
 pub one_side : (t : List ℕ) (bodies : List Tree) (k c : ℕ) (whole left right p : Tree) (l n : List Event) → whole ≡ Alt left right → p ≡ left
     → l ≡ results t bodies k p c → true ≡ list_any is_halt l → n ≡ l → cut n ≡ results t bodies k whole c
 unfolding results_of
@@ -38,7 +38,7 @@ one_side t bodies k c whole left right p l n is same_left does_l halted same =
     ∙ ap (λ x. cut (x ++ results t bodies k right c)) (does_l ∙ ap (λ x. results t bodies k x c) same_left)
     ∙ sym (ap (λ x. results t bodies k x c) is)
 
--- no reference may be gone through
+-- the depth is used up
 pub named_no_more : (t : List ℕ) (bodies : List Tree) (k i c : ℕ) (l : List Event) → l ≡ [] → k ≡ 0 → l ≡ definition_results t bodies k i c
 unfolding definition_results
 named_no_more t bodies k i c l none h = none ∙ sym (ap (λ n. definition_results t bodies n i c) h)
@@ -56,10 +56,10 @@ named_does t bodies zero i c p l h is does = absurd (omega arith)
 named_does t bodies (suc k) i c p l h is does =
     does ∙ ap (λ n. results t bodies n p c) (sub-one (suc k)) ∙ ap (λ b. of_body (results_of t (definition_results t bodies k)) b c) is
 
--- a round that took something is followed by more
+-- a round that took a character is followed by more
 pub round_taken : (once : ℕ → List Event) (n c e : ℕ) (l m : List Event) → c < e → l ≡ m → m ≡ rounds once (n - 1) e → l ≡ next_round once n c e
 round_taken once n c e l m h same is = same ∙ is ∙ sym (ap (λ b. cond b (rounds once (n - 1) e) []) (lt-ltb c e h))
 
--- one that took nothing is dropped
+-- one that took no character is dropped
 pub round_dropped : (once : ℕ → List Event) (n c e : ℕ) → e ≤ c → next_round once n c e ≡ []
 round_dropped once n c e h = ap (λ b. cond b (rounds once (n - 1) e) []) (le-ltb c e h)

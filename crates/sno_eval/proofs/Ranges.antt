@@ -1,4 +1,4 @@
--- Cursors that are left, from one on.
+-- The cursors that are left, from one on.
 use Rattle.std.proofs.Common.{◌≡◌, ℕ, suc, ◌+◌, ◌-◌, ◌≤◌, length, List, [], ◌∷◌, ◌++◌, ap, sym, ◌∙◌, arith, append_assoc}
 use Rattle.std.specs.List.{range_with_len}
 use Rattle.sno_pattern.specs.Results.{ends, further_ends}
@@ -15,7 +15,7 @@ up_to_more i n h =
     let e : suc n - i ≡ suc (suc n - (i + 1)) = omega arith in
     ap (range_with_len i) e
 
--- one End more
+-- one more End
 pub ends_more : (done new : List Event) (i n : ℕ) (all : List Event) → i ≤ n → new ≡ done ++ Try ∷ End i [] ∷ [] → done ++ further_ends (up_to i n) ≡ all → new ++ further_ends (up_to (i + 1) n) ≡ all
 ends_more done new i n all h is e =
     ap (λ l. l ++ further_ends (up_to (i + 1) n)) is
@@ -25,12 +25,12 @@ ends_more done new i n all h is e =
 pub ends_all : (c n : ℕ) → c ≤ n → further_ends (up_to c n) ≡ ends (up_to c n)
 ends_all c n h = ap further_ends (up_to_more c n h) ∙ sym (ap ends (up_to_more c n h))
 
--- so do the ends of BAL, where there are any
+-- so do the ends of BAL, if there are any
 pub ends_some : (es : List ℕ) (l : List Event) → l ≡ further_ends es → (length l ≡ 0 → ⊥) → l ≡ ends es
 ends_some [] l is some = absurd (some (ap length is))
 ends_some (e ∷ es) l is some = is
 
--- and where there are none, that costs one trial
+-- and if there are none, that costs one trial
 pub ends_none : (es : List ℕ) (l one : List Event) → l ≡ further_ends es → length l ≡ 0 → one ≡ Try ∷ [] → one ≡ ends es
 ends_none [] l one is none same = same
 ends_none (e ∷ es) l one is none same = let some : length l ≡ suc (suc (length (further_ends es))) = ap length is in absurd (omega arith)

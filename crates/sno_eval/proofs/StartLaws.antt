@@ -24,7 +24,7 @@ found_set s sets new l rest t others is added =
     ap (λ m. found_in sets (cut_scan (map (λ e. (s, e)) m ++ others))) is
     ∙ ap (λ z. found_in z (cut_scan (map (λ e. (s, e)) rest ++ others))) (sym added)
 
--- a trial changes nothing of what is found
+-- a trial changes nothing in the result
 pub found_tried : (s : ℕ) (sets : List Assign) (l rest : List Event) (others : List Tried) → l ≡ Try ∷ rest
     → found_in sets (cut_scan (map (λ e. (s, e)) l ++ others)) ≡ found_in sets (cut_scan (map (λ e. (s, e)) rest ++ others))
 found_tried s sets l rest others is = ap (λ m. found_in sets (cut_scan (map (λ e. (s, e)) m ++ others))) is
@@ -38,7 +38,7 @@ pub found_end : (s : ℕ) (sets : List Assign) (l rest : List Event) (c : ℕ) (
     → found_in sets (cut_scan (map (λ e. (s, e)) l ++ others)) ≡ record { sets = sets; end = Some (record { start = s; end = c; conds = b }) }
 found_end s sets l rest c a b others is same = ap (λ m. found_in sets (cut_scan (map (λ e. (s, e)) m ++ others))) (is ∙ ap (λ d. End c d ∷ rest) (sym same))
 
--- what was found has these assignments
+-- the result has these assignments
 pub sets_are : (new sets : List Assign) (end : Option Hit) → new ≡ sets → found_as sets end ≡ found_as new end
 sets_are new sets end is = ap (λ s. found_as s end) (sym is)
 

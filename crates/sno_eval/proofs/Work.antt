@@ -17,7 +17,7 @@ unfoldable pub all_nodes : List Tree → ℕ
 all_nodes [] = 0
 all_nodes (p ∷ ps) = nodes p + all_nodes ps
 
--- depth references, each to a body of the definitions; then a pattern of so many nodes, with some rounds
+-- `depth` references, each to a body of the definitions; then a pattern of `count` nodes, with some rounds
 unfoldable pub work : ℕ → List Tree → ℕ → ℕ → ℕ → ℕ
 work len bodies depth count rounds = depth * ((1 + all_nodes bodies) * (len + 3)) + (count * (len + 3) + rounds)
 
@@ -71,7 +71,7 @@ pub nodes_of_imm : (whole child : Tree) (v : List ℕ) → whole ≡ Imm child v
 unfolding nodes
 nodes_of_imm whole child v is = ap nodes is
 
--- a pattern has itself among its nodes
+-- a pattern counts itself among its nodes
 pub some_nodes : (p : Tree) → 0 < nodes p
 unfolding nodes
 some_nodes (Lit s) = omega arith

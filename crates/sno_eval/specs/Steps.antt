@@ -1,4 +1,4 @@
--- Words for the steps in which lists of events are made.
+-- Terms for the steps in which lists of events are made.
 use Rattle.std.specs.Prelude.{ℕ, suc, Bool, true, false, List, [], ◌∷◌}
 use Rattle.sno_pattern.specs.Tree.{Tree, Arbno, Ref, Seq, Alt, Cond, Imm}
 use Rattle.sno_pattern.specs.declared.events.Event.{Event}

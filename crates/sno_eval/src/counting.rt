@@ -11,13 +11,13 @@ use crate::starts::{depth, last_start};
 use sno_pattern::{Event, Pattern, Rules, Text, a_greater_depth_takes_no_more_trials};
 use std::alloc::{AllocError, Global};
 
-/// How many trials matching the pattern with the text takes, all starts together: one where a pattern without parts is met at a
-/// cursor, and one where it is backed into for a further end, up to the event that ends the match. Each reference of the pattern
-/// has to be to one of the definitions (`Rules::covers`).
+/// How many trials matching the pattern with the text takes, over all starts, up to the event that ends the match. A trial is
+/// counted when a pattern without parts is met at a cursor, and when it is backed into for a further end. Each reference of the
+/// pattern has to be to one of the definitions (`Rules::covers`).
 ///
 /// All events of all starts are listed before the first of them is looked at. It is the plain count, for small texts.
 ///
-/// Refused only where memory is.
+/// Refused only if out of memory.
 pub fn trials(
     alloc: Global,
     rules: &Rules,
@@ -28,9 +28,10 @@ pub fn trials(
     requires { IsTrue (refs_below (length rules.now.bodies) (tree_of pattern.now)) }
     // The trials of the match ..
     ensures count { IfOk result (λ count. count ≡ trials text.now rules.now.bodies (tree_of pattern.now) anchored) }
-    // .. are as many at every depth of references that is enough.
-    ensures deep { IfOk result (λ count. (k : ℕ) → enough_depth text.now rules.now.bodies ≤ k → count ≡ trials_at k text.now rules.now.bodies (tree_of pattern.now) anchored) }
+    // .. and the same at every depth of references that is enough.
+    ensures deep { IfOk result (λ count. (k : ℕ) → enough_depth text.now rules.now.bodies ≤ k → count ≡ trials_at text.now rules.now.bodies k (tree_of pattern.now) anchored) }
 {
+    // for the proof
     rules.bodies();
     a_greater_depth_takes_no_more_trials();
     let events = all_events(alloc, rules, pattern, text, anchored)?;

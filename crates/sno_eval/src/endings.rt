@@ -17,7 +17,7 @@ pub enum Ending {
     Open,
 }
 
-// Adds the assignments that are done at once before the first End or Halt, and says which of these came.
+// Adds the assignments that are done at once before the first End or Halt, and returns which of these came.
 pub fn first_ending(
     alloc: Global,
     start: usize,

@@ -15,7 +15,7 @@ pub fn end_at(alloc: Global, end: usize) -> Event
     Event::End(end, Conds::of(Vec::new(alloc)))
 }
 
-// Adds such an End.
+// Adds an End without assignments.
 pub fn push_end(alloc: Global, events: &mut Vec<Event>, end: usize) -> Result<(), AllocError>
     ensures { OnOk result (events.new.items ≡ events.old.items ++ Event.End end [] ∷ []) }
 {
@@ -65,7 +65,7 @@ pub fn has_halt(events: &[Event]) -> bool
     events.iter().any(|event| is_halt(event))
 }
 
-// The list up to and with the first Halt.
+// The list up to and including the first Halt.
 pub fn cut(mut events: Vec<Event>) -> Vec<Event>
     ensures { result.items ≡ cut events.items }
 {
@@ -81,7 +81,7 @@ fn first_halt(events: &[Event]) -> Option<usize>
     events.iter().position(|event| is_halt(event))
 }
 
-// The one list and then the other.
+// The first list and then the second.
 fn joined(alloc: Global, first: &Conds, second: &Conds) -> Result<Conds, AllocError>
     ensures { IfOk result (λ v. v ≡ first.now ++ second.now) }
 {
@@ -112,7 +112,7 @@ pub fn copied(alloc: Global, conds: &Conds) -> Result<Conds, AllocError>
     Ok(Conds::of(list))
 }
 
-// Adds what follows an End with these assignments, up to the first Halt, and says whether there is one.
+// Adds what follows an End with these assignments, up to the first Halt, and returns whether there is one.
 pub fn add_after(
     alloc: Global,
     conds: &Conds,

@@ -1,9 +1,11 @@
-//! The plain evaluator: what comes of a match, by whole lists of events.
+//! The plain evaluator: the outcome of a match, by whole lists of events.
 //!
-//! [`first`] answers exactly what the definitions of `sno_pattern` say of a match, `outcome` of its `specs/Outcome.antt`: the
-//! success with the least start that comes first in the order of the alternatives, its conditional assignments, and the
-//! immediate assignments that were done before it, in order. [`trials`] answers how many trials that takes. Their one refusal is that
-//! of memory.
+//! [`first`] returns exactly what the definitions of `sno_pattern` say of a match: `outcome` of its `specs/Outcome.antt`. It has
+//! - the success with the least start that comes first in the order of the alternatives;
+//! - its conditional assignments;
+//! - the immediate assignments that were done before it, in order.
+//!
+//! [`trials`] returns how many trials the match takes. Both are refused only if out of memory.
 #![tactic(auto)]
 
 mod counting;

@@ -54,7 +54,7 @@ pub fn results(
     }
 }
 
-// What the definition with this number does from a cursor; nothing where no reference may be gone through any more.
+// What the definition with this number does from a cursor; nothing if the depth is used up.
 #[cycle(results)]
 fn named(
     alloc: Global,
@@ -109,8 +109,8 @@ fn follow(
     Ok(all)
 }
 
-// What at most so many rounds of the pattern do: first none; then each round that took a character, with all that follows it
-// before the next alternative of the round.
+// What at most `count` rounds of the pattern do. First comes no round; then each round that took a character, with all that
+// follows it before the next alternative of the round.
 #[cycle(results)]
 fn repeat(
     alloc: Global,

@@ -1,4 +1,4 @@
-//! A match: the starts in turn, the events of each up to the first End or Halt.
+//! A match: the starts in turn, with the events of each up to the first End or Halt.
 ghost use Rattle.std.specs.Prelude.{◌≡◌, ◌+◌, ◌≤◌, ℕ, length, IfOk, IsTrue};
 ghost use Rattle.std.specs.List.{range_with_len};
 ghost use Rattle.sno_pattern.specs.Tree.{tree_of, refs_below};
@@ -10,15 +10,16 @@ use crate::results::results;
 use sno_pattern::{Assigns, Found, Pattern, Rules, Text, a_greater_depth_changes_no_outcome};
 use std::alloc::{AllocError, Global};
 
-/// What comes of matching the pattern with the text: anchored at cursor 0 alone, floating at each cursor in turn until one
+/// The outcome of matching the pattern with the text: anchored at cursor 0 alone, floating at each cursor in turn until one
 /// succeeds. Each reference of the pattern has to be to one of the definitions (`Rules::covers`).
 ///
-/// The immediate assignments that were done come back in their order, also where they were backed over, and the first success
-/// with its conditional assignments; none where the match failed. All events of a start are listed before the first of them is
-/// looked at, so time and memory may grow as fast as the number of ways in which the pattern matches; and the depth of the
-/// calls grows with the text. It is the plain reference, for small texts.
+/// Returns the immediate assignments that were done, in their order, including those that were backed over. It also returns the
+/// first success with its conditional assignments, or `None` if the match failed.
 ///
-/// Refused only where memory is.
+/// All events of a start are listed before the first of them is looked at. So time and memory may grow as fast as the number of
+/// ways in which the pattern matches, and the depth of the calls grows with the text. It is the plain reference, for small texts.
+///
+/// Refused only if out of memory.
 pub fn first(
     alloc: Global,
     rules: &Rules,
@@ -27,18 +28,19 @@ pub fn first(
     anchored: bool,
 ) -> Result<Found, AllocError>
     requires { IsTrue (refs_below (length rules.now.bodies) (tree_of pattern.now)) }
-    // What comes back is the outcome of the match ..
+    // The result is the outcome of the match ..
     ensures found { IfOk result (λ found. found ≡ outcome text.now rules.now.bodies (tree_of pattern.now) anchored) }
     // .. at every depth of references that is enough.
-    ensures deep { IfOk result (λ found. (k : ℕ) → enough_depth text.now rules.now.bodies ≤ k → found ≡ outcome_at k text.now rules.now.bodies (tree_of pattern.now) anchored) }
+    ensures deep { IfOk result (λ found. (k : ℕ) → enough_depth text.now rules.now.bodies ≤ k → found ≡ outcome_at text.now rules.now.bodies k (tree_of pattern.now) anchored) }
 {
+    // for the proof
     rules.bodies();
     a_greater_depth_changes_no_outcome();
     let found = search(alloc, rules, pattern, text, anchored)?;
     Ok(found)
 }
 
-// The same at the depth that is counted here.
+// The outcome of the match, at a depth of references that is counted here.
 fn search(
     alloc: Global,
     rules: &Rules,

@@ -15,8 +15,8 @@ use Rattle.serde_json.specs.declared.value.Value.{Value}
 use Rattle.serde_json.specs.Written.{has_float, items_have_float}
 use Rattle.sno_pattern.specs.Identifiers.{is_letter, is_name_char, is_name}
 use Rattle.sno_pattern.specs.TextNames.{is_text_name}
-use Rattle.sno_statement.specs.Bindings.{Bound}
-use Rattle.sno_statement.specs.Perform.{Done, Matched, Failed, Repeated}
+use Rattle.sno_statement.specs.Bindings.{Bindings}
+use Rattle.sno_statement.specs.Perform.{Outcome, Matched, Failed, Repeated}
 use Rattle.sno_statement.specs.declared.binding.Datum.{Datum}
 use Rattle.sno_statement.specs.declared.binding.Datum.TheVariants.{Str, Int}
 use Rattle.sno_book.specs.States.{VersionedText}
@@ -62,7 +62,7 @@ name_ascii (c ∷ cs) h =
 pub text_name_ascii : (name : List ℕ) → IsTrue (is_text_name name) → IsTrue (list_all is_ascii name)
 text_name_ascii name h = wider is_ascii_graphic is_ascii graphic_ascii name (and_parts _ (list_all is_ascii_graphic name) (and_parts _ _ h).1).1
 
--- numbers without sign and strings have no float, nor has what is made of them
+-- unsigned numbers and strings have no float, nor have values made of them
 value_float : (d : Datum) → has_float (value_data d) ≡ false
 value_float (Str t) = refl
 value_float (Int n) = refl
@@ -83,7 +83,7 @@ refused_float : (r : Refusal) → has_float (refused_data r) ≡ false
 unfolding refused_data
 refused_float r = refl
 
-entry_float : (index : ℕ) (e : Entry) (done : Done) → has_float (Data.object (done_members index e done)) ≡ false
+entry_float : (index : ℕ) (e : Entry) (done : Outcome) → has_float (Data.object (done_members index e done)) ≡ false
 unfolding matched_members failed_members repeated_members subject_members
 entry_float index e (Matched s t bound None) = neither _ false (items_float binding_data binding_float bound) refl
 entry_float index e (Matched s t bound (Some after)) = neither _ false (items_float binding_data binding_float bound) refl
@@ -92,7 +92,7 @@ entry_float index e (Repeated n bound after) = neither _ false (items_float bind
 
 entries_float : (index : ℕ) (entries : List Entry) → items_have_float (items_of (entries_data index entries)) ≡ false
 entries_float index [] = refl
-entries_float index (e ∷ entries) = neither _ _ (entry_float index e e.done) (entries_float (index + 1) entries)
+entries_float index (e ∷ entries) = neither _ _ (entry_float index e e.outcome) (entries_float (index + 1) entries)
 
 -- the listing has no float
 pub no_float : (h : History) → has_float (json_listing_data h) ≡ false
@@ -101,8 +101,8 @@ no_float h =
     neither _ _ (entries_float 0 h.journal)
     (neither _ _ (items_float refused_data refused_float h.refused) (neither _ false (items_float text_data text_float h.state) refl))
 
--- the values from a place on are the value there and those after it
-binding_data_next : (bound : Bound) (i : ℕ) (b : List ℕ × Datum) → slice_get bound i ≡ Some b
+-- the values from a place on are the value at that place and those after it
+binding_data_next : (bound : Bindings) (i : ℕ) (b : List ℕ × Datum) → slice_get bound i ≡ Some b
     → map binding_data (drop i bound) ≡ binding_data b ∷ map binding_data (drop (i + 1) bound)
 binding_data_next bound i b is =
     let inside : i < length bound = slice_get_within bound i b is in
@@ -110,8 +110,8 @@ binding_data_next bound i b is =
     let bs : drop i bound ≡ b ∷ drop (i + 1) bound = rw (add-one) (drop-cons bound i b inside ∙ ap (λ (x : List ℕ × Datum). x ∷ drop (suc i) bound) there) in
     ap (map binding_data) bs
 
--- one more value is there
-pub binding_step : (values new : List Value) (v : Value) (all : List Data) (bound : Bound) (i : ℕ) (b : List ℕ × Datum) → slice_get bound i ≡ Some b
+-- one more value is added
+pub binding_step : (values new : List Value) (v : Value) (all : List Data) (bound : Bindings) (i : ℕ) (b : List ℕ × Datum) → slice_get bound i ≡ Some b
     → new ≡ values ++ v ∷ [] → view v ≡ binding_data b → map view values ++ map binding_data (drop i bound) ≡ all
     → map view new ++ map binding_data (drop (i + 1) bound) ≡ all
 binding_step values new v all bound i b is pushed seen so_far =

@@ -13,14 +13,14 @@ use Rattle.std.proofs.lemmas.Str.Ascii.{All-from_ascii}
 use Rattle.sno_listing.specs.Listing.{tries_words}
 use Rattle.std.proofs.lemmas.Option.{slice_get-get_or, slice_get_within}
 use Rattle.sno_listing.specs.Listing.{binding_line, escaped_text, is_plain}
-use Rattle.sno_statement.specs.Bindings.{Bound}
+use Rattle.sno_statement.specs.Bindings.{Bindings}
 use Rattle.sno_statement.specs.declared.binding.Datum.{Datum}
 
 put_plain : (b : Bool) (c : ℕ) (escaped xs : List ℕ) → b ≡ true → cond b (c ∷ []) escaped ++ xs ≡ c ∷ xs
 put_plain true c escaped xs h = refl
 put_plain false c escaped xs h = cc
 
--- a front that is printed as itself
+-- the first n characters, if they are printed as themselves
 plain_front : (cs : List ℕ) (n : ℕ) → IsTrue (list_all is_plain (take n cs)) → take n cs ++ escaped_text (drop n cs) ≡ escaped_text cs
 plain_front [] zero h = refl
 plain_front [] (suc n) h = refl
@@ -29,7 +29,7 @@ plain_front (c ∷ cs) (suc n) h =
     let parts = and_parts (is_plain c) (list_all is_plain (take n cs)) h in
     ap (λ (l : List ℕ). c ∷ l) (plain_front cs n parts.1) ∙ sym (put_plain (is_plain c) c _ (escaped_text cs) parts.0)
 
--- a front is put
+-- the first characters are put
 pub front_step : (out new rest front back all : List ℕ) (n : ℕ) → new ≡ out ++ front → front ≡ take n rest → back ≡ drop n rest
     → IsTrue (list_all is_plain (take n rest)) → out ++ escaped_text rest ≡ all → new ++ escaped_text back ≡ all
 front_step out new rest front back all n put is left plain so_far =
@@ -38,7 +38,7 @@ front_step out new rest front back all n put is left plain so_far =
     ∙ ap (λ (l : List ℕ). out ++ l) (plain_front rest n plain) ∙ so_far
 
 -- a binding that is there
-pub binding_next : (bound : Bound) (i : ℕ) (b : List ℕ × Datum) → slice_get bound i ≡ Some b
+pub binding_next : (bound : Bindings) (i : ℕ) (b : List ℕ × Datum) → slice_get bound i ≡ Some b
     → flat_map binding_line (drop i bound) ≡ binding_line b ++ flat_map binding_line (drop (i + 1) bound)
 binding_next bound i b is =
     let inside : i < length bound = slice_get_within bound i b is in
@@ -46,14 +46,14 @@ binding_next bound i b is =
     let bs : drop i bound ≡ b ∷ drop (i + 1) bound = rw (add-one) (drop-cons bound i b inside ∙ ap (λ (x : List ℕ × Datum). x ∷ drop (suc i) bound) there) in
     ap (flat_map binding_line) bs
 
--- there is one at each place before the end
-pub binding_there : (bound : Bound) (i : ℕ) → i < length bound → slice_get bound i ≡ None → ⊥
+-- there is a binding at each place before the end
+pub binding_there : (bound : Bindings) (i : ℕ) → i < length bound → slice_get bound i ≡ None → ⊥
 binding_there [] i inside h = omega arith
 binding_there (b ∷ bound) zero inside h = cc
 binding_there (b ∷ bound) (suc i) inside h = binding_there bound i (omega arith) h
 
 -- one more binding is put
-pub binding_step : (out new all : List ℕ) (bound : Bound) (i : ℕ) (b : List ℕ × Datum) → slice_get bound i ≡ Some b → new ≡ out ++ binding_line b
+pub binding_step : (out new all : List ℕ) (bound : Bindings) (i : ℕ) (b : List ℕ × Datum) → slice_get bound i ≡ Some b → new ≡ out ++ binding_line b
     → out ++ flat_map binding_line (drop i bound) ≡ all → new ++ flat_map binding_line (drop (i + 1) bound) ≡ all
 binding_step out new all bound i b is put so_far =
     ap (λ (l : List ℕ). l ++ flat_map binding_line (drop (i + 1) bound)) put ∙ append_assoc out (binding_line b) (flat_map binding_line (drop (i + 1) bound))

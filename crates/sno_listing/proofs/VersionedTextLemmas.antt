@@ -1,4 +1,4 @@
--- The texts of a book, seen one after the other.
+-- The texts of a book, one after the other.
 use Rattle.std.proofs.Common.{◌≡◌, ℕ, ◌+◌, ◌<◌, zero, suc, List, [], ◌∷◌, ◌++◌, drop, get_or, slice_get, map, length, Some, None, ap, sym, ◌∙◌, arith, add-one, drop-cons, append_assoc}
 use Rattle.std.proofs.lemmas.List.{map-append}
 use Rattle.std.proofs.lemmas.Option.{slice_get-get_or, slice_get_within}
@@ -12,7 +12,7 @@ text_there [] i inside h = omega (arith, inside)
 text_there (t ∷ state) zero inside h = cc
 text_there (t ∷ state) (suc i) inside h = text_there state i (omega (arith, inside)) h
 
--- one more text is there
+-- one more text is added
 pub text_step : (texts new : List BorrowedText) (state : State) (i : ℕ) (t : BorrowedText) (h : VersionedText) → slice_get state i ≡ Some h → h ≡ text_seen t → new ≡ texts ++ t ∷ []
     → map text_seen texts ++ drop i state ≡ state → map text_seen new ++ drop (i + 1) state ≡ state
 text_step texts new state i t h is same grown so_far =

@@ -2,7 +2,7 @@
 use Rattle.std.specs.Prelude.{ℕ, ◌+◌, ◌/◌, ◌%◌, Bool, not, ◌&&◌, List, [], ◌∷◌, ◌++◌, length, nat_eq, nat_lt, nat_le, Option, Some, None, if◌then◌else◌, codes}
 use Rattle.std.specs.List.{flat_map}
 use Rattle.std.specs.Fmt.{decimal}
-use Rattle.sno_statement.specs.Perform.{Done, Matched, Failed, Repeated}
+use Rattle.sno_statement.specs.Perform.{Outcome, Matched, Failed, Repeated}
 use Rattle.sno_statement.specs.declared.binding.Datum.{Datum}
 use Rattle.sno_statement.specs.declared.binding.Datum.TheVariants.{Str, Int}
 use Rattle.sno_book.specs.States.{VersionedText}
@@ -16,7 +16,7 @@ use Rattle.sno_listing.specs.declared.refusals.Refusal.{Refusal}
 abbrev pub hex_digit : ℕ → ℕ
 hex_digit d = if nat_lt d 10 then d + 48 else d + 87
 
--- a character that is printed as itself: from the blank to the tilde, but for the backslash
+-- a character that is printed as itself: from the blank to the tilde, except the backslash
 abbrev pub is_plain : ℕ → Bool
 is_plain c = (nat_le 32 c && nat_le c 126) && not (nat_eq c 92)
 
@@ -40,14 +40,14 @@ value_words (Int n) = decimal n
 unfoldable pub binding_line : List ℕ × Datum → List ℕ
 binding_line (name, value) = codes "  " ++ (name ++ (codes " = " ++ (value_words value ++ (10 ∷ []))))
 
--- the new text, where there is one
+-- the new text, if there is one
 abbrev pub after_line : Option (List ℕ) → List ℕ
 after_line None = []
 after_line (Some t) = codes "  -> |" ++ (escaped_text t ++ (124 ∷ 10 ∷ []))
 
--- what came of a statement: the cursors of the match, the failure, or how many matches a repeated one had; a line for each binding, and
--- the new text
-unfoldable pub done_lines : Done → List ℕ
+-- the outcome of a statement: the cursors of the match, the failure, or how many matches a repeated one had; a line for
+-- each binding, and the new text
+unfoldable pub done_lines : Outcome → List ℕ
 done_lines (Matched s e bound after) =
     codes " matched " ++ (decimal s ++ (32 ∷ [] ++ (decimal e ++ (10 ∷ [] ++ (flat_map binding_line bound ++ after_line after)))))
 done_lines (Failed bound) = codes " failed" ++ (10 ∷ [] ++ flat_map binding_line bound)
@@ -61,16 +61,16 @@ entry_label index number = decimal index ++ (codes " statement " ++ decimal numb
 unfoldable pub entry_subject : List ℕ → ℕ → List ℕ
 entry_subject name version = 32 ∷ [] ++ (escaped_text name ++ (32 ∷ [] ++ decimal version))
 
--- an entry of the journal, and what came of it
+-- an entry of the journal, and its outcome
 abbrev pub entry_lines : ℕ → Entry → List ℕ
-entry_lines index e = entry_label index e.statement.number ++ (entry_subject e.statement.text e.version ++ done_lines e.done)
+entry_lines index e = entry_label index e.statement.number ++ (entry_subject e.statement.text e.version ++ done_lines e.outcome)
 
 -- the entries, from an index on
 abbrev pub entries_from : ℕ → List Entry → List ℕ
 entries_from index [] = []
 entries_from index (e ∷ entries) = entry_lines index e ++ entries_from (index + 1) entries
 
--- the version that the last try was made on, and the one that stood there instead
+-- the version that the last try saw, and the one that the text had instead
 unfoldable pub tries_words : ℕ → ℕ → List ℕ
 tries_words seen now = codes "tries spent " ++ (decimal seen ++ (32 ∷ [] ++ decimal now))
 
@@ -84,7 +84,7 @@ reason_words TooManyTrials = codes "too many trials"
 unfoldable pub refused_line : Refusal → List ℕ
 refused_line r = codes "statement " ++ (decimal r.number ++ (32 ∷ [] ++ (reason_words r.reason ++ (10 ∷ []))))
 
--- how many there are of them
+-- a label and the number of lines that follow
 abbrev pub count_line : List ℕ → ℕ → List ℕ
 count_line word n = word ++ (decimal n ++ (10 ∷ []))
 

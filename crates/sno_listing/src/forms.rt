@@ -11,8 +11,8 @@ use crate::versioned_texts::versioned_texts;
 use sno_book::Book;
 use std::alloc::{AllocError, Global};
 
-/// The listing of a book's texts, of its journal, and of the statements that were refused beside it: as JSON where `json` is set, and
-/// else in lines. Its one refusal is that of memory.
+/// Returns the listing of a book's texts, of its journal, and of the refused statements: as JSON if `json` is true,
+/// otherwise in lines. Refused only if memory runs out.
 pub fn listing_of(
     alloc: Global,
     book: &Book,

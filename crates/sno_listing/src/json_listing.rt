@@ -7,7 +7,7 @@ ghost use Rattle.std.specs.Char.{is_ascii};
 ghost use Rattle.serde_json.specs.Data.{string};
 ghost use Rattle.serde_json.specs.View.{view, members_view};
 ghost use Rattle.serde_json.specs.Written.{compact_text};
-ghost use Rattle.sno_statement.specs.Perform.{done_of};
+ghost use Rattle.sno_statement.specs.Perform.{outcome_seen};
 ghost use Rattle.sno_listing.specs.Listing.{reason_words};
 ghost use Rattle.sno_listing.specs.VersionedTexts.{text_seen};
 ghost use Rattle.sno_listing.specs.JsonListing.{array_of, text_data, value_data, binding_data, bindings_data, subject_members, matched_members, failed_members, repeated_members, done_members, entry_data, entries_data, refused_data, json_listing_data, json_listing};
@@ -94,7 +94,7 @@ fn bindings_value(alloc: Global, bindings: &Bindings) -> Result<Value, AllocErro
     Ok(Value::Array(binding_values(alloc, bindings)?))
 }
 
-/// The members that tell of an entry's statement. Members are put from the last to the first.
+/// The members that describe an entry's statement. Members are put from the last to the first.
 #[tactic(auto, unfolding(crate::specs::JsonListing::subject_members))]
 fn subject_members(alloc: Global, entry: &Entry) -> Result<Map<String, Value>, AllocError>
     ensures { IfOk result (λ m. members_view m.entries ≡ subject_members entry.now) }
@@ -175,7 +175,7 @@ fn done_members(
     index: usize,
     entry: &Entry,
 ) -> Result<Map<String, Value>, AllocError>
-    ensures { IfOk result (λ m. members_view m.entries ≡ done_members index entry.now entry.now.done) }
+    ensures { IfOk result (λ m. members_view m.entries ≡ done_members index entry.now entry.now.outcome) }
 {
     match &*entry.outcome {
         Outcome::Matched {
@@ -277,7 +277,8 @@ fn listing_value(
     json!(in alloc; {"entries": entries, "refused": refused, "texts": texts})
 }
 
-/// The listing of texts as they are left, of the journal and of the refused statements, as one compact JSON text and a line feed.
+/// The listing of the final texts, of the journal and of the refused statements, as one compact JSON text and a line
+/// feed.
 #[tactic(auto, using(crate::proofs::JsonListingLemmas::no_float))]
 pub(crate) fn json_listing(
     alloc: Global,

@@ -5,7 +5,7 @@ ghost use Rattle.std.specs.Arc.{arc_value};
 ghost use Rattle.std.specs.Char.{is_ascii};
 ghost use Rattle.std.specs.List.{flat_map, list_all};
 ghost use Rattle.std.specs.Fmt.{decimal};
-ghost use Rattle.sno_statement.specs.Perform.{done_of};
+ghost use Rattle.sno_statement.specs.Perform.{outcome_seen};
 ghost use Rattle.sno_listing.specs.VersionedTexts.{text_seen};
 ghost use Rattle.sno_listing.specs.Listing.{hex_digit, is_plain, escaped_character, escaped_text, text_line, value_words, binding_line, after_line, done_lines, entry_label, entry_subject, entry_lines, entries_from, tries_words, reason_words, refused_line, count_line, listing};
 
@@ -66,7 +66,7 @@ fn put_character(out: &mut Vec<u8>, character: u8) -> Result<(), AllocError>
     }
 }
 
-/// How many characters come before the first that is not printed as itself.
+/// How many characters come before the first one that is not printed as itself.
 fn plain_len(characters: &[u8]) -> usize
     ensures within { result ≤ length characters.now }
     ensures plain { IsTrue (list_all is_plain (take result characters.now)) }
@@ -79,7 +79,7 @@ fn plain_len(characters: &[u8]) -> usize
     characters.len()
 }
 
-/// Puts the first character, and answers with those after it.
+/// Puts the first character, and returns those after it.
 fn put_first<'c>(out: &mut Vec<u8>, characters: &'c [u8]) -> Result<&'c [u8], AllocError>
     ensures put { IfOk result (λ rest. out.new.items ++ escaped_text rest.now ≡ out.old.items ++ escaped_text characters.now) }
     ensures shorter { IfOk result (λ rest. length rest.now ≤ length characters.now - 1) }
@@ -93,7 +93,7 @@ fn put_first<'c>(out: &mut Vec<u8>, characters: &'c [u8]) -> Result<&'c [u8], Al
     }
 }
 
-/// The characters; those that are printed as themselves go a run at a time.
+/// Puts the characters. Those that are printed as themselves are put a run at a time.
 fn put_escaped(out: &mut Vec<u8>, characters: &[u8]) -> Result<(), AllocError>
     ensures { OnOk result (out.new.items ≡ out.old.items ++ escaped_text characters.now) }
 {
@@ -231,7 +231,7 @@ fn put_matches(out: &mut Vec<u8>, matches: u32) -> Result<(), AllocError>
 
 #[tactic(auto, unfolding(crate::specs::Listing::done_lines))]
 fn put_done(out: &mut Vec<u8>, outcome: &Outcome) -> Result<(), AllocError>
-    ensures { OnOk result (out.new.items ≡ out.old.items ++ done_lines (done_of outcome.now)) }
+    ensures { OnOk result (out.new.items ≡ out.old.items ++ done_lines (outcome_seen outcome.now)) }
 {
     match outcome {
         Outcome::Matched {
@@ -314,7 +314,7 @@ fn put_texts(out: &mut Vec<u8>, texts: &[VersionedText<'_>]) -> Result<(), Alloc
     Ok(())
 }
 
-/// The listing of texts as they are left, of the journal and of the refused statements.
+/// The listing of the final texts, of the journal and of the refused statements.
 #[tactic(auto, unfolding(crate::specs::Listing::listing))]
 pub(crate) fn listing(
     alloc: Global,

@@ -7,11 +7,11 @@ pub enum Reason {
     NoText,
     /// The new text would have more than 65,536 characters.
     TextTooLong,
-    /// The text changed under each of its tries. A serial run never meets this.
+    /// The text changed during each of its tries. A serial run never meets this.
     TriesSpent {
-        /// The version that the last try was made on.
+        /// The version that the last try saw.
         seen: u64,
-        /// The version of the text when that try was to be accepted.
+        /// The version of the text when that try was committed.
         now: u64,
     },
     /// The match takes more trials than the statement's limit.

@@ -1,4 +1,4 @@
-//! With what a match can begin.
+//! What a match can begin with.
 ghost use Rattle.std.specs.Prelude.{◌≡◌, ◌+◌, ◌≤◌, length, IfOk, MatchOption};
 ghost use Rattle.std.specs.Option.{option_copied};
 ghost use Rattle.sno_pattern.specs.Tree.{tree_of};
@@ -10,23 +10,24 @@ use memchr::memmem::Finder;
 use sno_pattern::{Pattern, Text, a_missing_literal_costs_one_trial};
 use std::alloc::{AllocError, Global};
 
-/// With what a match can begin.
+/// What a match can begin with.
 #[derive(Drop)]
 pub enum Beginnings<'a> {
-    /// With anything.
+    /// Anything.
     Any,
-    /// With this literal alone.
+    /// This literal alone.
     Literal(Finder<'a>),
-    /// With one of these heads.
+    /// One of these heads.
     Heads(Vec<Head<'a>>),
 }
 
 impl<'a> Beginnings<'a> {
-    /// With what a match of the pattern can begin. Refused only where memory is.
+    /// What a match of the pattern can begin with. Refused only if out of memory.
     pub fn of(alloc: Global, pattern: &'a Pattern) -> Result<Beginnings<'a>, AllocError>
         ensures begin { IfOk result (AreBeginnings (tree_of pattern.now)) }
         ensures few { IfOk result (λ beginnings. cost beginnings ≤ 64) }
     {
+        // for the proof
         a_missing_literal_costs_one_trial();
         if let Some(literal) = first_literal(pattern) {
             return Ok(Beginnings::Literal(Finder::new(literal.bytes())));
@@ -37,7 +38,7 @@ impl<'a> Beginnings<'a> {
         }
     }
 
-    /// The first cursor from `start` on at which a match can begin.
+    /// The first cursor from `start` on at which a match can begin, if there is one.
     pub fn next(&self, text: &[u8], start: usize) -> Option<usize>
         requires { start ≤ length text.now + 1 }
         ensures { MatchOption result (NoneBegin text.now self.now start (length text.now + 1))
@@ -69,7 +70,7 @@ impl<'a> Beginnings<'a> {
     }
 }
 
-// The literal that is the first part of the pattern, where it is one.
+// The literal that is the first part of the pattern, if it is a literal.
 fn first_literal(pattern: &Pattern) -> Option<&Text>
     ensures { option_copied result ≡ first_literal (tree_of pattern.now) }
 {

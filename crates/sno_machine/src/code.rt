@@ -13,7 +13,7 @@ use sno_pattern::{Found, Pattern, Rules, Text, a_greater_depth_changes_no_outcom
 use std::alloc::{AllocError, Global};
 use std::marker::Model;
 
-/// A pattern that is compiled with the definitions that it may refer to. It borrows both, and is made once for any number of matches.
+/// A pattern compiled with the definitions that it may refer to. It borrows both, and is made once for any number of matches.
 #[derive(Drop)]
 pub struct Code<'a> {
     compiled: Compiled<'a>,
@@ -35,8 +35,8 @@ impl<'a> Model for Code<'a> {
 
 /// Compiles the pattern with the definitions. Each reference of the pattern has to be to one of them (`Rules::covers`).
 ///
-/// Refused only where memory is, or where there would be more than 4,294,967,295 nodes; a pattern and its definitions have at most
-/// three nodes for each of their parts, and two more.
+/// Refused only if out of memory, or if there would be more than 4,294,967,295 nodes. A pattern and its definitions have at
+/// most three nodes for each of their parts, and two more.
 pub fn compile<'a>(
     alloc: Global,
     rules: &'a Rules,
@@ -56,19 +56,21 @@ pub fn compile<'a>(
 }
 
 impl<'a> Code<'a> {
-    /// What comes of matching the pattern with the text: anchored at cursor 0 alone, floating at each cursor in turn until one
-    /// succeeds.
+    /// The outcome of matching the pattern with the text: anchored at cursor 0 alone, floating at each cursor
+    /// in turn until one succeeds.
     ///
-    /// The immediate assignments that were done come back in their order, also where they were backed over, and the first success
-    /// with its conditional assignments; none where the match failed. What is left to be tried stands on a history of its own: no call
-    /// goes deeper for a longer text, for more rounds or for definitions that refer to themselves, and the history grows with the steps
-    /// that can still be taken back.
+    /// Returns the immediate assignments that were done, in their order, including those that were backed over. It also returns
+    /// the first success with its conditional assignments, or `None` if the match failed.
     ///
-    /// A trial is spent where a pattern without parts is met at a cursor, and where it is backed into for a further end. All starts
-    /// together may take `limit` trials.
+    /// What is left to be tried is on a history of its own. So no call goes deeper for a longer text, for more rounds or for
+    /// definitions that refer to themselves. The history grows with the steps that can still be taken back.
     ///
-    /// Refused: `TooManyTrials` exactly where the match takes more than `limit` trials, and `Memory` where memory is, or where the history would
-    /// have more than 4,294,967,295 entries.
+    /// A trial is spent when a pattern without parts is met at a cursor, and when it is backed into for a further end. All
+    /// starts together may take `limit` trials.
+    ///
+    /// Refused:
+    /// - `TooManyTrials` exactly if the match takes more than `limit` trials, unless memory runs out first;
+    /// - `Memory` if out of memory, or if the history would have more than 4,294,967,295 entries.
     pub fn first(
         &self,
         alloc: Global,
@@ -76,16 +78,17 @@ impl<'a> Code<'a> {
         anchored: bool,
         limit: u32,
     ) -> Result<Found, MatchFault>
-        // What comes back is the outcome of the match ..
+        // The result is the outcome of the match ..
         ensures found { IfOk result (λ found. found ≡ outcome text.now self.now.bodies self.now.pattern anchored) }
         // .. at every depth of references that is enough.
-        ensures deep { IfOk result (λ found. (k : ℕ) → enough_depth text.now self.now.bodies ≤ k → found ≡ outcome_at k text.now self.now.bodies self.now.pattern anchored) }
+        ensures deep { IfOk result (λ found. (k : ℕ) → enough_depth text.now self.now.bodies ≤ k → found ≡ outcome_at text.now self.now.bodies k self.now.pattern anchored) }
         // It takes no more trials than the limit,
         ensures within { IfOk result (λ _. trials text.now self.now.bodies self.now.pattern anchored ≤ limit) }
-        // and is refused for its trials only where it takes more.
+        // and is refused for its trials only if it takes more.
         ensures refused { IfErr result (λ e. e ≡ TooManyTrials → limit < trials text.now self.now.bodies self.now.pattern anchored) }
     {
         let found = search(alloc, &self.compiled, text, anchored, limit)?;
+        // for the proof
         self.compiled.rules.bodies();
         a_greater_depth_changes_no_outcome();
         Ok(found)

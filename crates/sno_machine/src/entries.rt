@@ -3,8 +3,11 @@ ghost use Rattle.std.specs.Prelude.{◌<◌, ◌≤◌, ◌^◌, vec_capacity, v
 
 use sno_pattern::Name;
 
-/// Where a match stands: the node that is next, the cursor, the numbers of the list of frames and of the list of pending assignments, and how many
-/// references deep it may still go.
+/// A place of a match:
+/// - the node that is next;
+/// - the cursor;
+/// - how many references deep the match may still go;
+/// - the numbers of the list of frames and of the list of pending assignments.
 #[derive(Clone, Copy)]
 pub struct Place {
     pub node: u32,
@@ -14,15 +17,15 @@ pub struct Place {
     pub depth: u32,
 }
 
-/// An entry of the history. A list of frames, or of pending assignments, is named by how many entries there were once its first one
-/// was put down; 0 is the empty list.
+/// An entry of the history. A list of frames, or of pending assignments, is named by the number of entries at the time when its
+/// first one was added; 0 is the empty list.
 #[derive(Clone, Copy)]
 pub enum Entry<'a> {
     /// A choice: when the match backs up, it goes on there.
     Choice(Place),
-    /// A definition is gone through.
+    /// The match is in a definition.
     Frame {
-        /// The node with which the match goes on after it.
+        /// The node with which the match goes on after the definition.
         node: u32,
         /// How many references deep it may go from there.
         depth: u32,
@@ -46,7 +49,7 @@ pub enum Entry<'a> {
     },
 }
 
-/// What can still be taken back: entries, the oldest first. It takes memory only where there are more of them than ever before.
+/// What can still be taken back: entries, the oldest first. It takes memory only if there are more of them than ever before.
 #[derive(Drop)]
 pub struct History<'a> {
     pub entries: Vec<Entry<'a>>,

@@ -8,7 +8,7 @@ pub enum MatchFault {
     /// The match takes more trials than its limit.
     #[error("too many trials")]
     TooManyTrials,
-    /// Memory was refused, at whatever growth it was.
+    /// Out of memory, in any allocation.
     #[error("out of memory")]
     Memory,
 }

@@ -10,22 +10,23 @@ use sno_pattern::{Class, Pattern};
 use sno_primitives::first_in;
 use std::alloc::{AllocError, Global};
 
-// The most heads that are kept of a pattern: a start that is passed over costs at most so many trials.
+// The most heads that are kept of a pattern: a start that is passed over costs at most this many trials.
 const MAX_HEADS: usize = 64;
 
-/// A leaf with which a match can begin, by its first character: none of them matches where another character or none stands.
+/// A leaf with which a match can begin, by its first character. The leaf doesn't match before another character or at
+/// the end of the text.
 #[derive(Clone, Copy)]
 pub enum Head<'a> {
     /// A literal that is not null: this character.
     Byte(u8),
-    /// `ANY` or `SPAN`: one of the set.
+    /// `ANY` or `SPAN`: a character of the set.
     OneOf(&'a Class),
-    /// `NOTANY`: one that is not in the set.
+    /// `NOTANY`: a character that is not in the set.
     NoneOf(&'a Class),
 }
 
-/// The heads of the pattern, at most 64: of each leaf with which a match can begin. None where one of these has no head, as `POS`, `ARB`, a
-/// reference or the null string, and where there are more heads. Refused only where memory is.
+/// The heads of the pattern, at most 64: one of each leaf with which a match can begin. `None` if one of these leaves has no
+/// head, as `POS`, `ARB`, a reference or the null string, or if there are more heads. Refused only if out of memory.
 pub fn heads_of<'a>(
     alloc: Global,
     pattern: &'a Pattern,
@@ -41,7 +42,7 @@ pub fn heads_of<'a>(
     Ok(None)
 }
 
-// Adds the heads of the pattern. It answers whether each leaf with which a match can begin has one, and there is room for all.
+// Adds the heads of the pattern. Returns whether each leaf with which a match can begin has one, and there is room for all.
 fn collect<'a>(pattern: &'a Pattern, heads: &mut Vec<Head<'a>>) -> Result<bool, AllocError>
     requires { length heads.old.items ≤ 64 }
     ensures collected { IfOk result (λ whole. whole ≡ true → Collected (tree_of pattern.now) heads.old.items heads.new.items) }
@@ -68,7 +69,7 @@ fn collect<'a>(pattern: &'a Pattern, heads: &mut Vec<Head<'a>>) -> Result<bool, 
     }
 }
 
-// Adds a head, where there is room for one more; it answers whether there was.
+// Adds a head, if there is room for one more. Returns whether there was.
 fn put<'a>(head: Head<'a>, heads: &mut Vec<Head<'a>>) -> Result<bool, AllocError>
     requires { length heads.old.items ≤ 64 }
     ensures added { IfOk result (λ whole. whole ≡ true → heads.new.items ≡ heads.old.items ++ head.entry ∷ []) }
@@ -82,7 +83,7 @@ fn put<'a>(head: Head<'a>, heads: &mut Vec<Head<'a>>) -> Result<bool, AllocError
 }
 
 impl Head<'_> {
-    // Whether the character is one with which it can begin.
+    // Whether the leaf can begin with the character.
     fn has(&self, character: u8) -> bool
         ensures { result ≡ begins self.now character }
     {
@@ -100,7 +101,7 @@ fn any_has(heads: &[Head], character: u8) -> bool
     heads.iter().any(|head| head.has(character))
 }
 
-/// The byte of the head in this place, where it is one.
+/// The byte of the head at this place, if it is a byte.
 pub fn byte_at(heads: &[Head], place: usize) -> Option<u8>
     ensures { IfSome result (λ byte. slice_get heads.now place ≡ Some (Byte byte)) }
 {
@@ -116,7 +117,7 @@ fn first_of_any(heads: &[Head], text: &[u8]) -> Option<usize>
     text.iter().position(|character| any_has(heads, *character))
 }
 
-// The set that is the only head, where there is one head and it is a set.
+// The set that is the only head, if there is one head and it is a set.
 fn only_class<'a>(heads: &[Head<'a>]) -> Option<&'a Class>
     ensures { IfSome result (λ class. (length heads.now ≡ 1) × (slice_get heads.now 0 ≡ Some (OneOf class))) }
 {
@@ -129,7 +130,7 @@ fn only_class<'a>(heads: &[Head<'a>]) -> Option<&'a Class>
     }
 }
 
-// The same as `first_of_heads`, for heads that aren't bytes alone. A set is sought by itself where it is the only head.
+// As `first_of_heads`, for heads that aren't bytes alone. A set is sought directly if it is the only head.
 fn first_of_others(heads: &[Head], text: &[u8]) -> Option<usize>
     ensures { IsFirstByte (any_begins heads.now) text.now result }
 {

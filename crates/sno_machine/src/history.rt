@@ -1,4 +1,4 @@
-//! What is put down in the history of a match, and taken up.
+//! How entries are added to the history of a match, and taken up.
 ghost use Rattle.std.specs.Prelude.{◌≡◌, ◌<◌, ◌≤◌, ◌+◌, ◌-◌, ◌^◌, ◌++◌, ◌∷◌, [], length, vec_len, OnOk, IfErr, IfNone, IfOk, MatchOption};
 ghost use Rattle.sno_machine.specs.History.{entries_of, Setting, Begins, IsEmpty, IsHistory, TakenUp, left};
 ghost use Rattle.sno_machine.specs.declared.faults.MatchFault.TheVariants.{Memory};
@@ -7,7 +7,7 @@ use crate::entries::{Entry, History, Place};
 use crate::faults::MatchFault;
 use std::alloc::Global;
 
-/// So many entries are many: room for more of them is made more sparingly.
+/// From this many entries on, room for more is made more sparingly.
 const MANY: u32 = 4_096;
 
 impl<'a> History<'a> {
@@ -20,7 +20,7 @@ impl<'a> History<'a> {
         }
     }
 
-    /// Puts an entry down, and answers how many there are then. More than 4,294,967,295 are refused as memory is.
+    /// Adds an entry, and returns how many there are then. More than 4,294,967,295 are refused as out of memory.
     #[inline(always)]
     pub fn push(&mut self, entry: Entry<'a>) -> Result<u32, MatchFault>
         ensures entries { OnOk result ((entries_of self.new) ≡ (entries_of self.old) ++ entry.entry ∷ []) }
@@ -32,7 +32,7 @@ impl<'a> History<'a> {
         Ok(self.entries.len() as u32)
     }
 
-    /// Makes room for an entry, where there is none.
+    /// Makes room for an entry, if there is no room.
     #[inline(always)]
     fn make_room(&mut self) -> Result<(), MatchFault>
         ensures entries { (entries_of self.new) ≡ (entries_of self.old) }
@@ -45,7 +45,7 @@ impl<'a> History<'a> {
         Ok(())
     }
 
-    /// Makes room for 8 entries at first, since most matches need few; then for eight times as many, and past some thousands for twice as many.
+    /// Makes room for 8 entries at first, since most matches need few; then for eight times as many, and past `MANY` for twice as many.
     #[cold]
     #[inline(never)]
     fn grow(&mut self) -> Result<(), MatchFault>
@@ -74,7 +74,7 @@ impl<'a> History<'a> {
         self.entries.clear();
     }
 
-    /// The entry that the list with this number begins with; none where the list is empty.
+    /// The entry that the list with this number begins with; `None` if the list is empty.
     #[inline(always)]
     pub fn entry(&self, number: u32) -> Option<Entry<'a>>
         ensures { (s : Setting) → IsHistory s (entries_of self.now) → MatchOption result (IsEmpty s (entries_of self.now) number) (Begins s (entries_of self.now) number) }
@@ -89,7 +89,7 @@ impl<'a> History<'a> {
         Some(entries[(number - 1) as usize])
     }
 
-    /// Takes up the newest choice; none where there is none. What was put down since it was left is dropped.
+    /// Takes up the newest choice; `None` if there is no choice. The entries that were added since are dropped.
     #[inline(always)]
     pub fn back_up(&mut self) -> Option<Place>
         ensures taken_up { (s : Setting) → IsHistory s (entries_of self.old) → MatchOption result (left s (entries_of self.old) ≡ []) (TakenUp s (entries_of self.old) (entries_of self.new)) }

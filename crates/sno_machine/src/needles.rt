@@ -1,4 +1,4 @@
-//! The few heads that are sought together in a text.
+//! A few heads that are sought together in a text.
 ghost use Rattle.std.specs.Prelude.{◌≡◌, ◌≤◌, ◌∷◌, [], length, IfOk, IfSome};
 ghost use Rattle.memchr.specs.Find.{IsFirstByte};
 ghost use Rattle.sno_pattern.specs.Tree.{tree_of};
@@ -24,8 +24,8 @@ pub enum Needle<'a> {
 }
 
 impl<'a> Needle<'a> {
-    /// The heads of the pattern; none where it has no heads, more than three, or several of which one is no byte. Refused only where memory
-    /// is.
+    /// The heads of the pattern. `None` if it has no heads, more than three, or several that aren't all bytes. Refused
+    /// only if out of memory.
     pub fn of(alloc: Global, pattern: &'a Pattern) -> Result<Option<Needle<'a>>, AllocError>
         ensures { IfOk result (λ found. IfSome found (λ needle. AreHeads (tree_of pattern.now) (heads_in needle))) }
     {
@@ -35,7 +35,7 @@ impl<'a> Needle<'a> {
         }
     }
 
-    /// The heads of the second pattern, where the first one ends in `ARB`; none where that has no use for them.
+    /// The heads of the second pattern, if `ARB` may come last in the first one; otherwise `None`.
     pub fn after(
         alloc: Global,
         first: &Pattern,
@@ -50,7 +50,7 @@ impl<'a> Needle<'a> {
         Ok(needle)
     }
 
-    /// How many heads these are.
+    /// How many heads there are.
     pub fn count(self) -> usize
         ensures count { result ≡ length (heads_in self.entry) }
         ensures few { result ≤ 3 }
@@ -62,7 +62,7 @@ impl<'a> Needle<'a> {
         }
     }
 
-    /// The index of the first character of the text with which one of the heads can begin.
+    /// The index of the first character of the text with which one of the heads can begin, if there is one.
     pub fn first(self, text: &[u8]) -> Option<usize>
         ensures { IsFirstByte (any_begins (heads_in self.entry)) text.now result }
     {
@@ -103,7 +103,7 @@ fn needle_of<'a>(head: Head<'a>) -> Needle<'a>
     }
 }
 
-// The heads as a needle, where they are one, or two or three bytes.
+// The heads as a needle, if they are one head, or two or three bytes.
 fn together<'a>(heads: &[Head<'a>]) -> Option<Needle<'a>>
     ensures { IfSome result (λ needle. heads_in needle ≡ heads.now) }
 {

@@ -6,18 +6,18 @@ use sno_pattern::{Assign, Name, What};
 use std::alloc::{AllocError, Global};
 use std::marker::Model;
 
-/// So many assignments are many: room for more of them is made more sparingly.
+/// From this many assignments on, room for more is made more sparingly.
 const MANY: usize = 4_096;
 
-/// An immediate assignment whose name lies in the pattern: a name is 64 characters long, and is copied only into what is found.
+/// An immediate assignment whose name is still in the pattern. A name has room for 64 characters, so it is copied only into the result.
 #[derive(Clone, Copy)]
 pub struct Told<'a> {
     pub name: &'a Name,
     pub what: What,
 }
 
-/// What a match has done so far: its immediate assignments, which stay when it backs up, and its trials, by how many of those that it may take are
-/// left. What is left is all that a trial looks at.
+/// What a match has done so far: its immediate assignments, which stay when it backs up, and its trials, as how many are still
+/// left. A trial looks only at how many are left.
 #[derive(Drop)]
 pub struct Progress<'a> {
     sets: Vec<Told<'a>>,
@@ -61,7 +61,7 @@ impl<'a> Progress<'a> {
         Ok(())
     }
 
-    /// Spends trials, where so many may still be spent; else none. It answers whether it did.
+    /// Spends `count` trials if that many may still be spent; otherwise none. Returns whether it did.
     #[inline(always)]
     pub fn try_spend(&mut self, count: usize) -> bool
         ensures spent { result ≡ true → self.new ≡ spend count self.old }
@@ -90,7 +90,7 @@ impl<'a> Progress<'a> {
     }
 }
 
-/// Makes room for 8 assignments at first; then for eight times as many as were done, and past some thousands for twice as many.
+/// Makes room for 8 assignments at first; then for eight times as many as were done, and past `MANY` for twice as many.
 #[cold]
 #[inline(never)]
 fn make_room(sets: &mut Vec<Told>) -> Result<(), AllocError>

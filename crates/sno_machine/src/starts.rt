@@ -1,4 +1,4 @@
-//! What comes of a match: its starts in turn, until one of them ends it.
+//! The outcome of a match: its starts in turn, until one of them ends it.
 ghost use Rattle.std.specs.Prelude.{◌≡◌, ◌<◌, ◌≤◌, [], length, IfOk, IfErr, IsTrue, MatchResult};
 ghost use Rattle.std.specs.List.{flat_map};
 ghost use Rattle.sno_pattern.specs.Tree.{tree_of, refs_below};
@@ -17,7 +17,7 @@ use crate::running::try_starts;
 use sno_pattern::{Assigns, Found, Hit, Pattern, Rules, Text};
 use std::alloc::{AllocError, Global};
 
-/// What comes of the match, at the depth that is counted here.
+/// The outcome of the match, at a depth of references that is counted here.
 pub fn search(
     alloc: Global,
     code: &Compiled,
@@ -37,7 +37,7 @@ pub fn search(
     Ok(found)
 }
 
-// What was found, once no start is left to be tried.
+// The result, once no start is left to be tried.
 fn report(alloc: Global, progress: &Progress, hit: Option<Hit>) -> Result<Found, AllocError>
     ensures found { IfOk result (λ found. found ≡ found_of (progress.now, hit)) }
     ensures within { progress.now.trials ≤ progress.now.limit }
@@ -56,7 +56,7 @@ fn depth(text: &Text, rules: &Rules) -> u32
     ((text.bytes().len() + 1) * rules.len()) as u32
 }
 
-// Tries each start at which a match may begin, until one of them ends the match: cursor 0 alone where the match is anchored.
+// Tries each start at which a match may begin, until one of them ends the match: cursor 0 alone if the match is anchored.
 fn try_all<'a>(
     alloc: Global,
     code: &Compiled<'a>,
@@ -85,7 +85,7 @@ fn last_start(text: &[u8], anchored: bool) -> usize
     if anchored { 0 } else { text.len() }
 }
 
-// With what a match can begin. At a single start it isn't worth a look.
+// What a match can begin with. It isn't worth looking at for a single start.
 fn beginnings_of<'a>(
     alloc: Global,
     pattern: &'a Pattern,

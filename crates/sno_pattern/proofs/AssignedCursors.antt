@@ -128,7 +128,7 @@ module _ (t : List ℕ) where
 pub cursors_lie : (t : List ℕ) (bodies : List Tree) (k : ℕ) (p : Tree) (c : ℕ) → c ≤ length t → CursorsLie t (results t bodies k p c)
 cursors_lie t bodies k p = lies_of t (definition_results t bodies k) (within_named t bodies k) (lies_named t bodies k) p
 
--- what the assignments gathered from a scan lie in
+-- where the assignments gathered from a scan lie
 module _ (t : List ℕ) where
   abbrev TriedLies : List Tried → Type 0
   TriedLies [] = Unit {0}
@@ -189,7 +189,7 @@ module _ (t : List ℕ) where
   found_lies sets ((s, Halt) ∷ l) h g = h
 
 -- each cursor that a match assigned lies within the text
-pub outcome_lies : (k : ℕ) (t : List ℕ) (bodies : List Tree) (p : Tree) (anchored : Bool) → SetsLie t (outcome_at k t bodies p anchored).sets
+pub outcome_lies : (k : ℕ) (t : List ℕ) (bodies : List Tree) (p : Tree) (anchored : Bool) → SetsLie t (outcome_at t bodies k p anchored).sets
 unfolding outcome_at
 outcome_lies k t bodies p anchored =
     found_lies t [] (scan t bodies k p anchored) tt

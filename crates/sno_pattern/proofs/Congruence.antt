@@ -1,4 +1,4 @@
--- Two depths give the same from a cursor where they agree on the unguarded references there and on all of them further on.
+-- Two depths give the same from a cursor if they agree on the unguarded references there, and on all references further on.
 use Rattle.std.proofs.Common.{◌≡◌, ℕ, zero, suc, ◌+◌, ◌-◌, ◌<◌, ◌≤◌, cond, List, [], ◌∷◌, ◌++◌, length, nat_lt, inl, inr, ⊎_elim, refl, arith, ap, subst, ◌∙◌}
 use Rattle.std.proofs.lemmas.Bool.{cases_lt}
 use Rattle.sno_pattern.specs.Tree as tree

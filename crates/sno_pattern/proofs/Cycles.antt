@@ -13,7 +13,7 @@ use Rattle.sno_pattern.proofs.Marks.{none_marked}
 use Rattle.sno_pattern.proofs.Search.{not_seen_apart}
 
 module _ (bodies : List Tree) (start n : ℕ) (after : List Bool) (dead : IsDeadEnd bodies start start (set (replicate n false) start true) after) where
-  -- all that a chain reaches was seen, and isn't where it started
+  -- all that a chain reaches was seen, and isn't where the chain started
   stays : (i j : ℕ) → Chain bodies i j → i ≡ start → (j ≡ start → ⊥) × (get_or after j false ≡ true)
   stays i j (guard.one leads) same = let P : ℕ → Type 0 = λ x. Leads bodies x j in dead.done j (subst P same leads)
   stays i k (guard.more {j = j} chain leads) same =

@@ -1,5 +1,5 @@
--- Where the definitions are guarded, a greater depth gives nothing more. At one cursor no definition is met twice on the way down,
--- since each that was met has a chain to each that is met after it; so at most as many references nest there as there are
+-- If the definitions are guarded, a greater depth gives nothing more. At one cursor no definition is met twice on the way down,
+-- since each that was met has a chain to each that is met later. So at most as many references nest there as there are
 -- definitions, and a part that takes moves the cursor on.
 use Rattle.std.proofs.Common.{◌≡◌, ℕ, zero, suc, ◌+◌, ◌-◌, ◌*◌, ◌<◌, ◌≤◌, true, false, List, [], ◌∷◌, length, Option, Some, None, slice_get, eqb, ⊎_elim, refl, arith, sym, subst, ◌∙◌}
 use Rattle.std.specs.List.{list_any, IsDistinct, AllByRecursion}
@@ -65,14 +65,14 @@ module _ (bodies : List Tree) (g : Guarded bodies) (visited : List ℕ) (i : ℕ
     reach = (guard.one step, reach_on bodies visited i j step met.reach);
   }
 
--- Any two depths of at least n agree, where no more than n references can still nest.
+-- Any two depths of at least n agree if at most n references can still nest.
 abbrev Agree : List ℕ → List Tree → ℕ → Type 0
 Agree t bodies n = (visited : List ℕ) (i c : ℕ) → c ≤ length t → Met bodies visited i
     → (length t - c) * length bodies + (length bodies - length visited) ≤ n
     → (k₁ k₂ : ℕ) → n ≤ k₁ → n ≤ k₂ → definition_results t bodies k₁ i c ≡ definition_results t bodies k₂ i c
 
 module _ (t : List ℕ) (bodies : List Tree) (g : Guarded bodies) where
-  -- where i has a body
+  -- if i has a body
   agree_body : (n : ℕ) → Agree t bodies n → (visited : List ℕ) (i c : ℕ) → c ≤ length t → (met : Met bodies visited i)
       → (length t - c) * length bodies + (length bodies - length visited) ≤ suc n
       → (k₁ k₂ : ℕ) → n ≤ k₁ → n ≤ k₂ → (body : Tree) → slice_get bodies i ≡ Some body → definition_results t bodies (suc k₁) i c ≡ definition_results t bodies (suc k₂) i c
@@ -85,7 +85,7 @@ module _ (t : List ℕ) (bodies : List Tree) (g : Guarded bodies) where
       λ j e far end. less [] j e end (none_met bodies j) (omega (arith, one_row (length t - e) (length t - c) (length bodies) (omega arith))) k₁ k₂ h₁ h₂ in
       named_body t bodies k₁ i c body is ∙ same_results t bodies k₁ k₂ body c in_text here past ∙ sym (named_body t bodies k₂ i c body is)
 
-  -- no reference can nest where i has a body
+  -- no reference can nest if i has a body
   agree_zero : (visited : List ℕ) (i c : ℕ) → Met bodies visited i → (length t - c) * length bodies + (length bodies - length visited) ≤ 0
       → (body : Tree) → slice_get bodies i ≡ Some body → ⊥
   agree_zero visited i c met bound body is =

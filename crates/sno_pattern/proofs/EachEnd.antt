@@ -1,4 +1,4 @@
--- What holds of each End of a list of events, as lists are cut, joined and gone on from.
+-- What holds of each End of a list of events when lists are cut, joined and gone on from.
 use Rattle.std.proofs.Common.{◌≡◌, ℕ, Bool, true, false, cond, List, [], ◌∷◌, ◌++◌, refl, ap, ◌∙◌}
 use Rattle.std.specs.List.{filter}
 use Rattle.sno_pattern.specs.Events.{CondList, cut, put_before, spread, go_on, assign_later, assign_now}
@@ -108,7 +108,7 @@ pub AllOf-end_if : (P : ℕ → Type 0) (allowed : Bool) (e : ℕ) → (allowed 
 AllOf-end_if P true e h = (h refl, tt)
 AllOf-end_if P false e h = tt
 
--- Going on by two ways that agree at each End comes to the same.
+-- Going on by two ways that agree at each End gives the same events.
 pub spread-cong : (f g : ℕ → List Event) (l : List Event) → AllEnds (λ e. f e ≡ g e) l → spread l f ≡ spread l g
 spread-cong f g [] h = refl
 spread-cong f g (Try ∷ l) h = ap (λ r. Try ∷ r) (spread-cong f g l h)

@@ -101,7 +101,7 @@ none_marked (suc n) (suc i) = none_marked n i
 pub sound_none : (bodies : List Tree) (n : ℕ) → AreSound bodies (replicate n false)
 sound_none bodies n i h = let none : get_or (replicate n false) i false ≡ false = none_marked n i in cc
 
--- one more mark, where the definition takes by those that are there
+-- one more mark, on a definition that takes by the marks already there
 pub sound_more : (bodies : List Tree) (marks : List Bool) (n : ℕ) → AreSound bodies marks → IsUnmarked bodies marks n → AreSound bodies (set marks n true)
 sound_more bodies marks n sound u i h =
     ⊎_elim
@@ -110,7 +110,7 @@ sound_more bodies marks n sound u i h =
     (λ other. let still : get_or marks i false ≡ true = sym (get_or-set_other marks n i true false other) ∙ h in sound i still)
     (cases_eq i n)
 
--- a number that names a pattern is one of theirs
+-- a number at which there is a pattern is below the number of patterns
 pub within_bodies : (bodies : List Pattern) (i : ℕ) (body : Tree) → slice_get (trees bodies) i ≡ Some body → i < length bodies
 within_bodies bodies i body is = let inside : i < length (trees bodies) = slice_get_within (trees bodies) i body is in rw length-map at inside
 

@@ -1,4 +1,4 @@
--- Where the literal with which a pattern begins doesn't stand, the pattern costs one trial and does nothing else.
+-- If a pattern begins with a literal that isn't at the cursor, the pattern costs one trial and does nothing else.
 use Rattle.std.proofs.Common.{◌≡◌, ℕ, zero, suc, ◌+◌, ◌≤◌, false, cond, List, [], ◌∷◌, ◌++◌, length, map, Option, Some, None, refl, ap, sym, subst, ◌∙◌, arith}
 use Rattle.std.specs.List.{flat_map, range_with_len}
 use Rattle.sno_pattern.specs.Tree as tree
@@ -9,7 +9,7 @@ use Rattle.sno_pattern.specs.Outcome.{tried_from, cut_scan, trials_in, trials_at
 use Rattle.sno_pattern.specs.Beginnings.{first_literal, IsMissing}
 use Rattle.sno_pattern.specs.declared.events.Event.TheVariants.{Try}
 
--- there is a first literal, and it doesn't stand at the cursor
+-- there is a first literal, and it isn't at the cursor
 abbrev IsWithout : List ℕ → Option (List ℕ) → ℕ → Type 0
 IsWithout t None c = ⊥
 IsWithout t (Some s) c = IsMissing t s c
@@ -45,7 +45,7 @@ pub missing_costs_one : (t : List ℕ) (bodies : List Tree) (k : ℕ) (p : Tree)
 missing_costs_one t bodies k p s c is missing =
     let P : Option (List ℕ) → Type 0 = λ o. IsWithout t o c in one_trial t bodies k p c (subst P (sym is) missing)
 
--- so many starts from a cursor on cost as many trials
+-- n starts from a cursor on cost n trials
 each_start : (t : List ℕ) (bodies : List Tree) (k : ℕ) (p : Tree) (s : List ℕ) → first_literal p ≡ Some s → ((c : ℕ) → c ≤ length t → IsMissing t s c)
     → (n start : ℕ) → start + n ≤ length t + 1 → trials_in (cut_scan (flat_map (tried_from t bodies k p) (range_with_len start n))) ≡ n
 each_start t bodies k p s is missing zero start inside = refl

@@ -10,7 +10,7 @@ appended : (seen : Bool) (keys more : List (List ℕ)) (name : List ℕ) → see
 appended true keys more name absent is = cc
 appended false keys more name absent is = is
 
--- what repeats in the names that are left, after one that isn't there yet
+-- what repeats among the remaining names, after a name that isn't there yet
 repeat-next : (seen : Bool) (i : ℕ) (o : Option ℕ) → seen ≡ false → cond seen (Some i) o ≡ o
 repeat-next true i o absent = cc
 repeat-next false i o absent = refl
@@ -32,7 +32,7 @@ rest_is_same keys names more i name first in_range is added absent rest =
     ∙ sym (repeat-next (list_any (same name) keys) i (repeat_from (keys ++ name ∷ []) (i + 1) (drop (i + 1) names)) absent)
     ∙ sym (ap (repeat_from keys i) split) ∙ rest
 
--- `not b` is true where b is false
+-- `not b` is true if b is false
 pub false_of_not : (b : Bool) → true ≡ not b → b ≡ false
 false_of_not true h = cc
 false_of_not false h = refl

@@ -1,4 +1,4 @@
--- The first repeat is found exactly where a name stands twice.
+-- The first repeat is found exactly if a name is repeated.
 use Rattle.std.proofs.Common.{◌≡◌, ℕ, ◌+◌, Bool, true, false, cond, ◌||◌, List, [], ◌∷◌, ◌++◌, Option, Some, None, refl, ap, ◌∙◌}
 use Rattle.std.specs.List.{list_any}
 use Rattle.sno_pattern.specs.Identifiers.{same}
@@ -12,7 +12,7 @@ or_false : (x y : Bool) → x ≡ false → y ≡ false → (x || y) ≡ false
 or_false true y h g = cc
 or_false false y h g = g
 
--- none of the names is in a list of one more
+-- a test that fails on a list with one more name fails on the list and on that name
 any_split : (p : List ℕ → Bool) (l : List (List ℕ)) (x : List ℕ) → list_any p (l ++ x ∷ []) ≡ false → (list_any p l ≡ false) × (p x ≡ false)
 any_split p [] x h = (refl, (both_false (p x) false h).0)
 any_split p (y ∷ l) x h =

@@ -40,7 +40,7 @@ rounds_unrolled t once h c i =
     ∙ same_round t once h (rounds once (length t - c)) (λ e. rounds once (length t - e + 1) e) c i
     (λ e past inside. rounds_enough t once h (length t - c) (length t - e + 1) e inside (omega arith) (omega arith))
 
--- ARBNO(P) by itself
+-- ARBNO(P) on its own
 pub unrolled : (t : List ℕ) (bodies : List Tree) (k : ℕ) (p : Tree) (c : ℕ) → c ≤ length t
     → results t bodies k (Arbno p) c ≡ End c [] ∷ go_on (results t bodies k p c) (λ e. cond (nat_lt c e) (results t bodies k (Arbno p) e) [])
 unfolding results_of

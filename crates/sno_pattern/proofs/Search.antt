@@ -10,11 +10,11 @@ use Rattle.sno_pattern.specs.Guard.{Leads}
 use Rattle.sno_pattern.specs.Searching.{IsFreshWay, IsClosed, IsDeadEnd, IsSearched, AreReferences}
 use Rattle.sno_pattern.proofs.Marks.{unmarked_count, one_less}
 
--- what is marked stays so
+-- what is marked stays marked
 abbrev pub Kept : List Bool → List Bool → Type 0
 Kept before after = (j : ℕ) → get_or before j false ≡ true → get_or after j false ≡ true
 
--- so no more places are left
+-- so no more places are left than before
 pub kept_count : (before after : List Bool) → length after ≡ length before → Kept before after → unmarked_count after ≤ unmarked_count before
 kept_count [] [] long kept = omega arith
 kept_count [] (y ∷ after) long kept = absurd (omega arith)
@@ -30,7 +30,7 @@ pub search_falls : (before after : List Bool) (next : ℕ) → length after ≡ 
 search_falls before after next long kept inside new =
     let fewer = one_less after next inside new in let no_more = kept_count before after long kept in omega arith
 
--- a place that is marked now was, or is the one that was marked
+-- a place that is marked now was marked before, or is the one just marked
 marked_now : (seen : List Bool) (next x : ℕ) → get_or (set seen next true) x false ≡ true → (x ≡ next) ⊎ (get_or seen x false ≡ true)
 marked_now seen next x h =
     ⊎_elim (λ same. inl same) (λ other. let still : get_or seen x false ≡ true = sym (get_or-set_other seen next x true false other) ∙ h in inr still) (cases_eq x next)
@@ -132,7 +132,7 @@ module _ (bodies : List Tree) (target : ℕ) where
   not_seen_before before after kept [] h = tt
   not_seen_before before after kept (x ∷ way) h = (unseen_before before after kept x h.0, not_seen_before before after kept way h.1)
 
-  -- a way from the next reference is one from here, with that reference in front
+  -- a way from the next reference becomes one from here, with that reference before it
   fresh_on : (from next : ℕ) (before after : List Bool) (way : List ℕ) → Leads bodies from next → Kept before after → next < length after
       → get_or after next false ≡ false → IsFreshWay bodies next way target (set after next true) → IsFreshWay bodies from (next ∷ way) target before
   fresh_on from next before after way leads kept inside new w = record {

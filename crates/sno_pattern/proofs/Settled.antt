@@ -1,4 +1,4 @@
--- A greater depth makes no difference to what comes of a match, nor to how many trials it takes.
+-- A greater depth makes no difference to the outcome of a match, nor to how many trials it takes.
 use Rattle.std.proofs.Common.{◌≡◌, ℕ, ◌+◌, ◌≤◌, Bool, true, false, List, [], ◌∷◌, ◌++◌, length, map, refl, arith, ap, ◌∙◌}
 use Rattle.std.specs.List.{flat_map}
 use Rattle.sno_pattern.specs.Tree.{Tree}
@@ -27,11 +27,11 @@ same_scan t bodies g k p anchored enough =
     (λ s inside. ap (map (λ e. (s, e))) (settled t bodies g k p s enough inside)) (starts t anchored) (starts_in_text t anchored)))
 
 pub outcome_settled : (t : List ℕ) (bodies : List Tree) → Guarded bodies → (k : ℕ) (p : Tree) (anchored : Bool) → enough_depth t bodies ≤ k
-    → outcome_at k t bodies p anchored ≡ outcome t bodies p anchored
+    → outcome_at t bodies k p anchored ≡ outcome t bodies p anchored
 unfolding outcome_at
 outcome_settled t bodies g k p anchored enough = ap (found_in []) (same_scan t bodies g k p anchored enough)
 
 pub trials_settled : (t : List ℕ) (bodies : List Tree) → Guarded bodies → (k : ℕ) (p : Tree) (anchored : Bool) → enough_depth t bodies ≤ k
-    → trials_at k t bodies p anchored ≡ trials t bodies p anchored
+    → trials_at t bodies k p anchored ≡ trials t bodies p anchored
 unfolding trials_at
 trials_settled t bodies g k p anchored enough = ap trials_in (same_scan t bodies g k p anchored enough)

@@ -12,18 +12,18 @@ use Rattle.sno_pattern.specs.Guard.{Takes}
 use Rattle.sno_pattern.proofs.EachEnd.{AllEnds-map, AllEnds-both, AllEnds-cut, AllEnds-append, AllEnds-go_on, AllEnds-assign_later, AllEnds-assign_now, AllEnds-ends, AllOf, AllOf-filter, AllOf-end_if}
 use Rattle.sno_pattern.proofs.Within.{within, range_all, one_all}
 
--- what a definition does is what its body does with one reference less
+-- what a definition does is what its body does with one reference fewer
 pub named_body : (t : List ℕ) (bodies : List Tree) (k i c : ℕ) (body : Tree) → slice_get bodies i ≡ Some body → definition_results t bodies (suc k) i c ≡ results t bodies k body c
 unfolding definition_results
 named_body t bodies k i c body is = ap (λ o. of_body (results t bodies k) o c) is
 
--- where there is no definition, nothing
+-- if there is no definition, nothing
 pub named_none : (t : List ℕ) (bodies : List Tree) (k i c : ℕ) → slice_get bodies i ≡ None → definition_results t bodies k i c ≡ []
 unfolding definition_results
 named_none t bodies zero i c is = refl
 named_none t bodies (suc k) i c is = ap (λ o. of_body (results t bodies k) o c) is
 
--- no events at all where no reference may be gone through
+-- no events at all if the depth is used up
 named_zero : (t : List ℕ) (bodies : List Tree) (i c : ℕ) → definition_results t bodies 0 i c ≡ []
 unfolding definition_results
 named_zero t bodies i c = refl

@@ -1,4 +1,4 @@
--- Texts hold ASCII characters alone, and ASCII characters that aren't too many are a text.
+-- Texts hold ASCII characters alone, and ASCII characters within the limit are a text.
 use Rattle.std.proofs.Common.{◌≡◌, ℕ, ◌+◌, ◌<◌, ◌≤◌, ◌&&◌, Bool, true, false, not, cond, List, [], ◌∷◌, length, nat_lt, Option, Some, None, Ok, Err, IsTrue, sym, refl, ap}
 use Rattle.std.proofs.lemmas.Bool.{le-ltb, lt-ltb}
 use Rattle.std.proofs.lemmas.List.Elements.{All-head, All-tail}
@@ -8,13 +8,14 @@ use Rattle.std.specs.Str.{IsAscii}
 use Rattle.std.specs.Char.{is_ascii}
 use Rattle.sno_pattern.specs.Texts.{first_non_ascii, ascii_or, text_of}
 use Rattle.sno_pattern.specs.declared.texts.TextFault.TheVariants.{TooLong}
+use Rattle.sno_pattern.specs.declared.texts.TheConstants.{MAX_TEXT}
 
--- one byte in front of bytes of which this is known
+-- one byte before bytes for which this is known
 ascii_more : (v : Bool) (i : ℕ) (rest : Bool) (found : Option ℕ) → (found ≡ None → IsTrue rest) → cond (not v) (Some i) found ≡ None → IsTrue (v && rest)
 ascii_more true i rest found more h = more h
 ascii_more false i rest found more h = cc
 
--- where no byte is found above 127, all are ASCII
+-- if no byte above 127 is found, all are ASCII
 all_ascii-from : (i : ℕ) (bytes : List ℕ) → position_from (λ b. not (is_ascii b)) i bytes ≡ None → IsTrue (list_all is_ascii bytes)
 all_ascii-from i [] h = refl
 all_ascii-from i (b ∷ bs) h = ascii_more (is_ascii b) i _ _ (all_ascii-from (i + 1) bs) h
@@ -22,7 +23,7 @@ all_ascii-from i (b ∷ bs) h = ascii_more (is_ascii b) i _ _ (all_ascii-from (i
 pub all_ascii : (bytes : List ℕ) → None ≡ first_non_ascii bytes → IsTrue (list_all is_ascii bytes)
 all_ascii bytes h = all_ascii-from 0 bytes (sym h)
 
--- the same the other way round
+-- the converse
 none_more : (v : Bool) (i : ℕ) (rest : Bool) (found : Option ℕ) → (IsTrue rest → found ≡ None) → IsTrue (v && rest) → cond (not v) (Some i) found ≡ None
 none_more true i rest found more h = more h
 none_more false i rest found more h = cc
@@ -45,7 +46,7 @@ below_none i (b ∷ bs) h =
     let ascii : is_ascii b ≡ true = lt-ltb b 128 (All-head (λ b. b < 128) b bs h) in
     none_first (is_ascii b) i _ ascii (below_none (i + 1) bs (All-tail (λ b. b < 128) b bs h))
 
--- where all bytes are below 128, none is found
+-- if all bytes are below 128, no byte above 127 is found
 pub ascii_none : (bytes : List ℕ) → IsAscii bytes → None ≡ first_non_ascii bytes
 ascii_none bytes h = sym (below_none 0 bytes (All-from_ascii bytes h))
 
@@ -53,6 +54,6 @@ short_text : (long : Bool) (place : Option ℕ) (bytes : List ℕ) → long ≡ 
 short_text true place bytes h g = cc
 short_text false place bytes h g = ap (λ (o : Option ℕ). ascii_or o bytes) g
 
--- characters that are few and ASCII are a text
-pub text_of_ascii : (bytes : List ℕ) → length bytes ≤ 65536 → IsTrue (list_all is_ascii bytes) → text_of bytes ≡ Ok bytes
-text_of_ascii bytes short ascii = short_text (nat_lt 65536 (length bytes)) (first_non_ascii bytes) bytes (le-ltb 65536 (length bytes) short) (none_non_ascii bytes ascii)
+-- ASCII characters within the limit are a text
+pub text_of_ascii : (bytes : List ℕ) → length bytes ≤ MAX_TEXT → IsTrue (list_all is_ascii bytes) → text_of bytes ≡ Ok bytes
+text_of_ascii bytes short ascii = short_text (nat_lt MAX_TEXT (length bytes)) (first_non_ascii bytes) bytes (le-ltb MAX_TEXT (length bytes) short) (none_non_ascii bytes ascii)

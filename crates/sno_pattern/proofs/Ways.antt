@@ -9,7 +9,7 @@ use Rattle.sno_pattern.specs.declared.tree.Pattern.{Pattern}
 use Rattle.sno_pattern.specs.Guard.{Takes, Unguarded}
 use Rattle.sno_pattern.specs.Searching.{takes_by, unguarded_by, AreExact, AreReferences}
 
--- of each number in a list
+-- a property of each number in a list
 each_weaker : (P Q : ℕ → Type 0) → ((x : ℕ) → P x → Q x) → (l : List ℕ) → AllByRecursion P l → AllByRecursion Q l
 each_weaker P Q f [] h = tt
 each_weaker P Q f (x ∷ l) h = (f x h.0, each_weaker P Q f l h.1)
@@ -23,7 +23,7 @@ each_at P [] k inside h = absurd (omega arith)
 each_at P (x ∷ l) zero inside h = h.0
 each_at P (x ∷ l) (suc k) inside h = each_at P l k (omega arith) h.1
 
--- that a number stands in the list
+-- that a number is in the list
 abbrev Among : List ℕ → ℕ → Type 0
 Among l j = (k : ℕ) × (k < length l) × (get_or l k 0 ≡ j)
 
@@ -34,7 +34,7 @@ among_right : (l m : List ℕ) (j : ℕ) → Among m j → Among (l ++ m) j
 among_right l m j h = (length l + h.0, omega (arith, h.1, length-append l m), get_or-append-add l m h.0 0 ∙ h.2)
 
 module _ (bodies : List Tree) (marks : List Bool) (exact : AreExact bodies marks) where
-  -- what stands after a part that doesn't take
+  -- what comes after a part that doesn't take
   behind : (p q : Tree) (b : Bool) → takes_by marks p ≡ b → AllByRecursion (Unguarded bodies q) (unguarded_by marks q)
       → AllByRecursion (λ j. (Takes bodies p → ⊥) × Unguarded bodies q j) (cond b [] (unguarded_by marks q))
   behind p q true is h = tt
@@ -42,7 +42,7 @@ module _ (bodies : List Tree) (marks : List Bool) (exact : AreExact bodies marks
       each_weaker (Unguarded bodies q) (λ j. (Takes bodies p → ⊥) × Unguarded bodies q j)
       (λ j u. ((λ takes. let yes : takes_by marks p ≡ true = (exact p).1 takes in absurd (both_ways (takes_by marks p) is yes)), u)) (unguarded_by marks q) h
 
-  -- each that the code finds is one
+  -- each reference that the code finds is unguarded
   found_unguarded : (p : Tree) → AllByRecursion (Unguarded bodies p) (unguarded_by marks p)
   found_unguarded (tree.Lit s) = tt
   found_unguarded (tree.Len n) = tt
@@ -80,7 +80,7 @@ module _ (bodies : List Tree) (marks : List Bool) (exact : AreExact bodies marks
   free_among p q j true is free h = absurd (free ((exact p).0 is))
   free_among p q j false is free h = h
 
-  -- and each is found
+  -- and each unguarded reference is found
   all_found : (p : Tree) (j : ℕ) → Unguarded bodies p j → Among (unguarded_by marks p) j
   all_found (tree.Lit s) j u = absurd u
   all_found (tree.Len n) j u = absurd u
@@ -138,7 +138,7 @@ unguarded_inside bodies n (tree.Alt p q) j h (inr u) = unguarded_inside bodies n
 unguarded_inside bodies n (tree.Cond p v) j h u = unguarded_inside bodies n p j h u
 unguarded_inside bodies n (tree.Imm p v) j h u = unguarded_inside bodies n p j h u
 
--- a body of which all references are to definitions
+-- a body whose references are all to definitions
 closed_body : (n : ℕ) (bodies : List Tree) (i : ℕ) (body : Tree) → list_all (refs_below n) bodies ≡ true → slice_get bodies i ≡ Some body → refs_below n body ≡ true
 closed_body n [] i body h is = cc
 closed_body n (p ∷ bodies) zero body h is = let same : p ≡ body = cc in rw (← same) (and_parts (refs_below n p) (list_all (refs_below n) bodies) h).0

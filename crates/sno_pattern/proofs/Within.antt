@@ -13,7 +13,7 @@ use Rattle.sno_pattern.specs.Laws.{AllEnds, Within}
 use Rattle.sno_pattern.specs.declared.events.Event.{Event}
 use Rattle.sno_pattern.proofs.EachEnd.{AllEnds-map, AllEnds-cut, AllEnds-append, AllEnds-go_on, AllEnds-assign_later, AllEnds-assign_now, AllEnds-ends, AllOf, AllOf-filter, AllOf-end_if}
 
--- a front that stands there is no longer than what there is
+-- a list with which another one begins is no longer than that one
 front_fits : (xs s : List ℕ) → starts_with nat_eq xs s ≡ true → length s ≤ length xs
 front_fits xs [] h = omega arith
 front_fits [] (y ∷ s) h = cc
@@ -92,7 +92,7 @@ within_rounds t once h (suc n) c i = (
       (once c) (h c i),
 )
 
--- by the tree, where it holds of what references do
+-- by the tree, if it holds of what references do
 pub within_of : (t : List ℕ) (named : ℕ → ℕ → List Event) → ((i : ℕ) → IsWithin t (named i)) → (p : Tree) → IsWithin t (results_of t named p)
 unfolding results_of
 within_of t named h (tree.Lit s) c i = AllEnds-ends (Within t c) (literal_ends t s c) (within_literal t c i s)

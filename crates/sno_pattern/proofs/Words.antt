@@ -37,14 +37,14 @@ module _ (word : ℕ) (members : List ℕ) (first i : ℕ) (more : i < length me
       ∙ ap (λ b. has (take i members) (first + place) || b) (ne_eqb (get_or members i 0) (first + place) isnt)
       ∙ or_false (has (take i members) (first + place))
 
-  -- a character that these bits don't tell of
+  -- a character that these bits say nothing of
   pub outside : (new : ℕ) → new ≡ word → (get_or members i 0 < first) ⊎ (first + 64 ≤ get_or members i 0) → Tells new (take (i + 1) members) first
   outside new same_word far place below =
       ap (λ v. is_set v place) same_word
       ∙ told place below
       ∙ sym (other place (λ is. elim far [ inl h ↦ omega arith | inr h ↦ omega arith ]))
 
-  -- and one whose bit is set
+  -- and a character whose bit is set
   pub inside : (new at : ℕ) → new ≡ bit_or word (1 * 2 ^ at % 2 ^ 64) → at ≡ get_or members i 0 - first → first ≤ get_or members i 0 → at < 64 → Tells new (take (i + 1) members) first
   inside new at with_it is low below place lower =
       ap (λ v. is_set v place) with_it
@@ -59,7 +59,7 @@ module _ (word : ℕ) (members : List ℕ) (first i : ℕ) (more : i < length me
             ∙ sym (other place (λ there. e.1 (omega arith)))
       ]
 
--- no member is above
+-- no member is above 127
 none_above : (members : List ℕ) (x : ℕ) → list_all is_ascii members ≡ true → 128 ≤ x → has members x ≡ false
 none_above [] x h high = refl
 none_above (m ∷ members) x h high =
@@ -77,7 +77,7 @@ beyond low high zero = refl
 beyond low high (suc zero) = refl
 beyond low high (suc (suc k)) = refl
 
--- the two words tell of every character
+-- the two words cover every character
 by_words : (members : List ℕ) (low high x : ℕ) → list_all is_ascii members ≡ true → Tells low members 0 → Tells high members 64
     → (x < 64) ⊎ (64 ≤ x) → (x < 128) ⊎ (128 ≤ x) → is_set (slice_index (words low high) (x / 64)) (x % 64) ≡ has members x
 by_words members low high x h told_low told_high (inl a) b =

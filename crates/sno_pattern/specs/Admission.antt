@@ -1,4 +1,4 @@
--- What `Rules::admit` answers.
+-- What `Rules::admit` returns.
 use Rattle.std.specs.Prelude.{◌≡◌, ℕ, ◌<◌, not, List, [], ◌∷◌, length, nat_eq, Option, Some, None, Result, Ok, Err}
 use Rattle.std.specs.List.{position_from, IsDistinct}
 use Rattle.sno_pattern.specs.Tree.{Tree, refs_below}
@@ -16,7 +16,7 @@ abbrev pub IsWay : List Tree → ℕ → List ℕ → ℕ → Type 0
 IsWay bodies i [] j = Leads bodies i j
 IsWay bodies i (x ∷ rest) j = Leads bodies i x × IsWay bodies x rest j
 
--- distinct definitions, `start` the first, that lead each to the next and the last to the first
+-- distinct definitions that begin with `start`; each leads to the next, and the last to the first
 abbrev pub IsCycle : List Tree → ℕ → List ℕ → Type 0
 IsCycle bodies start [] = ⊥
 IsCycle bodies start (i ∷ rest) = (i ≡ start) × IsWay bodies start rest start × IsDistinct nat_eq (i ∷ rest)
@@ -25,8 +25,8 @@ IsCycle bodies start (i ∷ rest) = (i ≡ start) × IsWay bodies start rest sta
 abbrev pub IsFirstCycle : List Tree → List ℕ → Type 0
 IsFirstCycle bodies cycle = (start : ℕ) × IsCycle bodies start cycle × ((j : ℕ) → j < start → Chain bodies j j → ⊥)
 
--- what `Rules::admit` answers for names and as many bodies: the first definition that refers past the last; then a cycle, from the
--- first definition that lies on one; and else these definitions, which are guarded. Memory may be refused in place of the last two.
+-- what `Rules::admit` returns for names and as many bodies: the first definition that refers past the last; then a cycle, from the
+-- first definition that lies on one; otherwise these definitions, which are guarded. `Memory` may come instead of the last two.
 abbrev pub IsAdmitted : Result Definitions RulesFault → List (List ℕ) → List Tree → Type 0
 IsAdmitted (Ok rules) names bodies = (first_bad_ref bodies ≡ None) × Guarded bodies × (rules ≡ record { names = names; bodies = bodies })
 IsAdmitted (Err (fault.BadRef place)) names bodies = first_bad_ref bodies ≡ Some place

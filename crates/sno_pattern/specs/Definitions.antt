@@ -10,7 +10,7 @@ pub record Definitions : Type 0 where
   pub names : List (List ℕ)
   pub bodies : List Tree
 
--- a tree is stored as a pattern that has it
+-- a tree is stored as a pattern with this tree
 abbrev pub tree_code : Coded Tree
 tree_code = code_by _ stored.the_row.coded stored_pattern tree_of tree_of-stored_pattern
 

@@ -1,5 +1,5 @@
--- Worked examples, computed from the definitions: each holds by computation alone. Texts and patterns are written out, so that
--- a reader can compare them with the manual.
+-- Worked examples: each is proved by computing from the definitions alone. Texts and patterns are written out, so that a reader
+-- can compare them with the manual.
 use Rattle.std.specs.Prelude.{◌≡◌, ℕ, true, false, List, [], ◌∷◌, Some, None, codes, refl}
 use Rattle.sno_pattern.specs.Tree.{Lit, Len, Pos, Rpos, Tab, Rtab, AnyOf, NoneOf, Span, Break, Arb, Arbno, Bal, Rem, Fence, Abort, Fail, At, Ref, Seq, Alt, Cond, Imm}
 use Rattle.sno_pattern.specs.Events.{CondList}
@@ -47,7 +47,7 @@ second_start : outcome (codes "ab") [] (Lit (codes "b")) false ≡ matched [] 1 
 unfolding outcome_at results_of definition_results
 second_start = refl
 
--- LEN(1) $ C 'z' on abc: each assignment stays though the match fails
+-- LEN(1) $ C 'z' on abc: each assignment stays, though the match fails
 immediate_stays : outcome (codes "abc") [] (Seq (Imm (Len 1) (codes "C")) (Lit (codes "z"))) false ≡ failed (part_of (codes "C") 0 1 ∷ part_of (codes "C") 1 2 ∷ part_of (codes "C") 2 3 ∷ [])
 unfolding outcome_at results_of definition_results
 immediate_stays = refl
@@ -192,17 +192,17 @@ trials_of_arb : trials (codes "abc") [] (Seq Arb (Lit (codes "c"))) true ≡ 6
 unfolding trials_at results_of definition_results
 trials_of_arb = refl
 
--- anchored, ARB 'z' on ab: three ends, and 'z' after each
+-- anchored, ARB 'z' on ab: three ends, and 'z' is tried after each
 trials_of_all_ends : trials (codes "ab") [] (Seq Arb (Lit (codes "z"))) true ≡ 6
 unfolding trials_at results_of definition_results
 trials_of_all_ends = refl
 
--- anchored, BAL 'z' on (a)b: two ends, and 'z' after each; that there is no third end costs nothing
+-- anchored, BAL 'z' on (a)b: two ends, and 'z' is tried after each; finding no third end costs nothing
 trials_of_bal : trials (codes "(a)b") [] (Seq Bal (Lit (codes "z"))) true ≡ 4
 unfolding trials_at results_of definition_results
 trials_of_bal = refl
 
--- anchored, ARBNO('') RPOS(0) on ab: a repetition is no leaf and costs nothing, its part and what follows cost one each
+-- anchored, ARBNO('') RPOS(0) on ab: a repetition is not a leaf and costs nothing; its part and what follows cost one each
 trials_of_a_repetition : trials (codes "ab") [] (Seq (Arbno (Lit [])) (Rpos 0)) true ≡ 2
 unfolding trials_at results_of definition_results
 trials_of_a_repetition = refl

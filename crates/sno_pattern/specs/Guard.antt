@@ -3,9 +3,15 @@ use Rattle.std.specs.Prelude.{◌≡◌, ℕ, suc, ◌⊎◌, List, ◌∷◌, S
 use Rattle.sno_pattern.specs.Tree as tree
 use Rattle.sno_pattern.specs.Tree.{Tree}
 
--- A part that takes a character wherever it ends, by the least such rule: a literal that is not null, `LEN` of at least one,
--- ANY, NOTANY, SPAN, BAL, FAIL and ABORT; a concatenation of which either part takes; an alternation of which both parts do;
--- an assignment whose part takes; and a reference to a definition whose body takes. Nothing else does.
+-- A part that takes a character wherever it ends. This is the least rule by which these take:
+-- - a literal that is not null, and `LEN` of at least one;
+-- - ANY, NOTANY, SPAN, BAL, FAIL and ABORT;
+-- - a concatenation, if either part takes;
+-- - an alternation, if both parts take;
+-- - an assignment, if its part takes;
+-- - a reference, if the body of its definition takes.
+--
+-- Nothing else takes.
 pub data Takes (bodies : List Tree) : Tree → Type 0 where
   literal : {x : ℕ} {s : List ℕ} → Takes bodies (tree.Lit (x ∷ s))
   len : {n : ℕ} → Takes bodies (tree.Len (suc n))
@@ -22,7 +28,7 @@ pub data Takes (bodies : List Tree) : Tree → Type 0 where
   imm : {p : Tree} {v : List ℕ} → Takes bodies p → Takes bodies (tree.Imm p v)
   ref : {i : ℕ} {body : Tree} → slice_get bodies i ≡ Some body → Takes bodies body → Takes bodies (tree.Ref i)
 
--- the reference i stands in the pattern with no part before it, in its concatenations, that takes
+-- the reference i is in the pattern, and in its concatenations no part before it takes
 abbrev pub Unguarded : List Tree → Tree → ℕ → Type 0
 Unguarded bodies (tree.Ref j) i = i ≡ j
 Unguarded bodies (tree.Seq p q) i = Unguarded bodies p i ⊎ ((Takes bodies p → ⊥) × Unguarded bodies q i)
@@ -36,7 +42,7 @@ Unguarded bodies _ i = ⊥
 abbrev pub Leads : List Tree → ℕ → ℕ → Type 0
 Leads bodies i j = (body : Tree) × (slice_get bodies i ≡ Some body) × Unguarded bodies body j
 
--- a chain of such references from i to j, of one or more
+-- a chain of one or more such references from i to j
 pub data Chain (bodies : List Tree) : ℕ → ℕ → Type 0 where
   one : {i j : ℕ} → Leads bodies i j → Chain bodies i j
   more : {i j k : ℕ} → Chain bodies i j → Leads bodies j k → Chain bodies i k

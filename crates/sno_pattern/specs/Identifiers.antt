@@ -3,8 +3,9 @@ use Rattle.std.specs.Prelude.{ℕ, Bool, false, ◌&&◌, ◌||◌, List, [], �
 use Rattle.std.specs.List.{list_any, list_all}
 use Rattle.std.specs.Cmp.Lexicographic.{pointwise}
 use Rattle.std.specs.Char.{is_ascii_alphabetic, is_ascii_alphanumeric}
+use Rattle.sno_pattern.specs.declared.identifiers.TheConstants.{MAX_NAME}
 
--- what may stand in a name after its first letter: a letter, a digit, a period or an underscore
+-- what may follow the first letter of a name: a letter, a digit, a period or an underscore
 unfoldable pub is_name_char : ℕ → Bool
 is_name_char c = is_ascii_alphanumeric c || (nat_eq c 46 || nat_eq c 95)
 
@@ -15,7 +16,7 @@ is_letter c = is_ascii_alphabetic c
 -- a name: a letter, then characters of names, at most 64 in all
 abbrev pub is_name : List ℕ → Bool
 is_name [] = false
-is_name (c ∷ cs) = is_letter c && (list_all is_name_char cs && nat_lt (length cs) 64)
+is_name (c ∷ cs) = is_letter c && (list_all is_name_char cs && nat_lt (length cs) MAX_NAME)
 
 -- what `Name::read` makes of bytes
 abbrev pub name_of : List ℕ → Option (List ℕ)
@@ -25,7 +26,7 @@ name_of bytes = if is_name bytes then Some bytes else None
 abbrev pub same : List ℕ → List ℕ → Bool
 same = pointwise nat_eq
 
--- the words that stand for primitives, which no variable and no definition may have as its name
+-- the names of primitives, which no variable and no definition may have as its name
 abbrev pub reserved_words : List (List ℕ)
 reserved_words =
     codes "ARB" ∷ codes "BAL" ∷ codes "REM" ∷ codes "FENCE" ∷ codes "ABORT" ∷ codes "FAIL" ∷ codes "LEN" ∷ codes "POS"

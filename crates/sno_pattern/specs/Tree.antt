@@ -1,4 +1,4 @@
--- Patterns by value: the trees of `Pattern` without where their parts lie in memory.
+-- Patterns by value: the trees of `Pattern`, without the places of their parts in memory.
 use Rattle.std.specs.Prelude.{◌≡◌, ℕ, Bool, true, ◌&&◌, List, map, nat_lt, refl}
 use Rattle.std.proofs.Common.{Box, Global}
 use denote.RawPtr.{null_ptr}
@@ -75,7 +75,7 @@ refs_below n _ = true
 abbrev nowhere : Box (Unit {0}) Global
 nowhere = record { ptr = null_ptr; alloc = record { memory = record { seal = tt } }; value = tt }
 
--- A pattern with this tree, at no place in memory: by it a proof tells trees apart.
+-- A pattern with this tree, at no place in memory. Proofs use it to show that trees differ.
 abbrev pub stored_pattern : Tree → Pattern
 stored_pattern (Lit s) = pattern.Lit s
 stored_pattern (Len n) = pattern.Len n

@@ -18,7 +18,7 @@ fn is_marked(marks: &[bool], number: usize) -> bool
     }
 }
 
-// Whether the pattern takes a character wherever it matches, where the marks say which definitions do.
+// Whether the pattern takes a character wherever it matches. The marks say which definitions do.
 fn takes(marks: &[bool], pattern: &Pattern) -> bool
     ensures { result ≡ takes_by marks.now (tree_of pattern.now) }
 {
@@ -35,7 +35,7 @@ fn takes(marks: &[bool], pattern: &Pattern) -> bool
     }
 }
 
-// The first definition that takes by the marks and has none.
+// The first definition that takes by the marks and has no mark.
 fn find_unmarked(bodies: &[Pattern], marks: &[bool]) -> Option<usize>
     requires { length marks.now ≡ length bodies.now }
     ensures { MatchOption result (AreComplete (trees bodies.now) marks.now) (λ i. IsUnmarked (trees bodies.now) marks.now i) }
@@ -48,7 +48,7 @@ fn find_unmarked(bodies: &[Pattern], marks: &[bool]) -> Option<usize>
     None
 }
 
-// Marks each definition that takes. The marks to begin with stand on such definitions alone.
+// Marks each definition that takes. At the start, only such definitions may be marked.
 fn mark(bodies: &[Pattern], marks: &mut [bool])
     requires as_many { length marks.old ≡ length bodies.now }
     requires sound { AreSound (trees bodies.now) marks.old }
@@ -69,7 +69,7 @@ fn marks_of(alloc: Global, bodies: &[Pattern]) -> Result<Vec<bool>, AllocError>
     Ok(marks)
 }
 
-// Puts the unguarded references of the pattern after those found so far. Whether the pattern takes is answered.
+// Appends the unguarded references of the pattern to `found`. Returns whether the pattern takes.
 fn find_unguarded(
     marks: &[bool],
     pattern: &Pattern,
@@ -108,7 +108,7 @@ fn find_unguarded(
     }
 }
 
-// The definitions to which one leads.
+// The definitions to which the one at `from` has an unguarded reference.
 fn references(
     alloc: Global,
     bodies: &[Pattern],
@@ -125,7 +125,7 @@ fn references(
     Ok(found)
 }
 
-// A way from a definition to the target, the last step first, through definitions that were not seen.
+// A way from a definition to the target, through definitions that weren't seen before. Its last step comes first.
 fn way(
     alloc: Global,
     bodies: &[Pattern],
@@ -159,7 +159,7 @@ fn way(
     Ok(None)
 }
 
-// So many marks, of which one alone stands.
+// `count` marks; only the one at `number` is set.
 fn only(alloc: Global, count: usize, number: usize) -> Result<Vec<bool>, AllocError>
     requires { number < count }
     ensures { IfOk result (λ v. v.items ≡ slice_set (replicate count false) number true) }
@@ -193,7 +193,7 @@ fn cycle_from(
     }
 }
 
-/// A cycle of unguarded references, from the first definition that lies on one; none where the definitions are guarded.
+/// A cycle of unguarded references, from the first definition that lies on one; `None` if the definitions are guarded.
 pub(crate) fn first_cycle(
     alloc: Global,
     bodies: &[Pattern],

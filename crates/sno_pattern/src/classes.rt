@@ -10,7 +10,7 @@ use crate::tables::Table;
 use std::fmt;
 use std::marker::Model;
 
-/// A set of ASCII characters with at least one member, as `SPAN` and its kin take it.
+/// A set of ASCII characters with at least one member, as `SPAN` and the other primitives with sets take it.
 #[derive(Drop)]
 pub struct Class {
     members: Vec<u8>,
@@ -30,8 +30,8 @@ impl Model for Class {
 }
 
 impl Class {
-    /// The set of these characters, in any order and as often as they stand there; none where the list is empty
-    /// or has a byte above 127. It takes no memory.
+    /// The set of these characters, which may come in any order and repeat. `None` if the list is empty or has a byte above
+    /// 127. It takes no memory.
     pub fn new(members: Vec<u8>) -> Option<Class>
         ensures { result ≡ class_of members.items }
     {
@@ -42,7 +42,7 @@ impl Class {
         Some(Class { members, table })
     }
 
-    /// The characters that it was made of, in the order and as often as they stood there.
+    /// The characters that it was made of, in their order and with their repetitions.
     #[inline(always)]
     pub fn members(&self) -> &[u8]
         ensures { result.now ≡ self.now }

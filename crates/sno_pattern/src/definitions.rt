@@ -5,6 +5,7 @@ ghost use Rattle.std.specs.List.{list_all, position_from};
 ghost use Rattle.sno_pattern.specs.Tree.{tree_of, trees, refs_below};
 ghost use Rattle.sno_pattern.specs.Guard.{Guarded};
 ghost use Rattle.sno_pattern.specs.Admission.{IsAdmitted, first_bad_ref};
+ghost use Rattle.sno_pattern.specs.declared.name_list.TheConstants.{MAX_DEFINITIONS};
 
 use crate::admission::first_cycle;
 use crate::{Name, Names, Pattern};
@@ -36,13 +37,13 @@ impl Model for Rules {
 /// Why definitions are not admitted.
 #[derive(Debug, PartialEq, Eq, Drop, Error)]
 pub enum RulesFault {
-    /// The definition with this number, the first of such, refers past the last.
+    /// The first definition that refers past the last one, by its number.
     #[error("bad reference in definition {0}")]
     BadRef(usize),
     /// Definitions on a cycle of references that takes no character.
     #[error("unguarded")]
     Unguarded(Vec<usize>),
-    /// Memory was refused.
+    /// Out of memory.
     #[error("out of memory")]
     Memory,
 }
@@ -50,10 +51,13 @@ pub enum RulesFault {
 impl Rules {
     /// These definitions, with as many bodies as names.
     ///
-    /// Refused, in this order: `BadRef` with the first definition that refers past the last; `Unguarded` with distinct
-    /// definitions of which each refers to the next, and the last to the first, with no part before the reference that takes a
-    /// character; the first of them is the first definition that lies on such a cycle; `Memory`. Names and bodies are
-    /// dropped then.
+    /// Refused, in this order:
+    /// - `BadRef` with the first definition that refers past the last one;
+    /// - `Unguarded` with a cycle: distinct definitions, each of which refers to the next, and the last to the first. No part
+    ///   before such a reference takes a character. The cycle begins with the first definition that lies on one;
+    /// - `Memory`.
+    ///
+    /// If refused, names and bodies are dropped.
     pub fn admit(alloc: Global, names: Names, bodies: Vec<Pattern>) -> Result<Rules, RulesFault>
         requires { length names ≡ length bodies.items }
         ensures { IsAdmitted result names (trees bodies.items) }
@@ -82,8 +86,8 @@ impl Rules {
         self.bodies.get(number)
     }
 
-    /// The patterns of all definitions, in order. Each reference in them is to one of them, and each cycle of references
-    /// takes a character.
+    /// The patterns of all definitions, in order. Each reference in them is to one of them, and each cycle
+    /// of references takes a character.
     pub fn bodies(&self) -> &[Pattern]
         ensures value { trees result.now ≡ self.now.bodies }
         ensures closed { IsTrue (list_all (refs_below (length self.now.bodies)) self.now.bodies) }
@@ -99,7 +103,7 @@ impl Rules {
         self.names.get(number)
     }
 
-    /// The names, as they were handed in.
+    /// The names, as they were passed.
     pub fn names(&self) -> &Names
         ensures value { result.now ≡ self.now.names }
         ensures as_many { length self.now.names ≡ length self.now.bodies }
@@ -110,12 +114,12 @@ impl Rules {
     /// How many definitions there are, at most 64.
     pub fn len(&self) -> usize
         ensures value { result ≡ length self.now.bodies }
-        ensures few { result ≤ 64 }
+        ensures few { result ≤ MAX_DEFINITIONS }
     {
         self.names.len()
     }
 
-    /// Whether there is none.
+    /// Whether there are no definitions.
     pub fn is_empty(&self) -> bool
         ensures { IsTrue result ↔ (self.now.bodies ≡ []) }
     {
@@ -130,7 +134,7 @@ fn first_bad_ref(bodies: &[Pattern]) -> Option<usize>
     first_past(bodies.len(), bodies)
 }
 
-// The first pattern that refers past so many definitions.
+// The first pattern that refers past `count` definitions.
 fn first_past(count: usize, bodies: &[Pattern]) -> Option<usize>
     ensures { result ≡ position_from (λ p. not (refs_below count (tree_of p))) 0 bodies.now }
 {

@@ -53,7 +53,7 @@ impl Assigns {
     }
 }
 
-/// Conditional assignments: of each a variable and the two cursors of its part, in the order in which the parts ended.
+/// Conditional assignments, in the order in which their parts ended: each a variable and the two cursors of its part.
 #[derive(Debug, Drop)]
 pub struct Conds {
     parts: Vec<(Name, usize, usize)>,
@@ -81,19 +81,12 @@ impl Conds {
     {
         &self.parts
     }
-
-    /// The assignments, given back. It takes no memory.
-    pub fn into_vec(self) -> Vec<(Name, usize, usize)>
-        ensures { result.items ≡ self }
-    {
-        self.parts
-    }
 }
 
 /// One event of a match.
 #[derive(Debug, Drop)]
 pub enum Event {
-    /// A trial: a leaf is met at a cursor, or backed into for a further end of it.
+    /// A trial: a leaf is met at a cursor, or backed into for a further end.
     Try,
     /// A variable is assigned at once.
     Set(Assign),

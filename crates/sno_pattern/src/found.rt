@@ -1,4 +1,4 @@
-//! What came of a match.
+//! The outcome of a match.
 use crate::{Assigns, Conds};
 
 /// A success.
@@ -12,11 +12,11 @@ pub struct Hit {
     pub conds: Conds,
 }
 
-/// What came of a match: the immediate and cursor assignments that were done, in order, and the success, if it was one.
+/// The outcome of a match: the immediate assignments that were done, in order, and the success, if there is one.
 #[derive(Debug, Drop)]
 pub struct Found {
-    /// The assignments that were done at once, also where they were backed over.
+    /// The assignments that were done at once, including those that were backed over.
     pub sets: Assigns,
-    /// The success; none where the match failed.
+    /// The success; `None` if the match failed.
     pub end: Option<Hit>,
 }

@@ -19,7 +19,7 @@ pub const MAX_NAME: usize = 64;
 /// at most 64 characters in all.
 #[derive(Clone, Copy)]
 pub struct Name {
-    letters: [u8; 64],
+    letters: [u8; MAX_NAME],
     len: u8,
 }
 
@@ -27,16 +27,17 @@ impl Model for Name {
     ghost use Rattle.std.specs.Prelude.{◌≡◌, ◌-◌, ◌≤◌, ◌++◌, ℕ, List, length, take, replicate, IsTrue};
     ghost use Rattle.sno_pattern.specs.Identifiers.{is_name};
     ghost use Rattle.sno_pattern.specs.Padding.{length-front, front-padding};
+    ghost use Rattle.sno_pattern.specs.declared.identifiers.TheConstants.{MAX_NAME};
 
     ghost Value = { List ℕ };
 
     ghost view = { λ s. take s.len s.letters };
 
-    ghost invariant = { λ s. (s.len ≤ 64) × (length s.letters ≡ 64)
-        × (s.letters ≡ take s.len s.letters ++ replicate (64 - s.len) 0)
+    ghost invariant = { λ s. (s.len ≤ MAX_NAME) × (length s.letters ≡ MAX_NAME)
+        × (s.letters ≡ take s.len s.letters ++ replicate (MAX_NAME - s.len) 0)
         × IsTrue (is_name (take s.len s.letters)) };
 
-    ghost inverse = { λ name. record { letters = name ++ replicate (64 - length name) 0; len = length name } };
+    ghost inverse = { λ name. record { letters = name ++ replicate (MAX_NAME - length name) 0; len = length name } };
 
     ghost inverse_ok = { λ s h i. record {
       letters = front-padding s.letters s.len h.0 h.1 h.2 i;
@@ -45,7 +46,7 @@ impl Model for Name {
 }
 
 impl Name {
-    /// The name that the bytes spell: a letter, then letters, digits, `.` and `_`, 1 to 64 characters.
+    /// The name that the bytes spell: a letter, then letters, digits, `.` and `_`, 1 to 64 characters; `None` for other bytes.
     pub fn read(bytes: &[u8]) -> Option<Name>
         ensures { result ≡ name_of bytes.now }
     {
@@ -66,8 +67,8 @@ impl Name {
         &self.letters[..self.len as usize]
     }
 
-    /// Whether the name is one of the sixteen words that stand for primitives: `ARB`, `BAL`, `REM`, `FENCE`,
-    /// `ABORT`, `FAIL`, `LEN`, `POS`, `RPOS`, `TAB`, `RTAB`, `ANY`, `NOTANY`, `SPAN`, `BREAK` and `ARBNO`.
+    /// Whether the name is one of the sixteen reserved words, the names of primitives: `ARB`, `BAL`, `REM`, `FENCE`, `ABORT`,
+    /// `FAIL`, `LEN`, `POS`, `RPOS`, `TAB`, `RTAB`, `ANY`, `NOTANY`, `SPAN`, `BREAK` and `ARBNO`.
     pub fn is_reserved(&self) -> bool
         ensures { result ≡ is_reserved self.now }
     {
@@ -76,11 +77,11 @@ impl Name {
 }
 
 // The characters, with zeros after them.
-fn pad(characters: &[u8]) -> [u8; 64]
-    requires { length characters.now ≤ 64 }
-    ensures { result ≡ characters.now ++ replicate (64 - length characters.now) 0 }
+fn pad(characters: &[u8]) -> [u8; MAX_NAME]
+    requires { length characters.now ≤ MAX_NAME }
+    ensures { result ≡ characters.now ++ replicate (MAX_NAME - length characters.now) 0 }
 {
-    let mut letters = [0; 64];
+    let mut letters = [0; MAX_NAME];
     letters[..characters.len()].copy_from_slice(characters);
     letters
 }
@@ -93,7 +94,7 @@ pub fn is_letter(c: u8) -> bool
     c.is_ascii_alphabetic()
 }
 
-/// Whether a character may stand in a name past its first letter: a letter, a digit, a period or an underscore.
+/// Whether a character may follow the first letter of a name: a letter, a digit, a period or an underscore.
 #[tactic(auto, unfolding(crate::specs::Identifiers::is_name_char))]
 pub fn is_name_char(c: u8) -> bool
     ensures { result ≡ is_name_char c }
@@ -116,7 +117,7 @@ fn is_name(bytes: &[u8]) -> bool
     }
 }
 
-// The words that stand for primitives.
+// The reserved words, which name primitives.
 const RESERVED_WORDS: [&str; 16] = [
     "ARB", "BAL", "REM", "FENCE", "ABORT", "FAIL", "LEN", "POS", "RPOS", "TAB", "RTAB", "ANY",
     "NOTANY", "SPAN", "BREAK", "ARBNO",
@@ -170,7 +171,7 @@ impl fmt::Display for Name {
 
     ghost output = { λ name. Some name };
 
-    // A name is ASCII, so it is always read.
+    // A name is ASCII, so it can always be read.
     fn fmt<W: fmt::Write>(&self, f: &mut fmt::Formatter<W>) -> fmt::Result {
         match str::from_utf8(self.bytes()) {
             Ok(letters) => f.write_str(letters),

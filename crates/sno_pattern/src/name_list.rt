@@ -9,10 +9,10 @@ use std::alloc::{AllocFailed, Global};
 use std::marker::Model;
 use thiserror::Error;
 
-/// The most definitions that there are.
+/// The most definitions that there can be.
 pub const MAX_DEFINITIONS: usize = 64;
 
-/// The names of definitions in their order: at most 64, none of them a reserved word, none twice.
+/// The names of definitions in their order: at most 64, no reserved word among them, and no repeated name.
 #[derive(Drop)]
 pub struct Names {
     set: IndexSet<Name>,
@@ -29,19 +29,19 @@ impl Model for Names {
     ghost invariant = { λ s. AreNames s.set.keys };
 }
 
-/// Why names are no names of definitions.
+/// Why a list can't be the names of definitions.
 #[derive(Clone, Copy, Debug, PartialEq, Eq, Error)]
 pub enum NamesFault {
     /// More than 64 names.
     #[error("too many")]
     TooMany,
-    /// The name at this place is a reserved word; no earlier one is.
+    /// The name at this place is a reserved word, and the first such.
     #[error("reserved name at {0}")]
     Reserved(usize),
-    /// The name at this place stands earlier, too; no earlier one does.
+    /// The name at this place repeats an earlier one, and is the first that does.
     #[error("duplicate at {0}")]
     Duplicate(usize),
-    /// Memory was refused.
+    /// Out of memory.
     #[error("out of memory")]
     Memory,
 }
@@ -60,8 +60,12 @@ impl<T: Drop> From<AllocFailed<T>> for NamesFault {
 impl Names {
     /// These names, as names of definitions in this order.
     ///
-    /// Refused, in this order: `TooMany` for more than 64, `Reserved` with the place of the first reserved word, `Duplicate`
-    /// with the first place that repeats an earlier one. `Memory` may come in place of the names or of `Duplicate`.
+    /// Refused, in this order:
+    /// - `TooMany` for more than 64 names;
+    /// - `Reserved` with the place of the first reserved word;
+    /// - `Duplicate` with the first place that repeats an earlier one.
+    ///
+    /// `Memory` may come instead of the names or of `Duplicate`.
     pub fn new(alloc: Global, names: &[Name]) -> Result<Names, NamesFault>
         ensures { GivesNames result (names_of names.now) }
     {
@@ -81,21 +85,21 @@ impl Names {
         Ok(Names { set })
     }
 
-    /// The number of the definition with this name.
+    /// The number of the definition with this name, if there is one.
     pub fn place(&self, name: &Name) -> Option<usize>
         ensures { result ≡ place_of self.now name.now }
     {
         self.set.get_index_of(name)
     }
 
-    /// The name of the definition with this number.
+    /// The name of the definition with this number, if there is one.
     pub fn get(&self, number: usize) -> Option<&Name>
         ensures { option_copied result ≡ slice_get self.now number }
     {
         self.set.get_index(number)
     }
 
-    /// How many there are, at most 64.
+    /// How many names there are, at most 64.
     pub fn len(&self) -> usize
         ensures value { result ≡ length self.now }
         ensures names { AreNames self.now }
@@ -103,7 +107,7 @@ impl Names {
         self.set.len()
     }
 
-    /// Whether there is none.
+    /// Whether there are no names.
     pub fn is_empty(&self) -> bool
         ensures { IsTrue result ↔ (self.now ≡ []) }
     {

@@ -1,11 +1,11 @@
-//! Sets of characters as bits, so that a member is found by one look.
+//! Sets of characters as bits, so that one look finds whether a character is a member.
 ghost use Rattle.std.specs.Prelude.{◌≡◌, ℕ, ◌+◌, ◌<◌, ◌≤◌, IsTrue};
 ghost use Rattle.std.specs.Char.{is_ascii};
 ghost use Rattle.std.specs.List.{list_all};
 ghost use Rattle.sno_pattern.specs.Classes.{has};
 ghost use Rattle.sno_pattern.specs.Tables.{IsTableOf, is_set, table_has};
 
-// A bit for each byte, 64 of them in a word. Those of bytes above 127 are 0.
+// A bit for each byte, 64 in a word. The bits of bytes above 127 are 0.
 #[derive(Clone, Copy)]
 pub struct Table {
     words: [u64; 4],
@@ -22,7 +22,7 @@ impl Table {
         }
     }
 
-    // Whether the character is one of them. There is no branch in it.
+    // Whether the character is one of them. There is no branch in the code.
     #[inline(always)]
     pub fn has(&self, character: u8) -> bool
         ensures { result ≡ table_has self.now character }

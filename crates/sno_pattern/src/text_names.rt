@@ -15,7 +15,7 @@ use std::hash::{Hash, Hasher};
 use std::marker::Model;
 use thiserror::Error;
 
-/// The most characters that a text's name has.
+/// The most characters that the name of a text can have.
 pub const MAX_TEXT_NAME: usize = 255;
 
 /// The name of a text: 1 to 255 characters, each from `!` to `~`.
@@ -35,13 +35,13 @@ impl Model for TextName {
     ghost invariant = { λ s. IsTrue (is_text_name s.characters.items) };
 }
 
-/// Why there is no name of a text.
+/// Why bytes can't be made a name of a text.
 #[derive(Clone, Copy, Debug, PartialEq, Eq, Error)]
 pub enum NameFault {
-    /// The bytes are none: empty, more than 255, or one of them not from 33 to 126.
+    /// The bytes are not a name: empty, more than 255, or not all from 33 to 126.
     #[error("bad name")]
     Bad,
-    /// Memory was refused.
+    /// Out of memory.
     #[error("out of memory")]
     Memory,
 }
@@ -49,7 +49,7 @@ pub enum NameFault {
 impl TextName {
     /// The name that the bytes are, copied.
     ///
-    /// Refused, in this order: `Bad` where they are no name, `Memory`.
+    /// Refused, in this order: `Bad` if they are not a name, `Memory`.
     pub fn new(alloc: Global, bytes: &[u8]) -> Result<TextName, NameFault>
         ensures { IsTextName result bytes.now }
     {

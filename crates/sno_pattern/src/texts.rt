@@ -10,7 +10,7 @@ use std::fmt;
 use std::marker::Model;
 use thiserror::Error;
 
-/// The most characters that a text has.
+/// The most characters that a text can have.
 pub const MAX_TEXT: usize = 65_536;
 
 /// A text: at most 65,536 ASCII characters, with a cursor before, between and after them.
@@ -23,21 +23,22 @@ impl Model for Text {
     ghost use Rattle.std.specs.Prelude.{ℕ, List, length, ◌≤◌, IsTrue};
     ghost use Rattle.std.specs.List.{list_all};
     ghost use Rattle.std.specs.Char.{is_ascii};
+    ghost use Rattle.sno_pattern.specs.declared.texts.TheConstants.{MAX_TEXT};
 
     ghost Value = { List ℕ };
 
     ghost view = { λ s. s.characters.items };
 
-    ghost invariant = { λ s. (length s.characters.items ≤ 65536) × IsTrue (list_all is_ascii s.characters.items) };
+    ghost invariant = { λ s. (length s.characters.items ≤ MAX_TEXT) × IsTrue (list_all is_ascii s.characters.items) };
 }
 
-/// Why bytes are no text.
+/// Why bytes are not a text.
 #[derive(Clone, Copy, Debug, PartialEq, Eq, Error)]
 pub enum TextFault {
     /// More than 65,536 bytes.
     #[error("too long")]
     TooLong,
-    /// A byte above 127, at this place, the first of such.
+    /// A byte above 127, the first one, at this place.
     #[error("not ASCII at {0}")]
     NonAscii(usize),
 }
@@ -45,8 +46,8 @@ pub enum TextFault {
 impl Text {
     /// The text of these characters. It takes no memory.
     ///
-    /// Refused, in this order: `TooLong` for more than 65,536 bytes, `NonAscii` with the place of the first byte above 127.
-    /// The bytes are dropped then.
+    /// Refused, in this order: `TooLong` for more than 65,536 bytes, `NonAscii` with the place of the first byte above 127. If
+    /// refused, the bytes are dropped.
     pub fn new(characters: Vec<u8>) -> Result<Text, TextFault>
         ensures { result ≡ text_of characters.items }
     {
@@ -63,14 +64,14 @@ impl Text {
     #[inline(always)]
     pub fn bytes(&self) -> &[u8]
         ensures value { result.now ≡ self.now }
-        ensures short { length self.now ≤ 65536 }
+        ensures short { length self.now ≤ MAX_TEXT }
         ensures ascii { IsTrue (list_all is_ascii self.now) }
     {
         self.characters.as_slice()
     }
 }
 
-/// The place of the first byte above 127, if there is one. That there is none is seen a word at a time.
+/// The place of the first byte above 127, if there is one. If there is no such byte, that is seen a word at a time.
 #[tactic(auto, using(crate::proofs::TextLemmas::ascii_none))]
 pub fn first_non_ascii(characters: &[u8]) -> Option<usize>
     ensures { result ≡ first_non_ascii characters.now }

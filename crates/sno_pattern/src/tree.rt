@@ -3,20 +3,20 @@ use crate::{Class, Name, Text};
 
 /// A pattern.
 ///
-/// What each one matches from a cursor is said in `specs/Results.antt`; docs/LANGUAGE.md has an example of each.
+/// `specs/Results.antt` says what each one matches from a cursor; docs/LANGUAGE.md has an example of each.
 #[derive(Debug, PartialEq, Eq, Drop)]
 pub enum Pattern {
-    /// These characters; with none of them the null string.
+    /// These characters; if there are none, the null string.
     Lit(Text),
     /// `LEN(n)`: n characters.
     Len(u32),
-    /// `POS(n)`: the null string, where the cursor is n.
+    /// `POS(n)`: the null string, if the cursor is n.
     Pos(u32),
-    /// `RPOS(n)`: the null string, where n characters are left.
+    /// `RPOS(n)`: the null string, if n characters are left.
     Rpos(u32),
     /// `TAB(n)`: up to cursor n.
     Tab(u32),
-    /// `RTAB(n)`: up to where n characters are left.
+    /// `RTAB(n)`: up to the cursor with n characters left.
     Rtab(u32),
     /// `ANY(s)`: one character of the set.
     AnyOf(Class),

@@ -5,16 +5,7 @@ use Rattle.std.proofs.lemmas.Bool.{ne_eqb}
 use Rattle.std.specs.List.{filter, range_with_len}
 use Rattle.sno_pattern.specs.Ends.{part, balanced, bal_ends}
 use Rattle.sno_primitives.specs.Depth.{depth_after}
-
--- a place is an end where nothing is open
-abbrev pub past : Option ℕ → ℕ → (ℕ → List ℕ) → List ℕ
-past None place others = []
-past (Some depth) place others = cond (nat_eq depth 0) (place ∷ others depth) (others depth)
-
--- the ends after a place, where so many are open
-abbrev pub walk : List ℕ → ℕ → ℕ → List ℕ
-walk [] depth place = []
-walk (x ∷ rest) depth place = past (depth_after depth x) (place + 1) (λ n. walk rest n (place + 1))
+use Rattle.sno_primitives.specs.Walks.{past, walk}
 
 -- two tests that agree from a on
 same_tests : (f g : ℕ → Bool) (n a : ℕ) → ((e : ℕ) → a ≤ e → f e ≡ g e) → filter f (range_with_len a n) ≡ filter g (range_with_len a n)
@@ -84,7 +75,7 @@ bal_is t c =
     ap (λ n. filter (λ e. balanced 0 (part t c e)) (range_with_len (c + 1) n)) (sym (length-drop c t)) ∙ walk_is (drop c t) 0 c
 
 -- one character further
-step : (rest : List ℕ) (i depth place : ℕ) → i < length rest → walk (drop i rest) depth place ≡ past (depth_after depth (get_or rest i 0)) (place + 1) (λ n. walk (drop (i + 1) rest) n (place + 1))
+pub step : (rest : List ℕ) (i depth place : ℕ) → i < length rest → walk (drop i rest) depth place ≡ past (depth_after depth (get_or rest i 0)) (place + 1) (λ n. walk (drop (i + 1) rest) n (place + 1))
 step rest i depth place h =
     ap (λ l. walk l depth place) (drop-cons rest i 0 h)
     ∙ ap (λ k. past (depth_after depth (get_or rest i 0)) (place + 1) (λ n. walk (drop k rest) n (place + 1))) (sym (add-one i))

@@ -1,2 +1,4 @@
-mod BalancedEnds
+pub mod BalancedEnds
+pub mod MateLaws
+pub mod RunLaws
 mod Seeking

@@ -1,11 +1,10 @@
 -- The first character of a text that is in a set.
-use Rattle.std.proofs.Common.{◌≡◌, ℕ, ◌+◌, ◌<◌, ◌≤◌, Bool, true, false, not, cond, ◌||◌, ◌==◌, List, [], ◌∷◌, length, drop, Option, None, Some, slice_index, nat_eq, nat_lt, refl, ap, sym, ◌∙◌, subst, arith, length-drop}
+use Rattle.std.proofs.Common.{◌≡◌, ℕ, ◌<◌, ◌≤◌, Bool, true, false, not, ◌||◌, ◌==◌, List, [], ◌∷◌, length, Option, None, Some, slice_index, nat_eq, refl, ap, sym, ◌∙◌, subst, arith}
 use Rattle.std.specs.List.{take_while, prefix_len}
 use Rattle.std.proofs.lemmas.List.Folds.{length-prefix_len}
 use Rattle.std.proofs.lemmas.List.Sums.{prefix_len-le-length, prefix_len_passes, prefix_len_stops}
 use Rattle.memchr.specs.Find.{IsFirstByte, is_byte, is_byte2, is_byte3}
 use Rattle.sno_pattern.specs.Classes.{has}
-use Rattle.sno_pattern.specs.Ends.{break_ends}
 
 or_none : (b : Bool) → (b || false) ≡ b
 or_none true = refl
@@ -22,7 +21,7 @@ alike f g text r same first = let tests : g ≡ f = λ i x. sym (same x) i in su
 turned : (a x : ℕ) → nat_eq a x ≡ (x == a)
 turned a x = grind (arith)
 
--- one, two or three members are all that a set has
+-- a set that has only one, two or three members
 pub first_of_one : (members : List ℕ) (text : List ℕ) (r : Option ℕ) → 1 ≤ length members → length members < 2
     → IsFirstByte (is_byte (slice_index members 0)) text r → IsFirstByte (has members) text r
 first_of_one [] text r low high first = absurd (omega arith)
@@ -60,33 +59,17 @@ not_false : (b : Bool) → not b ≡ false → b ≡ true
 not_false true h = refl
 not_false false h = cc
 
--- so many characters come before it
+-- this many characters come before it
 module _ (test : ℕ → Bool) (l : List ℕ) where
-  passed_is : (k : ℕ) → IsFirstByte test l (Some k) → length (take_while (λ x. not (test x)) l) ≡ k
+  pub passed_is : (k : ℕ) → IsFirstByte test l (Some k) → length (take_while (λ x. not (test x)) l) ≡ k
   passed_is k first =
       let run : ℕ = prefix_len (λ x. not (test x)) l in
       let early : run < k → ⊥ = λ h. first.0.before run (omega arith) h (not_false (test (slice_index l run)) (prefix_len_stops (λ x. not (test x)) l 0 (omega (arith, first.0.high)))) in
       let late : k < run → ⊥ = λ h. not_true (test (slice_index l k)) (prefix_len_passes (λ x. not (test x)) l k 0 h) first.1 in
       length-prefix_len (λ x. not (test x)) l ∙ omega (arith, early, late)
 
-  all_passed : IsFirstByte test l None → length (take_while (λ x. not (test x)) l) ≡ length l
+  pub all_passed : IsFirstByte test l None → length (take_while (λ x. not (test x)) l) ≡ length l
   all_passed none =
       let run : ℕ = prefix_len (λ x. not (test x)) l in
       let early : run < length l → ⊥ = λ h. none run (omega arith) h (not_false (test (slice_index l run)) (prefix_len_stops (λ x. not (test x)) l 0 h)) in
       length-prefix_len (λ x. not (test x)) l ∙ omega (arith, early, prefix_len-le-length (λ x. not (test x)) l)
-
--- where BREAK ends, by the first character that is in the set
-module _ (t s : List ℕ) (c : ℕ) where
-  by_run : (run k : ℕ) (b : Bool) → run ≡ k → nat_lt (c + k) (length t) ≡ b → cond (nat_lt (c + run) (length t)) ((c + run) ∷ []) [] ≡ cond b ((c + k) ∷ []) []
-  by_run run k b is test = ap (λ n. cond (nat_lt (c + n) (length t)) ((c + n) ∷ []) []) is ∙ ap (λ v. cond v ((c + k) ∷ []) []) test
-
-  pub break_here : (k : ℕ) → IsFirstByte (has s) (drop c t) (Some k) → (c + k) ∷ [] ≡ break_ends t s c
-  break_here k first =
-      let high : k < length (drop c t) = first.0.high in
-      let inside : c + k < length t = omega (arith, length-drop c t) in
-      sym (by_run (length (take_while (λ x. not (has s x)) (drop c t))) k true (passed_is (has s) (drop c t) k first) (grind (arith, inside)))
-
-  pub break_nowhere : c ≤ length t → IsFirstByte (has s) (drop c t) None → [] ≡ break_ends t s c
-  break_nowhere low none =
-      let outside : length t ≤ c + length (drop c t) = omega (arith, length-drop c t) in
-      sym (by_run (length (take_while (λ x. not (has s x)) (drop c t))) (length (drop c t)) false (all_passed (has s) (drop c t) none) (grind (arith, outside)))

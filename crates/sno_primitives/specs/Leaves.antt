@@ -21,7 +21,7 @@ leaf_ends t tree.Bal c = bal_ends t c
 leaf_ends t tree.Rem c = rem_ends t c
 leaf_ends t _ c = []
 
--- it has at most one end, and does nothing but to end
+-- the pattern has at most one end, and does nothing but end
 abbrev pub is_single : Tree → Bool
 is_single (tree.Lit s) = true
 is_single (tree.Len n) = true

@@ -1,2 +1,7 @@
-pub mod Leaves
 pub mod Depth
+pub mod Leaves
+pub mod Mates
+pub mod MateTables
+pub mod Runs
+pub mod RunTables
+pub mod Walks

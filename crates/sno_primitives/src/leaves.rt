@@ -9,15 +9,16 @@ use crate::primitives::{
 use crate::runs::{break_end, span_end};
 use sno_pattern::Pattern;
 
-/// Where the primitive ends from the cursor; none where it fails there.
+/// Where the primitive ends from the cursor; `None` if it fails there.
 ///
-/// The primitive has at most one end, and `c` is at most the text's length. The end is no cursor before `c` and none past the end of the text. The call takes no memory.
+/// The primitive has at most one end, and `c` is at most the text's length. The end is at or past `c`, and within the text.
+/// The call takes no memory.
 #[inline(always)]
 pub fn leaf_end(text: &[u8], pattern: &Pattern, c: usize) -> Option<usize>
     requires within { c ≤ length text.now }
     requires single { IsTrue (is_single (tree_of pattern.now)) }
     ensures exact { option_to_list result ≡ leaf_ends text.now (tree_of pattern.now) c }
-    ensures behind { IfSome result (λ e. (c ≤ e) × (e ≤ length text.now)) }
+    ensures past { IfSome result (λ e. (c ≤ e) × (e ≤ length text.now)) }
 {
     match pattern {
         Pattern::Lit(literal) => literal_end(text, literal.bytes(), c),

@@ -1,4 +1,4 @@
-//! Where the primitives end that go over many characters: `SPAN` and `BREAK`.
+//! Where the primitives `SPAN` and `BREAK` end, which go over many characters.
 ghost use Rattle.std.specs.Prelude.{◌≡◌, ◌+◌, ◌≤◌, not, length, drop, nat_eq, nat_lt, option_to_list, IfSome};
 ghost use Rattle.std.specs.List.{take_while};
 ghost use Rattle.sno_pattern.specs.Classes.{has};
@@ -8,12 +8,12 @@ ghost use Rattle.memchr.specs.Find.{IsFirstByte};
 use memchr::{memchr, memchr2, memchr3};
 use sno_pattern::Class;
 
-// How many members of a set are sought as bytes at most.
+// A set with at most this many members is sought as bytes.
 const MOST_BYTES: usize = 3;
 
 // How many characters in a row are in the set.
 #[inline(always)]
-fn run_in(rest: &[u8], set: &Class) -> usize
+pub fn run_in(rest: &[u8], set: &Class) -> usize
     ensures { result ≡ length (take_while (has set.now) rest.now) }
 {
     rest.iter().take_while(|x| set.has(**x)).count()
@@ -27,6 +27,20 @@ fn run_outside(rest: &[u8], set: &Class) -> usize
     rest.iter().take_while(|x| !set.has(**x)).count()
 }
 
+// How many characters in a row are not in the set, sought as bytes if the set has few members.
+#[inline(always)]
+pub fn run_before(rest: &[u8], set: &Class) -> usize
+    ensures { result ≡ length (take_while (λ x. not (has set.now x)) rest.now) }
+{
+    if set.members().len() > MOST_BYTES {
+        return run_outside(rest, set);
+    }
+    match first_by_bytes(rest, set) {
+        Some(passed) => passed,
+        None => rest.len(),
+    }
+}
+
 // The index of the first character that is in the set, by the set's table.
 #[inline(always)]
 fn first_by_table(rest: &[u8], set: &Class) -> Option<usize>
@@ -35,7 +49,8 @@ fn first_by_table(rest: &[u8], set: &Class) -> Option<usize>
     rest.iter().position(|x| set.has(*x))
 }
 
-// The same, where the set has one, two or three members. It stands by itself, since a search for bytes is long code.
+// The index as `first_by_table` finds it; bytes are sought if the set has one, two or three members. Kept out of line, since a
+// search for bytes is long code.
 #[inline(never)]
 fn first_by_bytes(rest: &[u8], set: &Class) -> Option<usize>
     ensures { IsFirstByte (has set.now) rest.now result }
@@ -48,9 +63,9 @@ fn first_by_bytes(rest: &[u8], set: &Class) -> Option<usize>
     }
 }
 
-/// The index of the first character of the text that is in the set; none where there is no such.
+/// The index of the first character of the text that is in the set; `None` if there is no such character.
 ///
-/// Where the set was made of up to three characters, they are sought as bytes. The call takes no memory.
+/// If the set was made of up to three characters, they are sought as bytes. The call takes no memory.
 #[inline(always)]
 pub fn first_in(rest: &[u8], set: &Class) -> Option<usize>
     ensures { IsFirstByte (has set.now) rest.now result }
@@ -62,40 +77,36 @@ pub fn first_in(rest: &[u8], set: &Class) -> Option<usize>
     }
 }
 
-/// Where `SPAN(set)` ends from the cursor: past all characters in a row that are in the set; none where the next one isn't, or the text ends here.
+/// Where `SPAN(set)` ends from the cursor: past all characters in a row that are in the set. `None` if the next one isn't, or
+/// at the end of the text.
 ///
-/// `c` is at most the text's length. The end is no cursor before `c` and none past the end of the text. The call takes no memory.
+/// `c` is at most the text's length. The end is at or past `c`, and within the text. The call takes no memory.
 #[inline(always)]
 pub fn span_end(text: &[u8], set: &Class, c: usize) -> Option<usize>
     requires { c ≤ length text.now }
     ensures exact { option_to_list result ≡ span_ends text.now set.now c }
-    ensures behind { IfSome result (λ e. (c ≤ e) × (e ≤ length text.now)) }
+    ensures past { IfSome result (λ e. (c ≤ e) × (e ≤ length text.now)) }
 {
     let (_, rest) = text.split_at(c);
     let run = run_in(rest, set);
     if run != 0 { Some(c + run) } else { None }
 }
 
-/// Where `BREAK(set)` ends from the cursor: before the first character from here on that is in the set; none where there is no such.
+/// Where `BREAK(set)` ends from the cursor: before the first character from there on that is in the set; `None` if
+/// there is no such character.
 ///
-/// `c` is at most the text's length. The end is no cursor before `c` and none past the end of the text. The call takes no memory.
+/// `c` is at most the text's length. The end is at or past `c`, and within the text. The call takes no memory.
 #[inline(always)]
 pub fn break_end(text: &[u8], set: &Class, c: usize) -> Option<usize>
     requires { c ≤ length text.now }
     ensures exact { option_to_list result ≡ break_ends text.now set.now c }
-    ensures behind { IfSome result (λ e. (c ≤ e) × (e ≤ length text.now)) }
+    ensures past { IfSome result (λ e. (c ≤ e) × (e ≤ length text.now)) }
 {
     let (_, rest) = text.split_at(c);
-    if set.members().len() > MOST_BYTES {
-        // To count is quicker here than to seek.
-        let run = run_outside(rest, set);
-        if run < rest.len() {
-            return Some(c + run);
-        }
-        return None;
-    }
-    match first_by_bytes(rest, set) {
-        Some(passed) => Some(c + passed),
-        None => None,
+    let run = run_before(rest, set);
+    if run < rest.len() {
+        Some(c + run)
+    } else {
+        None
     }
 }

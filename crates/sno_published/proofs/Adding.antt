@@ -15,7 +15,8 @@ shown log = []
 abbrev moved : List Entry → List Entry → ℕ → Type 0
 moved before after answer = Unit {0}
 
--- where the word is the number that was seen, the entry is added to what was seen; else nothing is added, and all is seen
+-- if the word is the number that was seen, the entry is added to what was seen; otherwise nothing is added, and all is
+-- seen
 adds_goes : (log seen : List Entry) (e : Entry) (count : ℕ) → length seen ≡ count → IsPrefix seen log → (b : Bool) → (length log == count) ≡ b
     → Goes IsCounted shown moved 0 (seen, (no_nib, None)) (λ n. either (n == count) (count + 1) n) (Adds (step 0 count (count + 1) e) (seen, (no_nib, None))) ((length log, true) ∷ (0, true) ∷ []) log
 adds_goes log seen e count long begins true is =

@@ -15,6 +15,6 @@ one_rest before (x ∷ []) e long last =
     let same : x ≡ e = cc in ap (λ (y : Entry). before ++ y ∷ []) same
 one_rest before (x ∷ y ∷ rest) e long last = absurd (omega (arith, length-append before (x ∷ y ∷ rest), long))
 
--- where one entry was added, the last one is what was added
+-- if one entry was added, the last one is what was added
 pub one_more : (before after : List Entry) (e : Entry) → IsPrefix before after → length after ≡ length before + 1 → last_of after ≡ Some e → after ≡ before ++ e ∷ []
 one_more before after e begins long last = sym begins.1 ∙ one_rest before begins.0 e (ap length begins.1 ∙ long) (ap last_of begins.1 ∙ last)

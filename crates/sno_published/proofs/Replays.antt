@@ -18,7 +18,7 @@ use Rattle.sno_published.specs.StoredTexts.{called, named, contents, IsReplay}
 use Rattle.sno_published.specs.Tables.{text_after, text_at}
 use Rattle.sno_published.specs.declared.stored_texts.StoredText.{StoredText}
 
--- what stands at a place has the name of that place
+-- a stored text has the name of its place
 pub row_at : (names : List (List ℕ)) (stored : List StoredText) (k : ℕ) → length stored ≡ length names
     → slice_get (named names stored) k ≡ option_map (λ s. called (slice_index_or names k []) s) (slice_get stored k)
 row_at [] [] k many = refl
@@ -33,7 +33,7 @@ pub text_row : (opening : Opening) (entries : List Entry) (stored : List StoredT
 text_row opening entries stored k is =
     ap (λ (s : State). slice_get s k) (sym is.texts) ∙ row_at (names_in opening.texts) stored k (is.as_many ∙ sym (length-map opening.texts (λ (t : List ℕ × List ℕ). t.0)))
 
--- what is put at the place of a name takes the place of the text of that name
+-- a text that is put at the place of a name replaces the text of that name
 renew_at : (name text : List ℕ) (k version : ℕ) (names : List (List ℕ)) (stored : List StoredText) (new : StoredText) → StandsAt name names k
     → option_map (λ s. s.version) (slice_get stored k) ≡ Some version → arc_value new.text ≡ text → new.version ≡ version + 1 → named names (set stored k new) ≡ renew name text (named names stored)
 renew_at name text k version [] stored new at there is raised = absurd at
@@ -45,12 +45,12 @@ renew_at name text zero version (n ∷ names) (x ∷ stored) new at there is rai
 renew_at name text (suc k) version (n ∷ names) (x ∷ stored) new at there is raised =
     rw at.0 (ap (λ (l : State). called n x ∷ l) (renew_at name text k version names stored new at.1 there is raised))
 
--- the same, by the place of the name
+-- the same, by the place of the name in the list of names
 pub renewed : (name : List ℕ) (k version : ℕ) (names : List (List ℕ)) (stored : List StoredText) (new : StoredText) → place_of names name ≡ Some k
     → option_map (λ s. s.version) (slice_get stored k) ≡ Some version → new.version ≡ version + 1 → named names (set stored k new) ≡ renew name (arc_value new.text) (named names stored)
 renewed name k version names stored new at there raised = renew_at name (arc_value new.text) k version names stored new (stands_at name k names at) there refl raised
 
--- the place of a name is one of the texts that are stored
+-- the place of a name is less than the number of stored texts
 pub place_inside : (opening : Opening) (stored : List StoredText) (name : List ℕ) (k : ℕ) → length stored ≡ length opening.texts → place_of (names_in opening.texts) name ≡ Some k → k < length stored
 place_inside opening stored name k many at =
     let inside = stands_inside name k (names_in opening.texts) (stands_at name k (names_in opening.texts) at) in
@@ -65,16 +65,16 @@ more opening entries e old new is has texts many =
       as_many = many ∙ is.as_many;
     }
 
--- an entry with no new text leaves what is stored
+-- an entry without a new text changes nothing that is stored
 pub kept : (opening : Opening) (entries : List Entry) (e : Entry) (stored : List StoredText) → IsReplay opening entries stored → HasStep (replay (start opening) entries) e
-    → after_of e.done ≡ None → IsReplay opening (entries ++ e ∷ []) stored
+    → after_of e.outcome ≡ None → IsReplay opening (entries ++ e ∷ []) stored
 kept opening entries e stored is has none =
     let state = replay (start opening) entries in
     more opening entries e stored stored is has (is.texts ∙ ap (λ (o : Option (List ℕ)). renew_by e.statement.text o state) (sym none)) refl
 
--- an entry's new text takes the place of the old one
+-- an entry's new text replaces the old one
 pub replaced : (opening : Opening) (entries : List Entry) (e : Entry) (text : List ℕ) (old new : List StoredText) → IsReplay opening entries old → HasStep (replay (start opening) entries) e
-    → after_of e.done ≡ Some text → named (names_in opening.texts) new ≡ renew e.statement.text text (named (names_in opening.texts) old) → length new ≡ length old
+    → after_of e.outcome ≡ Some text → named (names_in opening.texts) new ≡ renew e.statement.text text (named (names_in opening.texts) old) → length new ≡ length old
     → IsReplay opening (entries ++ e ∷ []) new
 replaced opening entries e text old new is has some put many =
     let state = replay (start opening) entries in
@@ -107,7 +107,7 @@ first_named (t ∷ texts) room (s ∷ stored) h =
     let tail : contents stored ≡ first_contents texts = cc in
     let rest = first_named texts room stored tail in (λ i. record { name = t.0; text = text i; version = version i } ∷ rest i)
 
--- the texts of the opening are what no entry leaves
+-- without entries, the stored texts are those of the opening
 pub first : (opening : Opening) (stored : List StoredText) → contents stored ≡ first_contents opening.texts → IsReplay opening [] stored
 first opening stored h =
     record {

@@ -6,14 +6,14 @@ use lib.ListN.{get_elem?}
 use Rattle.left_right.specs.Register.{Admits, TurnsAt}
 use Rattle.atomic_table.proofs.Lists.{at_set, at_snoc}
 use Rattle.sno_book.specs.Entries.{Entry}
-use Rattle.sno_published.specs.Keeping.{Keeps, Sees}
+use Rattle.sno_published.specs.ViewRule.{Keeps, Sees}
 use Rattle.sno_published.proofs.Prefixes.{prefix_self, prefix_trans}
 
--- a reader that has seen nothing may come at any time
+-- a reader that has seen nothing may be added at any time
 pub admits : Admits Keeps []
 admits shown views kept seat view at = ⊎_elim (kept seat view) (λ (e : [] ≡ view). subst (λ (v : List Entry). IsPrefix v shown) e (shown, refl)) (at_snoc views [] view seat at)
 
--- a step that shows no less, and after which all that is shown has been seen
+-- a step after which at least as much is shown, and all that is shown has been seen
 pub sees : (seat : ℕ) (view shown next : List Entry) → IsPrefix shown next → TurnsAt Keeps seat view shown next Sees
 sees seat view shown next more views kept at = (
   next,

@@ -1,4 +1,4 @@
--- What a front stands for.
+-- What a front represents.
 use Rattle.std.specs.Prelude.{◌<◌, ◌≤◌, List, length, refl}
 use Rattle.std.specs.Coded.{Coded, code_by, coded×, coded_list}
 use mathlib.Core.List.{IsPrefix}
@@ -19,7 +19,7 @@ pub record AreOfOneLine (xs ys : List Entry) : Type 0 where
   pub first : length xs ≤ length ys → IsPrefix xs ys
   pub second : length ys ≤ length xs → IsPrefix ys xs
 
--- ys begins with xs, and goes on
+-- ys begins with xs, and has more
 pub record GoesOn (xs ys : List Entry) : Type 0 where
   pub begins : IsPrefix xs ys
   pub longer : length xs < length ys

@@ -1,4 +1,4 @@
--- The rule of a history, and what a step on it tells.
+-- The rule of a history, and what a step on it says.
 use Rattle.std.specs.Prelude.{◌≡◌, ◌==◌, ℕ, true, List, [], ◌∷◌, ◌++◌, length, MatchBool}
 use Rattle.logbook.specs.Pages.{Cell, Step, View, Book, Named}
 use Rattle.sno_book.specs.Entries.{Entry}
@@ -11,6 +11,6 @@ IsCounted cells log = cells ≡ (length log, true) ∷ (0, true) ∷ []
 abbrev pub length_of : Book → Named
 length_of history = record { tracked = true; key = 0; book = history }
 
--- the entry was added to all that had been seen; or the history had another length, and was seen
+-- either the entry was added to all that had been seen; or the history had another length, and all of it was seen
 abbrev pub Adds : Step Entry → View Entry ℕ → ℕ → View Entry ℕ → Type 0
 Adds s before found after = MatchBool (found == s.old) (after.0 ≡ before.0 ++ s.ask ∷ []) (length after.0 ≡ found)

@@ -3,6 +3,6 @@ pub mod HistoryRule
 pub mod Changes
 pub mod StoredTexts
 pub mod Tables
-pub mod Keeping
+pub mod ViewRule
 pub mod Screens
 pub mod Viewings

@@ -11,7 +11,7 @@ use Rattle.sno_published.specs.declared.stored_texts.StoredText.{StoredText}
 abbrev pub called : List ℕ → StoredText → VersionedText
 called name stored = record { name = name; text = arc_value stored.text; version = stored.version }
 
--- the texts that stand at the places of these names
+-- these texts, each with the name at its place
 abbrev pub named : List (List ℕ) → List StoredText → State
 named [] stored = []
 named (name ∷ names) [] = []

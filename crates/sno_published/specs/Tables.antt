@@ -9,6 +9,6 @@ use Rattle.sno_book.specs.Openings.{Opening, start, names_in}
 abbrev pub text_after : Opening → List Entry → ℕ → Option VersionedText
 text_after opening entries place = slice_get (replay (start opening) entries) place
 
--- a text with the name that stands at this place
+-- a text with the name of this place
 abbrev pub text_at : Opening → ℕ → List ℕ → ℕ → VersionedText
 text_at opening place text version = record { name = slice_index_or (names_in opening.texts) place []; text = text; version = version }

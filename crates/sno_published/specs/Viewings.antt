@@ -15,7 +15,8 @@ pub record Viewing : Type 0 where
 abbrev pub viewing_code : Coded Viewing
 viewing_code = code_by (List Entry × List Entry) (coded× (coded_list entry_code) (coded_list entry_code)) (λ v. (v.shown, v.seen)) (λ p. record { shown = p.0; seen = p.1 }) (λ _. refl)
 
--- nothing more was seen, and only a viewer that was told of more than it had found shown is told that less is shown; or all that is shown was seen
+-- `Ended` and `Behind`: nothing more was seen, and `Behind` comes only to a viewer that was told of more than it had
+-- found shown. `Memory`: all that is shown was seen
 abbrev pub IsCause : ViewFault → Viewing → Viewing → Type 0
 IsCause Ended before after = after.seen ≡ before.seen
 IsCause Behind before after = (after.seen ≡ before.seen) × (length before.shown < length before.seen)

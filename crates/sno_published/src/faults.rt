@@ -7,10 +7,10 @@ pub enum ViewFault {
     /// The screen has ended.
     #[error("the screen has ended")]
     Ended,
-    /// The screen shows less than the viewer was told of. No lawful run meets this.
+    /// The screen shows less than the viewer was told of. No legal run meets this.
     #[error("the screen shows less than was told")]
     Behind,
-    /// Memory was refused.
+    /// Out of memory.
     #[error("out of memory")]
     Memory,
 }

@@ -3,16 +3,17 @@ ghost use Rattle.std.specs.Prelude.{◌≡◌, ◌<◌, ◌^◌, ◌++◌, ◌�
 ghost use Rattle.sno_published.specs.Histories.{AreOfOneLine, GoesOn};
 ghost use Rattle.sno_published.specs.HistoryRule.{length_of};
 
-use crate::rule::{Add, Law, Nothing};
+use crate::rule::{Addition, CountRule, NoGain};
 use logbook::{Offer, Seen, Word};
 use sno_book::Entry;
 use std::marker::Model;
 
-/// A beginning of a history, as it was seen. It keeps nothing but how many entries there are. Contracts see which history it is of, and the entries.
+/// A beginning of a history, as it was seen. It keeps only the number of entries. Contracts see which history it is of,
+/// and the entries.
 #[derive(Drop)]
 pub struct Front {
     pub(crate) count: u64,
-    pub(crate) seen: Seen<Entry, u64, Law>,
+    pub(crate) seen: Seen<Entry, u64, CountRule>,
 }
 
 impl Model for Front {
@@ -29,7 +30,7 @@ impl Model for Front {
 }
 
 impl Front {
-    /// How many entries it has.
+    /// How many entries the front has.
     pub fn count(&self) -> u64
         ensures { result ≡ length self.now.entries }
     {
@@ -46,28 +47,30 @@ impl Front {
         }
     }
 
-    /// That of two fronts of one history the shorter begins the longer. Nothing is changed.
+    /// Of two fronts of one history the shorter begins the longer. Nothing is changed.
     pub fn learn(&self, other: &Front)
         requires { other.now.history ≡ self.now.history }
         ensures { AreOfOneLine self.now.entries other.now.entries }
     {
         let mut both = self.seen.again();
+        // for the proof
         both.learn(&other.seen);
     }
 
-    /// Adds an entry after all that was seen, by the history's word, and says whether it did. It did not where the history has gone on.
-    pub(crate) fn grow(&mut self, word: &Word<Entry, u64, Law>, entry: &Entry) -> bool
+    /// Adds an entry after all that was seen, through the history's word, and returns whether it did. It didn't if the
+    /// history has gone on.
+    pub(crate) fn grow(&mut self, word: &Word<Entry, u64, CountRule>, entry: &Entry) -> bool
         requires history { word.now ≡ length_of self.old.history }
         requires room { length self.old.entries < 2 ^ 62 }
         ensures history { self.new.history ≡ self.old.history }
         ensures entries { MatchBool result (self.new.entries ≡ self.old.entries ++ entry.now ∷ []) (GoesOn self.old.entries self.new.entries) }
     {
         let count = self.count;
-        let mut offer: Offer<Entry, u64, Law, Nothing> = self
+        let mut offer: Offer<Entry, u64, CountRule, NoGain> = self
             .seen
-            .plain::<Nothing, Entry, Add>(entry);
+            .plain::<NoGain, Entry, Addition>(entry);
         let mut pen = self.seen.no_pen();
-        let found = word.compare_exchange::<Add, Nothing>(
+        let found = word.compare_exchange::<Addition, NoGain>(
             count,
             count + 1,
             &mut self.seen,

@@ -3,16 +3,16 @@ ghost use Rattle.std.specs.Prelude.{◌≡◌, ◌<◌, ◌^◌, ◌++◌, ◌�
 ghost use Rattle.sno_published.specs.Histories.{GoesOn};
 
 use crate::Front;
-use crate::rule::Law;
+use crate::rule::CountRule;
 use logbook::{Seen, Start, Word};
 use sno_book::Entry;
 use std::marker::Model;
 
-/// A list of entries that only grows, with the front that has seen the whole of it. The program keeps nothing but how many entries there are; what they
-/// are is known to whoever has a [`Front`]. Contracts see which history it is, and its entries.
+/// A list of entries that only grows, with the front that has seen the whole of it. The program keeps only the number
+/// of entries. A caller that has a [`Front`] knows what they are. Contracts see which history it is, and its entries.
 #[derive(Drop)]
 pub struct History {
-    length: Word<Entry, u64, Law>,
+    length: Word<Entry, u64, CountRule>,
     front: Front,
 }
 
@@ -31,7 +31,7 @@ impl Model for History {
 }
 
 impl History {
-    /// A new history with no entry. It takes no memory.
+    /// A new history without entries. It takes no memory.
     pub fn new() -> History
         ensures { result.entries ≡ [] }
     {
@@ -49,10 +49,11 @@ impl History {
         &self.front
     }
 
-    /// Adds an entry after the others, of which there are fewer than 2^62, and says whether it did. It waits for nobody and takes no memory.
+    /// Adds an entry after the others, and returns whether it did. Requires fewer than 2^62 entries. It waits for
+    /// nobody and takes no memory.
     ///
-    /// It did not only if the history goes on from what this front had seen, of which the front has seen more then. No lawful run meets this, as nobody
-    /// else can add to the history.
+    /// It fails only if the history goes on after what this front had seen; the front has seen more then. No legal run
+    /// meets this, as nobody else can add to the history.
     pub fn add(&mut self, entry: &Entry) -> bool
         requires room { length self.old.entries < 2 ^ 62 }
         ensures history { self.new.history ≡ self.old.history }

@@ -2,7 +2,8 @@
 use std::marker::Brand;
 use std::sync::ledger::Ledger;
 
-/// What all that belongs to one desk agrees on. Each call of a program picks it, as it picks the ledger's name.
+/// The names on which all that belongs to one desk agrees. Each call of a program picks them, as it picks the ledger's
+/// name.
 pub trait Naming: Ledger {
     ghost use Rattle.logbook.specs.Pages.{Book};
     ghost use Rattle.sno_book.specs.Openings.{Opening};

@@ -11,15 +11,16 @@ use std::alloc::AllocError;
 use std::marker::{Model, PhantomData};
 use std::sync::{Arc, OnceLock};
 
-/// What becomes known of an operation only once it stands in the log: the history with its entry, beside the attempt that ended in the same entry.
+/// What completes an operation once it is in the log: the history with its entry, and the attempt that ended in the
+/// same entry.
 #[derive(Drop)]
-pub struct Given<L: Naming> {
+pub struct Completion<L: Naming> {
     front: Front,
     tried: Front,
     of: PhantomData<L>,
 }
 
-impl<L: Naming> Model for Given<L> {
+impl<L: Naming> Model for Completion<L> {
     ghost use Rattle.std.specs.Prelude.{◌≡◌};
     ghost use Rattle.std.specs.Coded.{coded×};
     ghost use Rattle.sno_published.specs.Histories.{Beginning, beginning_code};
@@ -34,20 +35,20 @@ impl<L: Naming> Model for Given<L> {
     ghost invariant = { λ s. (s.front.history ≡ L.book) × (s.tried.history ≡ L.tries) × (last_of s.front.entries ≡ last_of s.tried.entries) };
 }
 
-impl<L: Naming> Given<L> {
-    /// The history with an entry, beside the attempt with the same entry.
-    pub(crate) fn new(front: Front, tried: Front) -> Given<L>
+impl<L: Naming> Completion<L> {
+    /// The history with an entry, and the attempt with the same entry.
+    pub(crate) fn new(front: Front, tried: Front) -> Completion<L>
         requires histories { (front.history ≡ L.book) × (tried.history ≡ L.tries) }
         requires entry { last_of front.entries ≡ last_of tried.entries }
     {
-        Given {
+        Completion {
             front,
             tried,
             of: PhantomData,
         }
     }
 
-    /// The history with the entry of this attempt after these entries, if that is what is known.
+    /// The history with the entry of this attempt after these entries, if that is the one that is known.
     fn front_after(&self, before: &Front, tried: &Front) -> Option<Front>
         requires { (before.now.history ≡ L.book) × (tried.now.history ≡ L.tries) }
         ensures history { IfSome result (λ front. front.history ≡ L.book) }
@@ -59,19 +60,21 @@ impl<L: Naming> Given<L> {
         if self.front.count() - before.count() != 1 {
             return None;
         }
+        // for the proof
         self.tried.learn(tried);
         before.learn(&self.front);
         Some(self.front.again())
     }
 }
 
-/// An entry that is to be published, and after which entries. By its type it has a step from the texts that these leave, and there is room for it.
+/// An entry that is to be published, and the entries after which it is. By its type it has a step from the texts that
+/// these leave, and there is room for it.
 #[derive(Drop)]
 pub struct Operation<L: Naming> {
     entry: Entry,
     before: Front,
     tried: Front,
-    slot: Arc<OnceLock<Given<L>>>,
+    slot: Arc<OnceLock<Completion<L>>>,
 }
 
 impl<L: Naming> Model for Operation<L> {
@@ -106,7 +109,7 @@ impl<L: Naming> Operation<L> {
         entry: &Entry,
         before: &Front,
         tried: &Front,
-        slot: &Arc<OnceLock<Given<L>>>,
+        slot: &Arc<OnceLock<Completion<L>>>,
     ) -> Result<Operation<L>, AllocError>
         requires histories { (before.now.history ≡ L.book) × (tried.now.history ≡ L.tries) }
         requires entry { last_of tried.now.entries ≡ Some entry.now }
@@ -142,7 +145,7 @@ impl<L: Naming> Operation<L> {
     pub(crate) fn after(&self) -> Option<Front>
         ensures { IfSome result (λ front. front ≡ record { history = L.book; entries = self.now.before ++ self.now.entry ∷ [] }) }
     {
-        let given = self.slot.get()?;
-        given.front_after(&self.before, &self.tried)
+        let completion = self.slot.get()?;
+        completion.front_after(&self.before, &self.tried)
     }
 }

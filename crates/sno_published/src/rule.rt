@@ -3,9 +3,9 @@ use logbook::{Gain, Plain, Play, Rule};
 use sno_book::Entry;
 
 /// The history's word is the number of its entries.
-pub struct Law;
+pub struct CountRule;
 
-impl Rule<Entry, u64> for Law {
+impl Rule<Entry, u64> for CountRule {
     ghost use Rattle.std.specs.Prelude.{[]};
     ghost use base.Fml.{ftrue};
     ghost use Rattle.sno_published.specs.HistoryRule.{IsCounted};
@@ -23,26 +23,26 @@ impl Rule<Entry, u64> for Law {
     ghost moves = { λ ask before after answer. Unit {0} };
 }
 
-/// Nothing is kept beside a history, so nothing is gained.
-pub struct Nothing;
+/// Nothing is kept with a history, so nothing is gained.
+pub struct NoGain;
 
-impl Gain<Entry, u64> for Nothing {
+impl Gain<Entry, u64> for NoGain {
     ghost use base.Fml.{ftrue};
 
     ghost after = { λ names about answer. ftrue };
 }
 
 /// The step that adds an entry.
-pub struct Add;
+pub struct Addition;
 
-impl Play<Entry, u64> for Add {
+impl Play<Entry, u64> for Addition {
     ghost use Rattle.sno_published.specs.HistoryRule.{Adds};
 
     ghost then = { Adds };
 }
 
-/// The step asks for the entry.
-impl Plain<Entry, Entry, u64> for Add {
+/// The step takes the entry.
+impl Plain<Entry, Entry, u64> for Addition {
     ghost use Rattle.std.specs.Prelude.{None};
 
     ghost ask = { λ entry. entry };

@@ -7,7 +7,9 @@ ghost use Rattle.sno_published.specs.Changes.{last_of};
 ghost use Rattle.sno_published.specs.Screens.{shown_by};
 
 use crate::viewers::viewer_of;
-use crate::{Given, History, Kept, Naming, Operation, See, Seeing, Table, Viewer};
+use crate::{
+    Completion, FullView, History, Naming, Operation, SeenEntries, Table, ViewRule, Viewer,
+};
 use left_right::Absorb;
 use left_right::writer::Writer;
 use sno_book::{Entry, Opening};
@@ -18,13 +20,13 @@ use std::sync::{Arc, OnceLock, Wait};
 /// How many attempts are counted.
 const MOST_ATTEMPTS: u64 = 1 << 61;
 
-/// What readers see, with the right to publish more. By its type all that is in its history is shown, and nothing waits to be. Contracts see the
-/// entries that are shown. It is not `Drop`: end it by [`Screen::end`].
+/// What readers see, with the right to publish more. By its type all that is in its history is shown, and nothing waits
+/// to be shown. Contracts see the entries that are shown. It is not `Drop`: end it by [`Screen::end`].
 pub struct Screen<L: Naming>
 where
     Table<L>: Absorb<Operation<L>, State = [Entry; 0]>,
 {
-    writer: Writer<Table<L>, Operation<L>, Seeing, Kept<L>>,
+    writer: Writer<Table<L>, Operation<L>, SeenEntries, ViewRule<L>>,
     history: History,
     attempts: History,
 }
@@ -46,12 +48,13 @@ where
     ghost invariant = { λ s. (s.history ≡ record { history = L.book; entries = s.writer.desk.shown.value }) × (s.attempts.history ≡ L.tries) × (drop s.writer.behind s.writer.log.items ≡ []) };
 }
 
-/// What readers see, where nothing more is published. Contracts see the entries that are shown. It is not `Drop`: end it by [`Spent::end`].
+/// What readers see when nothing more is published. Contracts see the entries that are shown. It is not `Drop`: end it
+/// by [`Spent::end`].
 pub struct Spent<L: Naming>
 where
     Table<L>: Absorb<Operation<L>, State = [Entry; 0]>,
 {
-    writer: Writer<Table<L>, Operation<L>, Seeing, Kept<L>>,
+    writer: Writer<Table<L>, Operation<L>, SeenEntries, ViewRule<L>>,
 }
 
 impl<L: Naming> Model for Spent<L>
@@ -71,21 +74,22 @@ where
 
 /// Why an entry was not published. Readers see what they saw.
 pub enum Unpublished<L: Naming> {
-    /// Memory was refused. The screen comes back, and can be used as before.
+    /// Out of memory. The screen comes back, and can be used as before.
     Memory(Screen<L>),
-    /// The publish itself was refused; or the history had gone on without the screen, or the slot was full, which no lawful run meets. Nothing more can
-    /// be published.
+    /// The publish itself was refused. Or the history had gone on without the screen, or the slot was full; no legal
+    /// run meets these two. Nothing more can be published.
     Stopped(Spent<L>),
 }
 
-/// Puts an entry after those that are shown into the writer's log, as one more attempt, with a slot for what is known later.
+/// Puts an entry after those that are shown into the writer's log, as one more attempt. The operation has a slot for
+/// what is known later.
 fn append<L: Naming>(
     alloc: Global,
-    writer: &mut Writer<Table<L>, Operation<L>, Seeing, Kept<L>>,
+    writer: &mut Writer<Table<L>, Operation<L>, SeenEntries, ViewRule<L>>,
     history: &History,
     attempts: &mut History,
     entry: &Entry,
-) -> Result<Arc<OnceLock<Given<L>>>, AllocError>
+) -> Result<Arc<OnceLock<Completion<L>>>, AllocError>
     requires history { history.now.history ≡ L.book }
     requires attempts { attempts.old.history ≡ L.tries }
     requires step { HasStep (replay (start L.opening) history.now.entries) entry.now }
@@ -110,10 +114,10 @@ fn append<L: Naming>(
 /// Adds the entry that waits in the writer's log to the history, and shows it.
 fn show<L: Naming, R: Wait>(
     rt: &R,
-    writer: Writer<Table<L>, Operation<L>, Seeing, Kept<L>>,
+    writer: Writer<Table<L>, Operation<L>, SeenEntries, ViewRule<L>>,
     mut history: History,
     attempts: History,
-    slot: &OnceLock<Given<L>>,
+    slot: &OnceLock<Completion<L>>,
     entry: &Entry,
 ) -> Result<Screen<L>, Spent<L>>
     requires history { history ≡ record { history = L.book; entries = writer.desk.shown.value } }
@@ -126,11 +130,11 @@ fn show<L: Naming, R: Wait>(
     if !history.add(entry) {
         return Err(Spent { writer });
     }
-    let given = Given::new(history.front().again(), attempts.front().again());
-    if slot.try_set(given).is_err() {
+    let completion = Completion::new(history.front().again(), attempts.front().again());
+    if slot.try_set(completion).is_err() {
         return Err(Spent { writer });
     }
-    let (writer, published) = writer.publish_as::<See, R>(rt);
+    let (writer, published) = writer.publish_as::<FullView, R>(rt);
     match published {
         Ok(()) => Ok(Screen {
             writer,
@@ -142,10 +146,11 @@ fn show<L: Naming, R: Wait>(
 }
 
 impl<L: Naming> Screen<L> {
-    /// A screen that shows the texts of an opening before the first entry, with room for so many readers at once, from 1 to 2^32 - 1. The opening is
-    /// the desk's, `history` the desk's with no entry, and `attempts` the desk's of attempts.
+    /// Returns a screen that shows the texts of an opening before the first entry, with places for `readers` readers at
+    /// once, from 1 to 2^32 - 1. Requires the desk's opening, the desk's `history` without entries, and the desk's
+    /// history of `attempts`.
     ///
-    /// Refused only where memory is; the histories are dropped then.
+    /// Refused only if memory runs out; the histories are dropped then.
     pub fn new(
         alloc: Global,
         opening: &Arc<Opening>,
@@ -183,11 +188,15 @@ impl<L: Naming> Screen<L> {
         self.writer.published()
     }
 
-    /// Publishes an entry after those that are shown, all at once. It waits for readers that still read what was shown before the last entry. The entry
-    /// has a step from the texts that are shown, and fewer entries are shown than 1,000,000 and than the opening has room for.
+    /// Publishes an entry after those that are shown, all at once. It waits for readers that still read what was shown
+    /// before the last entry. Requires that the entry has a step from the texts that are shown, and that fewer entries
+    /// are shown than 1,000,000 and than the opening has room for.
     ///
-    /// Refused, in this order: `Memory`, where the entry couldn't be shared or put into the log, or 2^61 attempts were made before, and the screen comes
-    /// back as it was; `Stopped`, where the publish itself was refused.
+    /// Refused, in this order:
+    ///
+    /// - `Memory`, if the entry couldn't be shared or put into the log, or 2^61 attempts were made before; the screen
+    ///   comes back as it was;
+    /// - `Stopped`, if the publish itself was refused.
     pub fn publish<R: Wait>(
         self,
         rt: &R,
@@ -217,17 +226,18 @@ impl<L: Naming> Screen<L> {
         }
     }
 
-    /// A viewer of this screen, which is told what is shown.
+    /// Returns a viewer of this screen, which is told what is shown.
     ///
-    /// Refused only if each place for a reader is taken, or what is shown has as many owners as it may have.
+    /// Refused only if each place for a reader is taken, or the opening or what is shown has as many owners as it may
+    /// have.
     pub fn viewer(&self) -> Result<Viewer<L>, AllocError>
         ensures { IfOk result (λ viewer. viewer ≡ record { shown = []; seen = self.now }) }
     {
         let reader = self.writer.factory().reader()?;
-        Ok(viewer_of(reader, self.writer.published()))
+        viewer_of(reader, self.writer.published())
     }
 
-    /// Waits for the readers and ends the screen. Its viewers find it `Ended` from now on.
+    /// Waits for the readers and ends the screen. From now on its viewers get `Ended`.
     pub fn end<R: Wait>(self, rt: &R) {
         let Screen {
             writer,
@@ -246,7 +256,7 @@ impl<L: Naming> Spent<L> {
         self.writer.published()
     }
 
-    /// Waits for the readers and ends what was shown. The viewers find it `Ended` from now on.
+    /// Waits for the readers and ends what was shown. From now on the viewers get `Ended`.
     pub fn end<R: Wait>(self, rt: &R) {
         let Spent { writer } = self;
         writer.take(rt);

@@ -45,9 +45,9 @@ pub(crate) fn first_texts(alloc: Global, opening: &Opening) -> Result<Vec<Stored
     Ok(stored)
 }
 
-/// The new text of an entry, shared, where it has one.
+/// The new text of an entry, shared, if it has one.
 fn text_of(entry: &Entry) -> Result<Option<Arc<Text>>, AllocError>
-    ensures { IfOk result (λ o. option_map arc_value o ≡ after_of entry.now.done) }
+    ensures { IfOk result (λ o. option_map arc_value o ≡ after_of entry.now.outcome) }
 {
     match entry.outcome.after() {
         Some(text) => Ok(Some(Arc::try_clone(text)?)),
@@ -55,7 +55,7 @@ fn text_of(entry: &Entry) -> Result<Option<Arc<Text>>, AllocError>
     }
 }
 
-/// The text at a place; none past the last one.
+/// The text at a place. `None` past the last one.
 pub(crate) fn stored_at(stored: &[StoredText], place: usize) -> Option<&StoredText>
     ensures { option_map (λ s. s.now) result ≡ slice_get stored.now place }
 {
@@ -84,7 +84,7 @@ fn put(stored: &mut Vec<StoredText>, place: usize, text: Arc<Text>) -> Result<()
     Ok(())
 }
 
-/// Puts an entry's new text, where it has one, in place of the text of its statement.
+/// Puts an entry's new text, if it has one, in place of the text of its statement.
 pub(crate) fn renew(
     stored: &mut Vec<StoredText>,
     opening: &Opening,

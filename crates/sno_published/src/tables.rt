@@ -14,8 +14,9 @@ use std::alloc::{AllocError, Global};
 use std::marker::{Model, PhantomData};
 use std::sync::Arc;
 
-/// The texts after some entries, with their versions. By its type the entries are a beginning of the desk's history, they are legal from the desk's
-/// opening, which has room for them, and the texts and versions are what they leave. Contracts see the entries.
+/// The texts after some entries, with their versions. By its type the entries are a beginning of the desk's history.
+/// They are legal from the desk's opening, which has room for them, and the texts and versions are what they leave.
+/// Contracts see the entries.
 #[derive(Drop)]
 pub struct Table<L: Naming> {
     opening: Arc<Opening>,
@@ -41,9 +42,10 @@ impl<L: Naming> Model for Table<L> {
 }
 
 impl<L: Naming> Table<L> {
-    /// The texts of an opening before the first entry. The opening is the desk's, and the front one of the desk's history with no entry.
+    /// Returns a table with the texts of an opening before the first entry. Requires the desk's opening, and a front of
+    /// the desk's history that has no entries.
     ///
-    /// Refused only where memory is.
+    /// Refused only if memory runs out.
     pub fn new(alloc: Global, opening: &Arc<Opening>, front: &Front) -> Result<Table<L>, AllocError>
         requires opening { arc_value opening.now ≡ L.opening }
         requires front { front.now ≡ record { history = L.book; entries = [] } }
@@ -57,6 +59,13 @@ impl<L: Naming> Table<L> {
         })
     }
 
+    /// The desk's opening.
+    pub(crate) fn opening(&self) -> &Arc<Opening>
+        ensures { arc_value result.now ≡ L.opening }
+    {
+        &self.opening
+    }
+
     /// The front that has seen the table's entries.
     pub fn front(&self) -> &Front
         ensures front { result.now ≡ record { history = L.book; entries = self.now } }
@@ -66,7 +75,7 @@ impl<L: Naming> Table<L> {
         &self.front
     }
 
-    /// The text at a place, from 0, and its version, as the table's entries leave them; none past the last text.
+    /// The text at a place, from 0, and its version, as the table's entries leave them. `None` past the last text.
     pub fn text(&self, place: usize) -> Option<(&Arc<Text>, u64)>
         ensures { option_map (λ t. text_at L.opening place (arc_value t.0.now) t.1) result ≡ text_after L.opening self.now place }
     {
@@ -111,6 +120,7 @@ impl<L: Naming> Absorb<Operation<L>> for Table<L> {
         if self.front.count() != before.count() {
             return Err(AllocError);
         }
+        // for the proof
         self.front.learn(before);
         self.take_in(operation.entry(), front)
     }

@@ -11,24 +11,25 @@ ghost use Rattle.sno_published.specs.Tables.{text_after, text_at};
 ghost use Rattle.sno_published.specs.Viewings.{IsCause};
 ghost use Rattle.sno_published.specs.declared.faults.ViewFault.TheVariants.{Memory};
 
-use crate::{Front, Kept, Naming, See, Seeing, Table, ViewFault};
+use crate::{Front, FullView, Naming, SeenEntries, Table, ViewFault, ViewRule};
 use left_right::reader::{Reader, Reading};
-use sno_book::{Text, ViewSource};
+use sno_book::{Opening, Text, ViewSource};
 use std::alloc::AllocError;
 use std::marker::Model;
 use std::sync::Arc;
 
-/// A reader of what one screen shows, which never waits. By its type what it has seen is a legal beginning of the screen's history, for which the
-/// opening has room. Contracts see the
-/// entries that it has seen or was told of.
+/// A reader of what one screen shows, which never waits. By its type what it has seen is a legal beginning of the
+/// screen's history, for which the opening has room. Contracts see the entries that it has seen or was told of.
 #[derive(Drop)]
 pub struct Viewer<L: Naming> {
-    reader: Option<Reader<Table<L>, Seeing, Kept<L>>>,
+    opening: Arc<Opening>,
+    reader: Option<Reader<Table<L>, SeenEntries, ViewRule<L>>>,
     front: Front,
 }
 
 impl<L: Naming> Model for Viewer<L> {
     ghost use Rattle.std.specs.Prelude.{◌≡◌, ◌≤◌, [], IfSome, length};
+    ghost use Rattle.std.specs.Arc.{arc_value};
     ghost use Rattle.std.specs.Option.{option_map_or};
     ghost use mathlib.Core.List.{IsPrefix};
     ghost use Rattle.left_right.specs.Sides.{view as view_at};
@@ -42,7 +43,7 @@ impl<L: Naming> Model for Viewer<L> {
 
     ghost view = { λ s. record { shown = option_map_or (λ r. view_at r.place) s.reader []; seen = s.front.entries } };
 
-    ghost invariant = { λ s. (s.front.history ≡ L.book) × Legal (start L.opening) s.front.entries × (length s.front.entries ≤ L.opening.room) × IfSome s.reader (λ r. IsPrefix (view_at r.place) s.front.entries) };
+    ghost invariant = { λ s. (s.front.history ≡ L.book) × Legal (start L.opening) s.front.entries × (length s.front.entries ≤ L.opening.room) × IfSome s.reader (λ r. IsPrefix (view_at r.place) s.front.entries) × (arc_value s.opening ≡ L.opening) };
 }
 
 impl<L: Naming> ViewSource for Viewer<L> {
@@ -51,7 +52,7 @@ impl<L: Naming> ViewSource for Viewer<L> {
     ghost shown = { λ v. record { opening = L.opening; journal = v.seen } };
 }
 
-/// Goes on to the table's front, unless that is the shorter one, and says whether it did.
+/// Goes on to the table's front, unless that is the shorter one. Returns whether it did.
 fn go_on<L: Naming>(front: &mut Front, table: &Table<L>) -> bool
     requires { front.old.history ≡ L.book }
     ensures history { front.new.history ≡ L.book }
@@ -60,6 +61,7 @@ fn go_on<L: Naming>(front: &mut Front, table: &Table<L>) -> bool
     ensures entries { MatchBool result ((front.new.entries ≡ table.now) × IsPrefix front.old.entries table.now) ((front.new ≡ front.old) × GoesOn table.now front.old.entries) }
 {
     let shown = table.front();
+    // for the proof
     front.learn(shown);
     if shown.count() < front.count() {
         return false;
@@ -84,10 +86,10 @@ fn share<L: Naming>(table: &Table<L>, place: usize) -> Result<Option<(Arc<Text>,
 
 /// Shares the text at a place, and leaves.
 fn look<L: Naming>(
-    reading: Reading<Table<L>, Seeing, Kept<L>>,
+    reading: Reading<Table<L>, SeenEntries, ViewRule<L>>,
     place: usize,
 ) -> (
-    Reader<Table<L>, Seeing, Kept<L>>,
+    Reader<Table<L>, SeenEntries, ViewRule<L>>,
     Result<Option<(Arc<Text>, u64)>, ViewFault>,
 )
     ensures reader { view result.0.place ≡ view reading.place }
@@ -100,9 +102,9 @@ fn look<L: Naming>(
 
 /// Enters what is shown, and goes on to it.
 fn begin<L: Naming>(
-    reader: &mut Option<Reader<Table<L>, Seeing, Kept<L>>>,
+    reader: &mut Option<Reader<Table<L>, SeenEntries, ViewRule<L>>>,
     front: &mut Front,
-) -> Result<Reading<Table<L>, Seeing, Kept<L>>, ViewFault>
+) -> Result<Reading<Table<L>, SeenEntries, ViewRule<L>>, ViewFault>
     requires history { front.old.history ≡ L.book }
     requires reader { IfSome reader.old (λ r. IsPrefix (view r.place) front.old.entries) }
     ensures history { front.new.history ≡ L.book }
@@ -114,7 +116,7 @@ fn begin<L: Naming>(
     let Some(outside) = reader.take() else {
         return Err(ViewFault::Ended);
     };
-    let reading = match outside.enter_as::<See>() {
+    let reading = match outside.enter_as::<FullView>() {
         Ok(reading) => reading,
         Err(outside) => {
             *reader = Some(outside);
@@ -129,7 +131,14 @@ fn begin<L: Naming>(
 }
 
 impl<L: Naming> Viewer<L> {
-    /// How many entries it has seen or was told of.
+    /// The desk's opening.
+    pub fn opening(&self) -> &Opening
+        ensures { result.now ≡ L.opening }
+    {
+        &self.opening
+    }
+
+    /// How many entries the viewer has seen or was told of.
     pub fn seen(&self) -> u64
         ensures seen { result ≡ length self.now.seen }
         ensures legal { Legal (start L.opening) self.now.seen }
@@ -140,7 +149,8 @@ impl<L: Naming> Viewer<L> {
 
     /// Sees what is shown. It waits for nobody and takes no memory.
     ///
-    /// Refused: `Ended`; `Behind`, which only a viewer meets that was told of more than it had found shown. What it has seen stays as it was.
+    /// Refused: `Ended`; `Behind`, only if the viewer was told of more than it had found shown itself. What it has seen
+    /// is unchanged then.
     pub fn enter(&mut self) -> Result<(), ViewFault>
         ensures begins { IsPrefix self.old.seen self.new.seen }
         ensures shown { OnOk result (self.new.seen ≡ self.new.shown) }
@@ -151,7 +161,8 @@ impl<L: Naming> Viewer<L> {
         Ok(())
     }
 
-    /// Sees what is shown, and answers a share of the text at a place, from 0, with its version; none past the last text. It waits for nobody.
+    /// Sees what is shown, and returns a share of the text at a place, from 0, with its version. `None` past the last
+    /// text. It waits for nobody.
     ///
     /// Refused, in this order: `Ended` and `Behind` as by [`Viewer::enter`]; `Memory`, and then what is shown was seen.
     pub fn text(&mut self, place: usize) -> Result<Option<(Arc<Text>, u64)>, ViewFault>
@@ -166,7 +177,8 @@ impl<L: Naming> Viewer<L> {
         found
     }
 
-    /// Is told what a table of its own desk shows: the longer of the two lists is what it has seen from now on. It waits for nobody and takes no memory.
+    /// Is told what a table of its own desk shows. From now on the longer of the two lists is what it has seen. It
+    /// waits for nobody and takes no memory.
     pub fn learn(&mut self, table: &Table<L>)
         ensures begins { IsPrefix self.old.seen self.new.seen }
         ensures told { IsPrefix table.now self.new.seen }
@@ -175,7 +187,7 @@ impl<L: Naming> Viewer<L> {
         let _ = go_on(&mut self.front, table);
     }
 
-    /// Whether it has seen just what a table of its own desk shows.
+    /// Whether the viewer has seen just what a table of its own desk shows.
     pub fn is_level(&self, table: &Table<L>) -> bool
         ensures { Decides result (self.now.seen ≡ table.now) }
     {
@@ -183,30 +195,33 @@ impl<L: Naming> Viewer<L> {
         if self.front.count() != shown.count() {
             return false;
         }
+        // for the proof
         self.front.learn(shown);
         true
     }
 
-    /// Whether what a table of its own desk shows begins with all that it has seen.
+    /// Whether what a table of its own desk shows begins with all that the viewer has seen.
     pub fn is_within(&self, table: &Table<L>) -> bool
         ensures { Decides result (IsPrefix self.now.seen table.now) }
     {
         let shown = table.front();
+        // for the proof
         self.front.learn(shown);
         shown.count() >= self.front.count()
     }
 }
 
-/// A viewer, from its reader, which has seen nothing yet, and from what a table shows.
+/// A viewer that sees through this reader, which has seen nothing yet, and is told what a table shows.
 pub(crate) fn viewer_of<L: Naming>(
-    reader: Reader<Table<L>, Seeing, Kept<L>>,
+    reader: Reader<Table<L>, SeenEntries, ViewRule<L>>,
     table: &Table<L>,
-) -> Viewer<L>
+) -> Result<Viewer<L>, AllocError>
     requires { view reader.place ≡ [] }
-    ensures { result ≡ record { shown = []; seen = table.now } }
+    ensures { IfOk result (λ viewer. viewer ≡ record { shown = []; seen = table.now }) }
 {
-    Viewer {
+    Ok(Viewer {
+        opening: Arc::try_clone(table.opening())?,
         reader: Some(reader),
         front: table.front().again(),
-    }
+    })
 }

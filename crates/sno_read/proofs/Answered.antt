@@ -1,4 +1,4 @@
--- What a public call answers, against the grammars.
+-- The results of a public call, compared with the grammars.
 use Rattle.std.proofs.Common.{ℕ, List, Result, Ok, Err, IfOk, subst}
 use Rattle.sno_pattern.specs.Tree.{Tree, tree_of}
 use Rattle.sno_pattern.specs.declared.tree.Pattern.{Pattern}

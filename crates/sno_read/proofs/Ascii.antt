@@ -1,4 +1,4 @@
--- What is short and ASCII is a text.
+-- Characters that are short and ASCII are a text.
 use Rattle.std.proofs.Common.{◌≡◌, ℕ, ◌≤◌, List, length, Ok, IsTrue, arith}
 use Rattle.std.specs.List.{list_all}
 use Rattle.std.specs.Char.{is_ascii}

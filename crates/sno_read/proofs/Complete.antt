@@ -24,7 +24,7 @@ use Rattle.sno_read.proofs.Reserved.{keyword_none, keyword_name}
 use Rattle.sno_read.proofs.Marks.{digit_no_blank, name_starts, named_starts, literal_starts, concatenation_starts, alternation_starts, starts_no_blank, starts_item, blanks_stop, blanks_or, skip_blanks, follows_blanks, follows_closing, letter_begins}
 use Rattle.sno_read.proofs.TokensAgain.{literal_again, set_again, number_again, name_again, variable_again, opened_again, closed_paren_again, signed_again}
 
--- after a part in parentheses stand blanks and the closing parenthesis
+-- after a part in parentheses come blanks and the closing parenthesis
 abbrev pub InnerAgain : Env → ℕ → (List ℕ → Read Tree) → Type 0
 InnerAgain env room inner = (k : ℕ) → room ≡ suc k → (x : List ℕ) (t : Tree) (c r : List ℕ) → IsAlternation env.names env.earlier k x t → AreBlanks c → inner (x ++ (c ++ (41 ∷ r))) ≡ Ok (t, c ++ (41 ∷ r))
 
@@ -98,11 +98,11 @@ element_again env room x t (grammar.repeated w b y c u e bb a cb) inner again r 
     called_again env _ inner w (parenthesized b y c) r _ _ e (paren_ends_name b y c r) (repeated_again env _ inner (parenthesized b y c ++ r) r u (group_reads env _ inner b y c u r again bb a cb))
 element_again env room x t (grammar.group b y c u bb a cb) inner again r h = group_reads env _ inner b y c u r again bb a cb
 
--- no target stands here
+-- no target is here
 abbrev NoTarget : List ℕ → Type 0
 NoTarget r = (env : Env) (more : Tree → List ℕ → Read Tree) (t : Tree) → target_by env more t r (what_follows r) ≡ Ok (t, r)
 
--- no item stands here
+-- no item is here
 abbrev NoItem : List ℕ → Type 0
 NoItem r = (more : List ℕ → Read Tree) (t : Tree) → item_by more (t, r) (what_follows r) ≡ Ok (t, r)
 
@@ -179,7 +179,7 @@ alternation_again env room x t (grammar.otherwise y s c z u v i bb cb j) inner a
     ap (λ k. parts_at env (concatenation_at env room inner) n k) split ∙ parts_step env (concatenation_at env room inner) n (y ++ (s ++ (124 ∷ (c ++ (z ++ r))))) _ l
     ∙ rw (concatenation_again env room y u i inner again m (blank_ends_name s _ bb) (λ env more t. rw f refl) (λ more t. rw f refl) (suc (length (y ++ m))) (omega arith), f, signed_again env 124 s c (z ++ r) refl bb cb blank, alternation_again env room z v j inner again r h e (n - 1) less) refl
 
--- what stands inside parentheses is read
+-- what is inside parentheses is read
 pub inside_again : (env : Env) (room : ℕ) → InnerAgain env room (inside env room)
 unfolding inside alternation_at is_name_char
 inside_again env zero k e x t c r a cb = absurd (omega arith)

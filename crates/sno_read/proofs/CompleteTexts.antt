@@ -9,7 +9,7 @@ use Rattle.sno_read.specs.Characters.{skip, begins}
 use Rattle.sno_read.specs.Depth.{depth}
 use Rattle.sno_read.specs.Grammar.{AreBlanks, IsAlternation, Spells}
 use Rattle.sno_read.specs.Laws.{OneTree}
-use Rattle.sno_read.specs.Reading.{Env, end_at, shallow, whole_of, short_ascii, pattern_of, alternation_at, inside}
+use Rattle.sno_read.specs.Reading.{Env, end_at, unless_too_deep, whole_of, short_ascii, pattern_of, alternation_at, inside}
 use Rattle.sno_pattern.proofs.TextLemmas.{none_non_ascii}
 use Rattle.sno_read.proofs.Marks.{alternation_starts, starts_no_blank, blanks_or, skip_blanks, follows_end}
 use Rattle.sno_read.proofs.Complete.{alternation_again, inside_again}
@@ -30,7 +30,7 @@ skip_all : (c : List ℕ) → AreBlanks c → skip c ≡ []
 skip_all c h = ap skip (sym (append-nil c)) ∙ skip_blanks c [] h refl
 
 whole_again : (env : Env) (text before x after : List ℕ) (t : Tree) → AreBlanks before → IsAlternation env.names env.earlier 100 x t → AreBlanks after → text ≡ before ++ (x ++ after) → depth t ≤ 1000 → whole_of env text ≡ Ok t
-unfolding whole_of end_at shallow
+unfolding whole_of end_at unless_too_deep
 whole_again env text before x after t bb a cb joined d =
     let starts = alternation_starts env.names env.earlier 100 x t a in
     let skipped : skip text ≡ x ++ after = ap skip joined ∙ skip_blanks before (x ++ after) bb (starts_no_blank x after starts) in

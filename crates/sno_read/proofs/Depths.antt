@@ -5,7 +5,7 @@ use Rattle.sno_pattern.specs.Tree as tree
 use Rattle.sno_pattern.specs.Tree.{Tree}
 use Rattle.sno_read.specs.Depth.{depth}
 
--- nothing has depth 0
+-- no tree has depth 0
 pub depth_positive : (t : Tree) → 0 < depth t
 unfolding depth
 depth_positive (tree.Arbno p) = omega arith

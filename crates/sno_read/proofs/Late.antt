@@ -1,4 +1,4 @@
--- When memory is asked for.
+-- When memory is needed.
 use Rattle.std.proofs.Common.{◌≡◌, ℕ, suc, true, List, [], length, nat_eq, Result, Ok, Err, ap, ◌∙◌, arith}
 use Rattle.sno_read.specs.declared.faults.ReadFault.{ReadFault}
 use Rattle.sno_read.specs.declared.faults.ReadFault.TheVariants as fault

@@ -1,4 +1,4 @@
--- How texts of the grammar begin, and what may stand after them.
+-- How texts of the grammar begin, and what may come after them.
 use Rattle.std.proofs.Common.{◌≡◌, ℕ, ◌<◌, ◌≤◌, Bool, true, false, ◌⊎◌, inl, inr, List, [], ◌∷◌, ◌++◌, nat_eq, IsTrue, refl, sym, ap, ◌∙◌, arith, append-nil}
 use Rattle.std.specs.List.{list_all}
 use Rattle.std.specs.Char.{is_ascii_digit}
@@ -96,7 +96,7 @@ module _ (names : List (List ℕ)) (earlier : ℕ) where
   alternation_starts k x t (grammar.only y u i) = concatenation_starts k y u i
   alternation_starts k x t (grammar.otherwise y b c z u v i bb cb r) = starts_more y _ (concatenation_starts k y u i)
 
--- what begins so is no blank, and an item follows
+-- a text that begins so doesn't begin with a blank, and an item follows
 pub starts_no_blank : (x r : List ℕ) → Starts x → begins is_blank (x ++ r) ≡ false
 starts_no_blank x r s = rw s.3 s.1.no_blank
 
@@ -104,7 +104,7 @@ pub starts_item : (x r : List ℕ) → Starts x → sign_of (x ++ r) ≡ follows
 unfolding sign_of
 starts_item x r s = rw (s.3, s.1.no_closing, s.1.no_dot, s.1.no_dollar, s.1.no_bar) refl
 
--- blanks stop what a blank doesn't go on with
+-- a text that begins with blanks fails a test that blanks fail
 pub blanks_stop : (p : ℕ → Bool) (b r : List ℕ) → p 32 ≡ false → p 9 ≡ false → SomeBlanks b → begins p (b ++ r) ≡ false
 blanks_stop p [] r e f h = absurd (omega (arith, h.1))
 blanks_stop p (c ∷ b) r e f h = by_case (blank_cases c (and_parts (is_blank c) (list_all is_blank b) h.0).0)
@@ -113,7 +113,7 @@ blanks_stop p (c ∷ b) r e f h = by_case (blank_cases c (and_parts (is_blank c)
     by_case (inl g) = rw g e
     by_case (inr g) = rw g f
 
--- the same, where there need be none
+-- as above, also without blanks if the rest fails the test
 pub blanks_or : (p : ℕ → Bool) (b r : List ℕ) → p 32 ≡ false → p 9 ≡ false → AreBlanks b → begins p r ≡ false → begins p (b ++ r) ≡ false
 blanks_or p [] r e f h g = g
 blanks_or p (c ∷ b) r e f h g = blanks_stop p (c ∷ b) r e f (h, omega arith)
@@ -144,7 +144,7 @@ follows_nothing (d ∷ c) h = follows_blanks (d ∷ c) [] (h, omega arith) refl
 pub follows_end : (c : List ℕ) → AreBlanks c → what_follows c ≡ follows.Nothing
 follows_end c h = ap what_follows (sym (append-nil c)) ∙ follows_nothing c h
 
--- a name's character, which a letter is
+-- a letter is a character of names
 pub letter_in_name : (c : ℕ) → is_letter c ≡ true → is_name_char c ≡ true
 unfolding is_letter is_name_char
 letter_in_name c h = grind (arith, nat_tests)
@@ -163,6 +163,6 @@ letter_begins c r h =
     no_quote : (c : ℕ) → 39 < c → is_quote c ≡ false
     no_quote c h = grind (arith, nat_tests)
 
--- a digit is no blank
+-- a digit isn't a blank
 pub digit_no_blank : (c : ℕ) → is_ascii_digit c ≡ true → is_blank c ≡ false
 digit_no_blank c h = grind (arith, nat_tests)

@@ -22,7 +22,7 @@ use Rattle.sno_read.specs.Gives.{◌>>=◌, found_or}
 use Rattle.sno_read.specs.Keywords.{keyword_of}
 use Rattle.sno_read.specs.Characters.{is_blank, is_other, quote_of, front, skip, begins, value_of, start_of, what_follows}
 use Rattle.sno_read.specs.Laws.{MemoryIsNoFault}
-use Rattle.sno_read.specs.Reading.{Env, Read, place, below, literal_at, set_at, number_at, name_at, variable_at, opening_at, closing_at, blanks_at, sign_at, cursor_at, reference_at, plain_of, number_call_at, set_call_at, group_at, repetition_at, from_name, from_name_at, quotation_at, element_by, element_at, target_by, targets_at, item_at, item_by, items_at, next_part_by, parts_at, concatenation_at, alternation_at, inside, end_at, shallow, whole_of, ascii_only, short_ascii, pattern_of}
+use Rattle.sno_read.specs.Reading.{Env, Read, place, below, literal_at, set_at, number_at, name_at, variable_at, opening_at, closing_at, blanks_at, sign_at, cursor_at, reference_at, plain_of, number_call_at, set_call_at, group_at, repetition_at, from_name, from_name_at, quotation_at, element_by, element_at, target_by, targets_at, item_at, item_by, items_at, next_part_by, parts_at, concatenation_at, alternation_at, inside, end_at, unless_too_deep, whole_of, ascii_only, short_ascii, pattern_of}
 use Rattle.sno_read.specs.Objects.{gap_at, parts_of, object_of}
 use Rattle.sno_read.specs.Objects as objects
 
@@ -165,7 +165,7 @@ unfolding alternation_at
 alternation_safe env room text = parts_safe env room (inside env room) (inside_safe env room) (suc (length text)) text
 
 whole_safe : (env : Env) (text : List ℕ) → Safe (whole_of env text)
-unfolding whole_of end_at shallow
+unfolding whole_of end_at unless_too_deep
 whole_safe env text =
     safe_if (nat_eq (length (skip text)) 0) _ _ (λ e. (cc)) (safe_bind (alternation_at env 100 (inside env 100) (skip text)) _ (alternation_safe env 100 (skip text)) (λ x. safe_bind (end_at env (skip x.1)) _ (safe_if (nat_eq (length (skip x.1)) 0) _ _ (λ e. (cc)) (λ e. (cc))) (λ n. safe_if (nat_lt 1000 (depth x.0)) _ _ (λ e. (cc)) (λ e. (cc)))))
 

@@ -137,8 +137,8 @@ unfolding is_name_char
 blank_last b h = rw append-nil at (blanks_or is_name_char b [] refl refl h refl)
 
 -- a part, a gap and more
-step_again : (env : Env) (n : ℕ) (text : List ℕ) (p : Part) (behind rest : List ℕ) (others : List Part) → length text < n → 0 < length text → part_at env text ≡ Ok (p, behind) → gap_at env behind ≡ Ok rest → parts_of env (n - 1) rest ≡ Ok others → parts_of env n text ≡ Ok (p ∷ others)
-step_again env n text p behind rest others l o a g m =
+step_again : (env : Env) (n : ℕ) (text : List ℕ) (p : Part) (rest_after rest : List ℕ) (others : List Part) → length text < n → 0 < length text → part_at env text ≡ Ok (p, rest_after) → gap_at env rest_after ≡ Ok rest → parts_of env (n - 1) rest ≡ Ok others → parts_of env n text ≡ Ok (p ∷ others)
+step_again env n text p rest_after rest others l o a g m =
     let some : nat_eq (length text) 0 ≡ false = ne_eqb _ 0 (λ i. omega arith) in
     more_step env n text _ l some ∙ rw (a, g, m) refl
 

@@ -22,7 +22,7 @@ unfolding parts_of
 end_step env zero text k h e = absurd (omega arith)
 end_step env (suc m) text k h e = rw e refl
 
--- one part moved to those that were read
+-- one part moved to those already read
 front_more : (front : List Part) (p : Part) (r : Result (List Part) ReadFault) → with_front (front ++ p ∷ []) r ≡ with_front front (r >>= λ others. Ok (p ∷ others))
 front_more front p (Ok ps) = ap (λ l. Ok l) (append_assoc front (p ∷ []) ps)
 front_more front p (Err e) = refl
@@ -38,12 +38,12 @@ module _ (env : Env) (m k : ℕ) (text : List ℕ) (front : List Part) (whole : 
   part_stops Memory e h = tt
   part_stops (Fault f) e h = whole_is e ∙ ap (λ r. with_front front (r >>= λ x. gap_at env x.1 >>= λ rest. parts_of env (m - 1) rest >>= λ others. Ok (x.0 ∷ others))) h
 
-  part_read : (p : Part) (behind : List ℕ) → nat_eq (length text) 0 ≡ false → part_at env text ≡ Ok (p, behind) → whole ≡ with_front front (gap_at env behind >>= λ rest. parts_of env (m - 1) rest >>= λ others. Ok (p ∷ others))
-  part_read p behind e h = whole_is e ∙ ap (λ r. with_front front (r >>= λ x. gap_at env x.1 >>= λ rest. parts_of env (m - 1) rest >>= λ others. Ok (x.0 ∷ others))) h
+  part_read : (p : Part) (rest_after : List ℕ) → nat_eq (length text) 0 ≡ false → part_at env text ≡ Ok (p, rest_after) → whole ≡ with_front front (gap_at env rest_after >>= λ rest. parts_of env (m - 1) rest >>= λ others. Ok (p ∷ others))
+  part_read p rest_after e h = whole_is e ∙ ap (λ r. with_front front (r >>= λ x. gap_at env x.1 >>= λ rest. parts_of env (m - 1) rest >>= λ others. Ok (x.0 ∷ others))) h
 
-  pub gap_stops : (p : Part) (behind : List ℕ) (s : Stop) → nat_eq (length text) 0 ≡ false → part_at env text ≡ Ok (p, behind) → Stops s (gap_at env behind) → Stops s whole
-  gap_stops p behind Memory e h g = tt
-  gap_stops p behind (Fault f) e h g = part_read p behind e h ∙ ap (λ r. with_front front (r >>= λ rest. parts_of env (m - 1) rest >>= λ others. Ok (p ∷ others))) g
+  pub gap_stops : (p : Part) (rest_after : List ℕ) (s : Stop) → nat_eq (length text) 0 ≡ false → part_at env text ≡ Ok (p, rest_after) → Stops s (gap_at env rest_after) → Stops s whole
+  gap_stops p rest_after Memory e h g = tt
+  gap_stops p rest_after (Fault f) e h g = part_read p rest_after e h ∙ ap (λ r. with_front front (r >>= λ rest. parts_of env (m - 1) rest >>= λ others. Ok (p ∷ others))) g
 
-  pub part_more : (p : Part) (behind rest : List ℕ) → nat_eq (length text) 0 ≡ false → part_at env text ≡ Ok (p, behind) → gap_at env behind ≡ Ok rest → with_front (front ++ p ∷ []) (parts_of env (m - 1) rest) ≡ whole
-  part_more p behind rest e h g = front_more front p (parts_of env (m - 1) rest) ∙ sym (part_read p behind e h ∙ ap (λ r. with_front front (r >>= λ a. parts_of env (m - 1) a >>= λ others. Ok (p ∷ others))) g)
+  pub part_more : (p : Part) (rest_after rest : List ℕ) → nat_eq (length text) 0 ≡ false → part_at env text ≡ Ok (p, rest_after) → gap_at env rest_after ≡ Ok rest → with_front (front ++ p ∷ []) (parts_of env (m - 1) rest) ≡ whole
+  part_more p rest_after rest e h g = front_more front p (parts_of env (m - 1) rest) ∙ sym (part_read p rest_after e h ∙ ap (λ r. with_front front (r >>= λ a. parts_of env (m - 1) a >>= λ others. Ok (p ∷ others))) g)

@@ -43,7 +43,7 @@ none_listed : (w : List ℕ) (es : List (List ℕ × Keyword)) → look_up w es 
 none_listed w [] h = refl
 none_listed w (e ∷ es) h = none_more (same w e.0) e.1 (look_up w es) (list_any (same w) (words_of es)) (none_listed w es) h
 
--- what is no keyword isn't reserved
+-- what isn't a keyword isn't reserved
 pub reserved_not : (w : List ℕ) → keyword_of w ≡ None → is_reserved w ≡ false
 reserved_not w h = rw (table_reserved w) (none_listed w table (rw (table_keyword w) at h))
 
@@ -55,11 +55,11 @@ listed_none : (w : List ℕ) (es : List (List ℕ × Keyword)) → list_any (sam
 listed_none w [] h = refl
 listed_none w (e ∷ es) h = listed_more (same w e.0) e.1 (look_up w es) (list_any (same w) (words_of es)) (listed_none w es) h
 
--- what isn't reserved is no keyword
+-- what isn't reserved isn't a keyword
 pub keyword_none : (w : List ℕ) → is_reserved w ≡ false → keyword_of w ≡ None
 keyword_none w h = rw (table_keyword w) (listed_none w table (rw (table_reserved w) at h))
 
--- the same characters are one list
+-- texts with the same characters are equal
 same_list : (x y : List ℕ) → same x y ≡ true → x ≡ y
 same_list [] [] h = refl
 same_list [] (b ∷ y) h = cc

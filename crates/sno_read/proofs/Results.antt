@@ -1,4 +1,4 @@
--- What an Ok tells of the steps that led to it.
+-- What an Ok says of the steps that led to it.
 use Rattle.std.proofs.Common.{◌≡◌, Bool, true, false, cond, ap, ◌||◌, Option, Some, None, Result, Ok, Err, refl}
 use Rattle.std.specs.Option.{is_some}
 use Rattle.sno_read.specs.declared.faults.ReadFault.{ReadFault}

@@ -25,7 +25,7 @@ use Rattle.sno_read.proofs.Results.{bind_ok, found_ok, if_some, pair_ok}
 use Rattle.sno_read.proofs.Reserved.{reserved_not}
 use Rattle.sno_read.proofs.TokensRead.{literal_sound, set_sound, number_sound, name_sound, variable_sound, opened_sound, closed_sound, Signed, dot_sound, dollar_sound, bar_sound, follows_shape}
 
--- a text in parentheses, and what stands after it
+-- a text in parentheses, and what comes after it
 pub paren_split : (b x c rest : List ℕ) → parenthesized b x c ++ rest ≡ 40 ∷ (b ++ (x ++ (c ++ (41 ∷ rest))))
 paren_split b x c rest = simp append_assoc
 
@@ -99,7 +99,7 @@ chosen_sound env room call text t rest h =
     (n.0.0, same.0, parens_sound env room (λ k x. IsLiteral x n.0.0 × (0 < length n.0.0)) text a.0 n.0.1 rest a.1 (λ k _. (l.0, (l.1, l.2), l.3)) (e.1 ∙ ap (λ l. Ok l) same.1))
 
 module _ (env : Env) (room : ℕ) (inner : List ℕ → Read Tree) where
-  -- what `inner` reads is an alternation, with one parenthesis less to open
+  -- what `inner` reads is an alternation, with one parenthesis fewer to open
   abbrev Reads : Type 0
   Reads = (text : List ℕ) (t : Tree) (rest : List ℕ) → inner text ≡ Ok (t, rest) → (k : ℕ) → room ≡ suc k → (x : List ℕ) × IsAlternation env.names env.earlier k x t × (text ≡ x ++ rest)
 
@@ -196,7 +196,7 @@ module _ (env : Env) (room : ℕ) (inner : List ℕ → Read Tree) where
       let same = pair_ok (t, text) u rest h in
       ([], rw (append-nil x, ← same.0) i, same.1)
 
-  -- one target more
+  -- one more target
   grown : (x text a v r : List ℕ) (sign : ℕ) (u : Tree) (rest : List ℕ) (s : Signed sign text a) → a ≡ v ++ r → Item (x ++ signed_by sign s.0 s.2 v) r u rest → Item x text u rest
   grown x text a v r sign u rest s split i = (
     signed_by sign s.0 s.2 v ++ i.0,

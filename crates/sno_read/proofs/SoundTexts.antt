@@ -9,7 +9,7 @@ use Rattle.sno_read.specs.declared.faults.ReadFault.TheVariants as fault
 use Rattle.sno_read.specs.Characters.{is_blank, front, skip}
 use Rattle.sno_read.specs.Depth.{depth}
 use Rattle.sno_read.specs.Grammar.{IsAlternation, Spells}
-use Rattle.sno_read.specs.Reading.{Env, end_at, shallow, whole_of, short_ascii, ascii_only, pattern_of, alternation_at, inside}
+use Rattle.sno_read.specs.Reading.{Env, end_at, unless_too_deep, whole_of, short_ascii, ascii_only, pattern_of, alternation_at, inside}
 use Rattle.sno_pattern.proofs.TextLemmas.{all_ascii}
 use Rattle.sno_read.proofs.Fronts.{front_passes, front_behind}
 use Rattle.sno_read.proofs.Results.{bind_ok, if_ok, unless_ok, ok_same}
@@ -33,8 +33,8 @@ pub ended_ok : (env : Env) (text : List ℕ) (n : ℕ) → end_at env text ≡ O
 unfolding end_at
 ended_ok env text n h = nothing_left text (eqb-true _ _ (if_ok (nat_eq (length text) 0) (Ok 0) _ n h).0)
 
-shallow_ok : (env : Env) (t u : Tree) → shallow env t ≡ Ok u → (depth u ≤ 1000) × (t ≡ u)
-unfolding shallow
+shallow_ok : (env : Env) (t u : Tree) → unless_too_deep env t ≡ Ok u → (depth u ≤ 1000) × (t ≡ u)
+unfolding unless_too_deep
 shallow_ok env t u h =
     let p = unless_ok (nat_lt 1000 (depth t)) (Ok t) _ u h in
     let e = ok_same t u p.1 in

@@ -1,4 +1,4 @@
--- One step of each loop of the reading, whatever bounds it.
+-- One step of each loop of the reading, for any bound on it.
 use Rattle.std.proofs.Common.{◌≡◌, ℕ, zero, suc, ◌-◌, ◌<◌, List, Result, Ok, Err, refl, arith}
 use Rattle.sno_pattern.specs.Tree.{Tree, Alt}
 use Rattle.sno_read.specs.declared.faults.ReadFault.{ReadFault}
@@ -24,7 +24,7 @@ unfolding parts_at
 parts_step env part zero text m h = absurd (omega arith)
 parts_step env part (suc n) text m h = let e : suc n - 1 ≡ n = omega arith in rw e refl
 
--- a tree and the one behind it, as an alternation
+-- a tree and the one after it, as an alternation
 abbrev made : Tree → Tree × List ℕ → Read Tree
 made t y = Ok (Alt t y.0, y.1)
 

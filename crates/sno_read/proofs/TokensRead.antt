@@ -11,7 +11,7 @@ use Rattle.sno_read.specs.declared.faults.ReadFault.TheVariants as fault
 use Rattle.sno_read.specs.declared.characters.Following.{Following}
 use Rattle.sno_read.specs.declared.characters.Following.TheVariants as follows
 use Rattle.sno_read.specs.Gives.{found_or}
-use Rattle.sno_read.specs.Characters.{is_blank, is_quote, is_other, quote_of, front, behind, skip, begins, value_of, number_from, what_follows, sign_of}
+use Rattle.sno_read.specs.Characters.{is_blank, is_quote, is_other, quote_of, front, rest_after, skip, begins, value_of, number_from, what_follows, sign_of}
 use Rattle.sno_read.specs.Grammar.{AreBlanks, SomeBlanks, decimal, IsNumber, IsLiteral, IsVariable}
 use Rattle.sno_read.specs.Reading.{Env, place, literal_by, literal_at, set_at, number_at, name_at, variable_at, opening_at, closing_at, blanks_at, sign_at}
 use Rattle.sno_read.proofs.Fronts.{front_passes, behind_stops, front_behind, begins_shape, other_shape}
@@ -27,11 +27,11 @@ quote_shape (c ∷ cs) q h =
 closed_shape : (e : ReadFault) (q : ℕ) (text s rest : List ℕ) → literal_by e q text ≡ Ok (s, rest) → IsTrue (list_all (is_other q) s) × (text ≡ s ++ (q ∷ rest))
 closed_shape e q text s rest h =
     let p = if_ok (nat_lt (prefix_len (is_other q) text) (length text)) _ e (s, rest) h in
-    let same = pair_ok (front (is_other q) text, drop 1 (behind (is_other q) text)) s rest p.1 in
+    let same = pair_ok (front (is_other q) text, drop 1 (rest_after (is_other q) text)) s rest p.1 in
     let within : prefix_len (is_other q) text < length text = ltb-true _ _ p.0 in
-    let long : 0 < length (behind (is_other q) text) = rw (length-drop (prefix_len (is_other q) text) text) (omega arith) in (
+    let long : 0 < length (rest_after (is_other q) text) = rw (length-drop (prefix_len (is_other q) text) text) (omega arith) in (
       rw same.0 at (front_passes (is_other q) text),
-      front_behind (is_other q) text ∙ ap (λ l. l ++ behind (is_other q) text) same.0 ∙ ap (λ l. s ++ l) (other_shape q (behind (is_other q) text) long (behind_stops (is_other q) text) ∙ ap (λ l. q ∷ l) same.1),
+      front_behind (is_other q) text ∙ ap (λ l. l ++ rest_after (is_other q) text) same.0 ∙ ap (λ l. s ++ l) (other_shape q (rest_after (is_other q) text) long (behind_stops (is_other q) text) ∙ ap (λ l. q ∷ l) same.1),
     )
 
 pub literal_sound : (env : Env) (text s rest : List ℕ) → literal_at env text ≡ Ok (s, rest) → (x : List ℕ) × IsLiteral x s × (text ≡ x ++ rest)
@@ -68,7 +68,7 @@ unfolding number_at
 number_sound env text n rest h =
     let ds = front is_ascii_digit text in
     let a = bind_ok (found_or (fault.BadNumber (place env text)) (value_of ds)) _ (n, rest) h in
-    let same = pair_ok (a.0, behind is_ascii_digit text) n rest a.2 in
+    let same = pair_ok (a.0, rest_after is_ascii_digit text) n rest a.2 in
     let v = unless_some (nat_eq (length ds) 0) (number_from 0 ds) a.0 (found_ok _ _ _ a.1) in
     let d = number_decimal 0 ds a.0 (omega arith) v.1 in
     let e : length ds ≡ 0 → ⊥ = eqb-false _ _ v.0 in (
@@ -83,10 +83,10 @@ name_sound env text w rest h =
     let f = front is_name_char text in
     let p = if_ok (begins is_letter text) _ _ (w, rest) h in
     let a = bind_ok (found_or (fault.TooLong (place env text)) (name_of f)) _ (w, rest) p.1 in
-    let same = pair_ok (a.0, behind is_name_char text) w rest a.2 in
+    let same = pair_ok (a.0, rest_after is_name_char text) w rest a.2 in
     let n = if_some (is_name f) (Some f) a.0 (found_ok _ _ _ a.1) in
     let e : f ≡ w = (let k : f ≡ a.0 = cc in k ∙ same.0) in
-    (rw e at n.0, front_behind is_name_char text ∙ ap (λ l. l ++ behind is_name_char text) e ∙ ap (λ l. w ++ l) same.1)
+    (rw e at n.0, front_behind is_name_char text ∙ ap (λ l. l ++ rest_after is_name_char text) e ∙ ap (λ l. w ++ l) same.1)
 
 pub variable_sound : (env : Env) (text v rest : List ℕ) → variable_at env text ≡ Ok (v, rest) → IsVariable env.names v × (text ≡ v ++ rest)
 unfolding variable_at
@@ -122,7 +122,7 @@ closed_sound env text rest h =
       front_behind is_blank text ∙ ap (λ l. front is_blank text ++ l) (begins_shape 41 (skip text) p.0 ∙ ap (λ l. 41 ∷ l) same),
     )
 
--- a front of blanks that isn't empty, where one begins the text
+-- a front of blanks that isn't empty, if a blank begins the text
 some_front : (p : ℕ → Bool) (text : List ℕ) → begins p text ≡ true → 0 < length (front p text)
 some_front p [] h = cc
 some_front p (c ∷ cs) h = some_taken p c cs (prefix_len p cs) (p c) h
@@ -179,14 +179,14 @@ blank_first : (b : Bool) (x f : Following) → cond b x follows.Nothing ≡ f �
 blank_first true x f h n = (refl, h)
 blank_first false x f h n = absurd (n (sym h))
 
--- what follows an item stands after blanks
+-- what follows an item comes after blanks
 pub follows_shape : (text : List ℕ) (f : Following) → what_follows text ≡ f → (f ≡ follows.Nothing → ⊥) → SomeBlanks (front is_blank text) × (text ≡ front is_blank text ++ skip text) × (sign_of (skip text) ≡ f)
 unfolding what_follows
 follows_shape text f h n =
     let p = blank_first (begins is_blank text) (sign_of (skip text)) f h n in
     ((front_passes is_blank text, some_front is_blank text p.0), front_behind is_blank text, p.1)
 
--- a text that goes on with blanks, a sign, blanks and a rest
+-- a text that continues with blanks, a sign, blanks and a rest
 abbrev pub Signed : ℕ → List ℕ → List ℕ → Type 0
 Signed sign text rest = (b : List ℕ) × SomeBlanks b × (c : List ℕ) × SomeBlanks c × (text ≡ b ++ (sign ∷ (c ++ rest)))
 

@@ -1,4 +1,4 @@
--- Characters, runs of them, and what a text goes on with.
+-- Characters, runs of them, and how a text continues.
 use Rattle.std.specs.Prelude.{ℕ, Bool, false, not, ◌||◌, ◌+◌, ◌-◌, ◌*◌, List, [], ◌∷◌, length, take, drop, nat_eq, nat_lt, Option, Some, None, if◌then◌else◌}
 use Rattle.std.specs.List.{prefix_len}
 use Rattle.sno_pattern.specs.Identifiers.{is_letter}
@@ -7,6 +7,7 @@ use Rattle.sno_read.specs.declared.characters.Start.{Start}
 use Rattle.sno_read.specs.declared.characters.Start.TheVariants as start
 use Rattle.sno_read.specs.declared.characters.Following.{Following}
 use Rattle.sno_read.specs.declared.characters.Following.TheVariants as follows
+use Rattle.sno_read.specs.declared.characters.TheConstants.{MAX_NUMBER}
 
 -- a space or a tab
 abbrev pub is_blank : ℕ → Bool
@@ -29,22 +30,22 @@ is_other q c = not (nat_eq c q)
 abbrev pub front : (ℕ → Bool) → List ℕ → List ℕ
 front p text = take (prefix_len p text) text
 
-abbrev pub behind : (ℕ → Bool) → List ℕ → List ℕ
-behind p text = drop (prefix_len p text) text
+abbrev pub rest_after : (ℕ → Bool) → List ℕ → List ℕ
+rest_after p text = drop (prefix_len p text) text
 
 -- the text after its blanks
 abbrev pub skip : List ℕ → List ℕ
-skip text = behind is_blank text
+skip text = rest_after is_blank text
 
 -- whether the text begins with a character that passes
 abbrev pub begins : (ℕ → Bool) → List ℕ → Bool
 begins p [] = false
 begins p (c ∷ cs) = p c
 
--- the value of digits that go on from digits of value n, if it is at most 65,536
+-- the value of further digits after digits of value n, if it is at most 65,536
 unfoldable pub number_from : ℕ → List ℕ → Option ℕ
 number_from n [] = Some n
-number_from n (d ∷ ds) = if nat_lt 65536 (n * 10 + (d - digit_zero)) then None else number_from (n * 10 + (d - digit_zero)) ds
+number_from n (d ∷ ds) = if nat_lt MAX_NUMBER (n * 10 + (d - digit_zero)) then None else number_from (n * 10 + (d - digit_zero)) ds
 
 -- the value of digits, if there is one and it is at most 65,536
 abbrev pub value_of : List ℕ → Option ℕ
@@ -61,7 +62,7 @@ start_of (c ∷ cs) =
     else (if is_letter c then start.Letter
     else start.Other))))
 
--- what the first character past blanks says of what follows
+-- what the first character after blanks says of what follows
 unfoldable pub sign_of : List ℕ → Following
 sign_of [] = follows.Nothing
 sign_of (c ∷ cs) =

@@ -1,4 +1,4 @@
--- What a reading answers, and that a function answers it unless memory is refused.
+-- What a reading gives, and that a function returns it unless out of memory.
 use Rattle.std.specs.Prelude.{◌≡◌, Option, Some, None, Result, Ok, Err}
 use Rattle.sno_read.specs.declared.faults.ReadFault.{ReadFault}
 use Rattle.sno_read.specs.declared.faults.ReadFault.TheVariants as fault
@@ -11,34 +11,34 @@ abbrev pub ◌>>=◌ : {A B : Type 0} → Result A ReadFault → (A → Result B
 (Ok x) >>= f = f x
 (Err e) >>= f = Err e
 
--- what is there, or the fault where there is nothing
+-- what is there, or the fault if there is nothing
 abbrev pub found_or : {A : Type 0} → ReadFault → Option A → Result A ReadFault
 found_or e None = Err e
 found_or e (Some x) = Ok x
 
--- that a function stopped says what the reading answers, unless memory was refused
+-- a function that stopped reports the fault that the reading gives, or is out of memory
 abbrev pub Stops : {Y : Type 0} → Stop → Result Y ReadFault → Type 0
 Stops stop.Memory reading = Unit {0}
 Stops (stop.Fault e) reading = reading ≡ Err e
 
--- what a function returned, seen by view, is what the reading answers, unless memory was refused
+-- what a function returned, seen by `view`, is what the reading gives, unless out of memory
 abbrev pub Gives : {X Y : Type 0} → (X → Y) → Result X Stop → Result Y ReadFault → Type 0
 Gives view (Ok x) reading = reading ≡ Ok (view x)
 Gives view (Err s) reading = Stops s reading
 
--- what holds where a function stopped as memory was refused
+-- what holds if a function stopped because it was out of memory
 abbrev pub OnMemory : {X : Type 0} → Result X Stop → Type 0 → Type 0
 OnMemory (Ok x) holds = Unit {0}
 OnMemory (Err stop.Memory) holds = holds
 OnMemory (Err (stop.Fault e)) holds = Unit {0}
 
--- the same of a public function: what it answered is what the reading answers, unless memory was refused
+-- as `Gives`, for a public function: what it returned is what the reading gives, unless out of memory
 abbrev pub Answers : {X Y : Type 0} → (X → Y) → Result X ReadFault → Result Y ReadFault → Type 0
 Answers view (Ok x) reading = reading ≡ Ok (view x)
 Answers view (Err fault.Memory) reading = Unit {0}
 Answers view (Err e) reading = reading ≡ Err e
 
--- what holds where a public function answered that memory is refused
+-- what holds if a public function returned `Memory`
 abbrev pub OnOutOfMemory : {X : Type 0} → Result X ReadFault → Type 0 → Type 0
 OnOutOfMemory (Ok x) holds = Unit {0}
 OnOutOfMemory (Err fault.Memory) holds = holds

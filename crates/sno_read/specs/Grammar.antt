@@ -1,5 +1,5 @@
--- The grammar of patterns: which texts spell which trees. A text is joined from parts; k is how many parentheses may be
--- open inside one. In the line of the grammar above each constructor, _ stands for one or more blanks and ~ for none or more.
+-- The grammar of patterns: which texts spell which trees. A text is joined from parts; k is how many parentheses may be open
+-- inside one. Above each constructor is a line of the grammar: in it _ means one or more blanks, and ~ none or more.
 use Rattle.std.specs.Prelude.{◌≡◌, ℕ, suc, ◌+◌, ◌-◌, ◌*◌, ◌≤◌, ◌<◌, false, List, [], ◌∷◌, ◌++◌, length, Some, None, IsTrue}
 use Rattle.std.specs.List.{list_all}
 use Rattle.std.specs.Char.{is_ascii, is_ascii_digit}
@@ -14,6 +14,8 @@ use Rattle.sno_read.specs.Signs.{open_parenthesis, close_parenthesis, asterisk, 
 use Rattle.sno_read.specs.Characters.{is_blank, is_quote, is_other}
 use Rattle.sno_read.specs.Depth.{depth}
 use Rattle.sno_read.specs.Keywords.{keyword_of, word_tree, number_tree, set_tree}
+use Rattle.sno_read.specs.declared.characters.TheConstants.{MAX_NUMBER}
+use Rattle.sno_read.specs.declared.reading.TheConstants.{MAX_WRITTEN, MAX_OPEN, MAX_DEPTH}
 
 -- blanks, or nothing
 abbrev pub AreBlanks : List ℕ → Type 0
@@ -23,7 +25,7 @@ AreBlanks b = IsTrue (list_all is_blank b)
 abbrev pub SomeBlanks : List ℕ → Type 0
 SomeBlanks b = AreBlanks b × (0 < length b)
 
--- the value of digits that go on from digits of value n
+-- the value of further digits after digits of value n
 abbrev pub decimal : ℕ → List ℕ → ℕ
 decimal n [] = n
 decimal n (d ∷ ds) = decimal (n * 10 + (d - digit_zero)) ds
@@ -33,7 +35,7 @@ pub record IsNumber (digits : List ℕ) (n : ℕ) : Type 0 where
   pub some : 0 < length digits
   pub all_digits : IsTrue (list_all is_ascii_digit digits)
   pub value : decimal 0 digits ≡ n
-  pub small : n ≤ 65536
+  pub small : n ≤ MAX_NUMBER
 
 -- quotes of one kind, with these characters inside
 pub record IsLiteral (text characters : List ℕ) : Type 0 where
@@ -42,7 +44,7 @@ pub record IsLiteral (text characters : List ℕ) : Type 0 where
   pub others : IsTrue (list_all (is_other quote) characters)
   pub spelled : text ≡ quote ∷ (characters ++ (quote ∷ []))
 
--- a name of no definition, and not reserved
+-- a name that is not reserved, and not a definition's name
 pub record IsVariable (names : List (List ℕ)) (name : List ℕ) : Type 0 where
   pub is_name : IsTrue (is_name name)
   pub not_reserved : is_reserved name ≡ false
@@ -99,16 +101,16 @@ module _ (names : List (List ℕ)) (earlier : ℕ) where
       otherwise : {k : ℕ} (x b c y : List ℕ) (t u : Tree) → IsConcatenation k x t → SomeBlanks b → SomeBlanks c → IsAlternation k y u → IsAlternation k (x ++ signed_by bar b c y) (Alt t u)
 
 -- pattern: ~ alternation ~
--- The text spells the tree: at most 4,096 ASCII characters, an alternation with blanks around it and at most 100
--- parentheses open at any place, and a tree of depth at most 1,000.
+-- The text spells the tree: at most 4,096 ASCII characters, an alternation with blanks around it and at most 100 parentheses
+-- open at any place, and a tree of depth at most 1,000.
 pub record Spells (names : List (List ℕ)) (earlier : ℕ) (text : List ℕ) (tree : Tree) : Type 0 where
-  pub short : length text ≤ 4096
+  pub short : length text ≤ MAX_WRITTEN
   pub ascii : IsTrue (list_all is_ascii text)
   pub before : List ℕ
   pub inside : List ℕ
   pub after : List ℕ
   pub blank_before : AreBlanks before
-  pub alternation : IsAlternation names earlier 100 inside tree
+  pub alternation : IsAlternation names earlier MAX_OPEN inside tree
   pub blank_after : AreBlanks after
   pub joined : text ≡ before ++ (inside ++ after)
-  pub shallow : depth tree ≤ 1000
+  pub shallow : depth tree ≤ MAX_DEPTH

@@ -38,7 +38,7 @@ keyword_of w =
     else (if same w (codes "FAIL") then Some (Primitive word.Fail)
     else call_of w)))))
 
--- the tree of a word that is a pattern by itself
+-- the tree of a word that is a pattern on its own
 abbrev pub word_tree : Word → Tree
 word_tree word.Arb = tree.Arb
 word_tree word.Bal = tree.Bal

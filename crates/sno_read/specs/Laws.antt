@@ -16,7 +16,7 @@ OneTree = (names : List (List ℕ)) (earlier : ℕ) (text : List ℕ) (t u : Tre
 abbrev pub OneObject : Type 0
 OneObject = (names : List (List ℕ)) (text : List ℕ) (ps qs : List Part) → SpellsObject names text ps → SpellsObject names text qs → ps ≡ qs
 
--- no text has a fault `Memory`: memory is refused by the machine
+-- no text has the fault `Memory`, which comes only from the machine
 abbrev pub MemoryIsNoFault : Type 0
 MemoryIsNoFault =
     ((names : List (List ℕ)) (earlier : ℕ) (text : List ℕ) → pattern_of names earlier text ≢ Err fault.Memory)

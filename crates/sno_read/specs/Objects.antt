@@ -19,11 +19,11 @@ part_by env text _ = Err (fault.Unexpected (place env text))
 unfoldable pub part_at : Env → List ℕ → Read Part
 part_at env text = part_by env text (start_of text)
 
--- what stands after a part: nothing, or blanks and more
+-- the rest after a part: nothing, or blanks and more
 unfoldable pub gap_at : Env → List ℕ → Result (List ℕ) ReadFault
 gap_at env text = if nat_eq (length text) 0 then Ok text else blanks_at env text
 
--- the parts of a text that begins with no blank; the number bounds how many there are
+-- the parts of a text that doesn't begin with a blank; the number bounds how many there are
 unfoldable pub parts_of : Env → ℕ → List ℕ → Result (List Part) ReadFault
 parts_of env zero text = Err (fault.Unexpected (place env text))
 parts_of env (suc n) text =
@@ -38,7 +38,7 @@ parts_of env (suc n) text =
 abbrev pub with_front : List Part → Result (List Part) ReadFault → Result (List Part) ReadFault
 with_front front others = others >>= λ ps. Ok (front ++ ps)
 
--- The parts of the object that a text spells, or the first fault of the text: `names` are those of the definitions.
+-- The parts of the object that a text spells, or the first fault of the text; `names` are the names of the definitions.
 unfoldable pub object_of : (names : List (List ℕ)) → List ℕ → Result (List Part) ReadFault
 object_of names text = do
   t ← short_ascii text

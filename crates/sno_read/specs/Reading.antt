@@ -22,9 +22,10 @@ use Rattle.sno_read.specs.Depth.{depth}
 use Rattle.sno_read.specs.Signs.{open_parenthesis, close_parenthesis}
 use Rattle.sno_read.specs.Gives.{◌>>=◌, found_or}
 use Rattle.sno_read.specs.Keywords.{keyword_of, word_tree, number_tree, set_tree}
-use Rattle.sno_read.specs.Characters.{is_blank, is_other, quote_of, front, behind, skip, begins, value_of, start_of, what_follows}
+use Rattle.sno_read.specs.Characters.{is_blank, is_other, quote_of, front, rest_after, skip, begins, value_of, start_of, what_follows}
+use Rattle.sno_read.specs.declared.reading.TheConstants.{MAX_WRITTEN, MAX_OPEN, MAX_DEPTH}
 
--- what a text is read with: the names of the definitions, how many of them a plain name may name, and the text's length
+-- what is needed to read a text: the names of the definitions, how many of them a plain name may name, and the text's length
 pub record Env : Type 0 where
   pub names : List (List ℕ)
   pub earlier : ℕ
@@ -38,9 +39,9 @@ Read A = Result (A × List ℕ) ReadFault
 abbrev pub place : Env → List ℕ → ℕ
 place env text = env.total - length text
 
--- what stands up to the closing quote, and after it
+-- what comes before the closing quote, and what comes after it
 abbrev pub literal_by : ReadFault → ℕ → List ℕ → Read (List ℕ)
-literal_by unclosed q text = if nat_lt (prefix_len (is_other q) text) (length text) then Ok (front (is_other q) text, drop 1 (behind (is_other q) text)) else Err unclosed
+literal_by unclosed q text = if nat_lt (prefix_len (is_other q) text) (length text) then Ok (front (is_other q) text, drop 1 (rest_after (is_other q) text)) else Err unclosed
 
 -- the characters of a literal, from its opening quote
 unfoldable pub literal_at : Env → List ℕ → Read (List ℕ)
@@ -54,19 +55,19 @@ set_at env text = do
   s ← literal_at env text
   if nat_eq (length s.0) 0 then Err (fault.EmptySet (place env text)) else Ok s
 
--- the number whose digits stand here, all of them
+-- the number of all the digits that begin here
 unfoldable pub number_at : Env → List ℕ → Read ℕ
 number_at env text = do
   n ← found_or (fault.BadNumber (place env text)) (value_of (front is_ascii_digit text))
-  Ok (n, behind is_ascii_digit text)
+  Ok (n, rest_after is_ascii_digit text)
 
--- a name, as long as it can be
+-- the longest name that begins here
 unfoldable pub name_at : Env → List ℕ → Read (List ℕ)
 name_at env text =
     if begins is_letter text
     then (do
       name ← found_or (fault.TooLong (place env text)) (name_of (front is_name_char text))
-      Ok (name, behind is_name_char text))
+      Ok (name, rest_after is_name_char text))
     else Err (fault.Unexpected (place env text))
 
 -- the name of a variable
@@ -75,7 +76,7 @@ variable_at env text = do
   name ← name_at env text
   if is_reserved name.0 || is_some (place_of env.names name.0) then Err (fault.ReservedTarget (place env text)) else Ok name
 
--- an opening parenthesis and blanks, where so many more may be opened
+-- an opening parenthesis and blanks, if more may be opened; the number is how many more
 unfoldable pub opening_at : Env → ℕ → List ℕ → Result (List ℕ) ReadFault
 opening_at env room text =
     if begins (λ c. nat_eq c open_parenthesis) text
@@ -171,7 +172,7 @@ element_by env room inside text start.Other = Err (fault.Unexpected (place env t
 unfoldable pub element_at : Env → ℕ → (List ℕ → Read Tree) → List ℕ → Read Tree
 element_at env room inside text = element_by env room inside text (start_of text)
 
--- what stands after blanks, a sign and blanks again
+-- the rest after blanks, a sign and blanks again
 unfoldable pub sign_at : Env → List ℕ → Result (List ℕ) ReadFault
 sign_at env text = blanks_at env (drop 1 (skip text))
 
@@ -211,14 +212,14 @@ unfoldable pub parts_at : Env → (List ℕ → Read Tree) → ℕ → List ℕ 
 parts_at env part zero text = Err (fault.Unexpected (place env text))
 parts_at env part (suc n) text = part text >>= λ x. next_part_by env (parts_at env part n) x (what_follows x.1)
 
--- the functions below are those above, where so many more parentheses may be opened
+-- the functions below are those above, with a number of parentheses that may still be opened
 unfoldable pub concatenation_at : Env → ℕ → (List ℕ → Read Tree) → List ℕ → Read Tree
 concatenation_at env room inside text = items_at env (item_at env room inside) (suc (length text)) text
 
 unfoldable pub alternation_at : Env → ℕ → (List ℕ → Read Tree) → List ℕ → Read Tree
 alternation_at env room inside text = parts_at env (concatenation_at env room inside) (suc (length text)) text
 
--- what stands in parentheses, once they are open
+-- what is in parentheses, once they are open
 unfoldable pub inside : Env → ℕ → List ℕ → Read Tree
 inside env zero text = Err (fault.TooDeep (place env text))
 inside env (suc k) text = alternation_at env k (inside env k) text
@@ -228,17 +229,17 @@ unfoldable pub end_at : Env → List ℕ → Result ℕ ReadFault
 end_at env text = if nat_eq (length text) 0 then Ok 0 else Err (fault.Unexpected (place env text))
 
 -- a tree that isn't too deep
-unfoldable pub shallow : Env → Tree → Result Tree ReadFault
-shallow env t = if nat_lt 1000 (depth t) then Err (fault.TooDeep env.total) else Ok t
+unfoldable pub unless_too_deep : Env → Tree → Result Tree ReadFault
+unless_too_deep env t = if nat_lt MAX_DEPTH (depth t) then Err (fault.TooDeep env.total) else Ok t
 
 -- a whole text that is short and ASCII
 unfoldable pub whole_of : Env → List ℕ → Result Tree ReadFault
 whole_of env text =
     if nat_eq (length (skip text)) 0 then Err (fault.Empty env.total)
     else (do
-      x ← alternation_at env 100 (inside env 100) (skip text)
+      x ← alternation_at env MAX_OPEN (inside env MAX_OPEN) (skip text)
       end ← end_at env (skip x.1)
-      shallow env x.0)
+      unless_too_deep env x.0)
 
 abbrev pub ascii_only : Option ℕ → List ℕ → Result (List ℕ) ReadFault
 ascii_only None text = Ok text
@@ -246,14 +247,14 @@ ascii_only (Some i) text = Err (fault.NonAscii i)
 
 -- a text that is short and ASCII
 abbrev pub short_ascii : List ℕ → Result (List ℕ) ReadFault
-short_ascii text = if nat_lt 4096 (length text) then Err (fault.TooLong 4096) else ascii_only (first_non_ascii text) text
+short_ascii text = if nat_lt MAX_WRITTEN (length text) then Err (fault.TooLong MAX_WRITTEN) else ascii_only (first_non_ascii text) text
 
--- A text that is short and ASCII, and not blanks alone. For any other the answer is found before memory is asked for.
+-- A text that is short and ASCII, and not blanks alone. For any other, the result is found before memory is needed.
 abbrev pub AsksForMemory : List ℕ → Type 0
 AsksForMemory text = (short_ascii text ≡ Ok text) × (0 < length (skip text))
 
--- The tree that a text spells, or the first fault of the text: `names` are those of the definitions, and a plain name
--- may name the first `earlier` of them.
+-- The tree that a text spells, or the first fault of the text. `names` are the names of the definitions, and a plain name may
+-- name the first `earlier` of them.
 unfoldable pub pattern_of : (names : List (List ℕ)) (earlier : ℕ) → List ℕ → Result Tree ReadFault
 pattern_of names earlier text = do
   t ← short_ascii text

@@ -1,4 +1,4 @@
--- A reader, seen as what a text is read with.
+-- A reader, as what is needed to read a text.
 use Rattle.sno_read.specs.declared.reader.Reader.{Reader}
 use Rattle.sno_read.specs.Reading.{Env}
 

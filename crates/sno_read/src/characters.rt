@@ -1,4 +1,4 @@
-//! Characters, runs of them, and what a text goes on with.
+//! Characters, runs of them, and how a text continues.
 ghost use Rattle.std.specs.Prelude.{◌≡◌, ◌≢◌, ◌<◌, true, length, nat_eq, OnSome};
 ghost use Rattle.std.specs.List.{prefix_len};
 ghost use Rattle.std.specs.Char.{is_ascii_digit};
@@ -9,7 +9,7 @@ ghost use Rattle.sno_read.specs.Characters.{value_of, is_blank, is_quote, is_oth
 
 use sno_pattern::{is_letter, is_name_char};
 
-/// The largest number that a pattern may have.
+/// The largest number that a pattern can have.
 pub const MAX_NUMBER: u32 = 65_536;
 
 /// What kind of element begins at a place.
@@ -46,28 +46,28 @@ fn is_quote(c: u8) -> bool
     c == b'\'' || c == b'"'
 }
 
-/// How many blanks stand in front.
+/// How many blanks the text begins with.
 pub fn count_blanks(text: &[u8]) -> usize
     ensures { result ≡ prefix_len is_blank text.now }
 {
     text.iter().take_while(|c| is_blank(**c)).count()
 }
 
-/// How many characters of names stand in front.
+/// How many characters of names the text begins with.
 pub fn count_name_chars(text: &[u8]) -> usize
     ensures { result ≡ prefix_len is_name_char text.now }
 {
     text.iter().take_while(|c| is_name_char(**c)).count()
 }
 
-/// How many digits stand in front.
+/// How many digits the text begins with.
 pub fn count_digits(text: &[u8]) -> usize
     ensures { result ≡ prefix_len is_ascii_digit text.now }
 {
     text.iter().take_while(|c| c.is_ascii_digit()).count()
 }
 
-/// How many characters stand before the first quote of this kind, or before the end.
+/// How many characters come before the first quote of this kind, or before the end.
 pub fn count_quoted(text: &[u8], quote: u8) -> usize
     ensures { result ≡ prefix_len (is_other quote) text.now }
 {
@@ -85,7 +85,7 @@ pub fn begins_with(text: &[u8], character: u8) -> bool
     }
 }
 
-/// The quote that the text begins with.
+/// The quote that the text begins with, if there is one.
 pub fn quote_of(text: &[u8]) -> Option<u8>
     ensures value { result ≡ quote_of text.now }
     ensures some { OnSome result (0 < length text.now) }
@@ -181,7 +181,7 @@ fn sign_of(text: &[u8]) -> Following
     }
 }
 
-/// What follows an item: whatever it is, it needs blanks before it.
+/// What follows an item: anything needs blanks before it.
 #[tactic(auto, using(crate::proofs::Runs::runs), unfolding(crate::specs::Characters::what_follows))]
 pub fn what_follows(text: &[u8]) -> Following
     ensures value { result ≡ what_follows text.now }

@@ -5,7 +5,7 @@ ghost use Rattle.sno_read.specs.Depth.{depth};
 
 use sno_pattern::Pattern;
 
-/// Whether the pattern's tree is at most so deep.
+/// Whether the depth of the pattern's tree is at most `limit`.
 #[tactic(auto, using(crate::proofs::Depths::depths), unfolding(crate::specs::Depth::depth))]
 pub fn fits(pattern: &Pattern, limit: usize) -> bool
     ensures { result ≡ nat_le (depth (tree_of pattern.now)) limit }

@@ -2,48 +2,48 @@
 use std::alloc::{AllocError, AllocFailed};
 use thiserror::Error;
 
-/// Why a text is not read. A place is the number of characters before the point that is meant.
+/// Why a text is not read. A place is a number of characters: those before the point of the fault.
 #[derive(Clone, Copy, Debug, PartialEq, Eq, Error)]
 pub enum ReadFault {
-    /// A pattern's text of blanks alone, with its length.
+    /// A pattern's text has blanks alone. The place is its length.
     #[error("empty at {0}")]
     Empty(usize),
-    /// A quote without its mate.
+    /// A quote without a closing one.
     #[error("open quote at {0}")]
     OpenQuote(usize),
-    /// A character that can't stand where it does, or the end of the text where more is due.
+    /// A character that can't come here, or the end of the text when more is due.
     #[error("unexpected at {0}")]
     Unexpected(usize),
-    /// No digit where a number is due, or a number above 65,536.
+    /// No digit when a number is due, or a number above 65,536.
     #[error("bad number at {0}")]
     BadNumber(usize),
-    /// A name of no definition that may be named there.
+    /// A name of no definition that may be named here.
     #[error("unknown name at {0}")]
     UnknownName(usize),
-    /// The empty literal where a set of characters is due.
+    /// The empty literal when a set of characters is due.
     #[error("empty set at {0}")]
     EmptySet(usize),
-    /// A parenthesis that would be the 101st open one; with the text's length a tree deeper than 1,000.
+    /// A parenthesis that would be the 101st open one; or, at the text's length, a tree deeper than 1,000.
     #[error("too deep at {0}")]
     TooDeep(usize),
     /// A text of more than 4,096 characters, at 4,096; or a name of more than 64, at its first letter.
     #[error("too long at {0}")]
     TooLong(usize),
-    /// A reserved name or the name of a definition where a variable is due.
+    /// A reserved name or the name of a definition when a variable is due.
     #[error("reserved name at {0}")]
     ReservedTarget(usize),
     /// A byte above 127.
     #[error("not ASCII at {0}")]
     NonAscii(usize),
-    /// Memory was refused.
+    /// Out of memory.
     #[error("out of memory")]
     Memory,
 }
 
-/// Why reading stops: memory was refused, or the text has a fault.
+/// Why reading stops: out of memory, or a fault of the text.
 #[derive(Clone, Copy, Debug, PartialEq, Eq)]
 pub enum Stop {
-    /// Memory was refused.
+    /// Out of memory.
     Memory,
     /// The text has this fault.
     Fault(ReadFault),

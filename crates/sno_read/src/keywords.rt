@@ -1,4 +1,4 @@
-//! The words that stand for primitives.
+//! The reserved words, which name primitives.
 ghost use Rattle.std.specs.Prelude.{◌≡◌};
 ghost use Rattle.std.specs.List.{find};
 ghost use Rattle.std.specs.Option.{option_map};
@@ -8,7 +8,7 @@ ghost use Rattle.sno_read.specs.Keywords.{keyword_of, word_tree, number_tree, se
 
 use sno_pattern::{Class, Pattern};
 
-/// A word that is a pattern by itself.
+/// A word that is a pattern on its own.
 #[derive(Clone, Copy, Debug, PartialEq, Eq)]
 pub enum Word {
     Arb,
@@ -38,7 +38,7 @@ pub enum SetCall {
     Break,
 }
 
-/// What one of the sixteen reserved words is.
+/// What a reserved word is.
 #[derive(Clone, Copy, Debug, PartialEq, Eq)]
 pub enum Keyword {
     Primitive(Word),
@@ -92,7 +92,7 @@ impl SetCall {
     }
 }
 
-// The words that stand for primitives, and what each is.
+// The reserved words, and what each is.
 const KEYWORDS: [(&str, Keyword); 16] = [
     ("ARB", Keyword::Primitive(Word::Arb)),
     ("BAL", Keyword::Primitive(Word::Bal)),
@@ -120,7 +120,7 @@ pub fn keyword_of(word: &[u8]) -> Option<Keyword>
     look_up(word, &KEYWORDS)
 }
 
-// What stands beside the word in the table.
+// The keyword of the word in the table, if there is one.
 fn look_up(word: &[u8], table: &[(&str, Keyword)]) -> Option<Keyword>
     ensures { result ≡ option_map (λ e. e.1) (find (λ e. same word.now e.0.now) table.now) }
 {

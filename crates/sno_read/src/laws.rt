@@ -1,4 +1,4 @@
-//! Laws of the grammars: what a text spells is one.
+//! Laws of the grammars: a text spells at most one tree, or one object.
 ghost use Rattle.sno_read.specs.Laws.{MemoryIsNoFault, OneObject, OneTree};
 
 /// No text spells two trees.

@@ -1,15 +1,15 @@
 //! The reader of patterns and of objects.
 //!
-//! `read_pattern` answers a pattern exactly where the text spells its tree, and `read_object` the parts of an object
-//! likewise, unless memory is refused:
+//! `read_pattern` returns a pattern exactly if the text spells its tree, and `read_object` the parts of an object in the same
+//! way. Either may also run out of memory:
 //!
-//! - `specs/Grammar.antt` and `specs/ObjectGrammar.antt` are the grammars, a constructor for each rule, with all limits: what
-//!   is read is spelled so (the clause `found`), and what is spelled so is read (`only`).
-//! - `specs/Reading.antt` and `specs/Objects.antt` read a list of characters from left to right and tell the first fault and
-//!   its place: the calls answer just that (the clause `exact`).
-//! - `Memory` is answered only for a text that is short, ASCII and not blank (the clause `late`).
-//! - `one_tree` and `one_object` are the laws that no text spells two trees or two objects, `memory_is_no_fault` the law that
-//!   no text has the fault `Memory`.
+//! - `specs/Grammar.antt` and `specs/ObjectGrammar.antt` are the grammars, with a constructor for each rule, and with all
+//!   limits: what is read is spelled so (the clause `found`), and what is spelled so is read (`only`).
+//! - `specs/Reading.antt` and `specs/Objects.antt` read a list of characters from left to right, and give the first fault and
+//!   its place. The calls return that result (the clause `exact`).
+//! - `Memory` is returned only for a text that is short, ASCII and not blank (the clause `late`).
+//! - `one_tree` and `one_object` are the laws that no text spells two trees or two objects. `memory_is_no_fault` is the law
+//!   that no text has the fault `Memory`.
 #![tactic(auto)]
 
 mod characters;

@@ -19,9 +19,9 @@ impl<'a> Reader<'a> {
     {
         match characters::start_of(rest.characters) {
             Start::Quote => {
-                let (content, behind) = self.literal(rest)?;
+                let (content, rest_after) = self.literal(rest)?;
                 let text = self.text(content)?;
-                Ok((Part::Quoted(text), behind))
+                Ok((Part::Quoted(text), rest_after))
             }
             Start::Letter => {
                 let name = self.variable(rest)?;
@@ -31,7 +31,7 @@ impl<'a> Reader<'a> {
         }
     }
 
-    // What stands after a part: nothing, or blanks and more.
+    // The rest after a part: nothing, or blanks and more.
     #[tactic(auto, unfolding(crate::specs::Objects::gap_at))]
     fn gap(&self, rest: Piece<'a>) -> Result<Piece<'a>, Stop>
         ensures read { Gives (λ p. p.characters.now) result (gap_at (env_of self.now) rest.entry.characters.now) }
@@ -44,7 +44,7 @@ impl<'a> Reader<'a> {
         Ok(rest)
     }
 
-    /// The parts of an object, whose text begins with no blank.
+    /// The parts of an object, whose text doesn't begin with a blank.
     pub fn parts(&self, start: Piece<'a>) -> Result<Vec<Part>, Stop>
         ensures { Gives (λ parts. parts.items) result (parts_of (env_of self.now) (suc (length start.entry.characters.now)) start.entry.characters.now) }
     {
@@ -52,9 +52,9 @@ impl<'a> Reader<'a> {
         let mut rest = start;
         while !rest.characters.is_empty() {
             match self.part(rest) {
-                Ok((part, behind)) => {
+                Ok((part, rest_after)) => {
                     parts.push(part)?;
-                    rest = self.gap(behind)?;
+                    rest = self.gap(rest_after)?;
                 }
                 Err(stop) => return Err(stop),
             }

@@ -1,4 +1,4 @@
-//! Objects: what a match is replaced by.
+//! Objects: what replaces the matched part.
 ghost use Rattle.std.specs.Prelude.{◌≡◌};
 
 use sno_pattern::{Name, Text};
@@ -9,11 +9,11 @@ use std::marker::Model;
 pub enum Part {
     /// The characters of a literal.
     Quoted(Text),
-    /// A variable, which stands for its value.
+    /// A variable, which represents its value.
     Var(Name),
 }
 
-/// What a match is replaced by: the values of its parts, joined.
+/// What replaces the matched part: the values of its parts, joined.
 #[derive(Debug, Drop)]
 pub struct Object {
     parts: Vec<Part>,

@@ -1,22 +1,23 @@
-//! Pieces of the text that is read.
+//! Pieces of the text that is being read.
 ghost use Rattle.std.specs.Prelude.{◌≡◌, ◌≤◌, ◌+◌, length, take, drop, IsTrue};
 ghost use Rattle.std.specs.List.{list_all};
 ghost use Rattle.std.specs.Char.{is_ascii};
 ghost use Rattle.sno_pattern.specs.Identifiers.{is_name_char};
-ghost use Rattle.sno_read.specs.Characters.{behind, skip};
+ghost use Rattle.sno_read.specs.Characters.{rest_after, skip};
+ghost use Rattle.sno_read.specs.declared.reading.TheConstants.{MAX_WRITTEN};
 
 use crate::characters;
 
-/// A piece of the text that is read: at most 4,096 characters, all ASCII.
+/// A piece of the text that is being read: at most 4,096 characters, all ASCII.
 #[derive(Clone, Copy)]
 pub struct Piece<'a> {
     pub characters: &'a [u8],
-    ghost short: { length characters.now ≤ 4096 },
+    ghost short: { length characters.now ≤ MAX_WRITTEN },
     ghost ascii: { IsTrue (list_all is_ascii characters.now) },
 }
 
 impl<'a> Piece<'a> {
-    /// The first characters and the rest.
+    /// The first `count` characters, and the rest.
     pub fn split(self, count: usize) -> (Piece<'a>, Piece<'a>)
         requires { count ≤ length self.characters.now }
         ensures front { result.0.characters.now ≡ take count self.entry.characters.now }
@@ -27,7 +28,7 @@ impl<'a> Piece<'a> {
         (Piece { characters: front }, Piece { characters: back })
     }
 
-    /// What stands after the blanks.
+    /// The rest after the blanks.
     #[tactic(auto, using(crate::proofs::Runs::runs))]
     pub fn after_blanks(self) -> Piece<'a>
         ensures value { result.characters.now ≡ skip self.entry.characters.now }
@@ -37,10 +38,10 @@ impl<'a> Piece<'a> {
         rest
     }
 
-    /// What stands after the characters of names.
+    /// The rest after the characters of names.
     #[tactic(auto, using(crate::proofs::Runs::runs))]
     pub fn after_name(self) -> Piece<'a>
-        ensures value { result.characters.now ≡ behind is_name_char self.entry.characters.now }
+        ensures value { result.characters.now ≡ rest_after is_name_char self.entry.characters.now }
         ensures size { length result.characters.now ≤ length self.entry.characters.now }
     {
         let (_name, rest) = self.split(characters::count_name_chars(self.characters));

@@ -15,13 +15,13 @@ use crate::piece::Piece;
 use sno_pattern::{Name, Names, Pattern};
 use std::alloc::Global;
 
-/// What a text is read with.
+/// What is needed to read a text.
 #[derive(Clone, Copy)]
 pub struct Reader<'a> {
     pub alloc: Global,
     /// The names of the definitions.
     pub names: &'a Names,
-    /// How many of them a plain name may name.
+    /// How many of the definitions a plain name may name.
     pub earlier: usize,
     /// The length of the text.
     pub total: usize,
@@ -149,7 +149,7 @@ impl<'a> Reader<'a> {
         }
     }
 
-    // The number of the earlier definition that a plain name, which begins this rest, names.
+    // The number of the earlier definition that a plain name names; the name begins this rest.
     #[tactic(auto, unfolding(crate::specs::Reading::plain_of))]
     fn plain(&self, name: &Name, rest: Piece<'a>) -> Result<usize, Stop>
         ensures { Gives (λ number. number) result (plain_of (env_of self.now) (UnknownName (place (env_of self.now) rest.entry.characters.now)) name.now) }
@@ -199,16 +199,16 @@ impl<'a> Reader<'a> {
         ensures shorter { IfOk result (λ p. length p.1.characters.now < length rest.entry.characters.now) }
     {
         let name = self.name(rest)?;
-        let behind = rest.after_name();
+        let rest_after = rest.after_name();
         match keywords::keyword_of(name.bytes()) {
             None => {
                 let number = self.plain(&name, rest)?;
-                Ok((Pattern::Ref(number), behind))
+                Ok((Pattern::Ref(number), rest_after))
             }
-            Some(Keyword::Primitive(word)) => Ok((word.pattern(), behind)),
-            Some(Keyword::Counted(call)) => self.number_call(room, call, behind),
-            Some(Keyword::Chosen(call)) => self.set_call(room, call, behind),
-            Some(Keyword::Repeated) => self.repetition(room, behind),
+            Some(Keyword::Primitive(word)) => Ok((word.pattern(), rest_after)),
+            Some(Keyword::Counted(call)) => self.number_call(room, call, rest_after),
+            Some(Keyword::Chosen(call)) => self.set_call(room, call, rest_after),
+            Some(Keyword::Repeated) => self.repetition(room, rest_after),
         }
     }
 

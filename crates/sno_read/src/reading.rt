@@ -6,7 +6,7 @@ ghost use Rattle.sno_read.specs.Grammar.{Spells};
 ghost use Rattle.sno_read.specs.ObjectGrammar.{SpellsObject};
 ghost use Rattle.sno_read.specs.Gives.{Gives, ◌>>=◌ as ◌and_then◌, Answers, OnMemory, OnOutOfMemory};
 ghost use Rattle.sno_read.specs.Characters.{skip};
-ghost use Rattle.sno_read.specs.Reading.{short_ascii, end_at, shallow, whole_of, pattern_of, AsksForMemory};
+ghost use Rattle.sno_read.specs.Reading.{short_ascii, end_at, unless_too_deep, whole_of, pattern_of, AsksForMemory};
 ghost use Rattle.sno_read.specs.Objects.{object_of};
 ghost use Rattle.sno_read.specs.Views.{env_of};
 
@@ -18,13 +18,13 @@ use crate::reader::Reader;
 use sno_pattern::{Names, Pattern, first_non_ascii};
 use std::alloc::Global;
 
-/// The most characters of a pattern's text, and of an object's.
+/// The most characters that a pattern's text or an object's text can have.
 pub const MAX_WRITTEN: usize = 4_096;
 
-/// The most parentheses that are open at one place.
+/// The most parentheses that can be open at one place.
 pub const MAX_OPEN: usize = 100;
 
-/// The depth of the deepest tree.
+/// The depth of the deepest tree that is read.
 pub const MAX_DEPTH: usize = 1_000;
 
 // The text, if it is short and ASCII.
@@ -43,10 +43,10 @@ fn check(text: &[u8]) -> Result<Piece<'_>, Stop>
     }
 }
 
-// Nothing but blanks comes after a pattern, and it isn't too deep.
-#[tactic(auto, unfolding(crate::specs::Reading::shallow, crate::specs::Reading::end_at))]
+// Checks that only blanks come after a pattern, and that it isn't too deep.
+#[tactic(auto, unfolding(crate::specs::Reading::unless_too_deep, crate::specs::Reading::end_at))]
 fn finish(reader: &Reader, pattern: &Pattern, rest: Piece) -> Result<(), Stop>
-    ensures read { Gives (λ _. tree_of pattern.now) result (end_at (env_of reader.now) (skip rest.entry.characters.now) and_then λ _. shallow (env_of reader.now) (tree_of pattern.now)) }
+    ensures read { Gives (λ _. tree_of pattern.now) result (end_at (env_of reader.now) (skip rest.entry.characters.now) and_then λ _. unless_too_deep (env_of reader.now) (tree_of pattern.now)) }
 {
     let end = rest.after_blanks();
     if !end.characters.is_empty() {
@@ -142,22 +142,28 @@ fn object_answer(alloc: Global, names: &Names, text: &[u8]) -> Result<Object, Re
     }
 }
 
-/// The pattern that the text spells, where a plain name may name the first `earlier` definitions (at most all of `names`)
-/// and a starred one any.
+/// The pattern that the text spells. A plain name may name the first `earlier` definitions (at most all of `names`), and
+/// a starred one any definition.
 ///
-/// It is read exactly where the text spells a tree by the grammar of `specs/Grammar.antt`: at most 4,096 ASCII characters,
-/// 100 open parentheses and a depth of 1,000. Refused with the first fault and its place: first `TooLong` for the length,
-/// then `NonAscii`, then from left to right the first fault of the text as `specs/Reading.antt` finds it, and last `TooDeep`
-/// for the tree. `Memory` is answered only where memory was refused, and never for a text that is too long, not ASCII or blank.
+/// It is read exactly if the text spells a tree by the grammar of `specs/Grammar.antt`: at most 4,096 ASCII characters, 100
+/// open parentheses and a depth of 1,000.
+///
+/// Refused with the first fault and its place, in this order:
+/// - `TooLong` for the length;
+/// - `NonAscii`;
+/// - from left to right the first fault of the text, as `specs/Reading.antt` finds it;
+/// - `TooDeep` for the tree.
+///
+/// `Memory` is returned only if out of memory, and never for a text that is too long, not ASCII or blank.
 pub fn read_pattern(
     alloc: Global,
     names: &Names,
     earlier: usize,
     text: &[u8],
 ) -> Result<Pattern, ReadFault>
-    // Which answer it is, with the fault and its place.
+    // Which result it is, with the fault and its place.
     ensures exact { Answers tree_of result (pattern_of names.now earlier text.now) }
-    // Memory is asked for only where length, characters and blanks give no answer yet.
+    // `Memory` comes only if length, characters and blanks give no result yet.
     ensures late { OnOutOfMemory result (AsksForMemory text.now) }
     // What is read is spelled so.
     ensures found { IfOk result (λ p. Spells names.now earlier text.now (tree_of p)) }
@@ -169,14 +175,18 @@ pub fn read_pattern(
 
 /// The object that the text spells; a text of blanks alone is the object of no parts.
 ///
-/// It is read exactly where the text spells parts by the grammar of `specs/ObjectGrammar.antt`: at most 4,096 ASCII
-/// characters. Refused with the first fault and its place: first `TooLong` for the length, then `NonAscii`, then from left to
-/// right the first fault of the text. `Memory` is answered only where memory was refused, and never for a text that is too
-/// long, not ASCII or blank.
+/// It is read exactly if the text spells parts by the grammar of `specs/ObjectGrammar.antt`: at most 4,096 ASCII characters.
+///
+/// Refused with the first fault and its place, in this order:
+/// - `TooLong` for the length;
+/// - `NonAscii`;
+/// - from left to right the first fault of the text.
+///
+/// `Memory` is returned only if out of memory, and never for a text that is too long, not ASCII or blank.
 pub fn read_object(alloc: Global, names: &Names, text: &[u8]) -> Result<Object, ReadFault>
-    // Which answer it is, with the fault and its place.
+    // Which result it is, with the fault and its place.
     ensures exact { Answers (λ object. object) result (object_of names.now text.now) }
-    // Memory is asked for only where length, characters and blanks give no answer yet.
+    // `Memory` comes only if length, characters and blanks give no result yet.
     ensures late { OnOutOfMemory result (AsksForMemory text.now) }
     // What is read is spelled so.
     ensures found { IfOk result (λ parts. SpellsObject names.now text.now parts) }

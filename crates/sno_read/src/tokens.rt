@@ -4,7 +4,7 @@ ghost use Rattle.std.specs.Option.{is_some};
 ghost use Rattle.sno_pattern.specs.Identifiers.{is_name_char, is_reserved};
 ghost use Rattle.sno_pattern.specs.NameList.{place_of};
 ghost use Rattle.sno_read.specs.Gives.{Gives};
-ghost use Rattle.sno_read.specs.Characters.{behind, skip};
+ghost use Rattle.sno_read.specs.Characters.{rest_after, skip};
 ghost use Rattle.sno_read.specs.Reading.{place, literal_at, set_at, number_at, name_at, variable_at, opening_at, closing_at, blanks_at, sign_at};
 ghost use Rattle.sno_read.specs.Views.{env_of};
 ghost use Rattle.sno_read.specs.declared.faults.ReadFault.TheVariants.{Unexpected};
@@ -24,7 +24,7 @@ impl<'a> Reader<'a> {
         self.total.saturating_sub(rest.characters.len())
     }
 
-    /// What begins this rest can't stand there.
+    /// The fault that this rest begins with what can't come there.
     pub fn unexpected(&self, rest: Piece) -> Stop
         ensures { result ≡ Fault (Unexpected (place (env_of self.now) rest.entry.characters.now)) }
     {
@@ -46,8 +46,8 @@ impl<'a> Reader<'a> {
             return Err(Stop::Fault(ReadFault::OpenQuote(self.place(rest))));
         }
         let (content, closing) = inside.split(count);
-        let (_quote, behind) = closing.split(1);
-        Ok((content, behind))
+        let (_quote, rest_after) = closing.split(1);
+        Ok((content, rest_after))
     }
 
     /// A text of these characters.
@@ -68,32 +68,32 @@ impl<'a> Reader<'a> {
         ensures read { Gives (λ p. (p.0, p.1.characters.now)) result (set_at (env_of self.now) rest.entry.characters.now) }
         ensures shorter { IfOk result (λ p. length p.1.characters.now < length rest.entry.characters.now) }
     {
-        let (content, behind) = self.literal(rest)?;
+        let (content, rest_after) = self.literal(rest)?;
         let members = Vec::from_slice(self.alloc, content.characters)?;
         match Class::new(members) {
-            Some(class) => Ok((class, behind)),
+            Some(class) => Ok((class, rest_after)),
             None => Err(Stop::Fault(ReadFault::EmptySet(self.place(rest)))),
         }
     }
 
-    /// The number whose digits stand here, all of them.
+    /// The number of all the digits that begin this rest.
     #[tactic(auto, using(crate::proofs::Runs::runs), unfolding(crate::specs::Reading::number_at))]
     pub fn number(&self, rest: Piece<'a>) -> Result<(u32, Piece<'a>), Stop>
         ensures read { Gives (λ p. (p.0, p.1.characters.now)) result (number_at (env_of self.now) rest.entry.characters.now) }
         ensures shorter { IfOk result (λ p. length p.1.characters.now < length rest.entry.characters.now) }
     {
-        let (digits, behind) = rest.split(characters::count_digits(rest.characters));
+        let (digits, rest_after) = rest.split(characters::count_digits(rest.characters));
         match characters::value_of(digits.characters) {
-            Some(number) => Ok((number, behind)),
+            Some(number) => Ok((number, rest_after)),
             None => Err(Stop::Fault(ReadFault::BadNumber(self.place(rest)))),
         }
     }
 
-    /// The name that stands here, as long as it can be.
+    /// The longest name that begins this rest.
     #[tactic(auto, using(crate::proofs::Runs::runs), unfolding(crate::specs::Reading::name_at))]
     pub fn name(&self, rest: Piece<'a>) -> Result<Name, Stop>
-        ensures read { Gives (λ name. (name, behind is_name_char rest.entry.characters.now)) result (name_at (env_of self.now) rest.entry.characters.now) }
-        ensures shorter { OnOk result (length (behind is_name_char rest.entry.characters.now) < length rest.entry.characters.now) }
+        ensures read { Gives (λ name. (name, rest_after is_name_char rest.entry.characters.now)) result (name_at (env_of self.now) rest.entry.characters.now) }
+        ensures shorter { OnOk result (length (rest_after is_name_char rest.entry.characters.now) < length rest.entry.characters.now) }
     {
         if !characters::begins_letter(rest.characters) {
             return Err(self.unexpected(rest));
@@ -105,7 +105,7 @@ impl<'a> Reader<'a> {
         }
     }
 
-    /// Whether a name is reserved or that of a definition.
+    /// Whether a name is reserved or names a definition.
     pub fn is_taken(&self, name: &Name) -> bool
         ensures { result ≡ (is_reserved name.now || is_some (place_of self.now.names.now name.now)) }
     {
@@ -115,8 +115,8 @@ impl<'a> Reader<'a> {
     /// The name of a variable.
     #[tactic(auto, unfolding(crate::specs::Reading::variable_at))]
     pub fn variable(&self, rest: Piece<'a>) -> Result<Name, Stop>
-        ensures read { Gives (λ name. (name, behind is_name_char rest.entry.characters.now)) result (variable_at (env_of self.now) rest.entry.characters.now) }
-        ensures shorter { OnOk result (length (behind is_name_char rest.entry.characters.now) < length rest.entry.characters.now) }
+        ensures read { Gives (λ name. (name, rest_after is_name_char rest.entry.characters.now)) result (variable_at (env_of self.now) rest.entry.characters.now) }
+        ensures shorter { OnOk result (length (rest_after is_name_char rest.entry.characters.now) < length rest.entry.characters.now) }
     {
         let name = self.name(rest)?;
         if self.is_taken(&name) {
@@ -125,7 +125,7 @@ impl<'a> Reader<'a> {
         Ok(name)
     }
 
-    /// An opening parenthesis and blanks, where so many more may be opened.
+    /// An opening parenthesis and blanks. `room` is how many more parentheses may be opened.
     #[tactic(auto, unfolding(crate::specs::Reading::opening_at))]
     pub fn open_parenthesis(&self, room: usize, rest: Piece<'a>) -> Result<Piece<'a>, Stop>
         ensures read { Gives (λ p. p.characters.now) result (opening_at (env_of self.now) room rest.entry.characters.now) }
@@ -138,8 +138,8 @@ impl<'a> Reader<'a> {
         if room == 0 {
             return Err(Stop::Fault(ReadFault::TooDeep(self.place(rest))));
         }
-        let (_parenthesis, behind) = rest.split(1);
-        Ok(behind.after_blanks())
+        let (_parenthesis, rest_after) = rest.split(1);
+        Ok(rest_after.after_blanks())
     }
 
     /// Blanks and a closing parenthesis.
@@ -152,8 +152,8 @@ impl<'a> Reader<'a> {
         if !characters::begins_with(rest.characters, b')') {
             return Err(self.unexpected(rest));
         }
-        let (_parenthesis, behind) = rest.split(1);
-        Ok(behind)
+        let (_parenthesis, rest_after) = rest.split(1);
+        Ok(rest_after)
     }
 
     /// Blanks, at least one.
@@ -168,7 +168,7 @@ impl<'a> Reader<'a> {
         Ok(rest.after_blanks())
     }
 
-    /// What stands after blanks, a sign and blanks again.
+    /// The rest after blanks, a sign and blanks again.
     #[tactic(auto, using(crate::proofs::Runs::runs), unfolding(crate::specs::Reading::sign_at))]
     pub fn sign(&self, rest: Piece<'a>) -> Result<Piece<'a>, Stop>
         requires { 0 < length (skip rest.characters.now) }

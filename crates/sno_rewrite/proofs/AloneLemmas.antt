@@ -6,14 +6,14 @@ use Rattle.std.proofs.lemmas.List.Sums.{sum_by-cons}
 use Rattle.std.specs.List.{All}
 use Rattle.std.specs.Prelude.{sum_by}
 use mathlib.Core.List.{IsPrefix as Begins}
-use Rattle.sno_statement.specs.Task.{Task}
+use Rattle.sno_statement.specs.Statement.{Statement}
 use Rattle.sno_statement.specs.declared.outcomes.StatementFault.{StatementFault}
 use Rattle.sno_statement.specs.declared.outcomes.StatementFault.TheVariants as statement
 use Rattle.sno_book.specs.Books.{Book, view_of}
 use Rattle.sno_book.specs.Entries.{Entry}
 use Rattle.sno_book.specs.Journals.{HasStep, Legal, replay, step}
 use Rattle.sno_book.specs.Openings.{Opening, place_in, start}
-use Rattle.sno_book.specs.Proposals.{Received}
+use Rattle.sno_book.specs.Proposals.{Receipt}
 use Rattle.sno_book.specs.States.{State, VersionedText}
 use Rattle.sno_book.proofs.Standing.{is_nowhere}
 use Rattle.sno_book.proofs.Steps.{replay_snoc}
@@ -29,7 +29,7 @@ use Rattle.sno_listing.specs.declared.refusals.Refusal.{Refusal}
 use Rattle.sno_rewrite.specs.Owners.{IsAlone, Lists, answer_in}
 use Rattle.sno_rewrite.specs.Serial.{accept, advance, reason_of, run, run_from}
 use Rattle.sno_rewrite.specs.Shared.{refusal_of, refusals}
-use Rattle.sno_rewrite.proofs.SettlingLemmas.{found_there}
+use Rattle.sno_rewrite.proofs.ReplyLemmas.{found_there}
 use Rattle.sno_rewrite.proofs.SerialLemmas.{advance_done, advance_none, advance_refused, run_more}
 
 -- the last entry of a legal journal has its step
@@ -37,19 +37,19 @@ legal_last : (state : State) (journal : List Entry) (e : Entry) → Legal state 
 legal_last state [] e h = h.0
 legal_last state (d ∷ journal) e h = legal_last (step state d) journal e h.1
 
--- an entry, of which the version is named otherwise
-same_entry : (e : Entry) (version : ℕ) → version ≡ e.version → record { statement = e.statement; version = version; done = e.done } ≡ e
-same_entry e version same = (λ i. record { statement = e.statement; version = same i; done = e.done })
+-- an entry, with another expression for its version
+same_entry : (e : Entry) (version : ℕ) → version ≡ e.version → record { statement = e.statement; version = version; outcome = e.outcome } ≡ e
+same_entry e version same = (λ i. record { statement = e.statement; version = same i; outcome = e.outcome })
 
 module _ (tries : ℕ) (opening : Opening) (journal : List Entry) where
-  abbrev Submitted : Position → Position → Task → Answer → Type 0
+  abbrev Submitted : Position → Position → Statement → Answer → Type 0
   Submitted = IsSubmitted (λ _ _. ⊥) tries opening 1
 
   abbrev so_far : List Entry → List Refusal → History
   so_far seen refused = record { state = replay (start opening) seen; journal = seen; refused = refused }
 
-  -- no more is seen than was accepted
-  seen_few : (before after : Position) (jobs : List Task) (replies : List Answer) → InTurn Submitted before after jobs replies → Begins after.seen journal → length journal ≡ after.accepted
+  -- the worker has seen no more entries than it accepted
+  seen_few : (before after : Position) (jobs : List Statement) (replies : List Answer) → InTurn Submitted before after jobs replies → Begins after.seen journal → length journal ≡ after.accepted
       → length before.seen ≤ before.accepted
   seen_few before after [] [] a begins counted =
       let few = prefix_length after.seen journal begins in
@@ -65,8 +65,8 @@ module _ (tries : ℕ) (opening : Opening) (journal : List Entry) where
       let rest = seen_few a.0 after jobs replies a.2 begins counted in
       let same : a.0.accepted ≡ before.accepted + 0 = a.1.counted in omega (arith, more, rest, same)
 
-  -- and no less
-  seen_many : (before mid : Position) (s : Task) (r : Answer) → Submitted before mid s r → before.accepted ≤ length before.seen → mid.accepted ≤ length mid.seen
+  -- and no fewer
+  seen_many : (before mid : Position) (s : Statement) (r : Answer) → Submitted before mid s r → before.accepted ≤ length before.seen → mid.accepted ≤ length mid.seen
   seen_many before mid s (Ok receipt) a low =
       let told = a.at.1 in
       let many = told.many in
@@ -78,8 +78,8 @@ module _ (tries : ℕ) (opening : Opening) (journal : List Entry) where
       let more = prefix_length before.seen mid.seen a.begins in
       let counted : mid.accepted ≡ before.accepted + 0 = a.counted in omega (arith, low, more, counted)
 
-  -- an accepted statement is the entry that was told
-  advances_told : (before mid : List Entry) (s : Task) (receipt : Received) (refused : List Refusal) → receipt.entry.statement ≡ s → Begins before mid → (told : IsTold opening mid receipt)
+  -- an accepted statement is the entry of which the worker was told
+  advances_told : (before mid : List Entry) (s : Statement) (receipt : Receipt) (refused : List Refusal) → receipt.entry.statement ≡ s → Begins before mid → (told : IsTold opening mid receipt)
       → length before ≡ receipt.index → length mid ≡ receipt.index + 1 → advance (so_far before refused) s ≡ Some (so_far mid refused)
   advances_told before mid s receipt refused says begins told at_first at_last =
       let front = told.front in
@@ -90,27 +90,27 @@ module _ (tries : ℕ) (opening : Opening) (journal : List Entry) where
       let same : before ≡ front = prefix_whole before front (prefix_shorter before front mid begins inside (omega (arith, at_first, many))) (omega (arith, at_first, many)) in
       let whole : front ++ e ∷ [] ≡ mid = prefix_whole (front ++ e ∷ []) mid told.begins (omega (arith, grown, many, at_last)) in
       let stepped = legal_last (start opening) front e told.legal in
-      let done = advance_done (so_far front refused) e.statement stepped.versioned e.done stepped.found stepped.performed in
+      let done = advance_done (so_far front refused) e.statement stepped.versioned e.outcome stepped.found stepped.performed in
       let entered : advance (so_far front refused) e.statement ≡ Some (accept (so_far front refused) e) = done ∙ ap (λ (x : Entry). Some (accept (so_far front refused) x)) (same_entry e stepped.versioned.version stepped.at_version) in
       let replayed : Some (accept (so_far front refused) e) ≡ Some (so_far (front ++ e ∷ []) refused)
       = (λ i. Some (record { state = sym (replay_snoc (start opening) front e) i; journal = front ++ e ∷ []; refused = refused })) in
-      ap (λ (l : List Entry). advance (so_far l refused) s) same ∙ ap (λ (t : Task). advance (so_far front refused) t) (sym says) ∙ entered ∙ replayed
+      ap (λ (l : List Entry). advance (so_far l refused) s) same ∙ ap (λ (t : Statement). advance (so_far front refused) t) (sym says) ∙ entered ∙ replayed
       ∙ ap (λ (l : List Entry). Some (so_far l refused)) whole
 
-  -- a refusal for what the statement does is the serial run's
-  advances_refused : (before mid : List Entry) (s : Task) (fault : StatementFault) (why : Reason) (refused : List Refusal) → before ≡ mid → reason_of fault ≡ Some why → IsRefusedOn opening mid s fault
+  -- if performing a statement is refused, the serial run refuses it for the same reason
+  advances_refused : (before mid : List Entry) (s : Statement) (fault : StatementFault) (why : Reason) (refused : List Refusal) → before ≡ mid → reason_of fault ≡ Some why → IsRefusedOn opening mid s fault
       → advance (so_far before refused) s ≡ Some (so_far mid (refused ++ record { number = s.number; reason = why } ∷ []))
   advances_refused before mid s fault why refused same is on =
       let found = found_there opening mid s.text on.place on.held on.named on.there in
       ap (λ (l : List Entry). advance (so_far l refused) s) same ∙ advance_refused (so_far mid refused) s on.held fault why found on.performed is
 
-  advances_nowhere : (before mid : List Entry) (s : Task) (refused : List Refusal) → before ≡ mid → place_in opening s.text ≡ None
+  advances_nowhere : (before mid : List Entry) (s : Statement) (refused : List Refusal) → before ≡ mid → place_in opening s.text ≡ None
       → advance (so_far before refused) s ≡ Some (so_far mid (refused ++ record { number = s.number; reason = reason.NoText } ∷ []))
   advances_nowhere before mid s refused same nowhere =
       ap (λ (l : List Entry). advance (so_far l refused) s) same ∙ advance_none (so_far mid refused) s (is_nowhere (record { opening = opening; journal = mid; spare = 0 }) s.text nowhere)
 
-  -- a text can't change under the only worker
-  never_overtaken : (before mid : List Entry) (s : Task) (seen now : ℕ) → length before ≡ length mid → HasRisen opening before mid s tries seen now → ⊥
+  -- a text can't change during a try of the only worker
+  never_overtaken : (before mid : List Entry) (s : Statement) (seen now : ℕ) → length before ≡ length mid → HasRisen opening before mid s tries seen now → ⊥
   never_overtaken before mid s seen now level h =
       let up = prefix_length before h.between h.since in
       let same : h.between ≡ mid = prefix_whole h.between mid h.until (omega (arith, up, level)) in
@@ -123,7 +123,7 @@ module _ (tries : ℕ) (opening : Opening) (journal : List Entry) where
       let version : seen ≡ now = ap (λ (x : VersionedText). x.version) one in
       let higher : seen < now = h.higher in absurd (omega (arith, version, higher))
 
-  advances : (before mid : Position) (s : Task) (r : Answer) (b : Option Reason) (refused : List Refusal) → Submitted before mid s r → length before.seen ≡ before.accepted
+  advances : (before mid : Position) (s : Statement) (r : Answer) (b : Option Reason) (refused : List Refusal) → Submitted before mid s r → length before.seen ≡ before.accepted
       → length mid.seen ≡ mid.accepted → answer_in r ≡ Some b → advance (so_far before.seen refused) s ≡ Some (so_far mid.seen (refused ++ refusal_of s b))
   advances before mid s (Ok receipt) b refused a at_first at_last given =
       let is : None ≡ b = cc in
@@ -154,8 +154,8 @@ module _ (tries : ℕ) (opening : Opening) (journal : List Entry) where
   advances before mid s (Err submit.Full) b refused a at_first at_last given = absurd cc
   advances before mid s (Err submit.Memory) b refused a at_first at_last given = absurd cc
 
-  -- from what the worker had seen when a statement's turn came to the whole journal
-  runs : (before after : Position) (jobs : List Task) (replies : List Answer) (answers : List (Option Reason)) (refused : List Refusal) → InTurn Submitted before after jobs replies
+  -- from what the worker had seen at a statement's turn to the whole journal
+  runs : (before after : Position) (jobs : List Statement) (replies : List Answer) (answers : List (Option Reason)) (refused : List Refusal) → InTurn Submitted before after jobs replies
       → Begins after.seen journal → length journal ≡ after.accepted → before.accepted ≤ length before.seen → map answer_in replies ≡ map Some answers
       → run (so_far before.seen refused) jobs ≡ Some (so_far journal (refused ++ refusals jobs answers))
   runs before after [] [] [] refused a begins counted low given =
@@ -179,7 +179,7 @@ module _ (tries : ℕ) (opening : Opening) (journal : List Entry) where
       ∙ ap (λ (l : List Refusal). Some (so_far journal l)) (append_assoc refused (refusal_of s b) (refusals jobs answers))
 
 -- what one worker did is the serial run of the statements, from the book's opening
-pub alone_runs : (tries : ℕ) (book : Book) (statements : List Task) (replies : List Answer) (refused : List Refusal) → IsAlone tries (view_of book) statements replies → Lists statements replies refused
+pub alone_runs : (tries : ℕ) (book : Book) (statements : List Statement) (replies : List Answer) (refused : List Refusal) → IsAlone tries (view_of book) statements replies → Lists statements replies refused
     → run_from book.opening statements ≡ Some (history_of (view_of book) refused)
 alone_runs tries book statements replies refused alone lists =
     runs tries book.opening book.journal (position 0 []) alone.after statements replies lists.answers [] alone.in_turn alone.begins alone.counted (omega arith) lists.given
@@ -190,8 +190,8 @@ every_one : {X : Type 0} (xs : List X) → every 1 0 xs ≡ xs
 every_one [] = refl
 every_one (x ∷ xs) = ap (λ l. x ∷ l) (every_one xs)
 
--- where there is one seat, which began with nothing, it is alone
-pub alone_of : {X : Type 0} (share : X → ℕ) (view : X → List Entry) (tries : ℕ) (opening its : Opening) (parts : ℕ) (journal : List Entry) (jobs : List Task) (replies : List Answer) (old new : List X)
+-- if there is one seat, which began with nothing, it is alone
+pub alone_of : {X : Type 0} (share : X → ℕ) (view : X → List Entry) (tries : ℕ) (opening its : Opening) (parts : ℕ) (journal : List Entry) (jobs : List Statement) (replies : List Answer) (old new : List X)
     → its ≡ opening → length old ≡ 1 → parts ≡ 1 → length new ≡ 1 → All (λ x. (share x ≡ 0) × (view x ≡ [])) old
     → ((k : ℕ) (d : X) → k < length old → InTurn (IsSubmitted (λ _ _. ⊥) tries opening parts) (position (share (get_or old k d)) (view (get_or old k d))) (position (share (get_or new k d)) (view (get_or new k d)))
     (every (length old) k jobs) (every (length old) k replies))
@@ -204,7 +204,7 @@ alone_of share view tries opening its parts journal jobs replies (x ∷ []) (y �
     let fresh = All-get_or (λ x. (share x ≡ 0) × (view x ≡ [])) (x ∷ []) 0 x (omega arith) none in
     let after = position (share y) (view y) in
     let mine = subst (λ (n : ℕ). InTurn (IsSubmitted (λ _ _. ⊥) tries opening n) (position (share x) (view x)) after (every 1 0 jobs) (every 1 0 replies)) single (turns 0 x (omega arith)) in
-    let of_jobs = subst (λ (l : List Task). InTurn (IsSubmitted (λ _ _. ⊥) tries opening 1) (position (share x) (view x)) after l (every 1 0 replies)) (every_one jobs) mine in
+    let of_jobs = subst (λ (l : List Statement). InTurn (IsSubmitted (λ _ _. ⊥) tries opening 1) (position (share x) (view x)) after l (every 1 0 replies)) (every_one jobs) mine in
     let of_all = subst (λ (l : List Answer). InTurn (IsSubmitted (λ _ _. ⊥) tries opening 1) (position (share x) (view x)) after jobs l) (every_one replies) of_jobs in
     let from_none = subst (λ (p : Position). InTurn (IsSubmitted (λ _ _. ⊥) tries opening 1) p after jobs replies) (λ i. position (fresh.0 i) (fresh.1 i)) of_all in
     let total = sum_by-cons share y [] in

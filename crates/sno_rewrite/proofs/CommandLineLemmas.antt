@@ -1,4 +1,4 @@
--- What `clap` reads of words.
+-- What `clap` reads from arguments.
 use Rattle.std.proofs.Common.{◌≡◌, ◌⊎◌, ℕ, Bool, true, false, cond, List, [], ◌∷◌, length, map, Option, Some, None, Result, Ok, Err, IfOk, unwrap_or, nat_lt, string_bytes, String, Global, refl, sym, ap, subst, ◌∙◌, inl, inr, codes}
 use Rattle.std.specs.List.{list_all}
 use Rattle.std.specs.Option.{option_map_or}
@@ -63,7 +63,7 @@ number_as_read G t None parses read =
     let digits = and_parts (nat_lt 0 (length ds)) _ parts.0 in
     parses (Err read.0) read.1 ((ltb-true 0 (length ds) digits.0, digits_from ds digits.1), ltb-true (digits_value 10 ds) 4294967296 parts.1))
 
--- the number that is read of an option's text
+-- the number that is read from an option's text
 pub number_read : {E : Type 0} (G : Text → Result ℕ E → Type 0) (o : Option Text) (r : Option ℕ) → ((t : Text) (x : Result ℕ E) → G t x → ParsesUnsigned 32 10 t x)
     → (o ≡ None → r ≡ None) → ((t : Text) → o ≡ Some t → ReadsOne G t r) → r ≡ option_and_then (λ t. number_of_text (without_leading_plus t)) o
 number_read G None r parses none value = none refl
@@ -85,20 +85,22 @@ pub flag_read : {E : Type 0} (G : Text → Result Bool E → Type 0) (o : Option
 flag_read G None r parses none value = ap (λ (x : Option Bool). unwrap_or x false) (none refl)
 flag_read G (Some t) r parses none value = flag_as_read G t r (parses t) (value t refl)
 
--- what a fault is answered with is an answer to the words that have it
+-- what is returned for a fault is right for the arguments that have it
 pub fault_answer : (words : List Text) (kind : ErrorKind) (fault : OptionsFault) → (kind ≡ OutOfMemory) ⊎ IsAmong kind (faults words) → Tells kind fault
     → IsAnswer words (Err fault)
-fault_answer words kind (Help text) (inl memory) tells = cc
-fault_answer words kind (Help text) (inr among) tells = subst (λ (k : ErrorKind). IsAmong k (faults words)) tells among
-fault_answer words kind (Usage text) (inl memory) tells = absurd (tells.1 memory)
-fault_answer words kind (Usage text) (inr among) tells = AreRefused.unread kind among tells.0
+fault_answer words kind (Help text) (inl memory) (inl help) = cc
+fault_answer words kind (Help text) (inl memory) (inr version) = cc
+fault_answer words kind (Help text) (inr among) (inl help) = inl (subst (λ (k : ErrorKind). IsAmong k (faults words)) help among)
+fault_answer words kind (Help text) (inr among) (inr version) = inr (subst (λ (k : ErrorKind). IsAmong k (faults words)) version among)
+fault_answer words kind (Usage text) (inl memory) tells = absurd (tells.2 memory)
+fault_answer words kind (Usage text) (inr among) tells = AreRefused.unread kind among tells.0 tells.1
 fault_answer words kind Memory h tells = tt
 
 plain_given : options_in (option_rows []) ≡ plain_options
 unfolding option_rows program shared_program clap_on_literals
 plain_given = refl
 
--- no word gives the plain options
+-- no arguments give the plain options
 pub plain_answer : (words : List (String Global)) (rows : List Row) (options : Options) (result : Result Options OptionsFault) → rows ≡ option_rows (map string_bytes words)
     → options ≡ options_in rows → IsChecked options result → words ≡ [] → IfOk result (λ o. o ≡ plain_options)
 plain_answer words rows options (Ok o) are given checked none =

@@ -1,7 +1,7 @@
 pub mod RunLemmas
 pub mod SerialLemmas
 pub mod OwnerLemmas
-pub mod SettlingLemmas
+pub mod ReplyLemmas
 pub mod StreamLemmas
 pub mod ReadLemmas
 pub mod CommandLineLemmas

@@ -6,17 +6,18 @@ use Rattle.std.proofs.lemmas.Bool.{and_parts, leb-true}
 use Rattle.sno_rewrite.specs.CommandLine.{are_lawful, is_up_to}
 use Rattle.sno_rewrite.specs.Runs.{AreInLimits}
 use Rattle.sno_rewrite.specs.declared.options.Options.{Options}
+use Rattle.sno_rewrite.specs.declared.options.TheConstants.{MAX_TRIALS, MAX_TRIES, MAX_WORKERS}
 
 up_to : (most n : ℕ) → is_up_to most n ≡ true → (1 ≤ n) × (n ≤ most)
 up_to most n h = let p = and_parts (nat_le 1 n) (nat_le n most) h in (leb-true 1 n p.0, leb-true n most p.1)
 
-workers_up_to : (workers : Option ℕ) → option_map_or (is_up_to 16) workers true ≡ true → IfSome workers (λ n. (1 ≤ n) × (n ≤ 16))
+workers_up_to : (workers : Option ℕ) → option_map_or (is_up_to MAX_WORKERS) workers true ≡ true → IfSome workers (λ n. (1 ≤ n) × (n ≤ MAX_WORKERS))
 workers_up_to None h = tt
-workers_up_to (Some n) h = up_to 16 n h
+workers_up_to (Some n) h = up_to MAX_WORKERS n h
 
 -- options that pass the test are within their limits
 pub in_limits : (options : Options) → are_lawful options ≡ true → AreInLimits options
 in_limits options h =
-    let p = and_parts (option_map_or (is_up_to 16) options.workers true) (is_up_to 1000 options.tries && is_up_to 1000000000 options.trials) h in
-    let q = and_parts (is_up_to 1000 options.tries) (is_up_to 1000000000 options.trials) p.1 in
-    record { workers = workers_up_to options.workers p.0; tries = up_to 1000 options.tries q.0; trials = up_to 1000000000 options.trials q.1 }
+    let p = and_parts (option_map_or (is_up_to MAX_WORKERS) options.workers true) (is_up_to MAX_TRIES options.tries && is_up_to MAX_TRIALS options.trials) h in
+    let q = and_parts (is_up_to MAX_TRIES options.tries) (is_up_to MAX_TRIALS options.trials) p.1 in
+    record { workers = workers_up_to options.workers p.0; tries = up_to MAX_TRIES options.tries q.0; trials = up_to MAX_TRIALS options.trials q.1 }

@@ -1,25 +1,34 @@
--- Which statement each entry of a journal is of.
-use Rattle.std.proofs.Common.{◌≡◌, ◌≢◌, ℕ, true, false, zero, suc, ◌+◌, ◌*◌, ◌<◌, ◌⊎◌, inl, inr, List, [], ◌∷◌, length, get_or, set, map, replicate, Option, Some, None, Result, Ok, Err, slice_get, refl, ap, sym, ◌∙◌, arith}
+-- To which statement each entry of a journal belongs.
+use Rattle.std.proofs.Common.{◌≡◌, ◌≢◌, ℕ, true, false, zero, suc, ◌+◌, ◌*◌, ◌<◌, ◌⊎◌, inl, inr, List, [], ◌∷◌, ◌++◌, length, get_or, set, take, map, replicate, Option, Some, None, Result, Ok, Err, slice_get, refl, ap, sym, subst, ◌∙◌, arith}
 use Rattle.std.specs.Option.{option_map}
 use Rattle.std.specs.List.{All}
 use Rattle.std.specs.Prelude.{IsSome}
 use Rattle.std.proofs.Math.ListN.{length-set, length-replicate, length-map}
+use Rattle.std.proofs.Math.Seq.{take-append_seam}
 use Rattle.std.proofs.lemmas.List.{get_or-replicate}
 use Rattle.std.proofs.lemmas.List.Elements.{All-head, All-tail}
 use Rattle.std.proofs.lemmas.Bool.{cases_eq}
 use Rattle.std.proofs.lemmas.Option.{slice_get-get_or, slice_get_within, slice_get-map}
-use Rattle.sno_statement.specs.Task.{Task}
+use Rattle.sno_statement.specs.Statement.{Statement}
 use Rattle.sno_book.specs.Entries.{Entry}
 use Rattle.sno_book.specs.Openings.{Opening}
-use Rattle.sno_book.specs.Proposals.{Received}
+use Rattle.sno_book.specs.Proposals.{Receipt}
+use Rattle.sno_book.specs.Views.{View}
+use Rattle.sno_published.proofs.Prefixes.{prefix_trans}
+use mathlib.Core.List.{IsPrefix as Begins}
 use Rattle.sno_desk.specs.Answers.{Answers}
 use Rattle.sno_desk.specs.Turns.{AllAnswer}
 use Rattle.sno_desk.specs.declared.faults.SubmitFault.{SubmitFault}
 use Rattle.sno_listing.specs.declared.refusals.Reason.{Reason}
-use Rattle.sno_rewrite.specs.Owners.{AreInTurn, IsReceipt, Owns, answer_in, reason_in}
+use Rattle.sno_desk.specs.Seen.{IsTold}
+use Rattle.sno_rewrite.specs.Owners.{AreInTurn, IsAnsweredWithin, IsReceipt, Owns, answer_in, reason_in}
 use Rattle.sno_rewrite.specs.Shared.{IsOrder}
 
--- what is set stands there, and all else as it stood
+-- a vector holds what was put into its slice
+pub restored : {X : Type 0} (n : ℕ) (new more : List X) → n ≡ length new → take n (new ++ more) ≡ new
+restored n new more e = ap (λ k. take k (new ++ more)) e ∙ take-append_seam new more
+
+-- an element that is set is at its place, and all else is as it was
 set_there : {X : Type 0} (xs : List X) (i : ℕ) (y : X) → i < length xs → slice_get (set xs i y) i ≡ Some y
 set_there [] i y inside = absurd (omega (arith, inside))
 set_there (x ∷ xs) zero y inside = refl
@@ -32,31 +41,31 @@ set_elsewhere (x ∷ xs) zero (suc k) y other = refl
 set_elsewhere (x ∷ xs) (suc i) zero y other = refl
 set_elsewhere (x ∷ xs) (suc i) (suc k) y other = set_elsewhere xs i k y (λ e. other (ap suc e))
 
-module _ (journal : List Entry) (replies : List (Result Received SubmitFault)) where
+module _ (entries : ℕ) (replies : List (Result Receipt SubmitFault)) where
   -- before all replies no entry is owned
-  pub owns_none : (owners : List (Option ℕ)) → owners ≡ replicate (length journal) None → Owns journal replies 0 owners
+  pub owns_none : (owners : List (Option ℕ)) → owners ≡ replicate entries None → Owns entries replies 0 owners
   owns_none owners made = record {
-    as_many = ap length made ∙ length-replicate (length journal) None;
+    as_many = ap length made ∙ length-replicate entries None;
     backed = λ k p h.
         let inside : k < length owners = slice_get_within owners k (Some p) h in
-        let few : length owners ≡ length journal = ap length made ∙ length-replicate (length journal) None in
-        let within : k < length journal = omega (arith, inside, few) in
+        let few : length owners ≡ entries = ap length made ∙ length-replicate entries None in
+        let within : k < entries = omega (arith, inside, few) in
         let read : slice_get owners k ≡ Some (get_or owners k None) = slice_get-get_or owners k None inside in
-        let e : get_or owners k None ≡ None = ap (λ (l : List (Option ℕ)). get_or l k None) made ∙ get_or-replicate (length journal) k None None within in
+        let e : get_or owners k None ≡ None = ap (λ (l : List (Option ℕ)). get_or l k None) made ∙ get_or-replicate entries k None None within in
         absurd (cc);
     noted = λ p r below h. absurd (omega (arith, below));
   }
 
-  -- a receipt's place owns its entry, which nobody owned
-  module _ (i : ℕ) (r : Received) (old new : List (Option ℕ)) (before : Owns journal replies i old) (there : slice_get replies i ≡ Some (Ok r))
-      (agrees : slice_get journal r.index ≡ Some r.entry) (free : slice_get old r.index ≡ Some None) (grown : new ≡ set old r.index (Some i)) where
+  -- a receipt's place owns its entry, which had no owner
+  module _ (i : ℕ) (r : Receipt) (old new : List (Option ℕ)) (before : Owns entries replies i old) (there : slice_get replies i ≡ Some (Ok r))
+      (free : slice_get old r.index ≡ Some None) (grown : new ≡ set old r.index (Some i)) where
     mine : slice_get new r.index ≡ Some (Some i)
     mine = ap (λ (l : List (Option ℕ)). slice_get l r.index) grown ∙ set_there old r.index (Some i) (slice_get_within old r.index None free)
 
     others : (k : ℕ) → k ≢ r.index → slice_get new k ≡ slice_get old k
     others k other = ap (λ (l : List (Option ℕ)). slice_get l k) grown ∙ set_elsewhere old r.index k (Some i) other
 
-    backed_by : (k p : ℕ) → slice_get new k ≡ Some (Some p) → (k ≡ r.index) ⊎ (k ≢ r.index) → (p < i + 1) × IsReceipt journal replies k p
+    backed_by : (k p : ℕ) → slice_get new k ≡ Some (Some p) → (k ≡ r.index) ⊎ (k ≢ r.index) → (p < i + 1) × IsReceipt replies k p
     backed_by k p h (inl same) =
         let at : slice_get new k ≡ Some (Some i) = ap (slice_get new) same ∙ mine in
         let e : p ≡ i = cc in (
@@ -65,20 +74,19 @@ module _ (journal : List Entry) (replies : List (Result Received SubmitFault)) w
             receipt = r;
             there = ap (slice_get replies) e ∙ there;
             indexed = sym same;
-            entry = ap (slice_get journal) same ∙ agrees;
           },
         )
     backed_by k p h (inr other) = let b = before.backed k p (sym (others k other) ∙ h) in (omega (arith, b.0), b.1)
 
-    noted_by : (p : ℕ) (s : Received) → p < i + 1 → slice_get replies p ≡ Some (Ok s) → (p ≡ i) ⊎ (p ≢ i) → slice_get new s.index ≡ Some (Some p)
+    noted_by : (p : ℕ) (s : Receipt) → p < i + 1 → slice_get replies p ≡ Some (Ok s) → (p ≡ i) ⊎ (p ≢ i) → slice_get new s.index ≡ Some (Some p)
     noted_by p s below h (inl same) =
         let e : s ≡ r = (let at : slice_get replies p ≡ Some (Ok r) = ap (slice_get replies) same ∙ there in cc) in
-        ap (λ (t : Received). slice_get new t.index) e ∙ mine ∙ ap (λ (n : ℕ). Some (Some n)) (sym same)
+        ap (λ (t : Receipt). slice_get new t.index) e ∙ mine ∙ ap (λ (n : ℕ). Some (Some n)) (sym same)
     noted_by p s below h (inr other) =
         let had : slice_get old s.index ≡ Some (Some p) = before.noted p s (omega (arith, below, other)) h in
         others s.index (λ e. let at : slice_get old s.index ≡ Some None = ap (slice_get old) e ∙ free in cc) ∙ had
 
-    pub owns_more : Owns journal replies (i + 1) new
+    pub owns_more : Owns entries replies (i + 1) new
     owns_more = record {
       as_many = ap length grown ∙ length-set old r.index (Some i) ∙ before.as_many;
       backed = λ k p h. backed_by k p h (cases_eq k r.index);
@@ -86,8 +94,8 @@ module _ (journal : List Entry) (replies : List (Result Received SubmitFault)) w
     }
 
   -- a refusal owns nothing
-  pub owns_same : (i : ℕ) (e : SubmitFault) (owners : List (Option ℕ)) → Owns journal replies i owners → slice_get replies i ≡ Some (Err e)
-      → Owns journal replies (i + 1) owners
+  pub owns_same : (i : ℕ) (e : SubmitFault) (owners : List (Option ℕ)) → Owns entries replies i owners → slice_get replies i ≡ Some (Err e)
+      → Owns entries replies (i + 1) owners
   owns_same i e owners before there = record {
     as_many = before.as_many;
     backed = λ k p h. let b = before.backed k p h in (omega (arith, b.0), b.1);
@@ -97,7 +105,7 @@ module _ (journal : List Entry) (replies : List (Result Received SubmitFault)) w
     ]);
   }
 
--- the list of those that own, where each entry is owned
+-- the list of the owners, if each entry is owned
 pub record Filled (owners : List (Option ℕ)) : Type 0 where
   pub order : List ℕ
   pub filled : owners ≡ map Some order
@@ -107,29 +115,52 @@ fill [] h = record { order = []; filled = refl }
 fill (None ∷ owners) h = let e : false ≡ true = All-head (λ (o : Option ℕ). IsSome o) None owners h in absurd (cc)
 fill (Some p ∷ owners) h = let more = fill owners (All-tail (λ (o : Option ℕ). IsSome o) (Some p) owners h) in record { order = p ∷ more.order; filled = ap (λ (l : List (Option ℕ)). Some p ∷ l) more.filled }
 
--- a reply that is a receipt is one for the statement at its place
-pub receipt_for : (shuts : ℕ → ℕ → Type 0) (tries : ℕ) (opening : Opening) (statements : List Task) (replies : List (Result Received SubmitFault))
-    → AllAnswer (Answers shuts tries opening) statements replies → (p : ℕ) (r : Received) → slice_get replies p ≡ Some (Ok r)
+-- a receipt at a place is for the statement at that place
+pub receipt_for : (shuts : ℕ → ℕ → Type 0) (tries : ℕ) (opening : Opening) (statements : List Statement) (replies : List (Result Receipt SubmitFault))
+    → AllAnswer (Answers shuts tries opening) statements replies → (p : ℕ) (r : Receipt) → slice_get replies p ≡ Some (Ok r)
     → slice_get statements p ≡ Some r.entry.statement
 receipt_for shuts tries opening [] [] h p r there = cc
 receipt_for shuts tries opening [] (x ∷ replies) h p r there = absurd h
 receipt_for shuts tries opening (s ∷ statements) [] h p r there = absurd h
 receipt_for shuts tries opening (s ∷ statements) (Ok x ∷ replies) h zero r there =
-    let e : x ≡ r = cc in ap Some (sym h.0.1) ∙ ap (λ (t : Received). Some t.entry.statement) e
+    let e : x ≡ r = cc in ap Some (sym h.0.1) ∙ ap (λ (t : Receipt). Some t.entry.statement) e
 receipt_for shuts tries opening (s ∷ statements) (Err x ∷ replies) h zero r there = cc
 receipt_for shuts tries opening (s ∷ statements) (x ∷ replies) h (suc p) r there = receipt_for shuts tries opening statements replies h.1 p r there
 
--- a refusal is no acceptance
+-- the entry after a list that begins another one
+entry_after : (front more : List Entry) (e : Entry) → slice_get ((front ++ e ∷ []) ++ more) (length front) ≡ Some e
+entry_after [] more e = refl
+entry_after (x ∷ front) more e = entry_after front more e
+
+-- a receipt's entry is the journal's at its index
+entry_in : (v : View) (after : List Entry) (receipt : Receipt) → IsTold v.opening after receipt → Begins after v.journal → slice_get v.journal receipt.index ≡ Some receipt.entry
+entry_in v after receipt told begins =
+    let whole = prefix_trans (told.front ++ receipt.entry ∷ []) after v.journal told.begins begins in
+    ap (slice_get v.journal) (sym told.many) ∙ ap (λ (l : List Entry). slice_get l (length told.front)) (sym whole.1) ∙ entry_after told.front whole.0 receipt.entry
+
+entry_for : (tries : ℕ) (v : View) (statements : List Statement) (replies : List (Result Receipt SubmitFault)) → AllAnswer (IsAnsweredWithin tries v) statements replies
+    → (p : ℕ) (r : Receipt) → slice_get replies p ≡ Some (Ok r) → slice_get v.journal r.index ≡ Some r.entry
+entry_for tries v [] [] h p r there = cc
+entry_for tries v [] (x ∷ replies) h p r there = absurd h
+entry_for tries v (s ∷ statements) [] h p r there = absurd h
+entry_for tries v (s ∷ statements) (Ok x ∷ replies) h zero r there =
+    let e : x ≡ r = cc in
+    let within = h.0 in
+    subst (λ (y : Receipt). slice_get v.journal y.index ≡ Some y.entry) e (entry_in v within.after x within.at.1 within.begins)
+entry_for tries v (s ∷ statements) (Err x ∷ replies) h zero r there = cc
+entry_for tries v (s ∷ statements) (x ∷ replies) h (suc p) r there = entry_for tries v statements replies h.1 p r there
+
+-- a refusal is not an acceptance
 refused_in : (o : Option Reason) → option_map Some o ≡ Some None → ⊥
 refused_in None h = cc
 refused_in (Some reason) h = cc
 
-accepted_in : (r : Result Received SubmitFault) → answer_in r ≡ Some None → (receipt : Received) × (r ≡ Ok receipt)
+accepted_in : (r : Result Receipt SubmitFault) → answer_in r ≡ Some None → (receipt : Receipt) × (r ≡ Ok receipt)
 accepted_in (Ok receipt) h = (receipt, refl)
 accepted_in (Err e) h = absurd (refused_in (reason_in e) h)
 
-accepted_at : (replies : List (Result Received SubmitFault)) (p : ℕ) → slice_get (map answer_in replies) p ≡ Some (Some None)
-    → (receipt : Received) × (slice_get replies p ≡ Some (Ok receipt))
+accepted_at : (replies : List (Result Receipt SubmitFault)) (p : ℕ) → slice_get (map answer_in replies) p ≡ Some (Some None)
+    → (receipt : Receipt) × (slice_get replies p ≡ Some (Ok receipt))
 accepted_at [] p h = absurd (cc)
 accepted_at (r ∷ replies) zero h = let e : answer_in r ≡ Some None = cc in let a = accepted_in r e in (a.0, ap Some a.1)
 accepted_at (r ∷ replies) (suc p) h = accepted_at replies p h
@@ -149,14 +180,15 @@ order_at [] k p h = absurd (cc)
 order_at (x ∷ order) zero p h = let e : x ≡ p = cc in ap Some e
 order_at (x ∷ order) (suc k) p h = order_at order k p h
 
--- where each entry is owned, the owners are the order of the statements
-module _ (shuts : ℕ → ℕ → Type 0) (tries : ℕ) (opening : Opening) (statements : List Task) (replies : List (Result Received SubmitFault)) (journal : List Entry)
-    (owners : List (Option ℕ)) (answered : AllAnswer (Answers shuts tries opening) statements replies) (owns : Owns journal replies (length replies) owners)
+-- if each entry is owned, the owners are the order of the statements
+module _ (shuts : ℕ → ℕ → Type 0) (tries : ℕ) (opening : Opening) (statements : List Statement) (replies : List (Result Receipt SubmitFault)) (journal : List Entry)
+    (owners : List (Option ℕ)) (answered : AllAnswer (Answers shuts tries opening) statements replies)
+    (there : AllAnswer (IsAnsweredWithin tries (record { opening = opening; journal = journal })) statements replies) (owns : Owns (length journal) replies (length replies) owners)
     (filled : Filled owners) (answers : List (Option Reason)) (given : map answer_in replies ≡ map Some answers) (workers : ℕ) (turns : AreInTurn workers replies) where
   owned : (k p : ℕ) → slice_get filled.order k ≡ Some p → slice_get owners k ≡ Some (Some p)
   owned k p h = ap (λ (l : List (Option ℕ)). slice_get l k) filled.filled ∙ filled_at filled.order k p h
 
-  its : (k p : ℕ) → slice_get filled.order k ≡ Some p → IsReceipt journal replies k p
+  its : (k p : ℕ) → slice_get filled.order k ≡ Some p → IsReceipt replies k p
   its k p h = (owns.backed k p (owned k p h)).1
 
   said : (p : ℕ) → slice_get (map answer_in replies) p ≡ option_map Some (slice_get answers p)
@@ -169,10 +201,10 @@ module _ (shuts : ℕ → ℕ → Type 0) (tries : ℕ) (opening : Opening) (sta
         let one = its j p h in
         let other = its k p g in
         let same : one.receipt ≡ other.receipt = (let a = one.there in let b = other.there in cc) in
-        sym one.indexed ∙ ap (λ (r : Received). r.index) same ∙ other.indexed;
+        sym one.indexed ∙ ap (λ (r : Receipt). r.index) same ∙ other.indexed;
     statement = λ k p h.
         let one = its k p h in
-        ap (option_map (λ (e : Entry). e.statement)) one.entry ∙ sym (receipt_for shuts tries opening statements replies answered p one.receipt one.there);
+        ap (option_map (λ (e : Entry). e.statement)) (ap (slice_get journal) (sym one.indexed) ∙ entry_for tries (record { opening = opening; journal = journal }) statements replies there p one.receipt one.there) ∙ sym (receipt_for shuts tries opening statements replies answered p one.receipt one.there);
     accepted = λ k p h.
         let one = its k p h in
         inner (slice_get answers p) (sym (said p) ∙ slice_get-map answer_in replies p ∙ ap (option_map answer_in) one.there);

@@ -9,7 +9,7 @@ appends_then (Some xs) None c x y h g = absurd h
 appends_then (Some xs) (Some ys) None x y h g = absurd g
 appends_then (Some xs) (Some ys) (Some zs) x y h g = g ∙ ap (λ (l : List ℕ). l ++ y) h ∙ append_assoc xs x y
 
--- what was written grows by the front of what is left
+-- what was written grows by the first bytes of the rest
 pub written_more : (a b c : Option (List ℕ)) (front rest all back : List ℕ) (n : ℕ) → Appends a b front → Appends b c (take n rest) → front ++ rest ≡ all → back ≡ drop n rest
     → (more : List ℕ) × Appends a c more × (more ++ back ≡ all)
 written_more a b c front rest all back n h g joined left = (

@@ -1,11 +1,11 @@
--- The receipts of one worker stand in the journal in the order of its statements.
+-- The receipts of one worker are in the journal in the order of its statements.
 use Rattle.std.proofs.Common.{◌≡◌, ◌<◌, ◌≤◌, ◌⊎◌, inl, inr, ℕ, zero, suc, ◌+◌, ◌-◌, ◌*◌, List, [], ◌∷◌, ◌++◌, length, length-append, get_or, Ok, Some, slice_get, refl, ap, sym, subst, ◌∙◌, arith}
 use Rattle.std.proofs.Math.Nat.{suc-mul, add-mul}
 use Rattle.std.proofs.lemmas.Bool.{cases_lt}
-use Rattle.sno_statement.specs.Task.{Task}
+use Rattle.sno_statement.specs.Statement.{Statement}
 use Rattle.sno_book.specs.Entries.{Entry}
 use Rattle.sno_book.specs.Openings.{Opening}
-use Rattle.sno_book.specs.Proposals.{Received}
+use Rattle.sno_book.specs.Proposals.{Receipt}
 use Rattle.sno_published.proofs.Prefixes.{prefix_length}
 use Rattle.sno_desk.specs.Answers.{Answer, AnswersAt}
 use Rattle.sno_desk.specs.Seen.{IsTold}
@@ -14,7 +14,7 @@ use Rattle.sno_rewrite.specs.Owners.{AreInTurn}
 
 -- ---- places
 
--- what stands at one of a worker's turns, by its place among all
+-- the element at one of a worker's turns, by its place among all elements
 every_at : {X : Type 0} (count first turn place : ℕ) (xs : List X) → 1 ≤ count → place ≡ first + turn * count → slice_get (every count first xs) turn ≡ slice_get xs place
 every_at count first turn place [] some e = refl
 every_at count zero zero place (x ∷ xs) some e = let front : place ≡ 0 = omega arith in ap (λ k. slice_get (x ∷ xs) k) (sym front)
@@ -23,7 +23,7 @@ every_at count zero (suc turn) (suc place) (x ∷ xs) some e = let grown = suc-m
 every_at count (suc first) turn zero (x ∷ xs) some e = absurd (omega arith)
 every_at count (suc first) turn (suc place) (x ∷ xs) some e = every_at count first turn place xs some (omega arith)
 
--- whose turn a place is, and which of that worker's turns
+-- the worker whose turn a place is, and the number of that turn among the worker's turns
 record IsTurn (count place : ℕ) : Type 0 where
   first : ℕ
   turn : ℕ
@@ -44,7 +44,7 @@ turn_of : (count place : ℕ) → 1 ≤ count → IsTurn count place
 turn_of count zero some = record { first = 0; turn = 0; inside = omega arith; is = omega arith }
 turn_of count (suc place) some = let before = turn_of count place some in next_turn count place before (cases_lt (before.first + 1) count)
 
--- an element of a list that has one
+-- an element of a list that is not empty
 pub first_of : {X : Type 0} (xs : List X) (k : ℕ) → k < length xs → X
 first_of [] k h = absurd (omega arith)
 first_of (x ∷ xs) k h = x
@@ -52,16 +52,16 @@ first_of (x ∷ xs) k h = x
 -- ---- the receipts of one seat
 
 module _ (shuts : ℕ → ℕ → Type 0) (tries : ℕ) (opening : Opening) (seats : ℕ) where
-  -- a receipt's entry stands in what its seat has seen
-  told_inside : (seen : List Entry) (receipt : Received) → IsTold opening seen receipt → receipt.index < length seen
+  -- a receipt's entry is among those that its seat has seen
+  told_inside : (seen : List Entry) (receipt : Receipt) → IsTold opening seen receipt → receipt.index < length seen
   told_inside seen receipt told =
       let many = told.many in
       let grown = length-append told.front (receipt.entry ∷ []) in
       let inside = prefix_length (told.front ++ receipt.entry ∷ []) seen told.begins in omega (arith, many, grown, inside)
 
-  -- and after all that the seat had seen before
-  index_after : (before after : Position) (jobs : List Task) (replies : List Answer) → InTurn (IsSubmitted shuts tries opening seats) before after jobs replies
-      → (turn : ℕ) (receipt : Received) → slice_get replies turn ≡ Some (Ok receipt) → length before.seen ≤ receipt.index
+  -- and comes after all that the seat had seen before
+  index_after : (before after : Position) (jobs : List Statement) (replies : List Answer) → InTurn (IsSubmitted shuts tries opening seats) before after jobs replies
+      → (turn : ℕ) (receipt : Receipt) → slice_get replies turn ≡ Some (Ok receipt) → length before.seen ≤ receipt.index
   index_after before after [] [] a turn receipt h = absurd cc
   index_after before after [] (x ∷ replies) a turn receipt h = absurd a
   index_after before after (s ∷ jobs) [] a turn receipt h = absurd a
@@ -72,8 +72,8 @@ module _ (shuts : ℕ → ℕ → Type 0) (tries : ℕ) (opening : Opening) (sea
       let rest = index_after a.0 after jobs replies a.2 turn receipt h in omega (arith, more, rest)
 
   -- so the later of two has the higher index
-  rises : (before after : Position) (jobs : List Task) (replies : List Answer) → InTurn (IsSubmitted shuts tries opening seats) before after jobs replies
-      → (turn later at : ℕ) (one other : Received) → at ≡ turn + suc later → slice_get replies turn ≡ Some (Ok one) → slice_get replies at ≡ Some (Ok other) → one.index < other.index
+  rises : (before after : Position) (jobs : List Statement) (replies : List Answer) → InTurn (IsSubmitted shuts tries opening seats) before after jobs replies
+      → (turn later at : ℕ) (one other : Receipt) → at ≡ turn + suc later → slice_get replies turn ≡ Some (Ok one) → slice_get replies at ≡ Some (Ok other) → one.index < other.index
   rises before after [] [] a turn later at one other e h g = absurd cc
   rises before after [] (x ∷ replies) a turn later at one other e h g = absurd a
   rises before after (s ∷ jobs) [] a turn later at one other e h g = absurd a
@@ -88,7 +88,7 @@ module _ (shuts : ℕ → ℕ → Type 0) (tries : ℕ) (opening : Opening) (sea
 
   -- ---- the receipts of all seats
 
-  pub turns_all : {X : Type 0} (share : X → ℕ) (view : X → List Entry) (jobs : List Task) (replies : List Answer) (old new : List X) → 1 ≤ length old
+  pub turns_all : {X : Type 0} (share : X → ℕ) (view : X → List Entry) (jobs : List Statement) (replies : List Answer) (old new : List X) → 1 ≤ length old
       → ((k : ℕ) (d : X) → k < length old → InTurn (IsSubmitted shuts tries opening seats) (position (share (get_or old k d)) (view (get_or old k d))) (position (share (get_or new k d)) (view (get_or new k d)))
       (every (length old) k jobs) (every (length old) k replies))
       → AreInTurn (length old) replies

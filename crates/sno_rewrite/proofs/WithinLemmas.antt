@@ -1,9 +1,9 @@
--- Each reply of the workers is one that a submit answers at points of the closed journal.
+-- Each reply of the workers is one that a submit returns at points of the closed journal.
 use Rattle.std.proofs.Common.{◌≡◌, ◌<◌, ◌≤◌, ℕ, List, [], ◌∷◌, length, get_or, sym, subst, arith}
 use Rattle.std.specs.List.{All}
 use Rattle.std.proofs.lemmas.List.Elements.{All-get_or}
 use mathlib.Core.List.{IsPrefix as Begins}
-use Rattle.sno_statement.specs.Task.{Task}
+use Rattle.sno_statement.specs.Statement.{Statement}
 use Rattle.sno_book.specs.Entries.{Entry}
 use Rattle.sno_book.specs.Openings.{Opening}
 use Rattle.sno_published.proofs.Prefixes.{prefix_self, prefix_trans}
@@ -15,18 +15,18 @@ use Rattle.sno_rewrite.proofs.TurnLemmas.{first_of}
 
 module _ (shuts : ℕ → ℕ → Type 0) (tries : ℕ) (opening : Opening) (seats : ℕ) where
   -- over the replies of a seat, what it has seen only grows
-  seen_grows : (before after : Position) (jobs : List Task) (replies : List Answer) → InTurn (IsSubmitted shuts tries opening seats) before after jobs replies → Begins before.seen after.seen
+  seen_grows : (before after : Position) (jobs : List Statement) (replies : List Answer) → InTurn (IsSubmitted shuts tries opening seats) before after jobs replies → Begins before.seen after.seen
   seen_grows before after [] [] a = subst (λ (p : Position). Begins before.seen p.seen) a (prefix_self before.seen)
   seen_grows before after [] (r ∷ replies) a = absurd a
   seen_grows before after (s ∷ jobs) [] a = absurd a
   seen_grows before after (s ∷ jobs) (r ∷ replies) a = prefix_trans before.seen a.0.seen after.seen a.1.begins (seen_grows a.0 after jobs replies a.2)
 
   module _ (journal : List Entry) where
-    abbrev Within : Task → Answer → Type 0
+    abbrev Within : Statement → Answer → Type 0
     Within = IsAnsweredWithin tries (record { opening = opening; journal = journal })
 
     -- the replies of one seat
-    within_turns : (before after : Position) (jobs : List Task) (replies : List Answer) → InTurn (IsSubmitted shuts tries opening seats) before after jobs replies → Begins after.seen journal
+    within_turns : (before after : Position) (jobs : List Statement) (replies : List Answer) → InTurn (IsSubmitted shuts tries opening seats) before after jobs replies → Begins after.seen journal
         → AllAnswer Within jobs replies
     within_turns before after [] [] a begins = tt
     within_turns before after [] (r ∷ replies) a begins = absurd a
@@ -43,7 +43,7 @@ module _ (shuts : ℕ → ℕ → Type 0) (tries : ℕ) (opening : Opening) (sea
     )
 
     -- the replies of all seats
-    within_all : {X : Type 0} (share : X → ℕ) (view : X → List Entry) (jobs : List Task) (replies : List Answer) (old new : List X)
+    within_all : {X : Type 0} (share : X → ℕ) (view : X → List Entry) (jobs : List Statement) (replies : List Answer) (old new : List X)
         → 1 ≤ length old → length new ≡ length old → length replies ≡ length jobs
         → ((k : ℕ) (d : X) → k < length old → InTurn (IsSubmitted shuts tries opening seats) (position (share (get_or old k d)) (view (get_or old k d))) (position (share (get_or new k d)) (view (get_or new k d)))
         (every (length old) k jobs) (every (length old) k replies))
@@ -57,8 +57,8 @@ module _ (shuts : ℕ → ℕ → Type 0) (tries : ℕ) (opening : Opening) (sea
         within_turns before after (every (length old) k jobs) (every (length old) k replies) (turns k d h)
         (All-get_or (λ x. Begins (view x) journal) new k d (omega (arith, h, even)) seen))
 
--- the same beside a book with that opening
-pub within_book : {X : Type 0} (shuts : ℕ → ℕ → Type 0) (tries : ℕ) (opening its : Opening) (seats : ℕ) (journal : List Entry) (share : X → ℕ) (view : X → List Entry) (jobs : List Task) (replies : List Answer) (old new : List X)
+-- the same for a book with that opening
+pub within_book : {X : Type 0} (shuts : ℕ → ℕ → Type 0) (tries : ℕ) (opening its : Opening) (seats : ℕ) (journal : List Entry) (share : X → ℕ) (view : X → List Entry) (jobs : List Statement) (replies : List Answer) (old new : List X)
     → its ≡ opening → 1 ≤ length old → length new ≡ length old → length replies ≡ length jobs
     → ((k : ℕ) (d : X) → k < length old → InTurn (IsSubmitted shuts tries opening seats) (position (share (get_or old k d)) (view (get_or old k d))) (position (share (get_or new k d)) (view (get_or new k d)))
     (every (length old) k jobs) (every (length old) k replies))

@@ -1,5 +1,5 @@
 -- The command line: five options, in any order, each at most once.
-use Rattle.std.specs.Prelude.{◌≡◌, ◌≢◌, ℕ, Bool, true, false, ◌&&◌, List, [], ◌∷◌, length, nat_lt, nat_le, Option, Some, None, Result, Ok, Err, unwrap_or, option_and_then, if◌then◌else◌, codes, pos}
+use Rattle.std.specs.Prelude.{◌≡◌, ◌≢◌, ◌⊎◌, ℕ, Bool, true, false, ◌&&◌, List, [], ◌∷◌, length, nat_lt, nat_le, Option, Some, None, Result, Ok, Err, unwrap_or, option_and_then, if◌then◌else◌, codes, pos}
 use Rattle.std.specs.List.{list_all}
 use Rattle.std.specs.Option.{option_map_or}
 use Rattle.std.specs.Char.{digit_value}
@@ -10,8 +10,10 @@ use Rattle.clap.specs.Simple.{on_top}
 use Rattle.clap.specs.declared.builder.action.ArgAction.TheVariants.{Set, SetTrue}
 use Rattle.clap.specs.declared.builder.value_parser.ValueParser.TheVariants.{Signed}
 use Rattle.clap.specs.declared.error.kind.ErrorKind.{ErrorKind}
-use Rattle.clap.specs.declared.error.kind.ErrorKind.TheVariants.{DisplayHelp, OutOfMemory}
+use Rattle.clap.specs.declared.error.kind.ErrorKind.TheVariants.{DisplayHelp, DisplayVersion, OutOfMemory}
 use Rattle.sno_rewrite.specs.declared.options.Options.{Options}
+use Rattle.sno_rewrite.specs.declared.options.TheConstants.{MAX_TRIALS, MAX_TRIES, MAX_WORKERS}
+use Rattle.sno_rewrite.specs.declared.command_line.TheConstants.{DEFAULT_TRIALS, DEFAULT_TRIES}
 use Rattle.sno_rewrite.specs.declared.command_line.OptionsFault.{OptionsFault}
 use Rattle.sno_rewrite.specs.declared.command_line.OptionsFault.TheVariants.{Help, Usage, Memory}
 
@@ -23,13 +25,13 @@ flag name = record (new_rule name) { long = Some name; action = Some SetTrue }
 abbrev pub numeric : Text → Rule
 numeric name = record (new_rule name) { long = Some name; action = Some Set; parser = Some (Signed (pos 0) (pos 4294967295)); value_names = 1 }
 
--- the same, with what it is where it is not given
+-- the same, with its value if it is not given
 abbrev pub numeric_or : Text → Text → Rule
 numeric_or value name = record (numeric name) { defaults = value ∷ [] }
 
--- the program with no option; every word is an argument
+-- the program with only the options for help and the version; no argument is the program's name
 abbrev pub bare_program : App
-bare_program = on_top (λ s. record s { no_binary_name = true }) (new_app (codes "sno_rewrite"))
+bare_program = on_top (λ s. record s { no_binary_name = true; has_version = true }) (new_app (codes "sno_rewrite"))
 
 -- the program with the options of shared runs
 unfoldable pub shared_program : App
@@ -50,7 +52,7 @@ is_numeral ds = nat_lt 0 (length ds) && list_all (λ d. nat_lt (digit_value d) 1
 abbrev pub number_of_text : Text → Option ℕ
 number_of_text ds = if is_numeral ds && nat_lt (digits_value 10 ds) 4294967296 then Some (digits_value 10 ds) else None
 
--- the number that a text writes, with or without a plus before it
+-- the number that a text writes, with or without a leading plus sign
 abbrev pub number_in : Text → List Row → Option ℕ
 number_in name rows = option_and_then (λ t. number_of_text (without_leading_plus t)) (one_of name rows)
 
@@ -59,51 +61,57 @@ abbrev pub options_in : List Row → Options
 options_in rows = record {
   anchor = flag_in (codes "anchor") rows;
   workers = number_in (codes "workers") rows;
-  tries = unwrap_or (number_in (codes "tries") rows) 100;
+  tries = unwrap_or (number_in (codes "tries") rows) DEFAULT_TRIES;
   json = flag_in (codes "json") rows;
-  trials = unwrap_or (number_in (codes "trials") rows) 1000000;
+  trials = unwrap_or (number_in (codes "trials") rows) DEFAULT_TRIALS;
 }
 
 abbrev pub is_up_to : ℕ → ℕ → Bool
 is_up_to most n = nat_le 1 n && nat_le n most
 
--- workers are 1 to 16, where there are any, tries 1 to 1,000, and trials 1 to 1,000,000,000
+-- workers are 1 to 16, if there are any; tries are 1 to 1,000, and trials 1 to 1,000,000,000
 abbrev pub are_lawful : Options → Bool
-are_lawful options = option_map_or (is_up_to 16) options.workers true && (is_up_to 1000 options.tries && is_up_to 1000000000 options.trials)
+are_lawful options = option_map_or (is_up_to MAX_WORKERS) options.workers true && (is_up_to MAX_TRIES options.tries && is_up_to MAX_TRIALS options.trials)
 
--- what is wrong with words, or asked for by them, as `clap` reads them; nothing where they are read
+-- what is wrong with the arguments, or what they ask for, as `clap` reads them; empty if they are read
 unfoldable pub faults : List Text → Kinds
 faults words = fault_of program words
 
--- what words give for each option
+-- what the arguments give for each option
 unfoldable pub option_rows : List Text → List Row
 option_rows words = matches_of program words
 
--- Why words give no options: they are not read, for another cause than that they ask for help; or a number is past its limits.
+-- help or the version is asked for
+abbrev pub IsAsked : ErrorKind → Type 0
+IsAsked kind = (kind ≡ DisplayHelp) ⊎ (kind ≡ DisplayVersion)
+
+-- Why arguments give no options: they can't be read, for another cause than that they ask for help or the version; or a
+-- number is past its limits.
 pub data AreRefused (words : List Text) : Type 0 where
-  unread : (kind : ErrorKind) → IsAmong kind (faults words) → kind ≢ DisplayHelp → AreRefused words
+  unread : (kind : ErrorKind) → IsAmong kind (faults words) → kind ≢ DisplayHelp → kind ≢ DisplayVersion → AreRefused words
   unlawful : faults words ≡ [] → are_lawful (options_in (option_rows words)) ≡ false → AreRefused words
 
--- What is answered for words: the options that they give, help where they ask for it, or that they are refused; or memory is.
+-- What is returned for arguments: the options that they give; help or the version, if they ask for it; the usage, if
+-- they are refused; or out of memory.
 abbrev pub IsAnswer : List Text → Result Options OptionsFault → Type 0
 IsAnswer words (Ok o) = (faults words ≡ []) × (o ≡ options_in (option_rows words)) × (are_lawful o ≡ true)
-IsAnswer words (Err (Help text)) = IsAmong DisplayHelp (faults words)
+IsAnswer words (Err (Help text)) = IsAmong DisplayHelp (faults words) ⊎ IsAmong DisplayVersion (faults words)
 IsAnswer words (Err (Usage text)) = AreRefused words
 IsAnswer words (Err Memory) = Unit {0}
 
--- a fault of `clap` is answered with its text: help, or another
+-- a fault of `clap` is reported by its text: help or the version, or another
 abbrev pub Tells : ErrorKind → OptionsFault → Type 0
-Tells kind (Help text) = kind ≡ DisplayHelp
-Tells kind (Usage text) = (kind ≢ DisplayHelp) × (kind ≢ OutOfMemory)
+Tells kind (Help text) = IsAsked kind
+Tells kind (Usage text) = (kind ≢ DisplayHelp) × (kind ≢ DisplayVersion) × (kind ≢ OutOfMemory)
 Tells kind Memory = Unit {0}
 
--- options within their limits pass as they are, and others are refused
+-- options within their limits are returned as they are, and others are refused
 abbrev pub IsChecked : Options → Result Options OptionsFault → Type 0
 IsChecked options (Ok o) = (o ≡ options) × (are_lawful options ≡ true)
 IsChecked options (Err (Help text)) = ⊥
 IsChecked options (Err (Usage text)) = are_lawful options ≡ false
 IsChecked options (Err Memory) = Unit {0}
 
--- with no word at all
+-- the options without any argument
 abbrev pub plain_options : Options
-plain_options = record { anchor = false; workers = None; tries = 100; json = false; trials = 1000000 }
+plain_options = record { anchor = false; workers = None; tries = DEFAULT_TRIES; json = false; trials = DEFAULT_TRIALS }

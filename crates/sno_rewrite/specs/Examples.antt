@@ -1,4 +1,5 @@
--- Worked examples of runs and their listings: each holds by computation alone, and a reader can compare documents and lines.
+-- Worked examples of runs and their listings. Each holds by computation alone, and a reader can compare documents and
+-- lines.
 use Rattle.std.specs.Prelude.{◌≡◌, ℕ, false, List, [], ◌∷◌, ◌++◌, Some, None, codes, refl}
 use Rattle.std.specs.Option.{option_map}
 use Rattle.std.specs.Fmt.{digits}
@@ -8,7 +9,7 @@ use Rattle.sno_pattern.specs.Results.{results_of, definition_results}
 use Rattle.sno_pattern.specs.Outcome.{outcome_at, trials_at}
 use Rattle.sno_read.specs.declared.objects.Part.{Part}
 use Rattle.sno_read.specs.declared.objects.Part.TheVariants.{Quoted, Var}
-use Rattle.sno_statement.specs.Task.{Task, with_repeat}
+use Rattle.sno_statement.specs.Statement.{Statement, with_repeat}
 use Rattle.sno_document.specs.Document.{Document}
 use Rattle.sno_listing.specs.Listing.{listing, text_line, binding_line, done_lines, entry_label, entry_subject, refused_line}
 use Rattle.sno_rewrite.specs.Serial.{serial, advance}
@@ -20,10 +21,10 @@ line words = words ++ 10 ∷ []
 abbrev no_rules : Definitions
 no_rules = record { names = []; bodies = [] }
 
-abbrev with_object : List Part → ℕ → List ℕ → Tree → Task
+abbrev with_object : List Part → ℕ → List ℕ → Tree → Statement
 with_object parts number text pattern = record { number = number; rules = no_rules; pattern = pattern; object = Some parts; text = text; anchored = false; limit = 1000000; repeat = None }
 
-abbrev without_object : ℕ → List ℕ → Tree → Task
+abbrev without_object : ℕ → List ℕ → Tree → Statement
 without_object number text pattern = record { number = number; rules = no_rules; pattern = pattern; object = None; text = text; anchored = false; limit = 1000000; repeat = None }
 
 -- T is abc, and its b is replaced by X
@@ -51,7 +52,8 @@ three_statements_listed : option_map listing (serial three_statements)
 unfolding listing text_line binding_line done_lines entry_label entry_subject refused_line advance outcome_at trials_at results_of definition_results digits
 three_statements_listed = refl
 
--- two statements on T, which is ab: the second is performed on what the first left, and puts the same characters back; the version rises by both
+-- two statements on T, which is ab. The second is performed on what the first left, and puts the same characters back.
+-- Each raises the version
 abbrev two_versions : Document
 two_versions = record {
   rules = no_rules;
@@ -65,7 +67,7 @@ two_versions_listed : option_map listing (serial two_versions)
 unfolding listing text_line binding_line done_lines entry_label entry_subject refused_line advance outcome_at trials_at results_of definition_results digits
 two_versions_listed = refl
 
--- T is aXbXc, and each of its X is replaced by a stroke: one entry, and one version
+-- T is aXbXc, and each X in it is replaced by a stroke: one entry, and one version
 abbrev all_replaced : Document
 all_replaced = record {
   rules = no_rules;

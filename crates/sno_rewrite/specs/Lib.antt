@@ -1,4 +1,5 @@
 pub mod Modes
+pub mod Faults
 pub mod Serial
 pub mod Histories
 pub mod Reports

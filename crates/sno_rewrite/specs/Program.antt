@@ -1,11 +1,11 @@
--- The program: from its words and its streams to its status.
+-- The program: from its arguments and its streams to its status.
 use Rattle.std.specs.Prelude.{◌≡◌, ◌≢◌, ◌⊎◌, ℕ, List, string_bytes, Option, Result, Ok, Err, IfSome}
 use Rattle.std.specs.Io.KnownBytes.{Appends}
 use Rattle.std.specs.declared.io.ErrorKind.{ErrorKind}
 use Rattle.std.specs.declared.io.ErrorKind.TheVariants.{OutOfMemory}
-use Rattle.sno_document.specs.Faults.{status}
-use Rattle.sno_document.specs.declared.faults.RunFault.{RunFault}
-use Rattle.sno_document.specs.declared.faults.RunFault.TheVariants.{Write}
+use Rattle.sno_rewrite.specs.Faults.{status}
+use Rattle.sno_rewrite.specs.declared.faults.RunFault.{RunFault}
+use Rattle.sno_rewrite.specs.declared.faults.RunFault.TheVariants.{Write}
 use Rattle.sno_rewrite.specs.Reports.{IsOutside}
 use Rattle.sno_rewrite.specs.Runs.{FailsBy, IsBegun, IsRun}
 use Rattle.sno_rewrite.specs.Streams.{AppendsFront}
@@ -14,7 +14,7 @@ use Rattle.sno_rewrite.specs.declared.command_line.OptionsFault.TheVariants.{Hel
 use Rattle.sno_rewrite.specs.declared.options.Options.{Options}
 use Rattle.sno_rewrite.specs.Modes.{mode_of}
 
--- words that the system doesn't give: one of them is no text, or memory was refused
+-- why the system gives no arguments: one of them is not a text, or memory ran out
 abbrev pub IsWordsFault : ErrorKind → OptionsFault → Type 0
 IsWordsFault kind (Help text) = ⊥
 IsWordsFault kind (Usage text) = kind ≢ OutOfMemory
@@ -25,18 +25,19 @@ abbrev pub status_by : Result ℕ RunFault → ℕ
 status_by (Ok status) = status
 status_by (Err e) = status e
 
--- What a run came to: the listing was written, and the status tells whether a statement was refused; or there is a fault, and nothing was
--- written, or a beginning of the listing.
+-- The result of a run: the listing was written, and the status says whether a statement was refused. Or there is a
+-- fault, and nothing was written, or a beginning of the listing was.
 abbrev pub RunsTo : {W : Type 0} → Options → Option (List ℕ) → W → W → Option (List ℕ) → Option (List ℕ) → Result ℕ RunFault → Type 0
-RunsTo options input before after held holds (Ok status) = IfSome input (λ bytes. IsRun options bytes held holds status)
-RunsTo options input before after held holds (Err e) =
+RunsTo options input writer_old writer_new written_old written_new (Ok status) = IfSome input (λ bytes. IsRun options bytes written_old written_new status)
+RunsTo options input writer_old writer_new written_old written_new (Err e) =
     (IsOutside e ⊎ IfSome input (λ bytes. FailsBy options.workers (mode_of options) bytes e))
-    × ((after ≡ before) ⊎ ((e ≡ Write) × IfSome input (λ bytes. IsBegun options bytes held holds)))
+    × ((writer_new ≡ writer_old) ⊎ ((e ≡ Write) × IfSome input (λ bytes. IsBegun options bytes written_old written_new)))
 
--- How words that give no options end the program. Help goes to the output with status 0, and with 4 where it can't be printed; how the
--- program is used goes to the errors with 3; and the status is 4 where memory was refused.
+-- How the program ends on arguments that give no options. Help goes to the output with status 0, or with 4 if it can't
+-- be printed. How the program is used goes to the errors with 3. If memory ran out, the status is 4.
 abbrev pub EndsBy : {W E : Type 0} → W → W → Option (List ℕ) → Option (List ℕ) → E → E → Option (List ℕ) → Option (List ℕ) → OptionsFault → ℕ → Type 0
-EndsBy before after held holds errors told said says (Help text) status =
-    ((status ≡ 0) × Appends held holds (string_bytes text) × (told ≡ errors)) ⊎ ((status ≡ 4) × AppendsFront held holds (string_bytes text))
-EndsBy before after held holds errors told said says (Usage text) status = (status ≡ 3) × (after ≡ before) × AppendsFront said says (string_bytes text)
-EndsBy before after held holds errors told said says Memory status = (status ≡ 4) × (after ≡ before)
+EndsBy writer_old writer_new written_old written_new errors_old errors_new said_old said_new (Help text) status =
+    ((status ≡ 0) × Appends written_old written_new (string_bytes text) × (errors_new ≡ errors_old)) ⊎ ((status ≡ 4) × AppendsFront written_old written_new (string_bytes text))
+EndsBy writer_old writer_new written_old written_new errors_old errors_new said_old said_new (Usage text) status =
+    (status ≡ 3) × (writer_new ≡ writer_old) × AppendsFront said_old said_new (string_bytes text)
+EndsBy writer_old writer_new written_old written_new errors_old errors_new said_old said_new Memory status = (status ≡ 4) × (writer_new ≡ writer_old)

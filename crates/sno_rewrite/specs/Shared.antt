@@ -2,8 +2,8 @@
 use Rattle.std.specs.Prelude.{◌≡◌, ◌≢◌, ◌<◌, ◌≤◌, ℕ, ◌+◌, ◌*◌, Bool, List, [], ◌∷◌, ◌++◌, length, slice_get, Option, Some, None, Ok, Err}
 use Rattle.std.specs.Option.{option_map}
 use mathlib.Core.List.{IsPrefix as Begins}
-use Rattle.sno_statement.specs.Task.{Task}
-use Rattle.sno_statement.specs.Perform.{Done, perform}
+use Rattle.sno_statement.specs.Statement.{Statement}
+use Rattle.sno_statement.specs.Perform.{Outcome, perform}
 use Rattle.sno_statement.specs.declared.outcomes.StatementFault.{StatementFault}
 use Rattle.sno_statement.specs.declared.outcomes.StatementFault.TheVariants as statement
 use Rattle.sno_book.specs.States.{VersionedText, State, find}
@@ -25,23 +25,24 @@ pub record HasBeen (v : View) (entries : List Entry) (name : List ℕ) (held : V
   pub begins : Begins entries v.journal
   pub found : find name (replay (start v.opening) entries) ≡ Some held
 
--- performing the statement on its text, as it was at some point of the journal, is refused so
-pub record IsRefusedThen (v : View) (s : Task) (refused : StatementFault) : Type 0 where
+-- performing the statement on its text, as it was at some point of the journal, gets this refusal
+pub record IsRefusedThen (v : View) (s : Statement) (refused : StatementFault) : Type 0 where
   pub entries : List Entry
   pub held : VersionedText
   pub was : HasBeen v entries s.text held
   pub performed : perform s held.text ≡ Err refused
 
--- the statement's text changed under each of its tries. The last one saw it at the first version, at some point of the journal, where performing the statement is
--- not refused, and it had been replaced at least as often as there were tries before; later it had the second version, which is higher; and it is left at that
--- or a higher one
-pub record IsOvertaken (tries : ℕ) (v : View) (s : Task) (seen now : ℕ) : Type 0 where
+-- the statement's text changed during each of its tries. The last one saw it at the first version, at some point of the
+-- journal, at which performing the statement is not refused. Before that point it had been replaced at least as often
+-- as there were tries before. Later it had the second version, which is higher. At the end it has that version or a
+-- higher one
+pub record IsOvertaken (tries : ℕ) (v : View) (s : Statement) (seen now : ℕ) : Type 0 where
   pub earlier : List Entry
   pub saw : VersionedText
   pub was : HasBeen v earlier s.text saw
   pub at_first : saw.version ≡ seen
-  pub done : Done
-  pub performed : perform s saw.text ≡ Ok done
+  pub outcome : Outcome
+  pub performed : perform s saw.text ≡ Ok outcome
   pub later : List Entry
   pub after : Begins earlier later
   pub met : VersionedText
@@ -53,51 +54,43 @@ pub record IsOvertaken (tries : ℕ) (v : View) (s : Task) (seen now : ℕ) : Ty
   pub found : find s.text (state_of v) ≡ Some left
   pub reached : now ≤ left.version
 
--- that there is no text of the statement's name is the reason exactly where there is none
-abbrev pub IsNamed : State → Task → Option Reason → Type 0
-IsNamed state s None = find s.text state ≢ None
-IsNamed state s (Some NoText) = find s.text state ≡ None
-IsNamed state s (Some TextTooLong) = find s.text state ≢ None
-IsNamed state s (Some TooManyTrials) = find s.text state ≢ None
-IsNamed state s (Some (TriesSpent seen now)) = find s.text state ≢ None
+-- `NoText` is the reason exactly if there is no text of the statement's name
+abbrev pub IsNoTextIfMissing : State → Statement → Option Reason → Type 0
+IsNoTextIfMissing state s (Some NoText) = find s.text state ≡ None
+IsNoTextIfMissing state s _ = find s.text state ≢ None
 
--- the other reasons for which a statement may be refused beside this journal
-abbrev pub MayRefuse : ℕ → View → Task → Reason → Type 0
-MayRefuse tries v s NoText = Unit {0}
-MayRefuse tries v s TextTooLong = IsRefusedThen v s statement.TextTooLong
-MayRefuse tries v s TooManyTrials = IsRefusedThen v s statement.TooManyTrials
-MayRefuse tries v s (TriesSpent seen now) = IsOvertaken tries v s seen now
+-- the other reasons have their causes in the journal
+abbrev pub HasCause : ℕ → View → Statement → Option Reason → Type 0
+HasCause tries v s (Some TextTooLong) = IsRefusedThen v s statement.TextTooLong
+HasCause tries v s (Some TooManyTrials) = IsRefusedThen v s statement.TooManyTrials
+HasCause tries v s (Some (TriesSpent seen now)) = IsOvertaken tries v s seen now
+HasCause tries v s _ = Unit {0}
 
 -- a statement without a reason is accepted
-abbrev pub MayBe : ℕ → View → Task → Option Reason → Type 0
-MayBe tries v s None = Unit {0}
-MayBe tries v s (Some reason) = MayRefuse tries v s reason
+abbrev pub MayAnswer : ℕ → View → Statement → Option Reason → Type 0
+MayAnswer tries v s answer = IsNoTextIfMissing (state_of v) s answer × HasCause tries v s answer
 
-abbrev pub MayAnswer : ℕ → View → Task → Option Reason → Type 0
-MayAnswer tries v s answer = IsNamed (state_of v) s answer × MayBe tries v s answer
-
--- each statement is accepted, or refused for a reason that may be
-abbrev pub AreAnswers : ℕ → View → List Task → List (Option Reason) → Type 0
+-- each statement is accepted, or refused for a reason that is allowed
+abbrev pub AreAnswers : ℕ → View → List Statement → List (Option Reason) → Type 0
 AreAnswers tries v [] [] = Unit {0}
-AreAnswers tries v [] (a ∷ answers) = ⊥
-AreAnswers tries v (s ∷ statements) [] = ⊥
 AreAnswers tries v (s ∷ statements) (a ∷ answers) = MayAnswer tries v s a × AreAnswers tries v statements answers
+AreAnswers tries v _ _ = ⊥
 
 -- a reason is listed with the statement's number
-abbrev pub refusal_of : Task → Option Reason → List Refusal
+abbrev pub refusal_of : Statement → Option Reason → List Refusal
 refusal_of s None = []
 refusal_of s (Some reason) = record { number = s.number; reason = reason } ∷ []
 
 -- the refused statements, in the document's order
-abbrev pub refusals : List Task → List (Option Reason) → List Refusal
-refusals [] answers = []
-refusals (s ∷ statements) [] = []
+abbrev pub refusals : List Statement → List (Option Reason) → List Refusal
 refusals (s ∷ statements) (a ∷ answers) = refusal_of s a ++ refusals statements answers
+refusals _ _ = []
 
--- which statement each entry of the journal is of, by its place in the document: each entry has one, no two have the same, the entry's
--- statement stands at that place, and the places are those of the accepted statements. Statements whose places differ by a multiple of the
--- number of workers are one worker's, and stand in the journal in the document's order
-pub record IsOrder (workers : ℕ) (statements : List Task) (answers : List (Option Reason)) (journal : List Entry) (order : List ℕ) : Type 0 where
+-- to which statement each entry of the journal belongs, by its place in the document. Each entry has a place, no two
+-- have the same, the entry's statement is at that place, and the places are those of the accepted statements.
+-- Statements whose places differ by a multiple of the number of workers are one worker's, and are in the journal in the
+-- document's order
+pub record IsOrder (workers : ℕ) (statements : List Statement) (answers : List (Option Reason)) (journal : List Entry) (order : List ℕ) : Type 0 where
   pub as_many : length order ≡ length journal
   pub once : (j k p : ℕ) → slice_get order j ≡ Some p → slice_get order k ≡ Some p → j ≡ k
   pub statement : (k p : ℕ) → slice_get order k ≡ Some p → option_map (λ e. e.statement) (slice_get journal k) ≡ slice_get statements p
@@ -105,23 +98,25 @@ pub record IsOrder (workers : ℕ) (statements : List Task) (answers : List (Opt
   pub all : (p : ℕ) → slice_get answers p ≡ Some None → (k : ℕ) × (slice_get order k ≡ Some p)
   pub in_turn : (j k p later : ℕ) → slice_get order j ≡ Some p → slice_get order k ≡ Some (p + (later + 1) * workers) → j < k
 
--- the journal, which follows this opening, has each statement once, but for the refused ones, which are listed with their reasons
-pub record Settles (workers tries : ℕ) (opening : Opening) (statements : List Task) (h : History) : Type 0 where
+-- the journal, which follows this opening, has each statement once, except the refused ones, which are listed with
+-- their reasons
+pub record Settles (workers tries : ℕ) (opening : Opening) (statements : List Statement) (h : History) : Type 0 where
   pub answers : List (Option Reason)
   pub answered : AreAnswers tries (record { opening = opening; journal = h.journal }) statements answers
   pub refused : h.refused ≡ refusals statements answers
   pub order : List ℕ
   pub ordered : IsOrder workers statements answers h.journal order
 
--- a history that a shared run of the document may have: the journal is legal from the document's texts, the texts are left as its replay leaves them, and it
--- has each statement that isn't refused. One worker does what the serial run does
+-- a history that a shared run of the document may have. The journal is legal from the document's texts, and the texts
+-- are those of its replay. The journal has each statement that isn't refused. One worker does what the serial run does
 pub record IsShared (workers tries : ℕ) (d : Document) (h : History) : Type 0 where
   pub legal : Legal (start (opening_in d)) h.journal
   pub replayed : h.state ≡ replay (start (opening_in d)) h.journal
   pub settled : Settles workers tries (opening_in d) d.statements h
   pub alone : workers ≡ 1 → serial d ≡ Some h
 
--- the bytes are a document, the lines are the listing of a run of it by so many workers, and so many of its statements are refused
+-- the bytes are a document, the lines are the listing of a run of it by `workers` workers, and `refused` of its
+-- statements are refused
 pub record IsSharedReport (mode : Mode) (json : Bool) (workers tries : ℕ) (bytes lines : List ℕ) (refused : ℕ) : Type 0 where
   pub document : Document
   pub is_document : IsDocument mode bytes (Ok document)

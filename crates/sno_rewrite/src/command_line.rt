@@ -1,21 +1,16 @@
-//! The options of the program, from the words of its command line.
+//! The options of the program, from its command-line arguments.
 ghost use Rattle.std.specs.Prelude.{◌≡◌, [], map, false, Some, IfOk, string_bytes};
 ghost use Rattle.clap.specs.Words.{app_of, FailsBy, found_of, kind_of, rows_of, rule_of, with_rule};
 ghost use Rattle.sno_rewrite.specs.CommandLine.{are_lawful, bare_program, faults, flag, flag_in, IsAnswer, IsChecked, is_up_to, number_in, numeric, numeric_or, option_rows, options_in, plain_options, program, shared_program, Tells};
 ghost use Rattle.sno_rewrite.specs.Runs.{AreInLimits};
 
 use crate::Options;
+use crate::options::{MAX_TRIALS, MAX_TRIES, MAX_WORKERS};
 use clap::error::ErrorKind;
 use clap::{Arg, ArgAction, ArgMatches, Command, Error};
 use std::alloc::{AllocError, Global};
 
-const MAX_WORKERS: u32 = 16;
-
-const MAX_TRIES: u32 = 1_000;
-
 const DEFAULT_TRIES: u32 = 100;
-
-const MAX_TRIALS: u32 = 1_000_000_000;
 
 const DEFAULT_TRIALS: u32 = 1_000_000;
 
@@ -34,17 +29,19 @@ const TRIALS_HELP: &str = "How many trials a match may take, 1 to 1000000000";
 
 const EXAMPLE: &str = "Example: sno_rewrite --workers 4 --json < document.json";
 
+const VERSION: &str = "1.0.0";
+
 const PAST_LIMITS: &str =
     "error: '--workers' takes 1 to 16, '--tries' takes 1 to 1000, and '--trials' takes 1 to 1000000000\n\nFor more information, try '--help'.\n";
 
-/// Why there are no options.
+/// Why the arguments give no options.
 #[derive(Debug, Drop)]
 pub enum OptionsFault {
-    /// Help was asked for: its text, with a line feed at the end.
+    /// Help, or the version, was asked for: its text, with a line feed at the end.
     Help(String),
-    /// The words are refused: what is wrong and how the program is used, with a line feed at the end.
+    /// The arguments are refused: what is wrong and how the program is used, with a line feed at the end.
     Usage(String),
-    /// Memory was refused.
+    /// Out of memory.
     Memory,
 }
 
@@ -87,6 +84,7 @@ fn bare_program<'a>(alloc: Global) -> Command<'a>
     Command::new(alloc, "sno_rewrite")
         .no_binary_name(true)
         .about(ABOUT)
+        .version(VERSION)
         .after_help(EXAMPLE)
 }
 
@@ -167,7 +165,7 @@ fn are_lawful(options: &Options) -> bool
     workers && is_up_to(MAX_TRIES, options.tries) && is_up_to(MAX_TRIALS, options.trials)
 }
 
-/// `clap`'s own text on a fault.
+/// The fault of an error of `clap`, with `clap`'s own text.
 fn fault_of_error(alloc: Global, error: &Error) -> OptionsFault
     ensures { Tells (kind_of error.now) result }
 {
@@ -176,12 +174,12 @@ fn fault_of_error(alloc: Global, error: &Error) -> OptionsFault
     };
     match error.kind() {
         ErrorKind::OutOfMemory => OptionsFault::Memory,
-        ErrorKind::DisplayHelp => OptionsFault::Help(text),
+        ErrorKind::DisplayHelp | ErrorKind::DisplayVersion => OptionsFault::Help(text),
         _ => OptionsFault::Usage(text),
     }
 }
 
-/// The options, where they are within their limits.
+/// The options, if they are within their limits.
 #[tactic(auto, using(crate::proofs::LimitLemmas::in_limits))]
 fn check_limits(alloc: Global, options: Options) -> Result<Options, OptionsFault>
     ensures checked { IsChecked options result }
@@ -196,18 +194,25 @@ fn check_limits(alloc: Global, options: Options) -> Result<Options, OptionsFault
     }
 }
 
-/// The options that words give; the words are those after the program's name. `--anchor` and `--json` are flags; `--workers` has a
-/// number of 1 to 16, and there are none without it; `--tries` has one of 1 to 1,000, and 100 without it; `--trials` has one of
-/// 1 to 1,000,000,000, and 1,000,000 without it.
+/// Returns the options that `words` give, the command-line arguments after the program's name:
 ///
-/// Refused: `Help` where `--help` or `-h` stands before any fault; `Usage` for a word that is no option, an option twice, a missing
-/// value, or one that is no number or past its limits; `Memory`.
+/// - `--anchor` and `--json` are flags.
+/// - `--workers` has a number of 1 to 16. Without it there are no workers.
+/// - `--tries` has a number of 1 to 1,000, and 100 without it.
+/// - `--trials` has a number of 1 to 1,000,000,000, and 1,000,000 without it.
+///
+/// Refused:
+///
+/// - `Help` if `--help`, `-h`, `--version` or `-V` comes before any fault;
+/// - `Usage` for an argument that is not an option, an option twice, a missing value, or a value that is not a number
+///   or past its limits;
+/// - `Memory`.
 pub fn options_of(alloc: Global, words: &[String]) -> Result<Options, OptionsFault>
-    // The options are those of the words, within their limits; or what is refused is so for its cause.
+    // The options are those of the arguments, within their limits. Otherwise the refusal has its cause.
     ensures answer { IsAnswer (map string_bytes words.now) result }
     // Workers, tries and trials are within their limits.
     ensures limits { IfOk result (λ o. AreInLimits o) }
-    // With no words these are the options.
+    // Without arguments these are the options.
     ensures plain { words.now ≡ [] → IfOk result (λ o. o ≡ plain_options) }
 {
     match matches(alloc, words) {

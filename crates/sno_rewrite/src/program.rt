@@ -1,16 +1,15 @@
-//! The program: from its words and its streams to its status.
+//! The program: from its arguments and its streams to its status.
 ghost use Rattle.std.specs.Prelude.{◌≡◌, ℕ, drop, map, string_bytes, IfOk, IsErrAnd, MatchResult, Result};
 ghost use Rattle.std.specs.IoError.{error_kind};
 ghost use Rattle.std.specs.Vec.Iter.{into_iter_items};
-ghost use Rattle.sno_document.specs.Faults.{status};
+ghost use Rattle.sno_rewrite.specs.Faults.{status};
 ghost use Rattle.sno_rewrite.specs.CommandLine.{IsAnswer};
 ghost use Rattle.sno_rewrite.specs.Program.{EndsBy, IsWordsFault, RunsTo, status_by};
 ghost use Rattle.sno_rewrite.specs.Runs.{AreInLimits};
 ghost use Rattle.sno_rewrite.specs.Streams.{TakesAtMost};
 
 use crate::streams::write_all;
-use crate::{Options, OptionsFault, options_of, run};
-use sno_document::{RunFault, status_of};
+use crate::{Options, OptionsFault, RunFault, options_of, run, status_of};
 use std::alloc::{AllocError, Global};
 use std::env::Args;
 use std::io;
@@ -22,7 +21,7 @@ const USAGE_STATUS: u8 = 3;
 
 const NOT_TEXT: &str = "error: a word is not UTF-8\n\nFor more information, try '--help'.\n";
 
-/// The words after the program's name.
+/// The arguments after the program's name.
 fn words_after_name(alloc: Global, words: Args) -> Result<Vec<String>, AllocError>
     ensures { IfOk result (λ v. v.items ≡ drop 1 (into_iter_items words)) }
 {
@@ -35,7 +34,7 @@ fn words_after_name(alloc: Global, words: Args) -> Result<Vec<String>, AllocErro
     Ok(rest)
 }
 
-/// Why there are no words.
+/// Why there are no arguments.
 fn fault_of_words(alloc: Global, error: &io::Error) -> OptionsFault
     ensures { IsWordsFault (error_kind error.now) result }
 {
@@ -48,24 +47,22 @@ fn fault_of_words(alloc: Global, error: &io::Error) -> OptionsFault
     }
 }
 
-/// The options that the program's words give, its name the first of them.
+/// The options that the program's arguments give. The first argument is its name.
 fn options_after_name(alloc: Global, words: io::Result<Args>) -> Result<Options, OptionsFault>
     ensures answer { MatchResult words (λ all. IsAnswer (map string_bytes (drop 1 (into_iter_items all))) result) (λ e. IsErrAnd result (IsWordsFault (error_kind e))) }
     ensures limits { IfOk result (λ o. AreInLimits o) }
 {
     match words {
         Ok(words) => match words_after_name(alloc, words) {
-            Ok(words) => {
-                let options = options_of(alloc, &words);
-                options
-            }
+            Ok(words) => options_of(alloc, &words),
             Err(_) => Err(OptionsFault::Memory),
         },
         Err(error) => Err(fault_of_words(alloc, &error)),
     }
 }
 
-/// The line of a fault on the errors, and its status. A line that can't be printed leaves the status as it is.
+/// Writes the line of a fault to `errors`, and returns its status. If the line can't be printed, the status is the
+/// same.
 fn report<E: Write>(fault: &RunFault, errors: &mut E) -> u8
     ensures { result ≡ status fault.now }
 {
@@ -73,7 +70,7 @@ fn report<E: Write>(fault: &RunFault, errors: &mut E) -> u8
     status_of(fault)
 }
 
-/// Help on the output, or how the program is used on the errors, and the status.
+/// Writes help to the output, or how the program is used to `errors`, and returns the status.
 fn explain<W: Write, E: Write>(fault: &OptionsFault, writer: &mut W, errors: &mut E) -> u8
     ensures { EndsBy writer.old writer.new (W.contents writer.old) (W.contents writer.new) errors.old errors.new (E.contents errors.old) (E.contents errors.new) fault.now result }
 {
@@ -90,7 +87,7 @@ fn explain<W: Write, E: Write>(fault: &OptionsFault, writer: &mut W, errors: &mu
     }
 }
 
-/// The run, with the line of its fault on the errors, and the status.
+/// Runs, writes the line of a fault to `errors`, and returns the status.
 fn run_and_report<T: Threads + Wait + Sync, R: Read, W: Write, E: Write>(
     rt: &T,
     alloc: Global,
@@ -110,16 +107,16 @@ fn run_and_report<T: Threads + Wait + Sync, R: Read, W: Write, E: Write>(
     }
 }
 
-/// Runs the program: takes its options from its words, of which the first is its name, reads the document, writes the listing, and answers the
-/// status with which the program ends.
+/// Runs the program: takes its options from its arguments, reads the document, writes the listing, and returns the
+/// status with which the program ends. The first argument is the program's name.
 ///
-/// - Where the words ask for help, it goes to `writer`, and the status is 0, or 4 where it can't be printed.
-/// - Where they are refused, or one of them is no text, `errors` says how the program is used, and the status is 3.
-/// - Otherwise the status is that of [`run`], 0 or 1; or there is a fault, whose line goes to `errors`, and the status is that of
-///   [`status_of`], also where the line can't be printed.
+/// - If the arguments ask for help or the version, it goes to `writer`. The status is 0, or 4 if it can't be printed.
+/// - If they are refused, or one of them is not a text, `errors` says how the program is used, and the status is 3.
+/// - Otherwise the status is that of [`run`], 0 or 1. If `run` has a fault, its line goes to `errors`, and the status
+///   is that of [`status_of`], even if the line can't be printed.
 ///
-/// Where memory is refused before there are options, the line of `RunFault::Memory` goes to `errors`, and the status is 4. At most 16,777,217 bytes are
-/// taken from `reader`.
+/// If memory runs out before there are options, the line of `RunFault::Memory` goes to `errors`, and the status is 4.
+/// At most 16,777,217 bytes are taken from `reader`.
 pub fn run_program<T: Threads + Wait + Sync, R: Read, W: Write, E: Write>(
     rt: &T,
     alloc: Global,
@@ -128,7 +125,8 @@ pub fn run_program<T: Threads + Wait + Sync, R: Read, W: Write, E: Write>(
     writer: &mut W,
     errors: &mut E,
 ) -> u8
-    // The words give options, and the run with these ends by the status; or they give none, and their fault does, with nothing read.
+    // If the arguments give options, the run with these ends by the status. Otherwise their fault does, and nothing is
+    // read.
     ensures ends { (answer : Result Options OptionsFault)
         × MatchResult words (λ all. IsAnswer (map string_bytes (drop 1 (into_iter_items all))) answer) (λ e. IsErrAnd answer (IsWordsFault (error_kind e)))
         × MatchResult answer
@@ -139,10 +137,7 @@ pub fn run_program<T: Threads + Wait + Sync, R: Read, W: Write, E: Write>(
     ensures taken { TakesAtMost 16777217 (R.remaining reader.old) (R.remaining reader.new) }
 {
     match options_after_name(alloc, words) {
-        Ok(options) => {
-            let status = run_and_report(rt, alloc, reader, writer, errors, &options);
-            status
-        }
+        Ok(options) => run_and_report(rt, alloc, reader, writer, errors, &options),
         Err(fault) => explain(&fault, writer, errors),
     }
 }

@@ -2,15 +2,17 @@
 ghost use Rattle.std.specs.Prelude.{◌≡◌, ◌<◌, ◌≤◌, ◌+◌, length, IfOk, IfErr, IfSome, OnErr, OnOk, vec_len};
 ghost use Rattle.std.specs.Io.KnownBytes.{Appends, Consumes, IsAtEnd, Keeps};
 ghost use Rattle.sno_rewrite.specs.Streams.{AppendsFront, ConsumesAfter, IsMemoryOrRead, IsWholeInput, IsReadFault, TakesAtMost};
-ghost use Rattle.sno_document.specs.declared.faults.RunFault.TheVariants.{Write as WriteFailed};
+ghost use Rattle.sno_rewrite.specs.declared.faults.RunFault.TheVariants.{Write as WriteFailed};
 
-use sno_document::{MAX_DOCUMENT, RunFault};
+use crate::RunFault;
+use sno_document::{DocumentFault, MAX_DOCUMENT};
 use std::alloc::Global;
 use std::io::{Read, Write};
 
 const PIECE: usize = 4_096;
 
-/// Adds at most `room` bytes of the reader after those that are read, and says how many; none at the end alone.
+/// Adds at most `room` bytes of the reader after those already read, and returns how many. It returns 0 only at the
+/// end.
 fn read_piece<R: Read>(reader: &mut R, bytes: &mut Vec<u8>, room: usize) -> Result<usize, RunFault>
     requires { 0 < room }
     ensures more { IfOk result (λ n. vec_len bytes.new ≡ vec_len bytes.old + n) }
@@ -31,8 +33,8 @@ fn read_piece<R: Read>(reader: &mut R, bytes: &mut Vec<u8>, room: usize) -> Resu
     }
 }
 
-/// All bytes of the reader. Refused: `Read` where a read fails, an interrupted one too; `DocumentTooLong` where there are more than
-/// 16,777,216, of which one more is read; `Memory`.
+/// Returns all bytes of the reader. Refused: `Read` if a read fails, even if it was only interrupted; `DocumentTooLong`
+/// if there are more than 16,777,216 bytes, and one more than that is read; `Memory`.
 pub(crate) fn read_all<R: Read>(alloc: Global, reader: &mut R) -> Result<Vec<u8>, RunFault>
     ensures whole { IfOk result (λ v. IsWholeInput (R.remaining reader.old) (R.remaining reader.new) v.items) }
     ensures taken { TakesAtMost 16777217 (R.remaining reader.old) (R.remaining reader.new) }
@@ -46,10 +48,11 @@ pub(crate) fn read_all<R: Read>(alloc: Global, reader: &mut R) -> Result<Vec<u8>
             return Ok(bytes);
         }
     }
-    Err(RunFault::DocumentTooLong)
+    Err(RunFault::Document(DocumentFault::DocumentTooLong))
 }
 
-/// Writes all bytes. `Write` where a write fails, an interrupted one too, or takes no byte; a beginning of the bytes is written then.
+/// Writes all bytes. `Write` if a write fails, even if it was only interrupted, or takes no byte. A beginning of the
+/// bytes is written then.
 pub(crate) fn write_all<W: Write>(writer: &mut W, bytes: &[u8]) -> Result<(), RunFault>
     ensures written { OnOk result (Appends (W.contents writer.old) (W.contents writer.new) bytes.now) }
     ensures begun { OnErr result (AppendsFront (W.contents writer.old) (W.contents writer.new) bytes.now) }

@@ -1,6 +1,7 @@
 //! The program: a document on standard input, its listing on standard output.
 //!
-//! What it does with its words and its streams, and the status that it ends with, is [`run_program`]'s; here is only which streams they are.
+//! [`run_program`] says what it does with its arguments and its streams, and with which status it ends. Here it only
+//! gets its streams.
 #![tactic(auto)]
 
 use sno_rewrite::run_program;

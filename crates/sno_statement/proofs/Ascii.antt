@@ -1,4 +1,4 @@
--- What texts are put together from is ASCII.
+-- The parts from which texts are joined are ASCII.
 use Rattle.std.proofs.Common.{◌≡◌, ℕ, suc, ◌-◌, ◌≤◌, ◌<◌, ◌^◌, true, ◌&&◌, List, [], ◌∷◌, ◌++◌, length, take, drop, Ok, Err, IsTrue, refl, sym, ◌∙◌, ap, arith, ◌⊎◌, inl, inr}
 use Rattle.std.specs.List.{list_all}
 use Rattle.std.specs.Char.{is_ascii}
@@ -41,7 +41,7 @@ ascii_from_index (b ∷ bs) h = and_from (is_ascii b) (list_all is_ascii bs) (as
 pub ascii_decimal : (n : ℕ) → n < 2 ^ 32 → AreAscii (decimal n)
 ascii_decimal n h = ascii_from_index (decimal n) (IsAscii-decimal n (omega arith))
 
--- ASCII characters are refused as a text only where they are too many
+-- ASCII characters are refused as a text only if they are too many
 pub refused_is_long : (v : List ℕ) (e : TextFault) → Err e ≡ text_of v → AreAscii v → 65536 < length v
 refused_is_long v e refused ascii = by_length v e refused ascii (cases_lt 65536 (length v))
   where

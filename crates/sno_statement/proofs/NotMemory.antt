@@ -1,44 +1,44 @@
--- By its definition no statement is refused memory.
+-- By its definition no statement runs out of memory.
 use Rattle.std.proofs.Common.{◌+◌, ◌-◌, ℕ, zero, suc, Bool, true, false, cond, List, length, nat_lt, Option, Some, None, Result, Ok, Err}
 use Rattle.sno_pattern.specs.Outcome.{outcome, trials}
 use Rattle.sno_pattern.specs.declared.found.Hit.{Hit}
 use Rattle.sno_read.specs.declared.objects.Part.{Part}
 use Rattle.sno_statement.specs.declared.outcomes.StatementFault.{StatementFault}
 use Rattle.sno_statement.specs.declared.outcomes.StatementFault.TheVariants as fault
-use Rattle.sno_statement.specs.Task.{Task}
-use Rattle.sno_statement.specs.Bindings.{Bound, bindings_of}
+use Rattle.sno_statement.specs.Statement.{Statement}
+use Rattle.sno_statement.specs.Bindings.{Bindings, bindings_of}
 use Rattle.sno_statement.specs.Value.{value_of, new_text}
-use Rattle.sno_statement.specs.Perform.{Done, Matched, Failed, Repeated, finish, follow, rounds, perform_once, perform_times, perform}
+use Rattle.sno_statement.specs.Perform.{Outcome, Matched, Failed, Repeated, finish, follow, rounds, perform_once, perform_times, perform}
 
-abbrev pub IsNotMemory : Result Done StatementFault → Type 0
+abbrev pub IsNotMemory : Result Outcome StatementFault → Type 0
 IsNotMemory (Ok done) = Unit {0}
 IsNotMemory (Err fault.TextTooLong) = Unit {0}
 IsNotMemory (Err fault.Memory) = ⊥
 IsNotMemory (Err fault.TooManyTrials) = Unit {0}
 
-of_length : (b : Bool) (done : Done) → IsNotMemory (cond b (Err fault.TextTooLong) (Ok done))
-of_length true done = tt
-of_length false done = tt
+of_length : (b : Bool) (done : Outcome) → IsNotMemory (cond b (Err fault.TextTooLong) (Ok done))
+of_length true outcome = tt
+of_length false outcome = tt
 
-of_finish : (object : Option (List Part)) (t : List ℕ) (bound : Bound) (hit : Option Hit) → IsNotMemory (finish object t bound hit)
+of_finish : (object : Option (List Part)) (t : List ℕ) (bound : Bindings) (hit : Option Hit) → IsNotMemory (finish object t bound hit)
 of_finish object t bound None = tt
 of_finish None t bound (Some hit) = tt
 of_finish (Some parts) t bound (Some hit) =
     let after = new_text t hit.start hit.end (value_of bound parts) in
     of_length (nat_lt 65536 (length after)) (Matched hit.start hit.end bound (Some after))
 
-of_trials : (b : Bool) (rest : Result Done StatementFault) → IsNotMemory rest → IsNotMemory (cond b (Err fault.TooManyTrials) rest)
+of_trials : (b : Bool) (rest : Result Outcome StatementFault) → IsNotMemory rest → IsNotMemory (cond b (Err fault.TooManyTrials) rest)
 of_trials true rest h = tt
 of_trials false rest h = h
 
-of_once : (s : Task) (t : List ℕ) → IsNotMemory (perform_once s t)
+of_once : (s : Statement) (t : List ℕ) → IsNotMemory (perform_once s t)
 of_once s t =
     let found = outcome t s.rules.bodies s.pattern s.anchored in
     of_trials (nat_lt s.limit (trials t s.rules.bodies s.pattern s.anchored)) (finish s.object t (bindings_of t found) found.end)
     (of_finish s.object t (bindings_of t found) found.end)
 
-of_follow : (round : Result Done StatementFault) (ended : Bound → Done) (go_on : Bound → List ℕ → Result Done StatementFault)
-    → IsNotMemory round → ((bound : Bound) (t : List ℕ) → IsNotMemory (go_on bound t)) → IsNotMemory (follow round ended go_on)
+of_follow : (round : Result Outcome StatementFault) (ended : Bindings → Outcome) (go_on : Bindings → List ℕ → Result Outcome StatementFault)
+    → IsNotMemory round → ((bound : Bindings) (t : List ℕ) → IsNotMemory (go_on bound t)) → IsNotMemory (follow round ended go_on)
 of_follow (Ok (Matched s e bound (Some after))) ended go_on h more = more bound after
 of_follow (Ok (Matched s e bound None)) ended go_on h more = tt
 of_follow (Ok (Failed bound)) ended go_on h more = tt
@@ -47,13 +47,13 @@ of_follow (Err fault.TextTooLong) ended go_on h more = tt
 of_follow (Err fault.Memory) ended go_on h more = h
 of_follow (Err fault.TooManyTrials) ended go_on h more = tt
 
-of_rounds : (s : Task) (left n : ℕ) (bound : Bound) (t : List ℕ) → IsNotMemory (rounds s left n bound t)
+of_rounds : (s : Statement) (left n : ℕ) (bound : Bindings) (t : List ℕ) → IsNotMemory (rounds s left n bound t)
 of_rounds s zero n bound t = tt
 of_rounds s (suc left) n bound t = of_follow (perform_once s t) (λ _. Repeated n bound t) (rounds s left (n + 1)) (of_once s t) (of_rounds s left (n + 1))
 
-of_times : (s : Task) (repeat : Option ℕ) (t : List ℕ) → IsNotMemory (perform_times s repeat t)
+of_times : (s : Statement) (repeat : Option ℕ) (t : List ℕ) → IsNotMemory (perform_times s repeat t)
 of_times s None t = of_once s t
 of_times s (Some r) t = of_follow (perform_once s t) Failed (rounds s (r - 1) 1) (of_once s t) (of_rounds s (r - 1) 1)
 
-pub of_perform : (s : Task) (t : List ℕ) → IsNotMemory (perform s t)
+pub of_perform : (s : Statement) (t : List ℕ) → IsNotMemory (perform s t)
 of_perform s t = of_times s s.repeat t

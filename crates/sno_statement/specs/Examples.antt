@@ -1,5 +1,5 @@
--- Worked examples, computed from the definitions: each holds by computation alone. Texts, patterns and objects are written out, so
--- that a reader can compare them with the manual.
+-- Worked examples: each is proved by computing from the definitions alone. Texts, patterns and objects are written out, so that
+-- a reader can compare them with the manual.
 use Rattle.std.specs.Prelude.{◌≡◌, ℕ, false, List, [], ◌∷◌, Option, Some, None, Ok, Err, replicate, codes, refl}
 use Rattle.std.specs.Fmt.{digits}
 use Rattle.sno_pattern.specs.Tree.{Tree, Lit, Len, Tab, Rtab, AnyOf, Break, Rem, Fence, At, Seq, Cond, Imm}
@@ -11,14 +11,14 @@ use Rattle.sno_read.specs.declared.objects.Part.{Part}
 use Rattle.sno_read.specs.declared.objects.Part.TheVariants.{Quoted, Var}
 use Rattle.sno_statement.specs.declared.binding.Datum.TheVariants.{Str, Int}
 use Rattle.sno_statement.specs.declared.outcomes.StatementFault.TheVariants as fault
-use Rattle.sno_statement.specs.Task.{Task, with_limit, with_repeat}
-use Rattle.sno_statement.specs.Bindings.{Bound, bind, lookup, bindings_of}
+use Rattle.sno_statement.specs.Statement.{Statement, with_limit, with_repeat}
+use Rattle.sno_statement.specs.Bindings.{Bindings, bind, lookup, bindings_of}
 use Rattle.sno_statement.specs.Value.{value_of}
 use Rattle.sno_statement.specs.Perform.{Matched, Failed, Repeated, with_text, perform}
 
 -- ---- Bindings
 -- a variable that is assigned again keeps its place and has the later value
-abbrev two_variables : Bound
+abbrev two_variables : Bindings
 two_variables = (codes "X", Str (codes "a")) ∷ (codes "Y", Str (codes "b")) ∷ []
 
 first_place_last_value : bind two_variables (codes "X") (Str (codes "c")) ≡ (codes "X", Str (codes "c")) ∷ (codes "Y", Str (codes "b")) ∷ []
@@ -38,7 +38,7 @@ value_of_second = refl
 never_assigned : lookup (codes "Z") two_variables ≡ None
 never_assigned = refl
 
--- B at once, A conditionally, as LEN(1) . A LEN(1) $ B does on ab: what is assigned at once is bound first
+-- B is assigned at once and A conditionally, as by LEN(1) . A LEN(1) $ B on ab: what is assigned at once is bound first
 abbrev both_kinds : Found
 both_kinds = record {
   sets = record { name = codes "B"; what = what.Part 1 2 } ∷ [];
@@ -96,7 +96,7 @@ zero_is_one_digit = refl
 
 -- ---- Statements
 -- a statement with no definitions that floats
-abbrev floating : Tree → Option (List Part) → Task
+abbrev floating : Tree → Option (List Part) → Statement
 floating pattern object = record {
   number = 1;
   rules = record { names = []; bodies = [] };
@@ -109,7 +109,7 @@ floating pattern object = record {
 }
 
 -- BREAK('=') . K '=' REM . V, object V '=' K, on k=v
-abbrev turn_round : Task
+abbrev turn_round : Statement
 turn_round =
     floating (Seq (Cond (Break (codes "=")) (codes "K")) (Seq (Lit (codes "=")) (Cond Rem (codes "V"))))
     (Some (Var (codes "V") ∷ Quoted (codes "=") ∷ Var (codes "K") ∷ []))
@@ -129,7 +129,7 @@ unfolding outcome_at trials_at results_of
 match_alone = refl
 
 -- LEN(1) $ C 'z' on abc: what was assigned at once stays, and an object isn't evaluated
-abbrev fails_late : Option (List Part) → Task
+abbrev fails_late : Option (List Part) → Statement
 fails_late object = floating (Seq (Imm (Len 1) (codes "C")) (Lit (codes "z"))) object
 
 failure_keeps_immediate : perform (fails_late None) (codes "abc") ≡ Ok (Failed ((codes "C", Str (codes "c")) ∷ []))
@@ -145,7 +145,7 @@ cursor_in_object : perform (floating (Seq (At (codes "P")) (Lit (codes "c"))) (S
 unfolding outcome_at trials_at results_of digits
 cursor_in_object = refl
 
--- LEN(1) . X LEN(1) . X on AB: the part that ends last stands
+-- LEN(1) . X LEN(1) . X on AB: the part that ends last is kept
 later_part_stands : perform (floating (Seq (Cond (Len 1) (codes "X")) (Cond (Len 1) (codes "X"))) None) (codes "AB") ≡ Ok (Matched 0 2 ((codes "X", Str (codes "B")) ∷ []) None)
 unfolding outcome_at trials_at results_of
 later_part_stands = refl
@@ -168,7 +168,7 @@ null_part_is_bound : perform (floating (Cond (Break (codes "=")) (codes "K")) No
 unfolding outcome_at trials_at results_of
 null_part_is_bound = refl
 
--- the same on kv
+-- BREAK('=') . K on kv
 break_fails : perform (floating (Cond (Break (codes "=")) (codes "K")) None) (codes "kv") ≡ Ok (Failed [])
 unfolding outcome_at trials_at results_of
 break_fails = refl
@@ -196,7 +196,7 @@ text_too_long : with_text 0 1 [] (replicate 65537 97) ≡ Err fault.TextTooLong
 text_too_long = refl
 
 -- 'b' on aab takes three trials: with a limit of three it matches ..
-abbrev three_trials : ℕ → Task
+abbrev three_trials : ℕ → Statement
 three_trials n = with_limit (floating (Lit (codes "b")) None) n
 
 trials_enough : perform (three_trials 3) (codes "aab") ≡ Ok (Matched 2 3 [] None)
@@ -210,7 +210,7 @@ trials_too_many = refl
 
 -- ---- Repeated statements
 -- a pattern and an object, at most r times
-abbrev replacing : Tree → List Part → ℕ → Task
+abbrev replacing : Tree → List Part → ℕ → Statement
 replacing pattern object r = with_repeat (floating pattern (Some object)) r
 
 -- 'X', object '-', 1,000 times, on aXbXc
@@ -218,7 +218,7 @@ all_replaced : perform (replacing (Lit (codes "X")) (Quoted (codes "-") ∷ []) 
 unfolding outcome_at trials_at results_of
 all_replaced = refl
 
--- 'a', object 'aa', 3 times, on a: each round finds what the one before put there
+-- 'a', object 'aa', 3 times, on a: each round finds what the round before put there
 three_rounds : perform (replacing (Lit (codes "a")) (Quoted (codes "aa") ∷ []) 3) (codes "a") ≡ Ok (Repeated 3 [] (codes "aaaa"))
 unfolding outcome_at trials_at results_of
 three_rounds = refl
@@ -229,14 +229,14 @@ unfolding outcome_at trials_at results_of
 last_bindings = refl
 
 -- 'a', object 'b', 5 times, on aab: the third round fails after four trials ..
-abbrev limited_rounds : ℕ → Task
+abbrev limited_rounds : ℕ → Statement
 limited_rounds n = with_limit (replacing (Lit (codes "a")) (Quoted (codes "b") ∷ []) 5) n
 
 last_round_within : perform (limited_rounds 4) (codes "aab") ≡ Ok (Repeated 2 [] (codes "bbb"))
 unfolding outcome_at trials_at results_of
 last_round_within = refl
 
--- .. and where it may not have them the statement is refused, though two rounds matched
+-- .. and if it may not have them the statement is refused, though two rounds matched
 last_round_refused : perform (limited_rounds 3) (codes "aab") ≡ Err fault.TooManyTrials
 unfolding outcome_at trials_at results_of
 last_round_refused = refl

@@ -1,5 +1,6 @@
-pub mod Task
+pub mod Statement
 pub mod Bindings
+pub mod LastAssignments
 pub mod Value
 pub mod Perform
 pub mod Examples

@@ -6,7 +6,7 @@ use Rattle.sno_statement.specs.declared.binding.Datum.{Datum}
 use Rattle.sno_statement.specs.declared.binding.Datum.TheVariants.{Str, Int}
 use Rattle.sno_read.specs.declared.objects.Part.{Part}
 use Rattle.sno_read.specs.declared.objects.Part.TheVariants.{Quoted, Var}
-use Rattle.sno_statement.specs.Bindings.{Bound, lookup}
+use Rattle.sno_statement.specs.Bindings.{Bindings, lookup}
 
 -- a variable that was never assigned is the null string, and a number is its decimal text
 abbrev pub string_of : Option Datum → List ℕ
@@ -15,12 +15,12 @@ string_of (Some (Str s)) = s
 string_of (Some (Int n)) = decimal n
 
 -- a literal is itself
-abbrev pub part_value : Bound → Part → List ℕ
+abbrev pub part_value : Bindings → Part → List ℕ
 part_value bound (Quoted s) = s
 part_value bound (Var name) = string_of (lookup name bound)
 
 -- the parts, joined in order
-abbrev pub value_of : Bound → List Part → List ℕ
+abbrev pub value_of : Bindings → List Part → List ℕ
 value_of bound parts = flat_map (part_value bound) parts
 
 -- the text in which the part from s to e is replaced

@@ -17,8 +17,8 @@ pub enum Datum {
     Int(u32),
 }
 
-/// The variables that a statement assigned, in the order of their first assignment, each with its last value. No variable stands
-/// twice, and one that was never assigned does not stand at all. The readers take no memory.
+/// The variables that a statement assigned, in the order of their first assignment, each with its last value. No variable comes
+/// twice, and one that was never assigned is missing. The methods that read take no memory.
 #[derive(Drop)]
 pub struct Bindings {
     map: IndexMap<Name, Datum>,
@@ -34,7 +34,7 @@ impl Model for Bindings {
 }
 
 impl Bindings {
-    /// No variable yet.
+    /// No variables yet.
     pub(crate) fn new(alloc: Global) -> Bindings
         ensures { result ≡ [] }
     {
@@ -43,7 +43,7 @@ impl Bindings {
         }
     }
 
-    /// Assigns a value. A variable keeps its first place. Where memory is refused nothing changes.
+    /// Assigns a value. A variable keeps its first place. If out of memory, nothing changes.
     #[tactic(auto, using(crate::proofs::Entries::bind_inserts))]
     pub(crate) fn set(&mut self, name: Name, value: Datum) -> Result<(), AllocError>
         ensures { OnOk result (self.new ≡ bind self.old name value) }
@@ -60,21 +60,21 @@ impl Bindings {
         self.map.len()
     }
 
-    /// Whether there is none.
+    /// Whether there are no variables.
     pub fn is_empty(&self) -> bool
         ensures { IsTrue result ↔ (self.now ≡ []) }
     {
         self.map.is_empty()
     }
 
-    /// The variable at a place in the order of first assignments, counted from 0, with its value; none from [`Bindings::len`] on.
+    /// The variable at a place in the order of first assignments, counted from 0, with its value; `None` from [`Bindings::len`] on.
     pub fn get(&self, place: usize) -> Option<(&Name, &Datum)>
         ensures { option_map (λ b. (b.0.now, b.1.now)) result ≡ slice_get self.now place }
     {
         self.map.get_index(place)
     }
 
-    /// The last value of a variable; none where it was never assigned.
+    /// The last value of a variable; `None` if it was never assigned.
     #[tactic(auto, using(crate::proofs::Entries::lookup_finds))]
     pub fn value(&self, name: &Name) -> Option<&Datum>
         ensures { option_map (λ d. d.now) result ≡ lookup name.now self.now }

@@ -23,7 +23,7 @@ fn decimal_length(number: u32) -> usize
 #[tactic(auto, using(crate::proofs::Decimals::few_digits))]
 fn part_length(part: &Part, bindings: &Bindings) -> usize
     ensures value { result ≡ length (part_value bindings.now part.now) }
-    ensures short { result ≤ 65536 }
+    ensures short { result ≤ MAX_TEXT }
 {
     match part {
         Part::Quoted(text) => text.bytes().len(),
@@ -35,8 +35,8 @@ fn part_length(part: &Part, bindings: &Bindings) -> usize
     }
 }
 
-/// How many characters the text has in which the part between two cursors is replaced by the object's value; none where they are
-/// more than a text has.
+/// How many characters the text has when the object's value replaces the part between two cursors; `None` if they are more
+/// than a text can have.
 pub(crate) fn new_length(
     subject: &Text,
     start: usize,
@@ -45,8 +45,8 @@ pub(crate) fn new_length(
     bindings: &Bindings,
 ) -> Option<usize>
     ensures value { IfSome result (λ n. n ≡ length (new_text subject.now start end (value_of bindings.now parts.now))) }
-    ensures short { IfSome result (λ n. n ≤ 65536) }
-    ensures long { IfNone result (65536 < length (new_text subject.now start end (value_of bindings.now parts.now))) }
+    ensures short { IfSome result (λ n. n ≤ MAX_TEXT) }
+    ensures long { IfNone result (MAX_TEXT < length (new_text subject.now start end (value_of bindings.now parts.now))) }
 {
     let mut total = front(subject.bytes(), start).len() + back(subject.bytes(), end).len();
     for part in parts {

@@ -1,8 +1,8 @@
-//! What comes of a statement.
+//! The outcome of a statement.
 ghost use Rattle.std.specs.Prelude.{◌≡◌};
 ghost use Rattle.std.specs.Option.{option_map};
 ghost use Rattle.std.specs.Arc.{arc_value};
-ghost use Rattle.sno_statement.specs.Perform.{after_of, done_of};
+ghost use Rattle.sno_statement.specs.Perform.{after_of, outcome_seen};
 
 use crate::Bindings;
 use sno_machine::MatchFault;
@@ -11,7 +11,7 @@ use std::alloc::{AllocError, AllocFailed};
 use std::sync::Arc;
 use thiserror::Error;
 
-/// What came of a statement on a text.
+/// The outcome of a statement on a text.
 #[derive(Drop)]
 pub enum Outcome {
     /// The pattern matched between two cursors of the text.
@@ -20,12 +20,12 @@ pub enum Outcome {
         start: usize,
         /// The cursor at which it ended.
         end: usize,
-        /// The variables that were assigned: those assigned at once first, then those of the conditional assignments.
+        /// The variables that were assigned: first those assigned at once, then those of the conditional assignments.
         bindings: Bindings,
-        /// The new text, exactly where the statement has an object; also where it is the same as the old one.
+        /// The new text, exactly if the statement has an object; also if it equals the old one.
         after: Option<Arc<Text>>,
     },
-    /// The pattern did not match, or not in the first round of a repeated statement. Nothing is replaced.
+    /// The pattern did not match; if the statement is repeated, not in its first round. Nothing is replaced.
     Failed {
         /// The variables that were assigned at once on the way.
         bindings: Bindings,
@@ -34,7 +34,7 @@ pub enum Outcome {
     Repeated {
         /// How many rounds matched: 1 to 1,000, and no more than the statement's number of rounds.
         matches: u32,
-        /// The variables that the last match assigned. A round that failed after it leaves none.
+        /// The variables that the last match assigned. If a round failed after it, that round's variables aren't here.
         bindings: Bindings,
         /// The new text of the last match.
         after: Arc<Text>,
@@ -42,9 +42,9 @@ pub enum Outcome {
 }
 
 impl Outcome {
-    /// The new text, where there is one: of a match with an object, and of a repeated statement. It takes no memory.
+    /// The new text, if there is one: of a match with an object, or of a repeated statement. It takes no memory.
     pub fn after(&self) -> Option<&Arc<Text>>
-        ensures { option_map (λ text. arc_value text.now) result ≡ after_of (done_of self.now) }
+        ensures { option_map (λ text. arc_value text.now) result ≡ after_of (outcome_seen self.now) }
     {
         match self {
             Outcome::Matched { after, .. } => after.as_ref(),
@@ -54,13 +54,13 @@ impl Outcome {
     }
 }
 
-/// Why a statement is refused on a text. Statement and text are as they were.
+/// Why a statement is refused on a text. Statement and text are unchanged.
 #[derive(Clone, Copy, Debug, PartialEq, Eq, Error)]
 pub enum StatementFault {
     /// The new text would have more than 65,536 characters.
     #[error("text too long")]
     TextTooLong,
-    /// Memory was refused, at whatever growth it was.
+    /// Out of memory, in any allocation.
     #[error("out of memory")]
     Memory,
     /// The match takes more trials than the statement's limit.

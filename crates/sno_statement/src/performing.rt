@@ -2,39 +2,26 @@
 ghost use Rattle.std.specs.Prelude.{◌≡◌, ◌≤◌, ◌-◌, ℕ, List, Result, IfOk, IfErr, OnOk, Ok, [], Some, None};
 ghost use Rattle.std.specs.Option.{option_copied};
 ghost use Rattle.std.specs.Arc.{arc_value};
-ghost use Rattle.sno_pattern.specs.CursorLaws.{CursorLies, SetsLie};
+ghost use Rattle.sno_pattern.specs.CursorLaws.{SetsLie};
 ghost use Rattle.sno_statement.specs.declared.outcomes.StatementFault.{StatementFault};
-ghost use Rattle.sno_statement.specs.Bindings.{Bound, datum_of, bind_sets, bind_conds};
+ghost use Rattle.sno_statement.specs.Bindings.{bind_sets, bind_conds};
 ghost use Rattle.sno_statement.specs.Value.{value_of, new_text};
-ghost use Rattle.sno_statement.specs.Perform.{Done, Failed, Repeated, Gives, GivesText, IsCodeOf, done_of, finish, finish_found, follow, left_by, perform, perform_once, rounds};
+ghost use Rattle.sno_statement.specs.Perform.{Failed, Repeated, Gives, GivesText, IsCodeOf, NextRound, outcome_seen, finish, finish_found, follow, left_by, perform, perform_once, rounds};
 
+use crate::last_assignments::{Last, LastAssignments};
 use crate::lengths::new_length;
 use crate::values::{part, replace, text_of};
 use crate::{Bindings, Datum, Outcome, Statement, StatementFault};
 use sno_machine::{Code, compile};
-use sno_pattern::{Assign, Found, Hit, Name, Text, What, cursors_lie_within_the_text};
+use sno_pattern::{Assign, Found, Hit, Name, Text, cursors_lie_within_the_text};
 use sno_read::{Object, Part};
 use std::alloc::{AllocError, Global};
 use std::sync::Arc;
 
-/// The value of an assignment that is done at once.
-fn datum(alloc: Global, subject: &Text, what: What) -> Result<Datum, AllocError>
-    requires { CursorLies subject.now what }
-    ensures { IfOk result (λ d. d ≡ datum_of subject.now what) }
-{
-    match what {
-        What::Part(from, to) => {
-            let text = part(alloc, subject, from, to)?;
-            Ok(Datum::Str(text))
-        }
-        What::Cursor(cursor) => {
-            let _short = subject.bytes();
-            Ok(Datum::Int(cursor as u32))
-        }
-    }
-}
+/// From this many assignments on, the last one of each variable is found before a string is cut.
+const MANY: usize = 16;
 
-/// Binds what was assigned at once, after what is bound already.
+/// Binds what was assigned at once, after what is already bound.
 fn bind_at_once(
     alloc: Global,
     subject: &Text,
@@ -45,13 +32,13 @@ fn bind_at_once(
     ensures { OnOk result (bindings.new ≡ bind_sets subject.now bindings.old sets.now) }
 {
     for set in sets {
-        let value = datum(alloc, subject, set.what)?;
+        let value = Last::of(subject, set.what).value(alloc, subject)?;
         bindings.set(set.name, value)?;
     }
     Ok(())
 }
 
-/// Binds the conditional assignments, after what is bound already.
+/// Binds the conditional assignments, after what is already bound.
 fn bind_later(
     alloc: Global,
     subject: &Text,
@@ -67,7 +54,56 @@ fn bind_later(
     Ok(())
 }
 
-/// What a success does: its bindings, and the new text where there is an object.
+/// The bindings of a few assignments: each is bound in its turn.
+fn bind_each(
+    alloc: Global,
+    subject: &Text,
+    sets: &[Assign],
+    conds: &[(Name, usize, usize)],
+) -> Result<Bindings, AllocError>
+    requires { SetsLie subject.now sets.now }
+    ensures { IfOk result (λ b. b ≡ bind_conds subject.now (bind_sets subject.now [] sets.now) conds.now) }
+{
+    let mut bindings = Bindings::new(alloc);
+    bind_at_once(alloc, subject, &mut bindings, sets)?;
+    bind_later(alloc, subject, &mut bindings, conds)?;
+    Ok(bindings)
+}
+
+/// The bindings of many assignments: only the last one of each variable is bound.
+fn bind_last(
+    alloc: Global,
+    subject: &Text,
+    sets: &[Assign],
+    conds: &[(Name, usize, usize)],
+) -> Result<Bindings, AllocError>
+    requires { SetsLie subject.now sets.now }
+    ensures { IfOk result (λ b. b ≡ bind_conds subject.now (bind_sets subject.now [] sets.now) conds.now) }
+{
+    let mut lasts = LastAssignments::new(alloc);
+    lasts.note_at_once(subject, sets)?;
+    lasts.note_later(conds)?;
+    lasts.into_bindings(alloc, subject)
+}
+
+/// What the variables are bound to after these assignments.
+fn bindings_of(
+    alloc: Global,
+    subject: &Text,
+    sets: &[Assign],
+    conds: &[(Name, usize, usize)],
+) -> Result<Bindings, AllocError>
+    requires { SetsLie subject.now sets.now }
+    ensures { IfOk result (λ b. b ≡ bind_conds subject.now (bind_sets subject.now [] sets.now) conds.now) }
+{
+    if sets.len() < MANY && conds.len() < MANY {
+        bind_each(alloc, subject, sets, conds)
+    } else {
+        bind_last(alloc, subject, sets, conds)
+    }
+}
+
+/// What a success does: its bindings, and the new text if there is an object.
 fn succeed(
     alloc: Global,
     object: Option<&Object>,
@@ -89,7 +125,7 @@ fn succeed(
     })
 }
 
-/// The text that the replacement leaves. Nothing is copied where it is too long.
+/// The text that the replacement leaves. If it is too long, nothing is copied.
 fn new_text(
     alloc: Global,
     parts: &[Part],
@@ -106,7 +142,7 @@ fn new_text(
     Ok(Arc::new(alloc, text_of(characters))?)
 }
 
-/// What is done to the text after a match that came out so.
+/// What is done to the text after a match with this outcome.
 fn finish(
     alloc: Global,
     object: Option<&Object>,
@@ -116,18 +152,20 @@ fn finish(
     requires { SetsLie subject.now found.now.sets }
     ensures { Gives result (finish_found (option_copied object.entry) subject.now found.now) }
 {
-    let mut bindings = Bindings::new(alloc);
-    bind_at_once(alloc, subject, &mut bindings, found.sets.as_slice())?;
+    let sets = found.sets.as_slice();
     match &found.end {
-        None => Ok(Outcome::Failed { bindings }),
+        None => {
+            let bindings = bindings_of(alloc, subject, sets, &[])?;
+            Ok(Outcome::Failed { bindings })
+        }
         Some(hit) => {
-            bind_later(alloc, subject, &mut bindings, hit.conds.as_slice())?;
+            let bindings = bindings_of(alloc, subject, sets, hit.conds.as_slice())?;
             succeed(alloc, object, subject, hit, bindings)
         }
     }
 }
 
-/// Performs one round of a statement, whose pattern this is.
+/// Performs one round of a statement. The code is that of the statement's pattern.
 fn perform_once(
     alloc: Global,
     code: &Code<'_>,
@@ -137,15 +175,16 @@ fn perform_once(
     requires { IsCodeOf code.now statement.now }
     ensures { Gives result (perform_once statement.now subject.now) }
 {
+    // for the proof
     cursors_lie_within_the_text();
     let found = code.first(alloc, subject, statement.anchored(), statement.limit())?;
     finish(alloc, statement.object(), subject, &found)
 }
 
-/// What a round that matched leaves to the next one: its bindings and its new text. Any other outcome comes back.
+/// What a round that matched leaves to the next one: its bindings and its new text. Any other outcome is returned as the error.
 fn left_by(round: Outcome) -> Result<(Bindings, Arc<Text>), Outcome>
-    ensures left { IfOk result (λ left. left_by (done_of round) ≡ Some (left.0, arc_value left.1)) }
-    ensures none { IfErr result (λ other. (other ≡ round) × (left_by (done_of round) ≡ None)) }
+    ensures left { IfOk result (λ left. left_by (outcome_seen round) ≡ Some (left.0, arc_value left.1)) }
+    ensures none { IfErr result (λ other. (other ≡ round) × (left_by (outcome_seen round) ≡ None)) }
 {
     match round {
         Outcome::Matched {
@@ -166,9 +205,9 @@ fn left_by(round: Outcome) -> Result<(Bindings, Arc<Text>), Outcome>
     }
 }
 
-/// The answer after so many matches, of which this is what the last one left.
+/// The outcome after `matches` matches, with what the last one left.
 fn repeated(matches: u32, last: (Bindings, Arc<Text>)) -> Outcome
-    ensures { done_of result ≡ Repeated matches last.0 (arc_value last.1) }
+    ensures { outcome_seen result ≡ Repeated matches last.0 (arc_value last.1) }
 {
     let (bindings, after) = last;
     Outcome::Repeated {
@@ -178,11 +217,11 @@ fn repeated(matches: u32, last: (Bindings, Arc<Text>)) -> Outcome
     }
 }
 
-/// The answer of rounds that end with one that left nothing. Where it failed they come to so many matches, with what the last one left;
-/// any other outcome is the answer itself.
+/// The outcome of rounds that end with a round that left nothing. If that round failed, they come to `matches` matches, with
+/// what the last one left. Any other outcome of the round is returned as it is.
 fn end_with(round: Outcome, matches: u32, last: (Bindings, Arc<Text>)) -> Outcome
-    requires { left_by (done_of round) ≡ None }
-    ensures { (go_on : Bound → List ℕ → Result Done StatementFault) → follow (Ok (done_of round)) (λ _. Repeated matches last.0 (arc_value last.1)) go_on ≡ Ok (done_of result) }
+    requires { left_by (outcome_seen round) ≡ None }
+    ensures { (go_on : NextRound) → follow (Ok (outcome_seen round)) (λ _. Repeated matches last.0 (arc_value last.1)) go_on ≡ Ok (outcome_seen result) }
 {
     match round {
         Outcome::Failed { .. } => repeated(matches, last),
@@ -190,7 +229,7 @@ fn end_with(round: Outcome, matches: u32, last: (Bindings, Arc<Text>)) -> Outcom
     }
 }
 
-/// Performs the rounds that follow a first one that matched, up to so many in all. One text and its new text are held at a time.
+/// Performs the rounds that follow a first one that matched, up to `times` in all. One text and its new text are held at a time.
 fn go_on(
     alloc: Global,
     code: &Code<'_>,
@@ -211,7 +250,7 @@ fn go_on(
     Ok(repeated(times, last))
 }
 
-/// Performs the rounds that follow the first one, up to so many in all.
+/// Performs the rounds that follow the first one, up to `times` in all.
 fn follow(
     alloc: Global,
     code: &Code<'_>,
@@ -221,7 +260,7 @@ fn follow(
 ) -> Result<Outcome, StatementFault>
     requires code { IsCodeOf code.now statement.now }
     requires some { 1 ≤ times }
-    ensures { Gives result (follow (Ok (done_of first)) Failed (rounds statement.now (times - 1) 1)) }
+    ensures { Gives result (follow (Ok (outcome_seen first)) Failed (rounds statement.now (times - 1) 1)) }
 {
     match left_by(first) {
         Ok(left) => go_on(alloc, code, statement, left, times),
@@ -229,21 +268,28 @@ fn follow(
     }
 }
 
-/// Performs a statement on a text: matches the pattern, binds the variables and, where the statement has an object and the match
-/// succeeds, makes the new text. Statement and text stay as they are, whatever is answered.
+/// Performs a statement on a text: matches the pattern and binds the variables. If the statement has an object and the match
+/// succeeds, it also makes the new text. Statement and text are unchanged, whatever is returned.
 ///
-/// `Matched` has the two cursors of the first success, the bindings of the immediate assignments and, after them, of the
-/// conditional ones, and the new text exactly where there is an object. `Failed` has what was assigned immediately; nothing is replaced
-/// then, and the object is not evaluated.
+/// `Matched` has
 ///
-/// A repeated statement is performed in rounds, each after the first on the new text of the one before. Every variable is the null
-/// string again at the start of each. The rounds end after as many matches as the statement allows, or with the first round that
-/// fails. `Repeated` has how many matches there were, at least 1, and the bindings and the new text of the last one; where the first round
-/// fails the answer is its `Failed`. A round that is refused refuses the statement, also after rounds that matched.
+/// - the two cursors of the first success;
+/// - the bindings of the immediate assignments and, after them, of the conditional ones;
+/// - the new text, exactly if there is an object.
 ///
-/// Refused, in each round, with `TooManyTrials` exactly where the match takes more trials than the statement's limit; then with
-/// `TextTooLong` exactly where the new text would have more than 65,536 characters; and with `Memory` where memory is, at the growth
-/// that was refused and so in place of any refusal that would have come later.
+/// `Failed` has what was assigned immediately. Then nothing is replaced, and the object is not evaluated.
+///
+/// A repeated statement is performed in rounds, each after the first on the new text of the round before. Every variable is
+/// the null string again at the start of each round. The rounds end after as many matches as the statement allows, or with
+/// the first round that fails.
+///
+/// `Repeated` has how many matches there were, at least 1, and the bindings and the new text of the last one. If the first
+/// round fails, the result is its `Failed`. A round that is refused refuses the statement, even after rounds that matched.
+///
+/// Refused, in each round:
+/// - `TooManyTrials` exactly if the match takes more trials than the statement's limit;
+/// - then `TextTooLong` exactly if the new text would have more than 65,536 characters;
+/// - `Memory` at any allocation that fails, and so instead of any refusal that would have come later.
 pub fn perform(
     alloc: Global,
     statement: &Statement,

@@ -3,18 +3,24 @@ ghost use Rattle.std.specs.Prelude.{◌≡◌, length, IsTrue, IfSome, None};
 ghost use Rattle.std.specs.Option.{option_map};
 ghost use Rattle.std.specs.Arc.{arc_value};
 ghost use Rattle.sno_pattern.specs.Tree.{tree_of, refs_below};
-ghost use Rattle.sno_statement.specs.Task.{IsLimit, IsRepeat, usual_limit, with_limit, with_repeat};
+ghost use Rattle.sno_statement.specs.Statement.{IsLimit, IsRepeat, with_limit, with_repeat};
 
 use sno_pattern::{Pattern, Rules, TextName};
 use sno_read::Object;
 use std::marker::Model;
 use std::sync::Arc;
 
-/// The limit of a statement that names none, in trials.
-const USUAL_LIMIT: u32 = 1_000_000;
+/// The limit of a statement that gives none, in trials.
+pub const USUAL_TRIALS: u32 = 1_000_000;
 
-/// A statement: a pattern to be sought in a text, and what the matched part is to be replaced by, if anything. The definitions cover
-/// the pattern: each of its references is to one of them. The readers take no memory.
+/// The highest limit of a statement, in trials.
+pub const MAX_TRIALS: u32 = 1_000_000_000;
+
+/// The most rounds of a repeated statement.
+pub const MAX_ROUNDS: u32 = 1_000;
+
+/// A statement: a pattern to be sought in a text, and what is to replace the matched part, if anything. The definitions cover
+/// the pattern: each of its references is to one of them. The methods that read take no memory.
 #[derive(Drop)]
 pub struct Statement {
     number: u32,
@@ -31,11 +37,11 @@ impl Model for Statement {
     ghost use Rattle.std.specs.Prelude.{length, IsTrue, IfSome};
     ghost use Rattle.std.specs.Arc.{arc_value};
     ghost use Rattle.sno_pattern.specs.Tree.{tree_of, refs_below};
-    ghost use Rattle.sno_statement.specs.Task.{Task, task_code, IsLimit, IsRepeat};
+    ghost use Rattle.sno_statement.specs.Statement.{Statement, statement_code, IsLimit, IsRepeat};
 
-    ghost Value = { Task };
+    ghost Value = { Statement };
 
-    ghost coded = { task_code };
+    ghost coded = { statement_code };
 
     ghost view = { λ s. record {
       number = s.number;
@@ -52,10 +58,14 @@ impl Model for Statement {
 }
 
 impl Statement {
-    /// A statement on the text with this name, of exactly these parts. The rules have to cover the pattern (`Rules::covers`), as they
-    /// do where the pattern was read with their names. With no object it only matches; anchored, a match begins at cursor 0 alone.
-    /// The number is the caller's own: nothing here depends on it. A match may have 1,000,000 trials; [`Statement::limited`] says
-    /// otherwise. It is performed once; [`Statement::repeated`] says otherwise. It takes no memory and is never refused.
+    /// A statement on the text with this name, of exactly these parts. It takes no memory and is never refused.
+    ///
+    /// - The rules have to cover the pattern (`Rules::covers`), as they do if the pattern was read with their names.
+    /// - With no object it only matches.
+    /// - If anchored, a match begins at cursor 0 alone.
+    /// - The number is the caller's own: nothing here depends on it.
+    /// - A match may have 1,000,000 trials; [`Statement::limited`] sets another limit.
+    /// - It is performed once; [`Statement::repeated`] makes it repeated.
     pub fn new(
         number: u32,
         rules: Arc<Rules>,
@@ -72,7 +82,7 @@ impl Statement {
           object = object;
           text = text;
           anchored = anchored;
-          limit = usual_limit;
+          limit = USUAL_TRIALS;
           repeat = None;
         } }
     {
@@ -83,12 +93,12 @@ impl Statement {
             object,
             text,
             anchored,
-            limit: USUAL_LIMIT,
+            limit: USUAL_TRIALS,
             repeat: None,
         }
     }
 
-    /// The same statement with this limit: how many trials a match may have, 1 to 1,000,000,000. It takes no memory and is never refused.
+    /// This statement with this limit: how many trials a match may have, 1 to 1,000,000,000. It takes no memory and is never refused.
     pub fn limited(self, limit: u32) -> Statement
         requires { IsLimit limit }
         ensures { result ≡ with_limit self limit }
@@ -98,8 +108,8 @@ impl Statement {
         limited
     }
 
-    /// The same statement in at most so many rounds, 1 to 1,000. It has to have an object. Each round after the first is performed on
-    /// the new text of the one before. It takes no memory and is never refused.
+    /// This statement in at most `rounds` rounds, 1 to 1,000. It has to have an object. Each round after the first is performed
+    /// on the new text of the round before. It takes no memory and is never refused.
     pub fn repeated(self, rounds: u32) -> Statement
         requires { IsRepeat self.object rounds }
         ensures { result ≡ with_repeat self rounds }
@@ -131,14 +141,14 @@ impl Statement {
         &self.pattern
     }
 
-    /// The object, where the statement replaces; none where it only matches.
+    /// The object, if the statement replaces; `None` if it only matches.
     pub fn object(&self) -> Option<&Object>
         ensures { option_map (λ o. o.now) result ≡ self.now.object }
     {
         self.object.as_ref()
     }
 
-    /// The name of the text that the statement is for. `perform` is handed the text itself and does not look at it.
+    /// The name of the text that the statement is for. `perform` gets the text itself and does not look at the name.
     pub fn text(&self) -> &TextName
         ensures { result.now ≡ self.now.text }
     {
@@ -152,7 +162,7 @@ impl Statement {
         self.anchored
     }
 
-    /// How many trials a match may have, 1 to 1,000,000,000; in a repeated statement the match of each round.
+    /// How many trials a match may have, 1 to 1,000,000,000. In a repeated statement this is the limit for the match of each round.
     pub fn limit(&self) -> u32
         ensures value { result ≡ self.now.limit }
         ensures within { IsLimit self.now.limit }
@@ -160,7 +170,7 @@ impl Statement {
         self.limit
     }
 
-    /// How many rounds there may be, 1 to 1,000, where the statement is repeated; it has an object then. None where it is performed once.
+    /// How many rounds there may be, 1 to 1,000, if the statement is repeated; then it has an object. `None` if it is performed once.
     pub fn repeat(&self) -> Option<u32>
         ensures value { result ≡ self.now.repeat }
         ensures within { IfSome self.now.repeat (λ r. IsRepeat self.now.object r) }

@@ -1,4 +1,4 @@
-//! The value of an object, and the texts that are cut and put together.
+//! The value of an object, and cutting and joining texts.
 ghost use Rattle.std.specs.Prelude.{◌≡◌, ◌++◌, ◌≤◌, IfOk, OnOk, length, take, drop, IsTrue};
 ghost use Rattle.std.specs.List.{list_all};
 ghost use Rattle.std.specs.Char.{is_ascii};
@@ -6,13 +6,14 @@ ghost use Rattle.std.specs.Fmt.{decimal};
 ghost use Rattle.sno_pattern.specs.Ends.{part};
 ghost use Rattle.sno_statement.specs.Bindings.{lookup};
 ghost use Rattle.sno_statement.specs.Value.{part_value, string_of, value_of, new_text};
+ghost use Rattle.sno_pattern.specs.declared.texts.TheConstants.{MAX_TEXT};
 
 use crate::{Bindings, Datum};
 use sno_pattern::{Name, Text};
 use sno_read::Part;
 use std::alloc::{AllocError, Global};
 
-/// The first characters, as many as there are up to a number.
+/// The first `count` characters, or all of them if there are fewer.
 pub(crate) fn front(characters: &[u8], count: usize) -> &[u8]
     ensures { result.now ≡ take count characters.now }
 {
@@ -23,7 +24,7 @@ pub(crate) fn front(characters: &[u8], count: usize) -> &[u8]
     }
 }
 
-/// The characters past the first ones.
+/// The characters after the first `count`.
 pub(crate) fn back(characters: &[u8], count: usize) -> &[u8]
     ensures { result.now ≡ drop count characters.now }
 {
@@ -34,11 +35,11 @@ pub(crate) fn back(characters: &[u8], count: usize) -> &[u8]
     }
 }
 
-/// The text of these characters. They are ASCII, and no more than a text has.
+/// The text of these characters. They are ASCII, and no more than a text can have.
 #[tactic(auto, using(crate::proofs::Ascii::refused_is_long))]
 pub(crate) fn text_of(characters: Vec<u8>) -> Text
     requires ascii { IsTrue (list_all is_ascii characters.items) }
-    requires short { length characters.items ≤ 65536 }
+    requires short { length characters.items ≤ MAX_TEXT }
     ensures { result ≡ characters.items }
 {
     match Text::new(characters) {
@@ -121,8 +122,8 @@ fn put_parts(
     Ok(())
 }
 
-/// The characters in which the part between two cursors is replaced by the object's value, in memory that is taken at once where
-/// `length` is how many they are.
+/// The characters in which the object's value replaces the part between two cursors. If `length` is their number, their
+/// memory is taken at once.
 #[tactic(auto, using(crate::proofs::Ascii::ascii_append, crate::proofs::Ascii::ascii_take, crate::proofs::Ascii::ascii_drop))]
 pub(crate) fn replace(
     alloc: Global,

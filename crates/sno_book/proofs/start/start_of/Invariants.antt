@@ -1,4 +1,4 @@
--- The texts so far, with those that are left, come to the same.
+-- The texts so far, with those that are left, are all texts.
 use Rattle.std.proofs.Common.{◌≡◌, ◌++◌, length}
 use Rattle.std.specs.Vec.Iter.{into_iter_items, into_iter_len}
 use Rattle.sno_pattern.specs.NameList.{repeat_from, first_repeat}

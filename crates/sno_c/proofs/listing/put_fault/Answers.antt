@@ -1,4 +1,4 @@
--- What is said of the answer stands here so that a wrong body is refused by it alone.
+-- What is said of the result is here so that this proof alone refuses a wrong body.
 use Rattle.std.proofs.Common.{rules}
 use Rattle.sno_c.proofs.listing.put_fault.Goals as goal
 

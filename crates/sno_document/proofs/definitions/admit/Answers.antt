@@ -1,4 +1,4 @@
--- Admission answers for the definitions that were drafted.
+-- Admission returns the definitions that were drafted.
 use Rattle.std.proofs.Common.{◌<◌, ◌∙◌, ℕ, List, length, sym, ap, slice_get, get_or, refl, arith}
 use Rattle.std.proofs.Math.ListN.{length-map}
 use Rattle.std.proofs.lemmas.Option.{slice_get_read}

@@ -1,4 +1,4 @@
--- The bodies so far, with the rows that are left, come to the same.
+-- The bodies so far, with the rows that are left, give the same result.
 use Rattle.std.proofs.Common.{◌≡◌, [], drop, map, length, IsTrue}
 use Rattle.std.specs.List.{list_all}
 use Rattle.sno_pattern.specs.Tree.{trees, refs_below}

@@ -1,4 +1,4 @@
--- The names so far, with the rows that are left, come to the same.
+-- The names so far, with the rows that are left, give the same result.
 use Rattle.std.proofs.Common.{◌≡◌, ◌+◌, [], drop, map, length}
 use Rattle.sno_document.specs.Document.{names_from}
 use Rattle.sno_document.specs.DocumentRows.{pair_seen}

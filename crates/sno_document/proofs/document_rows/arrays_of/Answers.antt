@@ -1,4 +1,4 @@
--- The fault of an array is that of all, where the arrays before it are read.
+-- The fault of an array is the fault of the whole if the arrays before it are read.
 use Rattle.sno_document.specs.Shape.{arrays_of}
 use Rattle.sno_document.specs.DocumentRows.{rows_seen}
 use Rattle.sno_document.proofs.FaultLemmas.{gives_err}

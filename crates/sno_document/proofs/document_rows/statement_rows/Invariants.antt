@@ -1,4 +1,4 @@
--- The rows so far, with the values that are left, come to the same.
+-- The rows so far, with the values that are left, give the same result.
 use Rattle.std.proofs.Common.{◌≡◌, [], drop, map}
 use Rattle.sno_document.specs.Shape.{statement_row, each_row}
 use Rattle.sno_document.specs.Trees.{tree_seen}

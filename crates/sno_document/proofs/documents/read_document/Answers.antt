@@ -1,4 +1,4 @@
--- Each step says which of the cases of a document it is.
+-- Each step says which of a document's cases applies.
 use Rattle.std.proofs.Common.{ap, sym, ◌∙◌}
 use Rattle.sno_pattern.specs.Definitions.{Definitions}
 use Rattle.sno_document.specs.Document.{IsDocument, document_with}

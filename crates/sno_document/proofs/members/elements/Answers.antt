@@ -1,4 +1,4 @@
--- An array of the tree is one of the value.
+-- An array of the tree is an array of the value.
 use Rattle.std.proofs.Common.{◌≡◌, List, map, Some, option_map, sym, ap, ◌∙◌}
 use Rattle.json.specs.Json as json
 use Rattle.json.specs.Value.{value_view, items_view}

@@ -1,4 +1,4 @@
--- The statements so far, with the rows that are left, come to the same.
+-- The statements so far, with the rows that are left, give the same result.
 use Rattle.std.proofs.Common.{◌≡◌, ◌+◌, [], drop, map, length}
 use Rattle.std.specs.Arc.{arc_value}
 use Rattle.sno_document.specs.Document.{statements_from}

@@ -1,4 +1,4 @@
--- Those that are left decide.
+-- The values that are left decide.
 use Rattle.std.proofs.Common.{◌≡◌, drop}
 use Rattle.json.specs.Value.{items_view, members_view}
 use Rattle.sno_document.specs.Trees.{are_items_in_range, are_members_in_range}

@@ -1,4 +1,4 @@
--- A tree stands for the value of the bytes where its numbers are in range.
+-- A tree represents the value of the bytes if its numbers are in range.
 use Rattle.std.proofs.Common.{◌≡◌, true, false, ap, arith}
 use Rattle.json.specs.Value.{value_view}
 use Rattle.sno_document.specs.Document.{value_or}

@@ -1,4 +1,4 @@
--- The events so far and those of the starts that are left are all.
+-- The events so far and those of the starts that are left are together all.
 use Rattle.std.proofs.Common.{◌≡◌, ◌++◌}
 use Rattle.std.specs.List.{flat_map}
 use Rattle.sno_pattern.specs.Tree.{tree_of}

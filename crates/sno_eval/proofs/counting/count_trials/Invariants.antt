@@ -1,4 +1,4 @@
--- The trials so far and those that are left are all.
+-- The trials so far and those that are left are together all.
 use Rattle.std.proofs.Common.{◌≡◌, ◌+◌, ◌≤◌, drop}
 use Rattle.sno_eval.specs.Steps.{trials_of}
 use Rattle.sno_eval.proofs.counting.count_trials.Given as goal

@@ -1,4 +1,4 @@
--- What is left of the events comes to the same, with the assignments that were added.
+-- The events that are left, with the assignments that were added, lead to the same ending as all events.
 use Rattle.std.proofs.Common.{◌≡◌, List, ◌++◌, drop, map}
 use Rattle.sno_pattern.specs.Outcome.{Tried, cut_scan, found_in}
 use Rattle.sno_eval.proofs.endings.first_ending.Given as goal

@@ -1,4 +1,4 @@
--- What was added and what is left to add are all; nothing failed the whole match so far.
+-- What was added and what is left to add are together all; nothing has failed the whole match so far.
 use Rattle.std.proofs.Common.{◌≡◌, ◌++◌, drop}
 use Rattle.std.specs.List.{list_any}
 use Rattle.sno_pattern.specs.Events.{cut, put_before}

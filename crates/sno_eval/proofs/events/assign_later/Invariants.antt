@@ -1,4 +1,4 @@
--- The events so far and what comes of those that are left are all.
+-- The events so far and what the remaining ones become are together all.
 use Rattle.std.proofs.Common.{◌≡◌, ◌++◌, drop}
 use Rattle.sno_pattern.specs.Events.{assign_later}
 use Rattle.sno_eval.proofs.events.assign_later.Given as goal

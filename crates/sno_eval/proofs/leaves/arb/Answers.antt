@@ -1,4 +1,4 @@
--- One End more.
+-- One more End.
 use Rattle.std.proofs.Common.{arith, length}
 use Rattle.sno_eval.proofs.Ranges.{ends_more}
 use Rattle.sno_eval.proofs.leaves.arb.Goals as goal

@@ -1,4 +1,4 @@
--- The Ends so far and those at the cursors that are left are all of them.
+-- The Ends so far and those at the cursors that are left are together all.
 use Rattle.std.proofs.Common.{◌≡◌, ◌++◌, length}
 use Rattle.sno_pattern.specs.Ends.{arb_ends}
 use Rattle.sno_pattern.specs.Results.{further_ends}

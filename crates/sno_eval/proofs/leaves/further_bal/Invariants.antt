@@ -1,4 +1,4 @@
--- The Ends so far and those from the cursor on are all of them.
+-- The Ends so far and those from the cursor on are together all.
 use Rattle.std.proofs.Common.{◌≡◌, ◌-◌, ◌≤◌, ◌++◌, length}
 use Rattle.sno_pattern.specs.Ends.{bal_ends}
 use Rattle.sno_pattern.specs.Results.{further_ends}

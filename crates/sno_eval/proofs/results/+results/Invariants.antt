@@ -1,4 +1,4 @@
--- Each call has less to do; what was added and what is left to go on from are all.
+-- Each call has less to do; what was added and what is left to go on from are together all.
 use Rattle.std.proofs.Common.{◌≡◌, ◌+◌, ◌++◌, length, drop}
 use Rattle.sno_pattern.specs.Tree.{tree_of}
 use Rattle.sno_pattern.specs.Events.{go_on}

@@ -1,4 +1,4 @@
--- With the assignments done so far, the starts that are left come to the outcome.
+-- The starts that are left, with the assignments done so far, lead to the outcome.
 use Rattle.std.proofs.Common.{◌≡◌}
 use Rattle.std.specs.List.{flat_map}
 use Rattle.sno_pattern.specs.Tree.{tree_of}

@@ -1,4 +1,4 @@
--- The value of the binding at a place is there, and those after it are left.
+-- The value of the binding at a place is added, and those after it are left.
 use Rattle.std.proofs.Common.{sym}
 use Rattle.sno_listing.proofs.JsonListingLemmas.{binding_step}
 use Rattle.sno_listing.proofs.json_listing.binding_values.Goals as goal

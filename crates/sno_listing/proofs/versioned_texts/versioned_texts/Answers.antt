@@ -1,4 +1,4 @@
--- One more text is there.
+-- One more text is added.
 use Rattle.std.proofs.Common.{sym}
 use Rattle.sno_listing.proofs.VersionedTextLemmas.{text_step}
 use Rattle.sno_listing.proofs.versioned_texts.versioned_texts.Goals as goal

@@ -5,7 +5,7 @@ use Rattle.sno_pattern.specs.Tree.{tree_of}
 use Rattle.sno_machine.proofs.HeadLaws.{literal_collected, any_collected, none_collected, span_collected, seq_heads, later_heads, now_heads, part_collected, both_collected}
 use Rattle.sno_machine.proofs.heads.+collect.Goals as goal
 
--- what follows where the answer is that all are there
+-- what follows if the result is that all are there
 where_whole : {E P Q : Type 0} (r : Result Bool E) → IfOk r (λ whole. whole ≡ true → P) → (P → Q) → IfOk r (λ whole. whole ≡ true → Q)
 where_whole {E} {P} {Q} r h f = IfOk-weaker r (λ whole. whole ≡ true → P) (λ whole. whole ≡ true → Q) (λ whole given is. f (given is)) h
 

@@ -1,4 +1,4 @@
--- What is spent is what the starts cost that are passed over.
+-- What is spent is the cost of the starts that are passed over.
 use Rattle.std.proofs.Common.{◌-◌, ◌*◌, ap, sym, ◌∙◌}
 use Rattle.std.specs.List.{flat_map}
 use Rattle.sno_pattern.specs.Outcome.{tried_from}

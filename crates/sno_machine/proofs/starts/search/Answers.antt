@@ -1,4 +1,4 @@
--- What the starts come to is the outcome, and what they take the trials.
+-- The starts together reach the outcome, and take its trials.
 use Rattle.std.proofs.Common.{◌≡◌, ap, sym, ◌∙◌, subst, arith}
 use Rattle.std.proofs.lemmas.Result.{err_from_is_err_and}
 use Rattle.std.specs.List.{flat_map}

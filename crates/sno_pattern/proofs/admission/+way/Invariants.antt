@@ -1,4 +1,4 @@
--- The references so far lead nowhere new; each search marks a definition that was not seen.
+-- The references so far lead nowhere new; each search marks a definition that was not seen before.
 use Rattle.sno_pattern.specs.Tree.{trees}
 use Rattle.sno_pattern.specs.Searching.{IsSearched}
 use Rattle.sno_pattern.proofs.Marks.{unmarked_count}

@@ -1,4 +1,4 @@
--- A dead end shows that there is no cycle; a way back, with the definition itself in front, is one.
+-- A dead end shows that there is no cycle. A way back, with the definition itself before it, is one.
 use Rattle.std.proofs.Common.{Bool, List, length, reverse, subst, ◌∙◌}
 use Rattle.sno_pattern.specs.Tree.{trees}
 use Rattle.sno_pattern.specs.Searching.{IsDeadEnd, IsFreshWay}

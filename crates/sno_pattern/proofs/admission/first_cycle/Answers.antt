@@ -1,4 +1,4 @@
--- Where no definition lies on a cycle, they are guarded.
+-- If no definition lies on a cycle, the definitions are guarded.
 use Rattle.std.proofs.Common.{arith}
 use Rattle.sno_pattern.proofs.Cycles.{none_on_cycle}
 use Rattle.sno_pattern.proofs.admission.first_cycle.Goals as goal

@@ -1,4 +1,4 @@
--- One more mark is sound; when none is wanting, they are exact.
+-- One more mark is sound; when no mark is missing, the marks are exact.
 use Rattle.std.proofs.Common.{length, ◌≡◌, ◌∙◌}
 use Rattle.sno_pattern.specs.Tree.{trees}
 use Rattle.sno_pattern.proofs.Marks.{fewer, sound_more, exact}

@@ -1,4 +1,4 @@
--- The marks so far are sound; one more stands each time.
+-- The marks so far are sound; each round adds one.
 use Rattle.sno_pattern.specs.Tree.{trees}
 use Rattle.sno_pattern.specs.Searching.{AreSound}
 use Rattle.sno_pattern.proofs.Marks.{unmarked_count}

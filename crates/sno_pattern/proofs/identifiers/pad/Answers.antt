@@ -1,4 +1,4 @@
--- What is copied stands in front of the zeros that are left.
+-- What is copied comes before the zeros that are left.
 use Rattle.std.proofs.Common.{ap, length, ◌++◌, ℕ, List}
 use Rattle.std.proofs.lemmas.List.{drop-replicate}
 use Rattle.sno_pattern.proofs.identifiers.pad.Goals as goal

@@ -1,7 +1,7 @@
 -- With the parentheses that are open now, the walk over what is left finds the ends.
 use Rattle.std.proofs.Common.{◌≡◌, ◌+◌, ◌≤◌, drop}
 use Rattle.sno_pattern.specs.Ends.{bal_ends}
-use Rattle.sno_primitives.proofs.BalancedEnds.{walk}
+use Rattle.sno_primitives.specs.Walks.{walk}
 use Rattle.sno_primitives.proofs.balance.first_balanced.Given as goal
 
 abbrev pub invariant-loop-passed : goal.invariant-loop-passed

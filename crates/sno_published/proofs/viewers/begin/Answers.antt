@@ -1,4 +1,4 @@
--- To enter shows nothing new.
+-- Entering shows nothing new.
 use Rattle.sno_published.proofs.Prefixes.{prefix_self}
 use Rattle.sno_published.proofs.Views.{sees}
 use Rattle.sno_published.proofs.viewers.begin.Goals as goal

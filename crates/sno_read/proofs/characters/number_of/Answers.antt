@@ -1,4 +1,4 @@
--- One digit more, at each turn.
+-- One more digit, at each turn.
 use Rattle.sno_read.proofs.Numbers.{value_same, digit_over, digit_in, digits_end}
 use Rattle.sno_read.proofs.characters.number_of.Goals as goal
 

@@ -1,4 +1,4 @@
--- The value so far, and that the digits left lead to the answer.
+-- The value so far, and that the remaining digits lead to the result.
 use Rattle.std.proofs.Common.{◌≡◌, ◌≤◌, drop}
 use Rattle.sno_read.specs.Characters.{number_from}
 use Rattle.sno_read.proofs.characters.number_of.Given as goal

@@ -1,4 +1,4 @@
--- `clap` reads a flag's text as it stands in its row.
+-- `clap` reads a flag's text as it is in its row.
 use Rattle.std.proofs.Common.{◌∙◌}
 use Rattle.clap.specs.Words.{found_of}
 use Rattle.clap.proofs.WalkLemmas.{one_text-rows}

@@ -1,4 +1,4 @@
--- `clap` reads an option's text as it stands in its row.
+-- `clap` reads an option's text as it is in its row.
 use Rattle.std.proofs.Common.{◌∙◌}
 use Rattle.std.specs.Str.Parse.{ExplainsUnsignedError, HasUnsignedDigitsIfOk, ParsesUnsigned}
 use Rattle.clap.specs.Words.{found_of}

@@ -1,4 +1,4 @@
--- What a fault is answered with, and what no word gives.
+-- What is returned for a fault, and what no arguments give.
 use Rattle.sno_rewrite.proofs.CommandLineLemmas.{fault_answer, plain_answer}
 use Rattle.sno_rewrite.proofs.command_line.options_of.Goals as goal
 

@@ -1,4 +1,4 @@
--- The words so far, with those that are left, are all after the name.
+-- The arguments so far, with those that are left, are all after the name.
 use Rattle.std.proofs.Common.{◌≡◌, ◌++◌}
 use Rattle.std.specs.Vec.Iter.{into_iter_items}
 use Rattle.sno_rewrite.proofs.program.words_after_name.Given as goal

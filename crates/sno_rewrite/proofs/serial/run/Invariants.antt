@@ -1,4 +1,4 @@
--- What is done so far, with the statements that are left, comes to the same.
+-- What is done so far, with the statements that are left, gives the same result.
 use Rattle.std.proofs.Common.{◌≡◌, ◌-◌, drop, length, map}
 use Rattle.std.specs.Arc.{arc_value}
 use Rattle.sno_rewrite.specs.Serial.{run}

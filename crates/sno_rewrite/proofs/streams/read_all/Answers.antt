@@ -1,4 +1,4 @@
--- What a piece takes that isn't kept, with what was read before it.
+-- A piece that is taken but not kept, after what was read before it.
 use Rattle.std.proofs.Common.{rules, ◌++◌, arith}
 use Rattle.std.proofs.KnownBytes.{Consumes-trans}
 use Rattle.std.proofs.lemmas.List.{length-append}

@@ -1,4 +1,4 @@
--- What is read so far was at the front of what the reader had.
+-- What is read so far is the beginning of what the reader had.
 use Rattle.std.proofs.Common.{◌-◌, ◌≤◌, vec_len}
 use Rattle.std.specs.Io.KnownBytes.{Consumes}
 use Rattle.sno_rewrite.proofs.streams.read_all.Given as goal

@@ -1,4 +1,4 @@
--- A write takes the front of what is left.
+-- A write takes the first bytes of the rest.
 use Rattle.sno_rewrite.proofs.StreamLemmas.{written_more}
 use Rattle.sno_rewrite.proofs.streams.write_all.Goals as goal
 

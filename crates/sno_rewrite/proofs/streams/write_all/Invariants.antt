@@ -1,4 +1,4 @@
--- What is written so far, with what is left, is all of it.
+-- What is written so far, with what is left, is the whole.
 use Rattle.std.proofs.Common.{◌≡◌, ◌++◌, ℕ, List, length}
 use Rattle.std.specs.Io.KnownBytes.{Appends}
 use Rattle.sno_rewrite.proofs.streams.write_all.Given as goal

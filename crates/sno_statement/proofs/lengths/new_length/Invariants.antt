@@ -1,4 +1,4 @@
--- What is counted so far, with the parts that are left, comes to the same.
+-- What is counted so far, with the parts that are left, gives the whole length.
 use Rattle.std.proofs.Common.{◌≡◌, ◌+◌, ◌≤◌, drop, length}
 use Rattle.sno_statement.specs.Value.{value_of, new_text}
 use Rattle.sno_statement.proofs.lengths.new_length.Given as goal

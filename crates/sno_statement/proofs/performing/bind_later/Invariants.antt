@@ -1,4 +1,4 @@
--- What is bound so far, with the assignments that are left, comes to the same.
+-- What is bound so far, with the assignments that are left, gives all the bindings.
 use Rattle.std.proofs.Common.{◌≡◌, drop}
 use Rattle.sno_statement.specs.Bindings.{bind_conds}
 use Rattle.sno_statement.proofs.performing.bind_later.Given as goal

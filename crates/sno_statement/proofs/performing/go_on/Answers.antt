@@ -2,7 +2,7 @@
 use Rattle.std.proofs.Common.{◌≡◌, ◌-◌, ◌+◌, ◌∙◌, Ok, Err, subst, ap, sym, arith}
 use Rattle.std.proofs.lemmas.Result.{err_from_is_err_and}
 use Rattle.std.specs.Arc.{arc_value}
-use Rattle.sno_statement.specs.Perform.{Repeated, Gives, done_of, follow, rounds, perform_once}
+use Rattle.sno_statement.specs.Perform.{Repeated, Gives, outcome_seen, follow, rounds, perform_once}
 use Rattle.sno_statement.proofs.Rounds.{refused_after, left_after, ended_after}
 use Rattle.sno_statement.proofs.performing.go_on.Goals as goal
 
@@ -21,11 +21,11 @@ returns-in-Err c =
     let s = c.args.statement.now in
     let m = c.loop-matches.matches in
     let last = c.loop-matches.last in
-    let round = done_of c.in_ok-perform_once.field-0 in
+    let round = outcome_seen c.in_ok-perform_once.field-0 in
     let is = subst (λ z. perform_once s z ≡ Ok round) c.deref.ensures c.in_ok-perform_once.ensures in
     c.loop-matches.invariant.same
     ∙ ended_after s (c.args.times - m) m last.0 (arc_value last.1) round _ (omega (arith, c.loop-matches-test.true)) is
-    (λ go_on. ap (λ z. follow (Ok (done_of z)) (λ _. Repeated m last.0 (arc_value last.1)) go_on) (sym c.in-Err.ensures.none.0) ∙ c.end_with.ensures go_on)
+    (λ go_on. ap (λ z. follow (Ok (outcome_seen z)) (λ _. Repeated m last.0 (arc_value last.1)) go_on) (sym c.in-Err.ensures.none.0) ∙ c.end_with.ensures go_on)
 
 pub loop-matches-preserved : goal.loop-matches-preserved
 loop-matches-preserved c =
@@ -33,7 +33,7 @@ loop-matches-preserved c =
     let m = c.loop-matches.matches in
     let last = c.loop-matches.last in
     let next = c.in-Ok.left in
-    let round = done_of c.in_ok-perform_once.field-0 in
+    let round = outcome_seen c.in_ok-perform_once.field-0 in
     let is = subst (λ z. perform_once s z ≡ Ok round) c.deref.ensures c.in_ok-perform_once.ensures in
     let fewer : c.args.times - m - 1 ≡ c.args.times - (m + 1) = omega arith in
     record {

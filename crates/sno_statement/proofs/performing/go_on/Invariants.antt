@@ -1,4 +1,4 @@
--- With the rounds so far, those that are left come to the same.
+-- The rounds so far, with those that are left, give the result of all rounds.
 use Rattle.std.proofs.Common.{◌≡◌, ◌-◌, ◌≤◌}
 use Rattle.std.specs.Arc.{arc_value}
 use Rattle.sno_statement.specs.Perform.{rounds}

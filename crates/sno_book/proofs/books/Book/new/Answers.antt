@@ -1,4 +1,4 @@
--- A book with no entry.
+-- A book without entries.
 use Rattle.sno_book.proofs.BookLaws.{keeps_first}
 use Rattle.sno_book.proofs.books.Book.new.Goals as goal
 

@@ -1,4 +1,4 @@
--- A text as it stands, with the view after which it does.
+-- A current text of a book, with the book's view.
 use Rattle.std.specs.Arc.{arc_value}
 use Rattle.sno_book.proofs.Fitting.{stands_in}
 use Rattle.sno_book.proofs.books.Book.snapshot.Goals as goal

@@ -1,4 +1,4 @@
--- Neither the literal nor one of the heads stands before.
+-- Neither the literal nor one of the heads comes before.
 use Rattle.std.proofs.Common.{subst}
 use Rattle.memchr.specs.Find.{FindsNeedle, IsFirstByte}
 use Rattle.sno_machine.specs.Beginnings.{any_begins}

@@ -1,4 +1,4 @@
--- An entry that is dropped comes to nothing, and a choice to what comes of its place.
+-- No events come from an entry that is dropped; the events to come from a choice are those from its place.
 use Rattle.std.proofs.Common.{◌≡◌, ◌++◌, ◌∷◌, [], ap, ◌∙◌, subst, arith}
 use Rattle.sno_machine.specs.History.{entries_of, IsHistory, left, steps_left}
 use Rattle.sno_machine.specs.declared.entries.Entry.{Entry}

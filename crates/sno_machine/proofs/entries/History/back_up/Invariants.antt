@@ -1,4 +1,4 @@
--- Entries that are no choices are dropped, and nothing comes of them.
+-- Entries that aren't choices are dropped, and no events come from them.
 use Rattle.std.proofs.Common.{◌≡◌, ◌≤◌, length}
 use Rattle.sno_machine.specs.History.{entries_of, Setting, IsHistory, left, steps_left}
 use Rattle.sno_machine.proofs.entries.History.back_up.Given as goal

@@ -1,4 +1,4 @@
--- What is left lies before what was taken.
+-- What is left comes before what was taken.
 use Rattle.std.proofs.Common.{◌≡◌, ◌++◌, reverse}
 use Rattle.sno_machine.specs.History.{entries_of, conds_at}
 use Rattle.sno_machine.proofs.entries.History.conditions.Given as goal

@@ -1,4 +1,4 @@
--- A number of entries that are within the room fits.
+-- A number of entries that is within the room fits.
 use Rattle.std.proofs.Common.{arith}
 use Rattle.sno_machine.proofs.entries.History.push.Goals as goal
 

@@ -1,4 +1,4 @@
--- Where no reference is past the last and no cycle was found, the invariant holds.
+-- If no reference is past the last definition and no cycle was found, the invariant holds.
 use Rattle.std.proofs.Common.{◌≡◌, List, None, sym, subst, ◌∙◌}
 use Rattle.std.proofs.lemmas.List.{length-map}
 use Rattle.sno_pattern.specs.declared.tree.Pattern.{Pattern}

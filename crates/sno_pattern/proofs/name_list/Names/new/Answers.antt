@@ -1,4 +1,4 @@
--- A name that was added was not there, so it is the next one of the front.
+-- A name that was added was not there, so it comes next after the names so far.
 use Rattle.std.proofs.Common.{◌∙◌, sym}
 use Rattle.sno_pattern.proofs.NameListLemmas.{more_is_front, rest_is_same, false_of_not}
 use Rattle.sno_pattern.proofs.name_list.Names.new.Goals as goal

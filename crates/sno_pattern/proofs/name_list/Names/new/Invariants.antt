@@ -1,4 +1,4 @@
--- The names so far are those in the set, and what is left repeats one where all the names do.
+-- The names so far are those in the set, and the remaining names repeat one exactly if all the names do.
 use Rattle.std.proofs.Common.{◌≡◌, drop, take}
 use Rattle.sno_pattern.specs.NameList.{repeat_from, first_repeat}
 use Rattle.sno_pattern.proofs.name_list.Names.new.Given as goal

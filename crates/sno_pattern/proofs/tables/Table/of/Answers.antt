@@ -1,4 +1,4 @@
--- Two words tell of every character.
+-- Two words cover every character.
 use Rattle.sno_pattern.proofs.Words.{table_is}
 use Rattle.sno_pattern.proofs.tables.Table.of.Goals as goal
 

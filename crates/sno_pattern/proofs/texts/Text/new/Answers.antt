@@ -1,4 +1,4 @@
--- Where no place was found, all are ASCII.
+-- If no place was found, all characters are ASCII.
 use Rattle.std.proofs.Common.{arith, ap, ◌∙◌}
 use Rattle.sno_pattern.specs.Texts.{first_non_ascii}
 use Rattle.sno_pattern.proofs.TextLemmas.{all_ascii}

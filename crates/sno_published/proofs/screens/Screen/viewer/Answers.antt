@@ -1,4 +1,4 @@
--- A reader may come at any time.
+-- A reader may be added at any time.
 use Rattle.sno_published.proofs.Views.{admits}
 use Rattle.sno_published.proofs.screens.Screen.viewer.Goals as goal
 

@@ -1,4 +1,4 @@
--- A table with no entry.
+-- A table without entries.
 use Rattle.std.proofs.Common.{ap, ◌∙◌, arith}
 use Rattle.sno_book.specs.Openings.{Opening}
 use Rattle.sno_book.specs.Starts.{first_contents}

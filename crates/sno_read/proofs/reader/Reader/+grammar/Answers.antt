@@ -1,4 +1,4 @@
--- Each exit of a loop is one step of its reading, whatever bounds it; a group is what `inside` reads.
+-- Each exit of a loop is one step of its reading, for any bound on it; a group is what `inside` reads.
 use Rattle.std.proofs.Common.{suc, ◌-◌, length, arith, rules}
 use Rattle.sno_read.specs.Reading.{item_at, concatenation_at, alternation_at, group_at, inside}
 use Rattle.sno_read.specs.Views.{env_of}

@@ -1,4 +1,4 @@
--- Each rule is read off what is left of the text, or leads to a rule below it.
+-- Each rule is read from what is left of the text, or leads to a rule below it.
 use Rattle.std.proofs.Common.{◌+◌, ◌*◌, length}
 use Rattle.sno_read.proofs.reader.Reader.+grammar.Given as goal
 

@@ -1,4 +1,4 @@
--- Each exit is one step of `targets_at`, whatever bounds it.
+-- Each exit is one step of `targets_at`, for any bound on it.
 use Rattle.std.proofs.Common.{◌-◌, arith, rules}
 use Rattle.sno_pattern.specs.Tree.{tree_of}
 use Rattle.sno_read.specs.Views.{env_of}

@@ -1,4 +1,4 @@
--- Each target is read off the text.
+-- Each target is read from the text.
 use Rattle.std.proofs.Common.{length}
 use Rattle.sno_read.proofs.reader.Reader.+targets.Given as goal
 

@@ -1,4 +1,4 @@
--- The parts so far and those of the rest are those of the text.
+-- The parts so far and the parts of the rest are together the parts of the text.
 use Rattle.std.proofs.Common.{◌≡◌, ℕ, suc, ◌<◌, length}
 use Rattle.sno_read.specs.Objects.{parts_of, with_front}
 use Rattle.sno_read.specs.Views.{env_of}

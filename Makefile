@@ -1,0 +1,114 @@
+# Builds and installs sno_rewrite, its manual page, its completions and its library. `make help` says more.
+
+PREFIX ?= /usr/local
+DESTDIR ?=
+BINDIR ?= $(PREFIX)/bin
+LIBDIR ?= $(PREFIX)/lib
+INCLUDEDIR ?= $(PREFIX)/include
+DATADIR ?= $(PREFIX)/share
+MANDIR ?= $(DATADIR)/man
+INSTALL ?= install
+INSTALL_PROGRAM = $(INSTALL) -m 755
+INSTALL_DATA = $(INSTALL) -m 644
+
+PROGRAM ?= crates/sno_rewrite_main/out/sno_rewrite_main
+LIBRARY_DIR ?= embed/out
+
+VERSION := $(shell cat VERSION)
+PAGE = $(MANDIR)/man1/sno_rewrite.1
+BASH_COMPLETION = $(DATADIR)/bash-completion/completions/sno_rewrite
+ZSH_COMPLETION = $(DATADIR)/zsh/site-functions/_sno_rewrite
+FISH_COMPLETION = $(DATADIR)/fish/vendor_completions.d/sno_rewrite.fish
+HEADER = $(INCLUDEDIR)/sno_rewrite.h
+ARCHIVE = $(LIBDIR)/libsno_rewrite.a
+SHARED = $(LIBDIR)/libsno_rewrite.so.1
+LINK = $(LIBDIR)/libsno_rewrite.so
+PKG_CONFIG_FILE = $(LIBDIR)/pkgconfig/sno_rewrite.pc
+
+# What is below PREFIX is named by it, so that pkg-config can move the whole.
+below_prefix = $(patsubst $(PREFIX)/%,$${prefix}/%,$(1))
+
+define PKG_CONFIG_TEXT
+prefix=$(PREFIX)
+libdir=$(call below_prefix,$(LIBDIR))
+includedir=$(call below_prefix,$(INCLUDEDIR))
+
+Name: sno_rewrite
+Description: Rewrites named texts by SNOBOL4 pattern statements
+Version: $(VERSION)
+Libs: -L$${libdir} -lsno_rewrite
+Cflags: -I$${includedir}
+endef
+export PKG_CONFIG_TEXT
+
+.PHONY: all program library install install-program install-library uninstall check help need-program need-library
+
+all: program library
+
+program:
+	@echo "make: proving and building the program by tools/prove program; the first time takes long"
+	tools/prove program
+
+library:
+	@echo "make: proving and building the library by tools/prove library and embed/build; the first time takes long"
+	tools/prove library
+	embed/build $(LIBRARY_DIR)
+
+# Installing builds nothing: it may run as root.
+need-program:
+	@test -x "$(PROGRAM)" || { echo "make: $(PROGRAM) isn't there; run tools/prove program first" >&2; exit 1; }
+
+need-library:
+	@for file in libsno_rewrite.a libsno_rewrite.so; do \
+	    test -f "$(LIBRARY_DIR)/$$file" || { \
+	        echo "make: $(LIBRARY_DIR)/$$file isn't there; run tools/prove library and embed/build first" >&2; exit 1; }; \
+	done
+
+install: install-program
+	@if test -f "$(LIBRARY_DIR)/libsno_rewrite.a" || test -f "$(LIBRARY_DIR)/libsno_rewrite.so"; then \
+	    $(MAKE) --no-print-directory install-library; \
+	else \
+	    echo "make: the library isn't built, so it isn't installed; tools/prove library and embed/build make it"; \
+	fi
+
+install-program: need-program
+	$(INSTALL) -d "$(DESTDIR)$(BINDIR)" "$(DESTDIR)$(dir $(PAGE))" "$(DESTDIR)$(dir $(BASH_COMPLETION))" \
+	    "$(DESTDIR)$(dir $(ZSH_COMPLETION))" "$(DESTDIR)$(dir $(FISH_COMPLETION))"
+	$(INSTALL_PROGRAM) "$(PROGRAM)" "$(DESTDIR)$(BINDIR)/sno_rewrite"
+	sed 's/@VERSION@/$(VERSION)/' docs/man/sno_rewrite.1 > "$(DESTDIR)$(PAGE)"
+	chmod 644 "$(DESTDIR)$(PAGE)"
+	$(INSTALL_DATA) completions/sno_rewrite.bash "$(DESTDIR)$(BASH_COMPLETION)"
+	$(INSTALL_DATA) completions/_sno_rewrite "$(DESTDIR)$(ZSH_COMPLETION)"
+	$(INSTALL_DATA) completions/sno_rewrite.fish "$(DESTDIR)$(FISH_COMPLETION)"
+
+install-library: need-library
+	$(INSTALL) -d "$(DESTDIR)$(INCLUDEDIR)" "$(DESTDIR)$(LIBDIR)" "$(DESTDIR)$(dir $(PKG_CONFIG_FILE))"
+	$(INSTALL_DATA) embed/sno_rewrite.h "$(DESTDIR)$(HEADER)"
+	$(INSTALL_DATA) "$(LIBRARY_DIR)/libsno_rewrite.a" "$(DESTDIR)$(ARCHIVE)"
+	$(INSTALL_DATA) "$(LIBRARY_DIR)/libsno_rewrite.so" "$(DESTDIR)$(SHARED)"
+	ln -sf libsno_rewrite.so.1 "$(DESTDIR)$(LINK)"
+	printf '%s\n' "$$PKG_CONFIG_TEXT" > "$(DESTDIR)$(PKG_CONFIG_FILE)"
+	chmod 644 "$(DESTDIR)$(PKG_CONFIG_FILE)"
+
+uninstall:
+	rm -f "$(DESTDIR)$(BINDIR)/sno_rewrite" "$(DESTDIR)$(PAGE)" "$(DESTDIR)$(BASH_COMPLETION)" \
+	    "$(DESTDIR)$(ZSH_COMPLETION)" "$(DESTDIR)$(FISH_COMPLETION)" "$(DESTDIR)$(HEADER)" "$(DESTDIR)$(ARCHIVE)" \
+	    "$(DESTDIR)$(SHARED)" "$(DESTDIR)$(LINK)" "$(DESTDIR)$(PKG_CONFIG_FILE)"
+
+check: need-program
+	examples/run "$(abspath $(PROGRAM))"
+	tests/schema "$(abspath $(PROGRAM))"
+	tests/installed "$(abspath $(PROGRAM))"
+
+help:
+	@echo "make                  proves and builds the program and the library"
+	@echo "make program          the program alone, by tools/prove program"
+	@echo "make library          the library alone, by tools/prove library and embed/build"
+	@echo "make install          installs the program, and the library if it is built"
+	@echo "make install-program  the program, its manual page and its completions"
+	@echo "make install-library  the header, the static and the shared library and the file for pkg-config"
+	@echo "make uninstall        removes all of that again"
+	@echo "make check            runs the examples and the tests of the schema and of the installed files"
+	@echo
+	@echo "Variables: PREFIX=$(PREFIX), DESTDIR, BINDIR, LIBDIR, INCLUDEDIR, DATADIR, MANDIR, INSTALL,"
+	@echo "PROGRAM=$(PROGRAM), LIBRARY_DIR=$(LIBRARY_DIR)"

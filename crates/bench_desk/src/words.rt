@@ -1,0 +1,134 @@
+//! What the program's arguments ask for.
+ghost use Rattle.std.specs.Prelude.{◌≤◌, ◌+◌, IfOk};
+
+use crate::faults::Fault;
+use std::env::Args;
+use std::io;
+use std::io::ErrorKind;
+
+/// The most submits: as many as a journal has room for.
+const MAX_SUBMITS: u32 = 1_000_000;
+
+/// The most seats, writers and readers together.
+const MAX_SEATS: u32 = 16;
+
+/// The most repetitions in a timed run, so that the journal has room for five runs.
+const MAX_TIMES: u32 = 100_000;
+
+/// How many statements are submitted, by how many seats, and how many other seats read.
+#[derive(Clone, Copy)]
+pub struct Load {
+    pub submits: u32,
+    pub writers: usize,
+    pub readers: usize,
+    ghost room: { submits ≤ 1000000 },
+    ghost some: { 1 ≤ writers },
+    ghost few: { writers + readers ≤ 16 },
+}
+
+/// How many repetitions a timed run has.
+#[derive(Clone, Copy)]
+pub struct Times {
+    pub number: u32,
+    ghost lawful: { (1 ≤ number) × (number ≤ 100000) },
+}
+
+/// What the arguments ask for.
+#[derive(Clone, Copy)]
+pub enum Task {
+    /// A load. It is timed if its rates are wanted, too.
+    Load { load: Load, is_timed: bool },
+    /// The times of a snapshot and of a commit.
+    Times(Times),
+}
+
+/// The number that an argument is, from `least` to `most`.
+fn number_in(word: Option<String>, least: u32, most: u32) -> Result<u32, Fault>
+    ensures { IfOk result (λ n. (least ≤ n) × (n ≤ most)) }
+{
+    let Some(word) = word else {
+        return Err(Fault::Usage);
+    };
+    match word.as_str().parse::<u32>() {
+        Ok(number) if least <= number && number <= most => Ok(number),
+        _ => Err(Fault::Usage),
+    }
+}
+
+/// The number after the option of this name.
+fn option_in(words: &mut Args, name: &str, least: u32, most: u32) -> Result<u32, Fault>
+    ensures { IfOk result (λ n. (least ≤ n) × (n ≤ most)) }
+{
+    match words.next() {
+        Some(word) if word.as_str() == name => {
+            let number = number_in(words.next(), least, most)?;
+            Ok(number)
+        }
+        _ => Err(Fault::Usage),
+    }
+}
+
+/// The load of `--submits N --writers W --readers R`, after the first of these arguments.
+fn load_in(words: &mut Args) -> Result<Load, Fault> {
+    let submits = number_in(words.next(), 1, MAX_SUBMITS)?;
+    let writers = option_in(words, "--writers", 1, MAX_SEATS)?;
+    let readers = option_in(words, "--readers", 0, MAX_SEATS - writers)?;
+    Ok(Load {
+        submits,
+        writers: writers as usize,
+        readers: readers as usize,
+    })
+}
+
+/// What this option asks for, with the arguments after it.
+fn task_of(option: &str, words: &mut Args) -> Result<Task, Fault> {
+    match option {
+        "--submits" => Ok(Task::Load {
+            load: load_in(words)?,
+            is_timed: true,
+        }),
+        "--times" => Ok(Task::Times(Times {
+            number: number_in(words.next(), 1, MAX_TIMES)?,
+        })),
+        _ => Err(Fault::Usage),
+    }
+}
+
+/// What is done without arguments.
+fn plain() -> Task {
+    Task::Load {
+        load: Load {
+            submits: 8_000,
+            writers: 8,
+            readers: 8,
+        },
+        is_timed: false,
+    }
+}
+
+/// What the arguments after the program's name ask for.
+fn task_after_name(words: Args) -> Result<Task, Fault> {
+    let mut words = words;
+    let _name = words.next();
+    let Some(option) = words.next() else {
+        return Ok(plain());
+    };
+    let task = task_of(option.as_str(), &mut words)?;
+    match words.next() {
+        None => Ok(task),
+        Some(_) => Err(Fault::Usage),
+    }
+}
+
+/// What the program's arguments ask for. The first of them is its name.
+///
+/// Refused: `Usage` for other arguments, even for one that is not a text; `Memory` if memory runs out.
+pub fn task_in(words: io::Result<Args>) -> Result<Task, Fault> {
+    match words {
+        Ok(words) => task_after_name(words),
+        Err(error) => Err(match error.kind() {
+            ErrorKind::OutOfMemory => Fault::Memory,
+            _ => Fault::Usage,
+        }),
+    }
+}

@@ -1,0 +1,74 @@
+//! What a statement does on a text.
+ghost use Rattle.std.specs.Prelude.{◌≡◌, IfOk};
+ghost use Rattle.sno_statement.specs.Perform.{perform};
+ghost use Rattle.bench_matches.specs.Effects.{effect_of_performing, effect_of_matching};
+
+use sno_machine::{Code, MatchFault};
+use sno_pattern::Text;
+use sno_statement::{Outcome, Statement, StatementFault, perform};
+use std::alloc::{AllocError, Global};
+use std::fmt;
+
+/// What a statement does on a text. It is printed as in the line of the statement.
+#[derive(Clone, Copy, Debug, PartialEq, Eq)]
+pub enum Effect {
+    /// The pattern matched between two cursors.
+    Matched { start: usize, end: usize },
+    /// The pattern did not match.
+    Failed,
+    /// A repeated statement matched this often.
+    Repeated { matches: u32 },
+    /// The statement is refused.
+    Refused(StatementFault),
+}
+
+impl fmt::Display for Effect {
+    fn fmt<W: fmt::Write>(&self, f: &mut fmt::Formatter<W>) -> fmt::Result {
+        match self {
+            Effect::Matched { start, end } => write!(f, "matched {start} to {end}"),
+            Effect::Failed => write!(f, "failed"),
+            Effect::Repeated { matches } => write!(f, "repeated {matches}"),
+            Effect::Refused(fault) => write!(f, "{fault}"),
+        }
+    }
+}
+
+/// What performing the statement on the text does. Refused only if out of memory.
+pub fn effect_of_performing(
+    alloc: Global,
+    statement: &Statement,
+    text: &Text,
+) -> Result<Effect, AllocError>
+    ensures { IfOk result (λ effect. effect ≡ effect_of_performing (perform statement.now text.now)) }
+{
+    match perform(alloc, statement, text) {
+        Ok(Outcome::Matched { start, end, .. }) => Ok(Effect::Matched { start, end }),
+        Ok(Outcome::Failed { .. }) => Ok(Effect::Failed),
+        Ok(Outcome::Repeated { matches, .. }) => Ok(Effect::Repeated { matches }),
+        Err(StatementFault::Memory) => Err(AllocError),
+        Err(fault) => Ok(Effect::Refused(fault)),
+    }
+}
+
+/// What a match by the code does, anchored as the statement says and within its limit of trials. The code has to be that of the
+/// statement's pattern. Refused only if out of memory.
+pub fn effect_of_matching(
+    alloc: Global,
+    code: &Code<'_>,
+    statement: &Statement,
+    text: &Text,
+) -> Result<Effect, AllocError>
+    ensures { IfOk result (λ effect. effect ≡ effect_of_matching code.now statement.now.anchored statement.now.limit text.now) }
+{
+    match code.first(alloc, text, statement.anchored(), statement.limit()) {
+        Ok(found) => Ok(match &found.end {
+            Some(hit) => Effect::Matched {
+                start: hit.start,
+                end: hit.end,
+            },
+            None => Effect::Failed,
+        }),
+        Err(MatchFault::Memory) => Err(AllocError),
+        Err(MatchFault::TooManyTrials) => Ok(Effect::Refused(StatementFault::TooManyTrials)),
+    }
+}

@@ -1,0 +1,46 @@
+-- The seats go to the threads, and what they share is shared there.
+use mathlib.Core.List.{[], ◌∷◌}
+use mir.Syntax.{named}
+use denote.Ref.{ShrRef}
+use denote.Exit.{yes}
+use denote.Param.{param}
+use denote.Param.Send.{IsSend, IsSync, param_send, arg_send, shr_sync, sendable}
+use denote.Param.SendFields.{declared_sync}
+use Rattle.std.proofs.Crossing.{crosses, sync, Arc-sync}
+use Rattle.std.specs.contracts.sync.atomic.AtomicUsize as AtomicUsize
+use Rattle.std.specs.contracts.alloc.Global as Global
+use Rattle.sno_desk.specs.contracts.desk.Desk as Desk
+use Rattle.sno_book.specs.contracts.entries.Entry as Entry
+use Rattle.sno_book.specs.contracts.entries.Receipt as Receipt
+use Rattle.sno_statement.specs.contracts.statements.Statement as Statement
+use Rattle.sno_desk.proofs.Crossings.{book_send, seat_send, desk_sync, closure_sync}
+use Rattle.example_desk.specs.contracts.statements.Edits as Edits
+use Rattle.example_desk.proofs.day.work_all.Lts as Lts
+use Rattle.example_desk.proofs.day.work_all.Goals as goal
+
+pub for_each_mut-requires-send-T : goal.for_each_mut-requires-send-T
+for_each_mut-requires-send-T g c κs within =
+    let receipt : IsSend Receipt.the_row = record { owned = c.may_cross-3.ensures.sends.owned; leaving = λ k d w. tt } in
+    let seat = seat_send (param 0 g.row.L) g.L.Naming g.L.Ledger receipt in
+    param_send 1 (Lts.arg-3-1 g.row.L g.row.R g.L.laws g.R.laws g.L.Naming g.L.Naming-dict g.L.Ledger g.L.Ledger-dict g.R.Threads g.R.Threads-dict g.R.Wait g.R.Wait-dict g.R.Clock g.R.Clock-dict κs)
+    (arg_send _ yes _ seat)
+
+pub for_each_mut-requires-sync-F : goal.for_each_mut-requires-sync-F
+for_each_mut-requires-sync-F g c κs within =
+    let entry : IsSend Entry.the_row = record { owned = c.may_cross.ensures.sends.owned; leaving = λ k d w. tt } in
+    let desk = desk_sync (param 0 g.row.L) g.L.Naming g.L.Ledger entry (book_send entry) in
+    let sent : IsSend Statement.the_row = record { owned = c.may_cross-2.ensures.sends.owned; leaving = λ k d w. tt } in
+    let shared : IsSync Statement.the_row = record { shared = c.may_cross-2.ensures.shares.shared } in
+    let statement = Arc-sync Statement.the_row sent shared in
+    let edits : IsSync Edits.the_row = declared_sync Edits.the_type (statement, (statement, tt)) in
+    let counter : IsSync AtomicUsize.the_row = search (sendable, crosses) depth 40 fits 100000 in
+    let closure = closure_sync [] (
+    ShrRef (named 6) κs.1.1.1.1.1.1.0 (Desk.the_row (param 0 g.row.L) g.L.Naming g.L.Ledger)
+    ∷ ShrRef (named 7) κs.1.1.1.1.1.1.1.0 Edits.the_row
+    ∷ ShrRef (named 8) κs.1.1.1.1.1.1.1.1.0 AtomicUsize.the_row
+    ∷ ShrRef (named 9) κs.1.1.1.1.1.1.1.1.1.0 (param 1 g.row.R)
+    ∷ ShrRef (named 10) κs.1.1.1.1.1.1.1.1.1.1.0 Global.the_row
+    ∷ [])
+    (shr_sync _ _ _ desk, (shr_sync _ _ _ edits, (shr_sync _ _ _ counter, (shr_sync _ _ _ c.type_bounds.sync-R, (shr_sync _ _ _ sync, tt)))))
+    in
+    record { shared = closure.shared }

@@ -1,0 +1,94 @@
+//! What the seats do, each in a thread of its own.
+ghost use Rattle.std.specs.Prelude.{IfOk};
+ghost use Rattle.sno_book.specs.Views.{IsPrefix};
+ghost use Rattle.sno_desk.specs.Seen.{view_after};
+
+use crate::faults::Fault;
+use crate::pauses::Pause;
+use crate::statements::Edits;
+use sno_desk::{CommitFault, Desk, Naming, Proposal, Receipt, Seat, propose};
+use sno_statement::Statement;
+use std::alloc::Global;
+use std::sync::{Arc, Wait};
+use std::time::Clock;
+
+/// How many lines each of the writing seats puts on the page.
+pub(crate) const LINES: u32 = 4;
+
+/// How many times a seat tries if others are quicker. There are fewer entries than that, and each of them overtakes it
+/// at most once.
+const TRIES: u32 = 100;
+
+/// Proposes the statement on its text as the seat sees it now. The proposal comes from what the seat has seen, which is
+/// all that a commit requires.
+fn proposal<L: Naming>(
+    alloc: Global,
+    seat: &mut Seat<L>,
+    statement: &Arc<Statement>,
+) -> Result<Proposal, Fault>
+    ensures { IfOk result (λ p. IsPrefix p.origin (view_after L.opening seat.new.viewer.seen)) }
+{
+    let snapshot = seat.snapshot(statement.text())?;
+    let proposal = propose(alloc, Arc::try_clone(statement)?, snapshot)?;
+    Ok(proposal)
+}
+
+/// Takes a snapshot, proposes and commits, and does all of it again if the text has changed in between.
+fn edit<L: Naming, R: Wait>(
+    rt: &R,
+    alloc: Global,
+    desk: &Desk<L>,
+    seat: &mut Seat<L>,
+    statement: &Arc<Statement>,
+) -> Result<Receipt, Fault> {
+    for _try in 0..TRIES {
+        let proposal = proposal(alloc, seat, statement)?;
+        match desk.commit(rt, seat, proposal) {
+            Ok(receipt) => return Ok(receipt),
+            Err((CommitFault::Changed { .. }, _)) => {}
+            Err((fault, _)) => return Err(Fault::Commit(fault)),
+        }
+    }
+    Err(Fault::Overtaken)
+}
+
+/// A seat that proposes and commits on its own.
+pub(crate) fn write<L: Naming, R: Wait>(
+    rt: &R,
+    alloc: Global,
+    desk: &Desk<L>,
+    seat: &mut Seat<L>,
+    edits: &Edits,
+) -> Result<(), Fault> {
+    for _line in 0..LINES {
+        let _receipt = edit(rt, alloc, desk, seat, &edits.append)?;
+    }
+    Ok(())
+}
+
+/// A seat that submits: the desk does all that `edit` does, and asks the gate before each match.
+pub(crate) fn submit<L: Naming, R: Wait + Clock>(
+    rt: &R,
+    alloc: Global,
+    desk: &Desk<L>,
+    seat: &mut Seat<L>,
+    edits: &Edits,
+) -> Result<(), Fault> {
+    let gate = Pause { clock: rt };
+    let statement = Arc::try_clone(&edits.mark)?;
+    let _receipt = desk.submit(rt, alloc, seat, statement, TRIES, &gate)?;
+    Ok(())
+}
+
+/// A seat that only reads. It waits for nobody, and no version that it sees is lower than an earlier one.
+pub(crate) fn read<L: Naming>(seat: &mut Seat<L>, edits: &Edits) -> Result<(), Fault> {
+    let mut last = 0;
+    for _look in 0..TRIES {
+        let snapshot = seat.snapshot(edits.mark.text())?;
+        if snapshot.version < last {
+            return Err(Fault::WentBack);
+        }
+        last = snapshot.version;
+    }
+    Ok(())
+}

@@ -1,8 +1,0 @@
-use Rattle.std.proofs.Common.{◌≡◌}
-use Rattle.std.specs.Arc.{arc_value}
-use Rattle.sno_desk.proofs.Attempts.{HasCome}
-use Rattle.sno_desk.proofs.desk.Desk.attempts.Given as goal
-
--- no attempt so far was accepted, and each was lost to a version more
-abbrev pub invariant-loop-attempt : goal.invariant-loop-attempt
-invariant-loop-attempt g l = (l.seat.accepted ≡ l.fn.seat.accepted) × HasCome g.L.Naming.opening l.fn.seat.viewer.seen l.seat.viewer.seen (arc_value l.statement) l.attempt

@@ -1,0 +1,53 @@
+-- One entry more. It is shown first.
+use Rattle.std.proofs.Common.{rules, ◌≡◌, ◌≤◌, ◌+◌, List, [], ◌∷◌, ◌++◌, length, ap, sym, subst, ◌∙◌, arith}
+use mathlib.Core.List.{IsPrefix as Begins}
+use Rattle.sno_book.specs.Books.{view_of}
+use Rattle.sno_book.specs.Entries.{Entry}
+use Rattle.sno_book.specs.Journals.{Legal}
+use Rattle.sno_book.specs.Views.{View}
+use Rattle.sno_book.specs.Openings.{Opening, start}
+use Rattle.sno_published.specs.Viewings.{Viewing}
+use Rattle.sno_published.proofs.Prefixes.{prefix_self}
+use Rattle.sno_desk.proofs.Causes.{has_step, next_step, stands, told}
+use Rattle.sno_desk.proofs.locked.publish.Goals as goal
+
+pub publish-requires-clause-step : goal.publish-requires-clause-step
+publish-requires-clause-step g c =
+    let book = c.args.book.now in
+    let step = has_step (view_of book) c.args.ready c.requires.free c.requires.performed c.requires.kin c.kin_agree.ensures in
+    next_step (view_of book) c.args.ready g.L.Naming.opening c.args.screen c.entry.result.now step c.requires.opening c.requires.level.0 c.entry.ensures
+
+pub returns-in-Err-Memory-clause-begins : goal.returns-in-Err-Memory-clause-begins
+returns-in-Err-Memory-clause-begins g c =
+    subst (λ (v : Viewing). Begins c.args.seat.now.viewer.seen v.seen) (sym c.audit.ensures.viewer) (prefix_self c.args.seat.now.viewer.seen)
+
+pub returns-in-Err-Stopped-clause-begins : goal.returns-in-Err-Stopped-clause-begins
+returns-in-Err-Stopped-clause-begins g c =
+    subst (λ (v : Viewing). Begins c.args.seat.now.viewer.seen v.seen) (sym c.audit.ensures.viewer) (prefix_self c.args.seat.now.viewer.seen)
+
+pub returns-clause-committed : goal.returns-clause-committed
+returns-clause-committed g c =
+    let book = c.args.book.now in
+    let few : book.opening.room ≤ 1000000 = subst (λ (o : Opening). o.room ≤ 1000000) (c.deref.ensures ∙ c.opening.ensures) c.room.ensures.small in
+    let given = c.finish-receipt.result in
+    let accepted = c.finish-receipt.ensures.accepted in
+    let opens : c.finish-receipt.new.self.opening ≡ g.L.Naming.opening = ap (λ (v : View). v.opening) accepted.appended ∙ c.requires.opening in
+    let after : c.finish-receipt.new.self.journal ≡ book.journal ++ given.entry ∷ [] =
+    ap (λ (v : View). v.journal) accepted.appended ∙ ap (λ (e : Entry). book.journal ++ e ∷ []) (sym accepted.entry) in
+    let legal : Legal (start g.L.Naming.opening) (book.journal ++ given.entry ∷ []) =
+    subst (λ (l : List Entry). Legal (start g.L.Naming.opening) l) after (subst (λ (o : Opening). Legal (start o) c.finish-receipt.new.self.journal) opens c.journal-2.ensures.lawful.legal) in
+    let shown : c.table.result.now ≡ book.journal ++ given.entry ∷ [] = c.table.ensures ∙ c.in-Ok.ensures.published ∙ ap (λ (l : List Entry). l ++ c.entry.result.now ∷ []) c.requires.level.0
+    ∙ ap (λ (e : Entry). book.journal ++ e ∷ []) (c.entry.ensures ∙ sym accepted.entry) in
+    let begins : Begins (book.journal ++ given.entry ∷ []) c.count.new.self.viewer.seen =
+    subst (λ (v : Viewing). Begins (book.journal ++ given.entry ∷ []) v.seen) (sym c.count.ensures.viewer) (subst (λ (l : List Entry). Begins l c.learn.new.self.viewer.seen) shown c.learn.ensures.told) in
+    let level : length c.args.seat.now.viewer.seen ≡ length book.journal = ap length c.requires.level.1 in
+    let at_end : given.index ≡ length book.journal = accepted.index in
+    let counted : c.count.new.self.accepted ≡ c.args.seat.now.accepted + 1 = search rules in
+    record {
+      receipt = search rules;
+      index = stands (view_of book) (view_of c.finish-receipt.new.self) c.args.ready given g.L.Ledger.parts c.args.seat.now.accepted c.args.total.now.total
+          accepted c.versions_count_entries.ensures c.audit.ensures.backed c.audit.ensures.alone c.requires.total c.requires.fits.room few;
+      later = omega (arith, level, at_end);
+      told = told (view_of book) (view_of c.finish-receipt.new.self) c.args.ready given g.L.Naming.opening c.count.new.self.viewer.seen accepted c.requires.opening legal begins;
+      counted = counted;
+    }

@@ -1,6 +1,0 @@
--- The law, as it was proved.
-use Rattle.sno_pattern.proofs.Within.{within}
-use Rattle.sno_pattern.proofs.laws.ends_lie_behind_the_cursor.Goals as goal
-
-pub returns : goal.returns
-returns c = within

@@ -1,0 +1,141 @@
+//! The last assignment of each variable, before any string is cut.
+ghost use Rattle.std.specs.Prelude.{◌≡◌, ◌<◌, ℕ, List, [], Some, length, map, slice_get, IfOk, OnOk};
+ghost use Rattle.std.specs.List.{IsDistinct};
+ghost use Rattle.sno_pattern.specs.Identifiers.{same};
+ghost use Rattle.sno_pattern.specs.CursorLaws.{SetsLie, CursorLies};
+ghost use Rattle.sno_statement.specs.Bindings.{bind, bind_sets, bind_conds, datum_of};
+ghost use Rattle.sno_statement.specs.LastAssignments.{value_of_last, values_of_last};
+
+use crate::values::part;
+use crate::{Bindings, Datum};
+use indexmap::IndexMap;
+use sno_pattern::{Assign, Name, Text, What};
+use std::alloc::{AllocError, Global};
+use std::marker::Model;
+
+/// What a variable was assigned last.
+#[derive(Clone, Copy, Debug, PartialEq, Eq)]
+pub(crate) enum Last {
+    /// The characters between two cursors.
+    Part(usize, usize),
+    /// A cursor.
+    Cursor(u32),
+}
+
+impl Last {
+    /// What an immediate assignment assigns.
+    pub(crate) fn of(subject: &Text, what: What) -> Last
+        requires { CursorLies subject.now what }
+        ensures { value_of_last subject.now result ≡ datum_of subject.now what }
+    {
+        match what {
+            What::Part(from, to) => Last::Part(from, to),
+            What::Cursor(cursor) => {
+                // for the proof
+                let _short = subject.bytes();
+                Last::Cursor(cursor as u32)
+            }
+        }
+    }
+
+    /// The value, with its string cut from the subject.
+    pub(crate) fn value(self, alloc: Global, subject: &Text) -> Result<Datum, AllocError>
+        ensures { IfOk result (λ d. d ≡ value_of_last subject.now self) }
+    {
+        match self {
+            Last::Part(from, to) => {
+                let text = part(alloc, subject, from, to)?;
+                Ok(Datum::Str(text))
+            }
+            Last::Cursor(cursor) => Ok(Datum::Int(cursor)),
+        }
+    }
+}
+
+/// The variables that were assigned, in the order of their first assignment, each with its last one. A variable may be
+/// assigned a million times in a match, and only what it has in the end is cut from the subject.
+#[derive(Drop)]
+pub(crate) struct LastAssignments {
+    map: IndexMap<Name, Last>,
+}
+
+impl Model for LastAssignments {
+    ghost use Rattle.std.specs.Prelude.{List, ℕ};
+    ghost use Rattle.sno_statement.specs.declared.last_assignments.Last.{Last};
+
+    ghost Value = { List (List ℕ × Last) };
+
+    ghost view = { λ s. s.map.entries };
+}
+
+impl LastAssignments {
+    /// No variable was assigned yet.
+    pub(crate) fn new(alloc: Global) -> LastAssignments
+        ensures { result ≡ [] }
+    {
+        LastAssignments {
+            map: IndexMap::new(alloc),
+        }
+    }
+
+    /// Notes one more assignment. A variable keeps its first place.
+    #[tactic(auto, using(crate::proofs::Entries::bind_inserts, crate::proofs::LastValues::bind_values))]
+    fn note(&mut self, name: Name, last: Last) -> Result<(), AllocError>
+        ensures { OnOk result ((t : List ℕ) → values_of_last t self.new ≡ bind (values_of_last t self.old) name (value_of_last t last)) }
+    {
+        self.map.insert(name, last)?;
+        Ok(())
+    }
+
+    /// Notes the immediate assignments, after what was noted already.
+    pub(crate) fn note_at_once(&mut self, subject: &Text, sets: &[Assign]) -> Result<(), AllocError>
+        requires { SetsLie subject.now sets.now }
+        ensures { OnOk result (values_of_last subject.now self.new ≡ bind_sets subject.now (values_of_last subject.now self.old) sets.now) }
+    {
+        for set in sets {
+            self.note(set.name, Last::of(subject, set.what))?;
+        }
+        Ok(())
+    }
+
+    /// Notes the conditional assignments, after what was noted already.
+    pub(crate) fn note_later(&mut self, conds: &[(Name, usize, usize)]) -> Result<(), AllocError>
+        ensures { OnOk result ((t : List ℕ) → values_of_last t self.new ≡ bind_conds t (values_of_last t self.old) conds.now) }
+    {
+        for (name, from, to) in conds {
+            self.note(*name, Last::Part(*from, *to))?;
+        }
+        Ok(())
+    }
+
+    /// How many variables were assigned. They are distinct.
+    fn len(&self) -> usize
+        ensures count { result ≡ length self.now }
+        ensures distinct { IsDistinct same (map (λ b. b.0) self.now) }
+    {
+        self.map.len()
+    }
+
+    /// The variable at this place, with its last assignment.
+    fn at(&self, place: usize) -> (Name, Last)
+        requires { place < length self.now }
+        ensures { slice_get self.now place ≡ Some result }
+    {
+        let (name, last) = self.map.get_index(place).unwrap();
+        (*name, *last)
+    }
+
+    /// The bindings: each variable's value, with its string cut from the subject.
+    #[tactic(auto, using(crate::proofs::LastValues::next_value, crate::proofs::LastValues::no_value_left, crate::proofs::LastValues::bind_all_values))]
+    pub(crate) fn into_bindings(self, alloc: Global, subject: &Text) -> Result<Bindings, AllocError>
+        ensures { IfOk result (λ b. b ≡ values_of_last subject.now self) }
+    {
+        let mut bindings = Bindings::new(alloc);
+        for place in 0..self.len() {
+            let (name, last) = self.at(place);
+            let value = last.value(alloc, subject)?;
+            bindings.set(name, value)?;
+        }
+        Ok(bindings)
+    }
+}

@@ -1,0 +1,8 @@
+-- The new ledger and histories, and the book that was handed in.
+use Rattle.test_allocations.proofs.without_memory.count_and_close_one.Given as goal
+
+abbrev pub ghosts-count_and_close-L-Ledger : goal.ghosts-count_and_close-L-Ledger
+ghosts-count_and_close-L-Ledger g a = record { name = a.blank.ledger.name; parts = a.blank.ledger.parts }
+
+abbrev pub ghosts-count_and_close-L-Naming : goal.ghosts-count_and_close-L-Naming
+ghosts-count_and_close-L-Naming g a = record { book = a.blank.history.history; tries = a.blank.attempts.history; opening = a.book.opening }

@@ -1,0 +1,29 @@
+//! Public calls of the crates below the book, each by itself, on what is made by hand.
+//!
+//! The crate has no function to call. Its tests stand apart from the crates that they call, so that these are proved once, and not a second
+//! time with their tests. What patterns are read as, what comes of matches, and what a book accepts and refuses, is shown by the examples of
+//! `test_examples`, which need no code.
+//!
+//! - `src/admission.rt`: names, and which definitions are admitted.
+//! - `src/reading.rt`: the limits of what is written, and the parts of an object.
+//! - `src/primitives.rt`: where primitives end.
+//! - `src/evaluating.rt`: all that the plain evaluator assigns.
+//! - `src/machine.rt`: one code on many texts, and the deepest references.
+//! - `src/statements.rt`: what a statement is given.
+//! - `src/written.rt`: definitions, patterns and texts of what is written.
+#![tactic(auto)]
+
+#[cfg(test)]
+mod admission;
+#[cfg(test)]
+mod evaluating;
+#[cfg(test)]
+mod machine;
+#[cfg(test)]
+mod primitives;
+#[cfg(test)]
+mod reading;
+#[cfg(test)]
+mod statements;
+#[cfg(test)]
+mod written;

@@ -1,0 +1,112 @@
+//! The matcher compared with the plain evaluator.
+use sno_machine::{Code, Found, MatchFault, compile};
+use sno_pattern::{Name, Text};
+use sno_statement::Statement;
+use std::alloc::Global;
+use std::test::Fail;
+
+/// The cursors where the match begins and ends, if there is one.
+fn extent(found: &Found) -> Option<(usize, usize)> {
+    let hit = found.end.as_ref()?;
+    Some((hit.start, hit.end))
+}
+
+/// The conditional assignments of the match, if there is one.
+fn conditions(found: &Found) -> Option<&[(Name, usize, usize)]> {
+    let hit = found.end.as_ref()?;
+    Some(hit.conds.as_slice())
+}
+
+/// Whether both found the same: the place, and all that was assigned.
+fn is_same(found: &Found, plain: &Found) -> bool {
+    extent(found) == extent(plain)
+        && found.sets.as_slice() == plain.sets.as_slice()
+        && conditions(found) == conditions(plain)
+}
+
+fn is_found(
+    alloc: Global,
+    code: &Code,
+    text: &Text,
+    anchored: bool,
+    trials: u32,
+    plain: &Found,
+) -> Result<bool, Fail> {
+    let found = code.first(alloc, text, anchored, trials)?;
+    Ok(is_same(&found, plain))
+}
+
+fn is_refused(code: &Code, alloc: Global, text: &Text, anchored: bool, limit: u32) -> bool {
+    match code.first(alloc, text, anchored, limit) {
+        Ok(_) => false,
+        Err(fault) => fault == MatchFault::TooManyTrials,
+    }
+}
+
+/// How many trials the evaluator counts, and what it finds.
+fn plain(
+    alloc: Global,
+    statement: &Statement,
+    text: &Text,
+    anchored: bool,
+) -> Result<(u32, Found), Fail> {
+    let (rules, pattern) = (statement.rules(), statement.pattern());
+    let trials = u32::try_from(sno_eval::trials(alloc, rules, pattern, text, anchored)?)?;
+    let found = sno_eval::first(alloc, rules, pattern, text, anchored)?;
+    Ok((trials, found))
+}
+
+/// Checks that the matcher returns what the evaluator does, within as many trials as the evaluator counts. If there are
+/// any, one trial less must refuse the match. Returns how many there are.
+fn check_matcher(
+    alloc: Global,
+    code: &Code,
+    text: &Text,
+    anchored: bool,
+    plain: (u32, Found),
+) -> Result<u32, Fail> {
+    let (trials, plain) = plain;
+    if !is_found(alloc, code, text, anchored, trials, &plain)? {
+        return Err("the matcher doesn't find what the plain evaluator does".into());
+    }
+    if trials == 0 || is_refused(code, alloc, text, anchored, trials - 1) {
+        Ok(trials)
+    } else {
+        Err("the matcher needs fewer trials than the plain evaluator counts".into())
+    }
+}
+
+fn check_beside_plain(
+    alloc: Global,
+    code: &Code,
+    statement: &Statement,
+    text: &Text,
+    anchored: bool,
+) -> Result<u32, Fail> {
+    let plain = plain(alloc, statement, text, anchored)?;
+    check_matcher(alloc, code, text, anchored, plain)
+}
+
+/// Compares the matcher with the evaluator, anchored and not. Returns the trials of the statement's match.
+fn trials_beside(alloc: Global, statement: &Statement, text: &Text) -> Result<u32, Fail> {
+    let code = compile(alloc, statement.rules(), statement.pattern())?;
+    let anchored = statement.anchored();
+    check_beside_plain(alloc, &code, statement, text, !anchored)?;
+    check_beside_plain(alloc, &code, statement, text, anchored)
+}
+
+/// Compares the matcher with the evaluator, anchored and not. If the match isn't repeated, and a number of trials is
+/// expected, compares that too.
+pub(crate) fn check_beside(
+    alloc: Global,
+    statement: &Statement,
+    text: &Text,
+    expected: Option<u32>,
+) -> Result<(), Fail> {
+    let trials = trials_beside(alloc, statement, text)?;
+    if statement.repeat().is_some() || expected.unwrap_or(trials) == trials {
+        Ok(())
+    } else {
+        Err(Fail::new(format_args!("the match takes {trials} trials")))
+    }
+}
