@@ -49,7 +49,11 @@ fn a_text_without_memory(rt: HostRuntime) -> Result<(), Fail> {
 #[test]
 fn a_status_without_memory(rt: HostRuntime) -> Result<(), Fail> {
     tell_ready(&rt)?;
-    check_eq(&rt, &status_of(&RunFault::Document(DocumentFault::NotJson)), &2);
+    check_eq(
+        &rt,
+        &status_of(&RunFault::Document(DocumentFault::NotJson)),
+        &2,
+    );
     tell(&rt, Answer::Given)
 }
 
