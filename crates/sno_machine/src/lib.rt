@@ -102,10 +102,14 @@
 //! # What a trial costs
 //!
 //! A trial of `SPAN`, `BREAK` or `BAL` may go over the whole text, and a text may be gone over from each of its cursors. So a match
-//! learns of its text, the [`Subject`](subject::Subject). A walk that goes over more than some characters is counted. Once such walks
+//! learns of its text ([`Learnt`](learnt::Learnt)). A walk that goes over more than some characters is counted. Once such walks
 //! have gone over more characters than the text has, one pass finds all ends at once: those of the runs of that set, or those of
 //! `BAL`. From then on a trial of it looks at no more than some hundred characters. What was learnt changes no result. No
 //! clause says how long a trial takes.
+//!
+//! No character is gone over twice unless something failed in between. So the match looks whether there is something to be learnt
+//! only when it backs up, or when a `BREAK` that was tried ahead fails ([`Step::Instead`](stepping::Step::Instead)). A step has
+//! the text beside what was learnt of it, the [`Subject`](subject::Subject), and reads the text itself.
 //!
 //! | File | What it holds |
 //! |---|---|
@@ -128,7 +132,8 @@
 //! | `beginnings` | what a match can begin with |
 //! | `passing` | starts at which no match can begin are passed over |
 //! | `taking` | the parts that take a character wherever they end |
-//! | `subject` | the text of a match, with what was learnt of it |
+//! | `subject` | the text of a match, beside what was learnt of it |
+//! | `learnt` | what was learnt of the text |
 //! | `starts` | the outcome of a match |
 //! | `code` | [`compile`] and [`Code::first`] |
 //!
@@ -153,6 +158,7 @@ mod entries;
 mod faults;
 mod heads;
 mod history;
+mod learnt;
 mod leaves;
 mod lookaheads;
 mod needles;
