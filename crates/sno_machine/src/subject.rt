@@ -9,8 +9,8 @@ use sno_primitives::{Walk, near_run_end, walk_balanced};
 use std::marker::Model;
 
 // How many characters a walk goes over before what it finds is worth remembering. A walk for `BAL` is slower than one along a
-// run.
-const NEAR: usize = 64;
+// run. `memchr` finds a near byte sooner in fewer than 64.
+const NEAR: usize = 63;
 
 const NEAR_BALANCE: usize = 32;
 
