@@ -55,7 +55,8 @@ impl<'s, 'a> Subject<'s, 'a> {
     /// How many characters there are.
     #[inline(always)]
     pub fn len(&self) -> usize
-        ensures { result ≡ length self.now }
+        ensures value { result ≡ length self.now }
+        ensures short { length self.now ≤ 65536 }
     {
         self.text.len()
     }
@@ -64,7 +65,8 @@ impl<'s, 'a> Subject<'s, 'a> {
     #[inline(always)]
     pub fn after(&self, c: usize) -> &[u8]
         requires { c ≤ length self.now }
-        ensures { result.now ≡ drop c self.now }
+        ensures value { result.now ≡ drop c self.now }
+        ensures short { length self.now ≤ 65536 }
     {
         let (_, rest) = self.text.split_at(c);
         rest
@@ -115,6 +117,7 @@ impl<'s, 'a> Subject<'s, 'a> {
         requires { c ≤ length self.now }
         ensures exact { MatchOption result (bal_ends self.now c ≡ []) (λ e. bal_ends self.now c ≡ e ∷ bal_ends self.now e) }
         ensures past { IfSome result (λ e. (c < e) × (e ≤ length self.now)) }
+        ensures short { length self.now ≤ 65536 }
     {
         match walk_balanced(self.text, c, NEAR_BALANCE) {
             Walk::Ended(end) => Some(end),
