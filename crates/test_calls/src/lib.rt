@@ -10,6 +10,7 @@
 //! - `src/evaluating.rt`: all that the plain evaluator assigns.
 //! - `src/machine.rt`: one code on many texts, and the deepest references.
 //! - `src/statements.rt`: what a statement is given.
+//! - `src/printing.rt`: what each fault prints.
 //! - `src/written.rt`: definitions, patterns and texts of what is written.
 #![tactic(auto)]
 
@@ -21,6 +22,8 @@ mod evaluating;
 mod machine;
 #[cfg(test)]
 mod primitives;
+#[cfg(test)]
+mod printing;
 #[cfg(test)]
 mod reading;
 #[cfg(test)]

@@ -172,11 +172,3 @@ fn parts_of_an_object(rt: HostRuntime) -> Result<(), Fail> {
     check_eq(&rt, &line.as_str(), &"V;'=';K;");
     Ok(())
 }
-
-// The other faults are printed in the examples of `test_examples`.
-#[test]
-fn refused_memory_is_printed(rt: HostRuntime) -> Result<(), Fail> {
-    let line = ReadFault::Memory.to_string(rt.alloc())?;
-    check_eq(&rt, &line.as_str(), &"out of memory");
-    Ok(())
-}

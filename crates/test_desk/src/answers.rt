@@ -42,7 +42,8 @@ fn submit<R: Threads + Wait + Abort + Sync>(
     run_day(rt, alloc, open(alloc)?, 1, jobs.as_slice(), 3, gate)
 }
 
-fn line_of(alloc: Global, reply: &Reply) -> Result<String, Fail> {
+/// The index of the receipt's entry, or the line of the refusal.
+pub(crate) fn line_of(alloc: Global, reply: &Reply) -> Result<String, Fail> {
     match reply {
         Ok(receipt) => Ok(receipt.index.to_string(alloc)?),
         Err(fault) => Ok(fault.to_string(alloc)?),

@@ -66,7 +66,7 @@ pub(crate) fn matching(
 pub(crate) type Row = (u32, &'static str, &'static str, Option<&'static str>);
 
 /// The statement of a row.
-fn of_row(rt: &impl Abort, alloc: Global, row: &Row) -> Result<Arc<Statement>, Fail> {
+pub(crate) fn of_row(rt: &impl Abort, alloc: Global, row: &Row) -> Result<Arc<Statement>, Fail> {
     match row.3 {
         Some(object) => statement(rt, alloc, row.0, row.1, row.2, object),
         None => matching(rt, alloc, row.0, row.1, row.2),

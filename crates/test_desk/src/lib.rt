@@ -1,15 +1,19 @@
-//! Desks at work, tested: each answer of a submit, tries that are overtaken, workers that overlap, a reader beside a submit, replies in order, shut gates, many seats
-//! over few texts, and what each fault prints.
+//! Desks at work, tested: each answer of a submit, each event at its gate, tries that are overtaken, workers that overlap, sixteen of them at once, a reader beside a
+//! submit, replies in order, shut gates, many seats over few texts, and what each fault prints.
 #![tactic(auto)]
 
 #[cfg(test)]
 mod answers;
+#[cfg(test)]
+mod asked;
 #[cfg(test)]
 mod beside;
 #[cfg(test)]
 mod commits;
 #[cfg(test)]
 mod compare;
+#[cfg(test)]
+mod crowd;
 #[cfg(test)]
 mod day;
 #[cfg(test)]

@@ -1,6 +1,8 @@
 //! What each fault prints.
 use crate::compare::check_eq;
+use sno_book::{BookFault, CommitFault as BookRefusal, SnapshotFault as BookMiss};
 use sno_desk::{CloseFault, CommitFault, DeskFault, SnapshotFault, SubmitFault, WorkersFault};
+use sno_published::ViewFault;
 use std::alloc::Global;
 use std::fmt::Display;
 use std::process::Abort;
@@ -48,4 +50,28 @@ fn faults_of_desks(rt: HostRuntime) -> Result<(), Fail> {
     check(&rt, alloc, &WorkersFault::Memory, "out of memory")?;
     check(&rt, alloc, &CloseFault::Opening, "another opening")?;
     check(&rt, alloc, &CloseFault::Journal, "another journal")
+}
+
+#[test]
+fn faults_of_books(rt: HostRuntime) -> Result<(), Fail> {
+    let alloc = rt.alloc();
+    let changed = BookRefusal::Changed { seen: 3, now: 12 };
+    check(&rt, alloc, &BookFault::TooMany, "too many")?;
+    check(&rt, alloc, &BookFault::Duplicate(12), "duplicate at 12")?;
+    check(&rt, alloc, &BookFault::Memory, "out of memory")?;
+    check(&rt, alloc, &BookMiss::NoText, "no text")?;
+    check(&rt, alloc, &BookMiss::Memory, "out of memory")?;
+    check(&rt, alloc, &BookRefusal::NoText, "no text")?;
+    check(&rt, alloc, &changed, "changed from version 3 to 12")?;
+    check(&rt, alloc, &BookRefusal::Full, "full")?;
+    check(&rt, alloc, &BookRefusal::Memory, "out of memory")
+}
+
+#[test]
+fn faults_of_viewers(rt: HostRuntime) -> Result<(), Fail> {
+    let alloc = rt.alloc();
+    let is_less = "the screen shows less than was told";
+    check(&rt, alloc, &ViewFault::Ended, "the screen has ended")?;
+    check(&rt, alloc, &ViewFault::Behind, is_less)?;
+    check(&rt, alloc, &ViewFault::Memory, "out of memory")
 }
