@@ -87,10 +87,13 @@ impl<L: Naming> Seat<L> {
         let Some(place) = self.viewer.opening().place(name) else {
             return Err(LookFault::NoText);
         };
-        match self.viewer.read(place, read) {
-            Ok(Some(found)) => Ok(found),
-            Ok(None) | Err(_) => Err(LookFault::Stopped),
-        }
+        let Ok(found) = self.viewer.read(place, read) else {
+            return Err(LookFault::Stopped);
+        };
+        let Some(found) = found else {
+            return Err(LookFault::NoText);
+        };
+        Ok(found)
     }
 
     /// Returns a snapshot of the text of this name as it is shown. It takes no lock and waits for nobody. On `Ok` it is

@@ -39,8 +39,10 @@ fn check_read<L: Naming>(
     expected: &str,
     expected_version: u64,
 ) -> Result<(), Fail> {
-    let (is_equal, version) =
-        seat.read(name, |text, version| (text.bytes() == expected.as_bytes(), version))?;
+    let (is_equal, version) = seat.read(
+        name,
+        |text, version| (text.bytes() == expected.as_bytes(), version),
+    )?;
     assert!(rt; is_equal, "not {expected}");
     check_eq(rt, &version, &expected_version);
     Ok(())
