@@ -2,7 +2,7 @@
 ghost use Rattle.std.specs.Prelude.{◌≡◌};
 ghost use Rattle.bench_desk.specs.Faults.{status};
 
-use sno_desk::{SnapshotFault, StatementFault, SubmitFault};
+use sno_desk::{SnapshotFault, SubmitFault};
 use std::alloc::{AllocError, AllocFailed};
 use thiserror::Error;
 
@@ -85,12 +85,6 @@ impl<T: Drop> From<AllocFailed<T>> for Fault {
 impl From<SnapshotFault> for Fault {
     fn from(fault: SnapshotFault) -> Fault {
         Fault::NoSnapshot(fault)
-    }
-}
-
-impl From<StatementFault> for Fault {
-    fn from(fault: StatementFault) -> Fault {
-        Fault::Refused(SubmitFault::from(fault))
     }
 }
 

@@ -1,14 +1,12 @@
 //! How long a snapshot and a commit take.
-ghost use Rattle.std.specs.Prelude.{◌≡◌, [], IfOk};
-ghost use Rattle.sno_book.specs.Views.{IsPrefix};
-ghost use Rattle.sno_desk.specs.Seen.{view_after};
+ghost use Rattle.std.specs.Prelude.{◌≡◌, []};
 
 use crate::faults::Fault;
 use crate::load::now;
 use crate::texts::{book_of, name_of, no_rules, statement_of};
 use crate::words::Times;
 use sno_book::Book;
-use sno_desk::{Blank, Desk, Naming, Proposal, Seat, SubmitFault, TextName, close, propose};
+use sno_desk::{Blank, Desk, Naming, Seat, SubmitFault, TextName, close};
 use sno_statement::Statement;
 use std::alloc::Global;
 use std::fmt;
@@ -57,19 +55,6 @@ fn time_snapshots<L: Naming, C: Clock>(
     Ok(now(clock)?.duration_since(begun))
 }
 
-/// Proposes the statement on its text as the seat sees it.
-fn proposal<L: Naming>(
-    alloc: Global,
-    seat: &mut Seat<L>,
-    job: &Arc<Statement>,
-) -> Result<Proposal, Fault>
-    ensures { IfOk result (λ p. IsPrefix p.origin (view_after L.opening seat.new.viewer.seen)) }
-{
-    let snapshot = seat.snapshot(job.text())?;
-    let proposal = propose(alloc, Arc::try_clone(job)?, snapshot)?;
-    Ok(proposal)
-}
-
 /// How long the commit of one statement takes, including one reading of the clock.
 fn time_commit<L: Naming, R: Wait + Clock>(
     rt: &R,
@@ -78,7 +63,7 @@ fn time_commit<L: Naming, R: Wait + Clock>(
     seat: &mut Seat<L>,
     job: &Arc<Statement>,
 ) -> Result<Duration, Fault> {
-    let proposal = proposal(alloc, seat, job)?;
+    let proposal = seat.propose(alloc, job)?;
     let begun = now(rt)?;
     let committed = desk.commit(rt, seat, proposal);
     let took = now(rt)?.duration_since(begun);

@@ -1,6 +1,6 @@
 //! Why the program ends early.
 use sno_book::BookFault;
-use sno_desk::{CloseFault, CommitFault, DeskFault, SnapshotFault, StatementFault, SubmitFault};
+use sno_desk::{CloseFault, CommitFault, DeskFault, LookFault, SubmitFault};
 use sno_machine::MatchFault;
 use sno_pattern::{NameFault, NamesFault, RulesFault, TextFault};
 use sno_read::ReadFault;
@@ -25,9 +25,7 @@ pub(crate) enum Fault {
     #[error(transparent)]
     Desk(#[from] DeskFault),
     #[error(transparent)]
-    Snapshot(#[from] SnapshotFault),
-    #[error(transparent)]
-    Statement(#[from] StatementFault),
+    Look(#[from] LookFault),
     #[error(transparent)]
     Commit(#[from] CommitFault),
     #[error(transparent)]

@@ -1,12 +1,8 @@
 //! What the seats do, each in a thread of its own.
-ghost use Rattle.std.specs.Prelude.{IfOk};
-ghost use Rattle.sno_book.specs.Views.{IsPrefix};
-ghost use Rattle.sno_desk.specs.Seen.{view_after};
-
 use crate::faults::Fault;
 use crate::pauses::Pause;
 use crate::statements::Edits;
-use sno_desk::{CommitFault, Desk, Naming, Proposal, Receipt, Seat, propose};
+use sno_desk::{CommitFault, Desk, Naming, Receipt, Seat};
 use sno_statement::Statement;
 use std::alloc::Global;
 use std::sync::{Arc, Wait};
@@ -19,20 +15,6 @@ pub(crate) const LINES: u32 = 4;
 /// at most once.
 const TRIES: u32 = 100;
 
-/// Proposes the statement on its text as the seat sees it now. The proposal comes from what the seat has seen, which is
-/// all that a commit requires.
-fn proposal<L: Naming>(
-    alloc: Global,
-    seat: &mut Seat<L>,
-    statement: &Arc<Statement>,
-) -> Result<Proposal, Fault>
-    ensures { IfOk result (λ p. IsPrefix p.origin (view_after L.opening seat.new.viewer.seen)) }
-{
-    let snapshot = seat.snapshot(statement.text())?;
-    let proposal = propose(alloc, Arc::try_clone(statement)?, snapshot)?;
-    Ok(proposal)
-}
-
 /// Takes a snapshot, proposes and commits, and does all of it again if the text has changed in between.
 fn edit<L: Naming, R: Wait>(
     rt: &R,
@@ -42,7 +24,7 @@ fn edit<L: Naming, R: Wait>(
     statement: &Arc<Statement>,
 ) -> Result<Receipt, Fault> {
     for _try in 0..TRIES {
-        let proposal = proposal(alloc, seat, statement)?;
+        let proposal = seat.propose(alloc, statement)?;
         match desk.commit(rt, seat, proposal) {
             Ok(receipt) => return Ok(receipt),
             Err((CommitFault::Changed { .. }, _)) => {}
@@ -84,11 +66,11 @@ pub(crate) fn submit<L: Naming, R: Wait + Clock>(
 pub(crate) fn read<L: Naming>(seat: &mut Seat<L>, edits: &Edits) -> Result<(), Fault> {
     let mut last = 0;
     for _look in 0..TRIES {
-        let snapshot = seat.snapshot(edits.mark.text())?;
-        if snapshot.version < last {
+        let version = seat.read(edits.mark.text(), |_text, version| version)?;
+        if version < last {
             return Err(Fault::WentBack);
         }
-        last = snapshot.version;
+        last = version;
     }
     Ok(())
 }

@@ -15,7 +15,7 @@ use Rattle.sno_desk.specs.declared.faults.SubmitFault.TheVariants as submit
 -- if a viewer sees nothing more, its seat is stopped
 abbrev pub of_view : ViewFault → SnapshotFault
 of_view shown.Ended = snapshot.Stopped
-of_view shown.Behind = snapshot.Stopped
+of_view shown.Older = snapshot.Stopped
 of_view shown.Memory = snapshot.Memory
 
 abbrev pub of_book : BookRefusal → CommitFault

@@ -2,6 +2,7 @@ pub mod Answers
 pub mod Closings
 pub mod Commits
 pub mod Faults
+pub mod Proposed
 pub mod Receipts
 pub mod Seen
 pub mod Shown

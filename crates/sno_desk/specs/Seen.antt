@@ -1,16 +1,21 @@
 -- What a seat sees of its desk.
 use Rattle.std.specs.Prelude.{◌≡◌, ◌≢◌, ℕ, List, [], ◌∷◌, ◌++◌, length, Some, None, Result, Ok, Err}
 use mathlib.Core.List.{IsPrefix as Begins}
+use denote.Ref.{Bor}
+use Rattle.std.specs.Fn.{Once}
 use Rattle.sno_book.specs.Entries.{Entry}
 use Rattle.sno_book.specs.Journals.{Legal}
 use Rattle.sno_book.specs.Openings.{Opening, place_in, start}
 use Rattle.sno_book.specs.Proposals.{Receipt}
 use Rattle.sno_book.specs.Snapshots.{Snapshot}
+use Rattle.sno_book.specs.States.{VersionedText}
 use Rattle.sno_book.specs.Views.{View}
 use Rattle.sno_published.specs.Tables.{text_after, text_at}
-use Rattle.sno_published.specs.Viewings.{Viewing}
+use Rattle.sno_published.specs.Viewings.{IsLent, Viewing}
 use Rattle.sno_desk.specs.declared.faults.SnapshotFault.{SnapshotFault}
 use Rattle.sno_desk.specs.declared.faults.SnapshotFault.TheVariants as snapshot
+use Rattle.sno_desk.specs.declared.faults.LookFault.{LookFault}
+use Rattle.sno_desk.specs.declared.faults.LookFault.TheVariants as look
 
 -- the opening with the entries that were seen
 abbrev pub view_after : Opening → List Entry → View
@@ -27,6 +32,20 @@ abbrev pub GivesSeen : Result Snapshot SnapshotFault → Opening → List Entry 
 GivesSeen (Ok taken) opening seen name = IsSeen opening seen name taken
 GivesSeen (Err snapshot.NoText) opening seen name = place_in opening name ≡ None
 GivesSeen (Err fault) opening seen name = place_in opening name ≢ None
+
+-- the function was called once with the text of this name and its version, as these entries leave it, and this is its
+-- result
+pub record IsRead {F T : Type 0} (calls : Once F (Bor (List ℕ) × (ℕ × Unit {0})) T) (f : F) (opening : Opening) (seen : List Entry) (name : List ℕ) (r : T) : Type 0 where
+  pub place : ℕ
+  pub named : place_in opening name ≡ Some place
+  pub held : VersionedText
+  pub there : text_after opening seen place ≡ Some held
+  pub lent : IsLent calls f opening place held r
+
+-- `NoText` exactly if the opening has no text of that name
+abbrev pub IsLookCause : LookFault → Opening → List ℕ → Type 0
+IsLookCause look.NoText opening name = place_in opening name ≡ None
+IsLookCause look.Stopped opening name = place_in opening name ≢ None
 
 -- after `Memory` what is shown was seen; after another refusal nothing more is seen
 abbrev pub IsViewAfter : SnapshotFault → Viewing → Viewing → Type 0

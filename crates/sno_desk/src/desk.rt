@@ -1,5 +1,5 @@
 //! Desks.
-ghost use Rattle.std.specs.Prelude.{◌≡◌, ◌≤◌, ◌+◌, [], IfOk, IfErr, OnOk, OnErr, length, sum_by};
+ghost use Rattle.std.specs.Prelude.{◌≡◌, ◌≤◌, ◌+◌, [], IfOk, IfErr, OnOk, OnErr, drop, length, sum_by};
 ghost use Rattle.std.specs.Arc.{arc_value};
 ghost use Rattle.std.specs.List.{All};
 ghost use mathlib.Core.List.{IsPrefix as Begins};
@@ -14,8 +14,8 @@ use crate::locked::Locked;
 use crate::openings::is_same;
 use crate::shown::Shown;
 use crate::submissions::Submission;
-use crate::{Blank, CloseFault, CommitFault, DeskFault, Gate, Seat, SubmitFault};
-use sno_book::{Book, Opening, Proposal, Receipt};
+use crate::{Blank, CloseFault, CommitFault, DeskFault, Gate, Seat, SinceFault, SubmitFault};
+use sno_book::{Book, Entry, Opening, Proposal, Receipt};
 use sno_published::{Naming, Screen};
 use sno_statement::Statement;
 use std::alloc::{AllocError, Global};
@@ -256,15 +256,47 @@ impl<L: Naming> Desk<L> {
         submission.reply(rt, seat)
     }
 
-    /// Waits for the readers, and ends the desk with its book. It is meant for paths on which seats are lost;
-    /// [`close`] returns the book.
-    pub fn end<R: Wait>(self, rt: &R) {
+    /// Returns shares of the journal's entries from this index on, and none if it has no more. The call waits for the
+    /// lock. It takes memory for the list alone, and holds the lock while it shares the entries.
+    ///
+    /// On `Ok` the seat has then seen the whole journal, and the entries are those of its view from that index on. What
+    /// it has seen begins with all that it had seen.
+    ///
+    /// Refused: `Stopped`, if the seat has seen more than the journal has, which no legal run meets; `Memory`. The desk
+    /// is unchanged.
+    pub fn since<R: Wait>(
+        &self,
+        rt: &R,
+        seat: &mut Seat<L>,
+        from: usize,
+    ) -> Result<Vec<Entry>, SinceFault>
+        ensures entries { IfOk result (λ entries. entries.items ≡ drop from seat.new.viewer.seen) }
+        ensures begins { Begins seat.old.viewer.seen seat.new.viewer.seen }
+        ensures same { seat.new.accepted ≡ seat.old.accepted }
+    {
+        let guard = self.lock.lock(rt);
+        let entries = guard.since(self.alloc, seat, from);
+        MutexGuard::unlock(guard);
+        entries
+    }
+
+    /// Waits for the readers, ends the desk and returns its book. It is meant for paths on which seats are lost: unlike
+    /// [`close`] it doesn't ask for them, and says nothing of what they have accepted.
+    ///
+    /// The book's opening is the one that the desk began with, and its journal is legal from there.
+    pub fn end<R: Wait>(self, rt: &R) -> Book
+        ensures opening { result.opening ≡ L.opening }
+        ensures lawful { IsLawful (view_of result) }
+    {
         let Desk {
             opening: _opening,
             alloc: _alloc,
             lock,
         } = self;
-        lock.into_inner().end(rt);
+        let (book, _total, _rest) = lock.into_inner().into_parts(rt);
+        // for the proof
+        let _ = book.journal();
+        book
     }
 }
 

@@ -30,6 +30,28 @@ pub enum SnapshotFault {
     Memory,
 }
 
+/// Why a seat didn't look at what is shown. Nothing more was seen.
+#[derive(Clone, Copy, Debug, PartialEq, Eq, Error)]
+pub enum LookFault {
+    /// The desk's opening has no text of that name.
+    #[error("no text")]
+    NoText,
+    /// Nothing is shown to the seat any more, or less than it was told of, which no legal run meets.
+    #[error("stopped")]
+    Stopped,
+}
+
+/// Why a desk shared no entries. Its journal is as it was.
+#[derive(Clone, Copy, Debug, PartialEq, Eq, Error)]
+pub enum SinceFault {
+    /// The seat has seen more than the journal has, which no legal run meets.
+    #[error("stopped")]
+    Stopped,
+    /// Out of memory.
+    #[error("out of memory")]
+    Memory,
+}
+
 /// Why a proposal is not accepted at a desk. No entry was added.
 #[derive(Clone, Copy, Debug, PartialEq, Eq, Error)]
 pub enum CommitFault {
@@ -118,9 +140,31 @@ impl From<ViewFault> for SnapshotFault {
 
     fn from(fault: ViewFault) -> SnapshotFault {
         match fault {
-            ViewFault::Ended | ViewFault::Behind => SnapshotFault::Stopped,
+            ViewFault::Ended | ViewFault::Older => SnapshotFault::Stopped,
             ViewFault::Memory => SnapshotFault::Memory,
         }
+    }
+}
+
+impl From<AllocError> for SinceFault {
+    ghost use Rattle.std.specs.Prelude.{◌≡◌};
+    ghost use Rattle.sno_desk.specs.declared.faults.SinceFault.TheVariants.{Memory};
+
+    ghost from_gives = { λ _ e. e ≡ Memory };
+
+    fn from(_refused: AllocError) -> SinceFault {
+        SinceFault::Memory
+    }
+}
+
+impl<T: Drop> From<AllocFailed<T>> for SinceFault {
+    ghost use Rattle.std.specs.Prelude.{◌≡◌};
+    ghost use Rattle.sno_desk.specs.declared.faults.SinceFault.TheVariants.{Memory};
+
+    ghost from_gives = { λ _ e. e ≡ Memory };
+
+    fn from(_refused: AllocFailed<T>) -> SinceFault {
+        SinceFault::Memory
     }
 }
 

@@ -86,7 +86,10 @@ mod workers;
 
 pub use blanks::Blank;
 pub use desk::{Desk, close};
-pub use faults::{CloseFault, CommitFault, DeskFault, SnapshotFault, SubmitFault, WorkersFault};
+pub use faults::{
+    CloseFault, CommitFault, DeskFault, LookFault, SinceFault, SnapshotFault, SubmitFault,
+    WorkersFault,
+};
 pub use gates::{Gate, OpenGate};
 pub use seats::{Reply, Seat};
 pub use sno_book::{Book, Entry, Opening, Proposal, Receipt, Snapshot, propose};

@@ -1,5 +1,5 @@
 //! What is under a desk's lock.
-ghost use Rattle.std.specs.Prelude.{◌≡◌, ◌<◌, Decides, IfOk, IfErr, OnErr, None, length, sum_by};
+ghost use Rattle.std.specs.Prelude.{◌≡◌, ◌<◌, Decides, IfOk, IfErr, OnErr, None, drop, length, sum_by};
 ghost use Rattle.std.specs.List.{All};
 ghost use mathlib.Core.List.{IsPrefix as Begins};
 ghost use Rattle.sno_book.specs.Books.{view_of};
@@ -14,8 +14,8 @@ ghost use Rattle.sno_desk.specs.declared.faults.CommitFault.TheVariants.{Memory}
 
 use crate::seats::{are_within, gather};
 use crate::shown::Shown;
-use crate::{CommitFault, Seat};
-use sno_book::{Book, Proposal, Ready, Receipt, kin_agree, versions_count_entries};
+use crate::{CommitFault, Seat, SinceFault};
+use sno_book::{Book, Entry, Proposal, Ready, Receipt, kin_agree, versions_count_entries};
 use sno_published::{Naming, Screen, Unpublished};
 use std::alloc::Global;
 use std::marker::Model;
@@ -112,6 +112,17 @@ fn publish<L: Naming, R: Wait>(
     (Shown::Open(screen), Ok(receipt))
 }
 
+/// Shares of all these entries.
+fn share_all(alloc: Global, entries: &[Entry]) -> Result<Vec<Entry>, SinceFault>
+    ensures { IfOk result (λ shared. shared.items ≡ entries.now) }
+{
+    let mut shared = Vec::with_capacity(alloc, entries.len())?;
+    for entry in entries {
+        shared.push(entry.share()?)?;
+    }
+    Ok(shared)
+}
+
 impl<L: Naming> Locked<L> {
     /// Commits the proposal to the book. If it is accepted, it is also published and counted.
     pub(crate) fn commit<R: Wait>(
@@ -158,6 +169,27 @@ impl<L: Naming> Locked<L> {
         answer
     }
 
+    /// Shares of the journal's entries from this index on. The seat is told of all of them.
+    pub(crate) fn since(
+        &self,
+        alloc: Global,
+        seat: &mut Seat<L>,
+        from: usize,
+    ) -> Result<Vec<Entry>, SinceFault>
+        ensures entries { IfOk result (λ entries. entries.items ≡ drop from seat.new.viewer.seen) }
+        ensures begins { Begins seat.old.viewer.seen seat.new.viewer.seen }
+        ensures same { seat.new.accepted ≡ seat.old.accepted }
+    {
+        let Some(shown) = &self.shown else {
+            return Err(SinceFault::Stopped);
+        };
+        seat.learn(shown.table());
+        if !seat.is_within(shown.table()) {
+            return Err(SinceFault::Stopped);
+        }
+        share_all(alloc, self.book.journal().get(from..).unwrap_or(&[]))
+    }
+
     /// Whether the journal begins with all that each of the seats has seen.
     pub(crate) fn has_all(&self, seats: &[Seat<L>]) -> bool
         ensures { Decides result (All (λ s. Begins s.viewer.seen self.now.journal) seats.now) }
@@ -181,19 +213,8 @@ impl<L: Naming> Locked<L> {
         book
     }
 
-    /// Ends what is shown, and the book too.
-    pub(crate) fn end<R: Wait>(self, rt: &R) {
-        let Locked {
-            book: _book,
-            shown,
-            total: _total,
-            rest: _rest,
-        } = self;
-        end_shown(rt, shown);
-    }
-
     /// The book with the ledger's total and the rest of its shares. What was shown is ended.
-    fn into_parts<R: Wait>(self, rt: &R) -> (Book, ledger::Book<L>, Share<L>)
+    pub(crate) fn into_parts<R: Wait>(self, rt: &R) -> (Book, ledger::Book<L>, Share<L>)
         ensures book { result.0 ≡ self }
         ensures counted { length result.0.journal ≡ result.1.total }
         ensures none { (result.2.parts ≡ 0) × (result.2.amount ≡ 0) }

@@ -1,14 +1,21 @@
 //! Seats.
-ghost use Rattle.std.specs.Prelude.{◌≡◌, ◌+◌, ◌<◌, ◌≤◌, ◌^◌, Decides, MatchBool, OnOk, IfErr, length, sum_by};
+ghost use Rattle.std.specs.Prelude.{◌≡◌, ◌+◌, ◌<◌, ◌≤◌, ◌^◌, Decides, MatchBool, OnOk, OnErr, IfOk, IfErr, length, sum_by};
+ghost use Rattle.std.specs.Arc.{arc_value};
 ghost use Rattle.std.specs.List.{All};
 ghost use mathlib.Core.List.{IsPrefix};
-ghost use Rattle.sno_desk.specs.Seen.{GivesSeen, IsViewAfter};
+ghost use Rattle.sno_book.specs.Views.{IsPrefix as BeginsView};
+ghost use Rattle.sno_desk.specs.Proposed.{GivesProposed};
+ghost use Rattle.sno_desk.specs.Seen.{GivesSeen, IsLookCause, IsRead, IsViewAfter, view_after};
+ghost use Rattle.sno_desk.specs.declared.faults.LookFault.TheVariants.{Stopped};
 
-use crate::{SnapshotFault, SubmitFault};
-use sno_book::{Origin, Receipt, Snapshot};
-use sno_pattern::TextName;
+use crate::{LookFault, SnapshotFault, SubmitFault};
+use sno_book::{Origin, Proposal, Receipt, Snapshot, propose};
+use sno_pattern::{Text, TextName};
 use sno_published::{Naming, Table, Viewer};
+use sno_statement::Statement;
+use std::alloc::Global;
 use std::collections::VecDeque;
+use std::sync::Arc;
 use std::sync::ledger::{self, Share};
 
 /// What a submit returns.
@@ -41,6 +48,54 @@ impl<L: Naming> Seat<L> {
         self.viewer.seen()
     }
 
+    /// Sees what is shown, and returns how many entries that are. It takes no lock and no memory, and waits for nobody.
+    ///
+    /// Refused: `Stopped`, and nothing more is seen.
+    pub fn look(&mut self) -> Result<u64, LookFault>
+        ensures count { IfOk result (λ n. n ≡ length self.new.viewer.seen) }
+        ensures shown { OnOk result (self.new.viewer.seen ≡ self.new.viewer.shown) }
+        ensures stopped { IfErr result (λ e. (e ≡ Stopped) × (self.new.viewer.seen ≡ self.old.viewer.seen)) }
+        ensures begins { IsPrefix self.old.viewer.seen self.new.viewer.seen }
+        ensures same { self.new.accepted ≡ self.old.accepted }
+    {
+        match self.viewer.enter() {
+            Ok(()) => Ok(self.viewer.seen()),
+            Err(_) => Err(LookFault::Stopped),
+        }
+    }
+
+    /// Sees what is shown, and lends the text of this name, with its version, to a function. It takes no lock, no share
+    /// and no memory, and waits for nobody. While the function runs, no entry can be published, so it should be short.
+    ///
+    /// Refused, in this order, and then the function isn't called and nothing more is seen:
+    ///
+    /// - `NoText`, exactly if the opening has no text of that name;
+    /// - `Stopped`.
+    pub fn read<T, F: FnOnce(&Text, u64) -> T>(
+        &mut self,
+        name: &TextName,
+        read: F,
+    ) -> Result<T, LookFault>
+        requires { F.IsAlwaysCallable read }
+        ensures read { IfOk result (λ r. IsRead F.FnOnce read L.opening self.new.viewer.seen name.now r) }
+        ensures shown { OnOk result (self.new.viewer.seen ≡ self.new.viewer.shown) }
+        ensures no_text { IfErr result (λ e. IsLookCause e L.opening name.now) }
+        ensures refused { OnErr result (self.new.viewer.seen ≡ self.old.viewer.seen) }
+        ensures begins { IsPrefix self.old.viewer.seen self.new.viewer.seen }
+        ensures same { self.new.accepted ≡ self.old.accepted }
+    {
+        let Some(place) = self.viewer.opening().place(name) else {
+            return Err(LookFault::NoText);
+        };
+        let Ok(found) = self.viewer.read(place, read) else {
+            return Err(LookFault::Stopped);
+        };
+        let Some(found) = found else {
+            return Err(LookFault::NoText);
+        };
+        Ok(found)
+    }
+
     /// Returns a snapshot of the text of this name as it is shown. It takes no lock and waits for nobody. On `Ok` it is
     /// the text at the place that the name has in the opening, as the entries that the seat has seen now leave it.
     /// These entries begin with all that the seat had seen or was told of.
@@ -54,7 +109,7 @@ impl<L: Naming> Seat<L> {
         ensures gives { GivesSeen result L.opening self.new.viewer.seen name.now }
         ensures begins { IsPrefix self.old.viewer.seen self.new.viewer.seen }
         ensures shown { OnOk result (self.new.viewer.seen ≡ self.new.viewer.shown) }
-        ensures behind { IfErr result (λ e. IsViewAfter e self.old.viewer self.new.viewer) }
+        ensures cause { IfErr result (λ e. IsViewAfter e self.old.viewer self.new.viewer) }
         ensures same { self.new.accepted ≡ self.old.accepted }
     {
         let Some(place) = self.viewer.opening().place(name) else {
@@ -67,6 +122,31 @@ impl<L: Naming> Seat<L> {
         let _ = self.viewer.seen();
         let _ = self.viewer.opening().len();
         Ok(Snapshot::new(Origin::of(&self.viewer), place, version, text))
+    }
+
+    /// Takes a snapshot of the statement's text, and performs the statement on it. It takes no lock and waits for
+    /// nobody. What comes back can be committed by [`Desk::commit`](crate::Desk::commit) through this seat.
+    ///
+    /// On `Ok` the proposal has the statement, and comes from the text of its name as the entries that the seat has seen
+    /// now leave it. These entries begin with all that the seat had seen or was told of.
+    ///
+    /// Refused as [`Seat::snapshot`] and `propose` are: `NoText`, exactly if the opening has no text of the statement's
+    /// name; `Stopped`; `TooManyTrials` and `TextTooLong`, only if performing the statement on that text is refused so;
+    /// `Memory`. No other refusal comes.
+    pub fn propose(
+        &mut self,
+        alloc: Global,
+        statement: &Arc<Statement>,
+    ) -> Result<Proposal, SubmitFault>
+        ensures gives { GivesProposed result L.opening self.new.viewer.seen (arc_value statement.now) }
+        ensures view { IfOk result (λ p. BeginsView p.origin (view_after L.opening self.new.viewer.seen)) }
+        ensures begins { IsPrefix self.old.viewer.seen self.new.viewer.seen }
+        ensures same { self.new.accepted ≡ self.old.accepted }
+    {
+        let snapshot = self.snapshot(statement.text())?;
+        let shared = Arc::try_clone(statement)?;
+        let proposal = propose(alloc, shared, snapshot)?;
+        Ok(proposal)
     }
 
     /// Is told what a table shows, and sees all that is shown. Returns whether it has seen just what the table shows.

@@ -9,7 +9,7 @@ pub enum ViewFault {
     Ended,
     /// The screen shows less than the viewer was told of. No legal run meets this.
     #[error("the screen shows less than was told")]
-    Behind,
+    Older,
     /// Out of memory.
     #[error("out of memory")]
     Memory,

@@ -33,7 +33,7 @@
 //!   `specs/Viewings.antt`) leave a view that is what is shown, and that begins with the old one. [`Viewer::learn`]
 //!   tells a viewer what a table shows. [`Viewer::is_level`] returns whether it has seen just that, and
 //!   [`Viewer::is_within`] whether all that it has seen is shown there.
-//! - **`Behind` and `Memory` have their causes.** `Behind` comes only to a viewer that was told of more than it had
+//! - **`Older` and `Memory` have their causes.** `Older` comes only to a viewer that was told of more than it had
 //!   found shown itself. `Memory` comes only after what is shown was seen. For `Ended` no cause is promised.
 //!
 //! # How to begin
@@ -46,7 +46,7 @@
 //!
 //! - That there is enough memory.
 //! - That a publish returns: it waits for readers that still read what was shown before the last entry.
-//! - That no call is refused as `Ended`, `Behind` or `Stopped`. Tests of `test_desk` run one viewer after one
+//! - That no call is refused as `Ended`, `Older` or `Stopped`. Tests of `test_desk` run one viewer after one
 //!   writer and alongside it.
 #![tactic(auto)]
 

@@ -8,7 +8,7 @@ ghost use Rattle.sno_book.specs.Journals.{Legal};
 ghost use Rattle.sno_book.specs.Openings.{start};
 ghost use Rattle.sno_published.specs.Histories.{GoesOn};
 ghost use Rattle.sno_published.specs.Tables.{text_after, text_at};
-ghost use Rattle.sno_published.specs.Viewings.{IsCause};
+ghost use Rattle.sno_published.specs.Viewings.{GivesLent, IsCause};
 ghost use Rattle.sno_published.specs.declared.faults.ViewFault.TheVariants.{Memory};
 
 use crate::{Front, FullView, Naming, SeenEntries, Table, ViewFault, ViewRule};
@@ -84,20 +84,17 @@ fn share<L: Naming>(table: &Table<L>, place: usize) -> Result<Option<(Arc<Text>,
     }
 }
 
-/// Shares the text at a place, and leaves.
-fn look<L: Naming>(
-    reading: Reading<Table<L>, SeenEntries, ViewRule<L>>,
+/// Lends the text at a place of a table to a function.
+fn lend<L: Naming, T, F: FnOnce(&Text, u64) -> T>(
+    table: &Table<L>,
     place: usize,
-) -> (
-    Reader<Table<L>, SeenEntries, ViewRule<L>>,
-    Result<Option<(Arc<Text>, u64)>, ViewFault>,
-)
-    ensures reader { view result.0.place ≡ view reading.place }
-    ensures found { IfOk result.1 (λ o. option_map (λ t. text_at L.opening place (arc_value t.0) t.1) o ≡ text_after L.opening reading.part.value place) }
-    ensures memory { IfErr result.1 (λ e. e ≡ Memory) }
+    read: F,
+) -> Option<T>
+    requires { F.IsAlwaysCallable read }
+    ensures { GivesLent F.FnOnce read L.opening (text_after L.opening table.now place) place result }
 {
-    let found = share(reading.get(), place);
-    (reading.leave(), found)
+    let (text, version) = table.text(place)?;
+    Some(read(text, version))
 }
 
 /// Enters what is shown, and goes on to it.
@@ -127,7 +124,7 @@ fn begin<L: Naming>(
         return Ok(reading);
     }
     *reader = Some(reading.leave());
-    Err(ViewFault::Behind)
+    Err(ViewFault::Older)
 }
 
 impl<L: Naming> Viewer<L> {
@@ -149,7 +146,7 @@ impl<L: Naming> Viewer<L> {
 
     /// Sees what is shown. It waits for nobody and takes no memory.
     ///
-    /// Refused: `Ended`; `Behind`, only if the viewer was told of more than it had found shown itself. What it has seen
+    /// Refused: `Ended`; `Older`, only if the viewer was told of more than it had found shown itself. What it has seen
     /// is unchanged then.
     pub fn enter(&mut self) -> Result<(), ViewFault>
         ensures begins { IsPrefix self.old.seen self.new.seen }
@@ -161,10 +158,31 @@ impl<L: Naming> Viewer<L> {
         Ok(())
     }
 
+    /// Sees what is shown, and lends the text at a place, from 0, to a function, with its version. `None` past the last
+    /// text. It waits for nobody and takes no memory. While the function runs, no entry can be published.
+    ///
+    /// Refused as by [`Viewer::enter`], and then the function isn't called.
+    pub fn read<T, F: FnOnce(&Text, u64) -> T>(
+        &mut self,
+        place: usize,
+        read: F,
+    ) -> Result<Option<T>, ViewFault>
+        requires { F.IsAlwaysCallable read }
+        ensures begins { IsPrefix self.old.seen self.new.seen }
+        ensures shown { OnOk result (self.new.seen ≡ self.new.shown) }
+        ensures lent { IfOk result (λ o. GivesLent F.FnOnce read L.opening (text_after L.opening self.new.seen place) place o) }
+        ensures refused { IfErr result (λ e. (e ≢ Memory) × IsCause e self.old self.new) }
+    {
+        let reading = begin(&mut self.reader, &mut self.front)?;
+        let found = lend(reading.get(), place, read);
+        self.reader = Some(reading.leave());
+        Ok(found)
+    }
+
     /// Sees what is shown, and returns a share of the text at a place, from 0, with its version. `None` past the last
     /// text. It waits for nobody.
     ///
-    /// Refused, in this order: `Ended` and `Behind` as by [`Viewer::enter`]; `Memory`, and then what is shown was seen.
+    /// Refused, in this order: `Ended` and `Older` as by [`Viewer::enter`]; `Memory`, and then what is shown was seen.
     pub fn text(&mut self, place: usize) -> Result<Option<(Arc<Text>, u64)>, ViewFault>
         ensures begins { IsPrefix self.old.seen self.new.seen }
         ensures shown { OnOk result (self.new.seen ≡ self.new.shown) }
@@ -172,8 +190,8 @@ impl<L: Naming> Viewer<L> {
         ensures refused { IfErr result (λ e. IsCause e self.old self.new) }
     {
         let reading = begin(&mut self.reader, &mut self.front)?;
-        let (outside, found) = look(reading, place);
-        self.reader = Some(outside);
+        let found = share(reading.get(), place);
+        self.reader = Some(reading.leave());
         found
     }
 

@@ -1,15 +1,10 @@
 //! A desk that is opened, and one seat of it that commits and submits.
-ghost use Rattle.std.specs.Prelude.{◌≡◌, [], IfOk, IfErr};
-ghost use Rattle.sno_book.specs.Views.{IsPrefix};
-ghost use Rattle.sno_desk.specs.Seen.{view_after};
+ghost use Rattle.std.specs.Prelude.{◌≡◌, [], IfErr};
 
 use crate::answers::{Answer, check_bytes, check_eq, tell, tell_ready};
 use crate::jobs::{book, check_book, statement};
 use sno_book::Book;
-use sno_desk::{
-    Blank, CommitFault, Desk, DeskFault, Naming, OpenGate, Proposal, Seat, SubmitFault, close,
-    propose,
-};
+use sno_desk::{Blank, CommitFault, Desk, DeskFault, Naming, OpenGate, Seat, SubmitFault, close};
 use sno_statement::Statement;
 use std::alloc::Global;
 use std::marker::Brand;
@@ -84,19 +79,6 @@ trait Turn {
     ) -> Result<Answer, Fail>;
 }
 
-/// The statement proposed on its text as the seat sees it.
-fn proposal<L: Naming>(
-    alloc: Global,
-    seat: &mut Seat<L>,
-    job: &Arc<Statement>,
-) -> Result<Proposal, Fail>
-    ensures { IfOk result (λ p. IsPrefix p.origin (view_after L.opening seat.new.viewer.seen)) }
-{
-    let snapshot = seat.snapshot(job.text())?;
-    let proposal = propose(alloc, Arc::try_clone(job)?, snapshot)?;
-    Ok(proposal)
-}
-
 /// That the seat has accepted so many, and sees its text so.
 fn check_seat<L: Naming>(
     rt: &impl Abort,
@@ -137,7 +119,7 @@ impl Turn for Commits {
         desk: &Desk<L>,
         seat: &mut Seat<L>,
     ) -> Result<Answer, Fail> {
-        let proposal = proposal(alloc, seat, &self.0)?;
+        let proposal = seat.propose(alloc, &self.0)?;
         tell_ready(rt)?;
         let answer = match desk.commit(rt, seat, proposal) {
             Ok(receipt) => {

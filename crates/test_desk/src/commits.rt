@@ -1,5 +1,4 @@
 //! Seats that work by themselves: one overtakes another's proposal, adds entries between two of its own, and sees what nobody told it.
-ghost use Rattle.std.specs.Prelude.{IfOk};
 ghost use Rattle.sno_book.specs.Views.{IsPrefix};
 ghost use Rattle.sno_desk.specs.Seen.{view_after};
 
@@ -9,7 +8,7 @@ use crate::desks::{Work, at_desk};
 use crate::jobs::{book, matching, statement};
 use sno_book::Book;
 use sno_desk::{
-    CommitFault, Desk, Naming, OpenGate, Outcome, Proposal, Seat, SnapshotFault, TextName, propose,
+    CommitFault, Desk, Naming, OpenGate, Outcome, Proposal, Seat, SnapshotFault, TextName,
 };
 use sno_statement::Statement;
 use std::alloc::Global;
@@ -30,19 +29,6 @@ trait Turns {
     ) -> Result<(), Fail>;
 }
 
-/// The statement proposed on its text as the seat sees it.
-fn proposal<L: Naming>(
-    alloc: Global,
-    seat: &mut Seat<L>,
-    job: &Arc<Statement>,
-) -> Result<Proposal, Fail>
-    ensures { IfOk result (λ p. IsPrefix p.origin (view_after L.opening seat.new.viewer.seen)) }
-{
-    let snapshot = seat.snapshot(job.text())?;
-    let proposal = propose(alloc, Arc::try_clone(job)?, snapshot)?;
-    Ok(proposal)
-}
-
 /// The statement proposed and committed. The index of its entry.
 fn commit<L: Naming, R: Wait + Abort>(
     rt: &R,
@@ -51,7 +37,7 @@ fn commit<L: Naming, R: Wait + Abort>(
     seat: &mut Seat<L>,
     job: &Arc<Statement>,
 ) -> Result<usize, Fail> {
-    let proposal = proposal(alloc, seat, job)?;
+    let proposal = seat.propose(alloc, job)?;
     let receipt = desk.commit(rt, seat, proposal).map_err(|(fault, _)| fault)?;
     Ok(receipt.index)
 }
@@ -154,7 +140,7 @@ impl Turns for Overtakes {
         second: &mut Seat<L>,
         third: &mut Seat<L>,
     ) -> Result<(), Fail> {
-        let late = proposal(alloc, second, &self.late)?;
+        let late = second.propose(alloc, &self.late)?;
         check_eq(rt, &late.version(), &0);
         submit_first(rt, alloc, desk, first, &self.first, "x")?;
         check_counts(rt, first, 1, 1);
@@ -205,7 +191,7 @@ impl Turns for Interleaves {
         _third: &mut Seat<L>,
     ) -> Result<(), Fail> {
         check_eq(rt, &commit(rt, alloc, desk, first, &self.first)?, &0);
-        let late = proposal(alloc, first, &self.again)?;
+        let late = first.propose(alloc, &self.again)?;
         check_eq(rt, &late.version(), &1);
         self.add_between(rt, alloc, desk, second)?;
         check_fourth(rt, desk, first, late)?;

@@ -27,6 +27,8 @@ mod jobs;
 #[cfg(test)]
 mod letters;
 #[cfg(test)]
+mod looks;
+#[cfg(test)]
 mod overlap;
 #[cfg(test)]
 mod overtaking;

@@ -13,8 +13,8 @@ returns-in_default-2-clause-gives g c =
     let none : None ≡ text_after g.L.Naming.opening c.text.new.self.seen c.in-Some.place = rw c.in_default-2.is at c.in_ok-text.ensures.found in
     absurd (stays_there g.L.Naming.opening c.text.new.self.seen c.args.name.now c.in-Some.place placed (sym none))
 
-pub returns-in_default-2-clause-behind : goal.returns-in_default-2-clause-behind
-returns-in_default-2-clause-behind g c =
+pub returns-in_default-2-clause-cause : goal.returns-in_default-2-clause-cause
+returns-in_default-2-clause-cause g c =
     let placed : place_in g.L.Naming.opening c.args.name.now ≡ Some c.in-Some.place =
     sym (c.place.ensures ∙ ap (λ (o : Opening). place_in o c.args.name.now) c.opening.ensures) ∙ c.in-Some.is in
     let none : None ≡ text_after g.L.Naming.opening c.text.new.self.seen c.in-Some.place = rw c.in_default-2.is at c.in_ok-text.ensures.found in
