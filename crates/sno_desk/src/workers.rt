@@ -32,6 +32,37 @@ struct Shift<'a, L: Naming, G: Gate> {
 }
 
 impl<L: Naming, G: Gate> Shift<'_, L, G> {
+    /// Submits this job if it is the seat's turn: if no job of another seat is to be passed over first. The reply is
+    /// kept after the others. Returns how many jobs of other seats come before the seat's next one.
+    #[tactic(auto, using(crate::proofs::Turns::goes_one, crate::proofs::Turns::goes_by, crate::proofs::Turns::grown_self, crate::proofs::Turns::grown_by, crate::proofs::Causes::follows))]
+    fn turn<R: Wait>(
+        &self,
+        rt: &R,
+        alloc: Global,
+        seat: &mut Seat<L>,
+        job: &Arc<Statement>,
+        wait: usize,
+        replies: &mut VecDeque<Reply>,
+    ) -> Result<usize, AllocError>
+        ensures goes { IfOk result (λ next. (before : Position) (all jobs : List Job)
+            → Goes (IsSubmitted (G.shuts self.now.gate.now) self.now.tries L.opening L.parts) before (position seat.old.accepted seat.old.viewer.seen) all (every self.now.workers wait (arc_value job.now ∷ jobs)) replies.old.items
+            → Goes (IsSubmitted (G.shuts self.now.gate.now) self.now.tries L.opening L.parts) before (position seat.new.accepted seat.new.viewer.seen) all (every self.now.workers next jobs) replies.new.items) }
+        ensures grown { HasGrown (position seat.old.accepted seat.old.viewer.seen) (position seat.new.accepted seat.new.viewer.seen) }
+    {
+        if wait > 0 {
+            return Ok(wait - 1);
+        }
+        let submission = Submission {
+            desk: self.desk,
+            alloc,
+            statement: job,
+            tries: self.tries,
+            gate: self.gate,
+        };
+        replies.push_back(submission.reply(rt, seat))?;
+        Ok(self.workers - 1)
+    }
+
     /// Submits the jobs of one seat, in order.
     #[tactic(auto, using(crate::proofs::Turns::grown_self, crate::proofs::Turns::grown_on))]
     fn replies<R: Wait>(
@@ -46,15 +77,9 @@ impl<L: Naming, G: Gate> Shift<'_, L, G> {
         ensures grown { HasGrown (position seat.old.accepted seat.old.viewer.seen) (position seat.new.accepted seat.new.viewer.seen) }
     {
         let mut replies = VecDeque::with_capacity(alloc, self.jobs.len().div_ceil(self.workers))?;
-        for place in (first..self.jobs.len()).step_by(self.workers) {
-            let submission = Submission {
-                desk: self.desk,
-                alloc,
-                statement: &self.jobs[place],
-                tries: self.tries,
-                gate: self.gate,
-            };
-            replies.push_back(submission.reply(rt, seat))?;
+        let mut wait = first;
+        for job in self.jobs {
+            wait = self.turn(rt, alloc, seat, job, wait, &mut replies)?;
         }
         Ok(replies)
     }
