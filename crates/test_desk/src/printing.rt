@@ -1,7 +1,10 @@
 //! What each fault prints.
 use crate::compare::check_eq;
 use sno_book::{BookFault, CommitFault as BookRefusal, SnapshotFault as BookMiss};
-use sno_desk::{CloseFault, CommitFault, DeskFault, SnapshotFault, SubmitFault, WorkersFault};
+use sno_desk::{
+    CloseFault, CommitFault, DeskFault, LookFault, SinceFault, SnapshotFault, SubmitFault,
+    WorkersFault,
+};
 use sno_published::ViewFault;
 use std::alloc::Global;
 use std::fmt::Display;
@@ -40,6 +43,15 @@ fn faults_of_submits(rt: HostRuntime) -> Result<(), Fail> {
 }
 
 #[test]
+fn faults_of_looks(rt: HostRuntime) -> Result<(), Fail> {
+    let alloc = rt.alloc();
+    check(&rt, alloc, &LookFault::NoText, "no text")?;
+    check(&rt, alloc, &LookFault::Stopped, "stopped")?;
+    check(&rt, alloc, &SinceFault::Stopped, "stopped")?;
+    check(&rt, alloc, &SinceFault::Memory, "out of memory")
+}
+
+#[test]
 fn faults_of_desks(rt: HostRuntime) -> Result<(), Fail> {
     let alloc = rt.alloc();
     check(&rt, alloc, &SnapshotFault::NoText, "no text")?;
@@ -72,6 +84,6 @@ fn faults_of_viewers(rt: HostRuntime) -> Result<(), Fail> {
     let alloc = rt.alloc();
     let is_less = "the screen shows less than was told";
     check(&rt, alloc, &ViewFault::Ended, "the screen has ended")?;
-    check(&rt, alloc, &ViewFault::Behind, is_less)?;
+    check(&rt, alloc, &ViewFault::Older, is_less)?;
     check(&rt, alloc, &ViewFault::Memory, "out of memory")
 }
