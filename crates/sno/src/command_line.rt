@@ -1,0 +1,118 @@
+//! What the arguments ask for.
+
+use clap::error::ErrorKind;
+use clap::{Arg, ArgAction, ArgMatches, Command, Error};
+use std::alloc::{AllocError, Global};
+
+const ABOUT: &str = "Tools for documents of texts and statements";
+
+const CHECK_ABOUT: &str =
+    "Checks a document without performing it: every fault at once, and what is probably not meant";
+
+const JSON_HELP: &str = "Writes the findings as JSON";
+
+const STRICT_HELP: &str = "Ends with status 1 for warnings too";
+
+const DOCUMENT_HELP: &str = "The file of the document; standard input if it is missing";
+
+const EXAMPLE: &str = "Example: sno check --strict document.json";
+
+const VERSION: &str = "1.0.0";
+
+/// How `sno check` is to be done.
+#[derive(Clone, Copy, Debug, PartialEq, Eq)]
+pub(crate) struct CheckOptions<'a> {
+    /// Whether the findings are written as JSON.
+    pub(crate) json: bool,
+    /// Whether warnings count as errors do.
+    pub(crate) strict: bool,
+    /// The file of the document; standard input if there is none.
+    pub(crate) document: Option<&'a str>,
+}
+
+/// Why the arguments ask for nothing that can be done.
+#[derive(Debug, Drop)]
+pub(crate) enum Stop {
+    /// Help, or the version, was asked for: its text, with a line feed at the end.
+    Help(String),
+    /// The arguments are refused: what is wrong and how the program is used, with a line feed at the end.
+    Usage(String),
+    /// Out of memory.
+    Memory,
+}
+
+fn flag<'a>(alloc: Global, name: &'a str, help: &'a str) -> Arg<'a> {
+    Arg::new(alloc, name)
+        .long(name)
+        .action(ArgAction::SetTrue)
+        .help(help)
+}
+
+fn check_command<'a>(alloc: Global) -> Result<Command<'a>, AllocError> {
+    let document = Arg::new(alloc, "document")
+        .value_name("DOCUMENT")
+        .action(ArgAction::Set)
+        .help(DOCUMENT_HELP);
+    Command::new(alloc, "check")
+        .about(CHECK_ABOUT)
+        .arg(flag(alloc, "json", JSON_HELP))?
+        .arg(flag(alloc, "strict", STRICT_HELP))?
+        .arg(document)
+}
+
+fn program<'a>(alloc: Global) -> Result<Command<'a>, AllocError> {
+    Command::new(alloc, "sno")
+        .no_binary_name(true)
+        .about(ABOUT)
+        .version(VERSION)
+        .after_help(EXAMPLE)
+        .subcommand_required(true)
+        .disable_help_subcommand(true)
+        .subcommand(check_command(alloc)?)
+}
+
+fn options_in<'a>(matches: &ArgMatches<'a>) -> CheckOptions<'a> {
+    CheckOptions {
+        json: matches.get_one::<bool>("json").unwrap_or(false),
+        strict: matches.get_one::<bool>("strict").unwrap_or(false),
+        document: matches.get_str("document"),
+    }
+}
+
+/// What an error of `clap` means, with `clap`'s own text.
+fn stop_of(alloc: Global, error: &Error) -> Stop {
+    let Ok(text) = format!(in alloc; "{error}") else {
+        return Stop::Memory;
+    };
+    match error.kind() {
+        ErrorKind::OutOfMemory => Stop::Memory,
+        ErrorKind::DisplayHelp | ErrorKind::DisplayVersion => Stop::Help(text),
+        _ => Stop::Usage(text),
+    }
+}
+
+fn matches<'a>(alloc: Global, words: &'a [String]) -> Result<ArgMatches<'a>, Error> {
+    let program = program(alloc)?;
+    program.try_get_matches_from(words)
+}
+
+/// The options of `sno check` that the arguments give, which come after the program's name.
+///
+/// Refused with
+///
+/// - `Help` if `--help` or `--version` comes before any fault;
+/// - `Usage` for another first argument than `check`, an argument that is not an option, an option that is given twice,
+///   or a second document;
+/// - `Memory`.
+pub(crate) fn check_options<'a>(
+    alloc: Global,
+    words: &'a [String],
+) -> Result<CheckOptions<'a>, Stop> {
+    match matches(alloc, words) {
+        Ok(matches) => match matches.subcommand_matches("check") {
+            Some(found) => Ok(options_in(found)),
+            None => Ok(options_in(&matches)),
+        },
+        Err(error) => Err(stop_of(alloc, &error)),
+    }
+}

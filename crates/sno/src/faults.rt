@@ -1,0 +1,36 @@
+//! Why nothing was done.
+
+use std::alloc::{AllocError, AllocFailed};
+use thiserror::Error;
+
+/// The status after a fault of the machine.
+pub(crate) const FAILED: u8 = 4;
+
+/// The status after arguments that are refused.
+pub(crate) const MISUSED: u8 = 3;
+
+/// Why nothing was done. Its printed form is the line for standard error.
+#[derive(Clone, Copy, Debug, PartialEq, Eq, Error)]
+pub(crate) enum ProgramFault {
+    /// Out of memory.
+    #[error("out of memory")]
+    Memory,
+    /// The document could not be opened or read.
+    #[error("read failed")]
+    Read,
+    /// The findings could not be written.
+    #[error("write failed")]
+    Write,
+}
+
+impl From<AllocError> for ProgramFault {
+    fn from(_refused: AllocError) -> ProgramFault {
+        ProgramFault::Memory
+    }
+}
+
+impl<T: Drop> From<AllocFailed<T>> for ProgramFault {
+    fn from(_refused: AllocFailed<T>) -> ProgramFault {
+        ProgramFault::Memory
+    }
+}

@@ -1,0 +1,96 @@
+//! From the arguments and the streams of the program to its status.
+
+use crate::checks::run_check;
+use crate::command_line::{Stop, check_options};
+use crate::faults::{FAILED, MISUSED, ProgramFault};
+use crate::streams::write_all;
+use std::alloc::{AllocError, Global};
+use std::env::Args;
+use std::io;
+use std::io::{ErrorKind, Read, Write};
+use std::rt::Files;
+
+const NOT_TEXT: &[u8] = b"error: an argument is not UTF-8\n\nFor more information, try '--help'.\n";
+
+/// The arguments after the program's name.
+fn words_after_name(alloc: Global, words: Args) -> Result<Vec<String>, AllocError> {
+    let mut words = words;
+    let _name = words.next();
+    let mut rest = Vec::new(alloc);
+    for word in words {
+        rest.push(word)?;
+    }
+    Ok(rest)
+}
+
+/// Writes the line of a fault, and returns its status. If the line can't be printed, the status is the same.
+fn report<E: Write>(fault: ProgramFault, errors: &mut E) -> u8 {
+    let _printed = errors.writeln(fault);
+    FAILED
+}
+
+/// Writes help to the output, or how the program is used to `errors`, and returns the status.
+fn explain<W: Write, E: Write>(stop: &Stop, output: &mut W, errors: &mut E) -> u8 {
+    match stop {
+        Stop::Help(text) => match write_all(output, text.as_bytes()) {
+            Ok(()) => 0,
+            Err(fault) => report(fault, errors),
+        },
+        Stop::Usage(text) => {
+            let _printed = write_all(errors, text.as_bytes());
+            MISUSED
+        }
+        Stop::Memory => report(ProgramFault::Memory, errors),
+    }
+}
+
+/// Why there are no arguments.
+fn refuse_words<E: Write>(error: &io::Error, errors: &mut E) -> u8 {
+    match error.kind() {
+        ErrorKind::OutOfMemory => report(ProgramFault::Memory, errors),
+        _ => {
+            let _printed = write_all(errors, NOT_TEXT);
+            MISUSED
+        }
+    }
+}
+
+fn run_words<R: Files, I: Read, W: Write, E: Write>(
+    rt: &R,
+    alloc: Global,
+    words: &[String],
+    input: &mut I,
+    output: &mut W,
+    errors: &mut E,
+) -> u8 {
+    match check_options(alloc, words) {
+        Ok(options) => match run_check(rt, alloc, &options, input, output) {
+            Ok(status) => status,
+            Err(fault) => report(fault, errors),
+        },
+        Err(stop) => explain(&stop, output, errors),
+    }
+}
+
+/// Runs the program, and returns the status with which it ends. The first argument is the program's name.
+///
+/// - If the arguments ask for help or the version, it goes to `output`. The status is 0, or 4 if it can't be printed.
+/// - If they are refused, or one of them is not a text, `errors` says how the program is used, and the status is 3.
+/// - Otherwise the status is that of the check, 0 or 1. If it has a fault, the line of the fault goes to `errors`, and
+///   the status is 4, even if the line can't be printed.
+pub(crate) fn run<R: Files, I: Read, W: Write, E: Write>(
+    rt: &R,
+    alloc: Global,
+    words: io::Result<Args>,
+    input: &mut I,
+    output: &mut W,
+    errors: &mut E,
+) -> u8 {
+    match words {
+        Ok(words) => match words_after_name(alloc, words) {
+            Ok(words) => run_words(rt, alloc, &words, input, output, errors),
+            Err(_) => report(ProgramFault::Memory, errors),
+        },
+        Err(error) => refuse_words(&error, errors),
+    }
+}

@@ -1,0 +1,47 @@
+//! Bytes from a reader and to a writer.
+
+use crate::faults::ProgramFault;
+use std::alloc::Global;
+use std::io::{Read, Write};
+
+const PIECE: usize = 4_096;
+
+/// Adds at most one piece of the reader after the bytes already read, and returns whether the end was not reached.
+fn read_piece<R: Read>(reader: &mut R, bytes: &mut Vec<u8>) -> Result<bool, ProgramFault> {
+    let mut piece = [0; PIECE];
+    match reader.read(&mut piece) {
+        Ok(count) => {
+            bytes.extend_from_slice(&piece[..count])?;
+            Ok(count > 0)
+        }
+        Err(_) => Err(ProgramFault::Read),
+    }
+}
+
+/// The bytes of the reader up to its end, or only the first ones if there are more than `most`: then more than `most` of
+/// them. `Read` if a read fails, even if it was only interrupted.
+pub(crate) fn read_up_to<R: Read>(
+    alloc: Global,
+    reader: &mut R,
+    most: usize,
+) -> Result<Vec<u8>, ProgramFault> {
+    let mut bytes = Vec::new(alloc);
+    for _ in 0..u64::MAX {
+        if bytes.len() > most || !read_piece(reader, &mut bytes)? {
+            break;
+        }
+    }
+    Ok(bytes)
+}
+
+/// Writes all bytes. `Write` if a write fails, even if it was only interrupted, or takes no byte.
+pub(crate) fn write_all<W: Write>(writer: &mut W, bytes: &[u8]) -> Result<(), ProgramFault> {
+    let mut rest = bytes;
+    while !rest.is_empty() {
+        match writer.write(rest) {
+            Ok(0) | Err(_) => return Err(ProgramFault::Write),
+            Ok(count) => rest = rest.split_at(count).1,
+        }
+    }
+    Ok(())
+}

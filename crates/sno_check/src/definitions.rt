@@ -1,0 +1,52 @@
+//! The definitions of a document.
+
+use crate::advice::advice_of;
+use crate::collector::Collector;
+use crate::expressions::{Whose, pattern_in};
+use crate::rows::Pair;
+use crate::vocabulary::{Vocabulary, checked_rows, vocabulary_of};
+use sno_document::DocumentFault;
+use sno_pattern::{MAX_DEFINITIONS, Pattern};
+use std::alloc::AllocError;
+
+/// The definitions of a document.
+#[derive(Drop)]
+pub(crate) struct Definitions<'t> {
+    pub(crate) vocabulary: Vocabulary<'t>,
+    /// The pattern of each definition, if it can be read.
+    pub(crate) bodies: Vec<Option<Pattern>>,
+}
+
+fn bodies_of(
+    findings: &mut Collector,
+    vocabulary: &Vocabulary<'_>,
+    rows: &[Pair<'_>],
+) -> Result<Vec<Option<Pattern>>, AllocError> {
+    let mut bodies = Vec::new(findings.alloc);
+    for (place, row) in rows.iter().enumerate() {
+        let mut body = None;
+        if let Some(written) = row.content {
+            let whose = Whose::Definition(place.saturating_add(1));
+            body = pattern_in(findings, vocabulary, whose, place, written)?;
+        }
+        bodies.push(body)?;
+    }
+    Ok(bodies)
+}
+
+/// The definitions. Each fault of one is an error, but for cycles of references. `None` if the names can't be used.
+pub(crate) fn check_definitions<'t>(
+    findings: &mut Collector,
+    rows: &[Pair<'t>],
+) -> Result<Option<Definitions<'t>>, AllocError> {
+    if rows.len() > MAX_DEFINITIONS {
+        let fault = DocumentFault::TooManyPatterns;
+        findings.refuse_plainly(fault, advice_of(&fault))?;
+    }
+    let checked = checked_rows(rows);
+    let Some(vocabulary) = vocabulary_of(findings, checked)? else {
+        return Ok(None);
+    };
+    let bodies = bodies_of(findings, &vocabulary, checked)?;
+    Ok(Some(Definitions { vocabulary, bodies }))
+}

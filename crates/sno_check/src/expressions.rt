@@ -1,0 +1,159 @@
+//! Reading patterns and objects, with what to write instead of one that can't be read.
+
+use crate::Place;
+use crate::ascii::text_of;
+use crate::collector::Collector;
+use crate::excerpts::{around, shown};
+use crate::nearest::nearest;
+use crate::reading_advice::{place_of, reading_advice};
+use crate::vocabulary::{RESERVED, Vocabulary};
+use sno_document::DocumentFault;
+use sno_pattern::{Pattern, is_name_char};
+use sno_read::{Object, ReadFault, read_object, read_pattern};
+use std::alloc::{AllocError, Global};
+
+/// Which expression of the document is read. Numbers count from 1.
+#[derive(Clone, Copy, Debug, PartialEq, Eq)]
+pub(crate) enum Whose {
+    /// The pattern of a definition.
+    Definition(usize),
+    /// The pattern of a statement.
+    Pattern(usize),
+    /// The object of a statement.
+    Object(usize),
+}
+
+impl Whose {
+    fn fault(self, fault: ReadFault) -> DocumentFault {
+        match self {
+            Whose::Definition(number) => DocumentFault::PatternRead(number, fault),
+            Whose::Pattern(number) => DocumentFault::StatementPattern(number, fault),
+            Whose::Object(number) => DocumentFault::StatementObject(number, fault),
+        }
+    }
+
+    fn is_object(self) -> bool {
+        matches!(self, Whose::Object(_))
+    }
+
+    /// The part of the document that the expression is in.
+    pub(crate) fn place(self) -> Place {
+        match self {
+            Whose::Definition(number) => Place::Pattern(number),
+            Whose::Pattern(number) | Whose::Object(number) => Place::Statement(number),
+        }
+    }
+
+    /// What the expression is called in a message.
+    pub(crate) fn called(self) -> &'static str {
+        if self.is_object() {
+            "object"
+        } else {
+            "pattern"
+        }
+    }
+}
+
+/// The word that begins after `place` characters.
+fn word_at(written: &str, place: usize) -> &str {
+    let Some(rest) = written.as_bytes().get(place..) else {
+        return "";
+    };
+    let count = rest.iter().take_while(|c| is_name_char(**c)).count();
+    match rest.get(..count) {
+        Some(word) => text_of(word),
+        None => "",
+    }
+}
+
+fn is_written(words: &[&str], word: &str) -> bool {
+    words.iter().any(|other| *other == word)
+}
+
+/// What to write instead of a name that no definition has.
+fn advice_of_unknown(
+    findings: &Collector,
+    vocabulary: &Vocabulary<'_>,
+    word: &str,
+) -> Result<String, AllocError> {
+    let alloc = findings.alloc;
+    if is_written(&vocabulary.words, word) {
+        return format!(in alloc; "this definition comes later: *{word} refers to it");
+    }
+    if findings.has_many() {
+        return String::from_str(alloc, "no definition has this name");
+    }
+    let seen = shown(alloc, word)?;
+    if let Some(meant) = nearest(alloc, word, &vocabulary.words)? {
+        return format!(in alloc; "no definition is called {seen}; did you mean {meant}?");
+    }
+    if let Some(meant) = nearest(alloc, word, &RESERVED)? {
+        return format!(in alloc; "no definition is called {seen}; did you mean {meant}?");
+    }
+    format!(in alloc;
+        "no definition is called {seen}; characters are written in quotes, as '{seen}'"
+    )
+}
+
+/// An expression that can't be read. An unknown name is no fault of its own if a definition's name can't be used.
+fn refuse(
+    findings: &mut Collector,
+    vocabulary: &Vocabulary<'_>,
+    whose: Whose,
+    written: &str,
+    fault: ReadFault,
+) -> Result<(), AllocError> {
+    let alloc = findings.alloc;
+    let place = place_of(&fault);
+    let advice = match fault {
+        ReadFault::Memory => return Err(AllocError),
+        ReadFault::UnknownName(_) => {
+            if !vocabulary.is_whole {
+                return Ok(());
+            }
+            advice_of_unknown(findings, vocabulary, word_at(written, place))?
+        }
+        _ => String::from_str(alloc, reading_advice(whose.is_object(), &fault, written))?,
+    };
+    let excerpt = around(alloc, written, 0, place)?;
+    findings.refuse(whose.fault(fault), Some(excerpt), advice)
+}
+
+/// The pattern that is written, in which plain names refer to the first `earlier` definitions. One that can't be read is
+/// an error.
+pub(crate) fn pattern_in(
+    findings: &mut Collector,
+    vocabulary: &Vocabulary<'_>,
+    whose: Whose,
+    earlier: usize,
+    written: &str,
+) -> Result<Option<Pattern>, AllocError> {
+    match read_pattern(
+        findings.alloc,
+        &vocabulary.names,
+        earlier,
+        written.as_bytes(),
+    ) {
+        Ok(pattern) => Ok(Some(pattern)),
+        Err(fault) => {
+            refuse(findings, vocabulary, whose, written, fault)?;
+            Ok(None)
+        }
+    }
+}
+
+/// The object that is written. One that can't be read is an error.
+pub(crate) fn object_in(
+    findings: &mut Collector,
+    vocabulary: &Vocabulary<'_>,
+    whose: Whose,
+    written: &str,
+) -> Result<Option<Object>, AllocError> {
+    match read_object(findings.alloc, &vocabulary.names, written.as_bytes()) {
+        Ok(object) => Ok(Some(object)),
+        Err(fault) => {
+            refuse(findings, vocabulary, whose, written, fault)?;
+            Ok(None)
+        }
+    }
+}

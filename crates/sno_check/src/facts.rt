@@ -1,0 +1,124 @@
+//! What a pattern assigns, refers to and seeks.
+
+use crate::ascii::text_of;
+use sno_pattern::{Name, Pattern};
+use std::alloc::{AllocError, Global};
+
+/// The bit of a definition in a set of definitions, of which there are at most 64.
+pub(crate) fn bit(number: usize) -> u64 {
+    if number < 64 {
+        1u64 << (number as u32)
+    } else {
+        0
+    }
+}
+
+/// What a pattern says, without what the definitions say to which it refers.
+#[derive(Drop)]
+pub(crate) struct Facts {
+    /// The variables that it assigns.
+    pub(crate) variables: Vec<Name>,
+    /// The definitions to which it refers, a bit for each.
+    pub(crate) references: u64,
+    /// The first of its sets that looks like a range.
+    pub(crate) range: Option<(u8, u8)>,
+    /// The letter after the first backslash of its literals and sets that looks like an escape.
+    pub(crate) escape: Option<u8>,
+}
+
+impl Facts {
+    fn note_characters(&mut self, characters: &[u8]) {
+        if self.escape.is_none() {
+            self.escape = escape_in(characters);
+        }
+    }
+
+    fn note_set(&mut self, members: &[u8]) {
+        self.note_characters(members);
+        if self.range.is_none() {
+            self.range = range_in(members);
+        }
+    }
+
+    fn gather(&mut self, pattern: &Pattern) -> Result<(), AllocError> {
+        match pattern {
+            Pattern::Lit(text) => self.note_characters(text.bytes()),
+            Pattern::AnyOf(set) | Pattern::NoneOf(set) | Pattern::Span(set) | Pattern::Break(set) =>
+                self.note_set(set.members()),
+            Pattern::At(name) => self.variables.push(*name)?,
+            Pattern::Ref(number) => self.references = self.references | bit(*number),
+            Pattern::Seq(first, second) | Pattern::Alt(first, second) => {
+                self.gather(first)?;
+                self.gather(second)?;
+            }
+            Pattern::Arbno(part) => self.gather(part)?,
+            Pattern::Cond(part, name) | Pattern::Imm(part, name) => {
+                self.gather(part)?;
+                self.variables.push(*name)?;
+            }
+            _ => {}
+        }
+        Ok(())
+    }
+}
+
+/// The letter after the first backslash that is followed by n, r or t.
+pub(crate) fn escape_in(characters: &[u8]) -> Option<u8> {
+    let mut previous = b' ';
+    for character in characters {
+        if previous == b'\\' && b"nrt".contains(character) {
+            return Some(*character);
+        }
+        previous = *character;
+    }
+    None
+}
+
+/// Whether all characters from one to the other are letters of one case, or digits, and some lie between them.
+fn spans(first: u8, last: u8) -> bool {
+    let alike = (first.is_ascii_lowercase() && last.is_ascii_lowercase())
+        || (first.is_ascii_uppercase() && last.is_ascii_uppercase())
+        || (first.is_ascii_digit() && last.is_ascii_digit());
+    alike && first < last && last - first > 1
+}
+
+/// The ends of the first range as a regular expression writes one, as `a-z`.
+fn range_in(members: &[u8]) -> Option<(u8, u8)> {
+    let mut before = b' ';
+    let mut previous = b' ';
+    for member in members {
+        if previous == b'-' && spans(before, *member) {
+            return Some((before, *member));
+        }
+        before = previous;
+        previous = *member;
+    }
+    None
+}
+
+/// What the pattern says.
+pub(crate) fn facts_of(alloc: Global, pattern: &Pattern) -> Result<Facts, AllocError> {
+    let mut facts = Facts {
+        variables: Vec::new(alloc),
+        references: 0,
+        range: None,
+        escape: None,
+    };
+    facts.gather(pattern)?;
+    Ok(facts)
+}
+
+/// Whether characters have as a part of them one of the literals of which the pattern is a choice.
+pub(crate) fn has_what_is_sought(pattern: &Pattern, characters: &str) -> bool {
+    match pattern {
+        Pattern::Lit(text) => {
+            let sought = text_of(text.bytes());
+            !sought.is_empty() && characters.contains(sought)
+        }
+        Pattern::Alt(first, second) => {
+            has_what_is_sought(first, characters) || has_what_is_sought(second, characters)
+        }
+        Pattern::Cond(part, _) | Pattern::Imm(part, _) => has_what_is_sought(part, characters),
+        _ => false,
+    }
+}

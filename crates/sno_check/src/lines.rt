@@ -1,0 +1,54 @@
+//! A report in lines.
+
+use crate::{Mistake, Report, Warning};
+use std::alloc::{AllocError, Global};
+
+fn put_blanks(out: &mut String, count: usize) -> Result<(), AllocError> {
+    for _ in 0..count {
+        out.push(' ')?;
+    }
+    Ok(())
+}
+
+fn put_mistake(out: &mut String, mistake: &Mistake) -> Result<(), AllocError> {
+    writeln!(out, "{}", mistake.fault)?;
+    match &mistake.excerpt {
+        Some(excerpt) => {
+            writeln!(out, "    {}", excerpt.shown)?;
+            put_blanks(out, excerpt.column.saturating_add(4))?;
+            writeln!(out, "^ {}", mistake.advice)?;
+        }
+        None => writeln!(out, "    {}", mistake.advice)?,
+    }
+    Ok(())
+}
+
+fn put_warning(out: &mut String, warning: &Warning) -> Result<(), AllocError> {
+    writeln!(out, "{}: warning: {}", warning.place, warning.message)?;
+    Ok(())
+}
+
+fn put_mistakes(out: &mut String, mistakes: &[Mistake]) -> Result<(), AllocError> {
+    for mistake in mistakes {
+        put_mistake(out, mistake)?;
+    }
+    Ok(())
+}
+
+fn put_warnings(out: &mut String, warnings: &[Warning]) -> Result<(), AllocError> {
+    for warning in warnings {
+        put_warning(out, warning)?;
+    }
+    Ok(())
+}
+
+/// The report in lines; no line if nothing was found. An error is the line that `sno_rewrite` writes, then the characters
+/// around its place if it has one, and under the place, marked by `^`, what to write instead. A warning is one line.
+///
+/// Refused only if memory runs out.
+pub fn lines_of(alloc: Global, report: &Report) -> Result<String, AllocError> {
+    let mut out = String::new(alloc);
+    put_mistakes(&mut out, &report.errors)?;
+    put_warnings(&mut out, &report.warnings)?;
+    Ok(out)
+}

@@ -1,0 +1,207 @@
+//! The statements of a document.
+
+use crate::Place;
+use crate::advice::advice_of;
+use crate::collector::Collector;
+use crate::definitions::Definitions;
+use crate::expressions::{Whose, object_in, pattern_in};
+use crate::facts::{Facts, facts_of};
+use crate::reach::{Reach, has};
+use crate::rows::{Row, Rows};
+use crate::texts::{is_name, refuse_name};
+use crate::warnings::{
+    warn_of_facts, warn_of_growth, warn_of_literals, warn_of_missing_text, warn_of_variables,
+};
+use sno_document::DocumentFault;
+use sno_pattern::Pattern;
+use sno_read::Object;
+use std::alloc::AllocError;
+
+const MAX_STATEMENTS: usize = 1_000_000;
+
+const MAX_ROUNDS: u32 = 1_000;
+
+/// What the statements are checked against.
+#[derive(Drop)]
+pub(crate) struct Surroundings<'t> {
+    pub(crate) definitions: Definitions<'t>,
+    pub(crate) reach: Reach,
+    /// The names of the texts, sorted.
+    pub(crate) texts: Vec<&'t str>,
+    /// Whether the document has the member `texts`.
+    pub(crate) has_texts: bool,
+}
+
+/// The name of a statement's text.
+fn check_name<'t>(
+    findings: &mut Collector,
+    surroundings: &Surroundings<'t>,
+    number: usize,
+    row: &Row<'t>,
+) -> Result<(), AllocError> {
+    let Some(name) = row.text else {
+        return Ok(());
+    };
+    if !is_name(findings.alloc, name)? {
+        return refuse_name(findings, DocumentFault::StatementName(number), name);
+    }
+    if !surroundings.has_texts {
+        return Ok(());
+    }
+    warn_of_missing_text(
+        findings,
+        Place::Statement(number),
+        &surroundings.texts,
+        name,
+    )
+}
+
+fn pattern_of<'t>(
+    findings: &mut Collector,
+    surroundings: &Surroundings<'t>,
+    number: usize,
+    row: &Row<'t>,
+) -> Result<Option<Pattern>, AllocError> {
+    let Some(written) = row.pattern else {
+        return Ok(None);
+    };
+    let vocabulary = &surroundings.definitions.vocabulary;
+    let earlier = vocabulary.names.len();
+    pattern_in(
+        findings,
+        vocabulary,
+        Whose::Pattern(number),
+        earlier,
+        written,
+    )
+}
+
+fn object_of<'t>(
+    findings: &mut Collector,
+    surroundings: &Surroundings<'t>,
+    number: usize,
+    row: &Row<'t>,
+) -> Result<Option<Object>, AllocError> {
+    let Some(written) = row.object else {
+        return Ok(None);
+    };
+    let vocabulary = &surroundings.definitions.vocabulary;
+    object_in(findings, vocabulary, Whose::Object(number), written)
+}
+
+/// How often a statement is repeated at most, if its number is one that can be.
+fn rounds_in(written: &str) -> Option<u32> {
+    match written.parse::<u32>() {
+        Ok(rounds) if 1 <= rounds && rounds <= MAX_ROUNDS => Some(rounds),
+        _ => None,
+    }
+}
+
+/// Returns whether the statement is performed more than once.
+fn check_repeat<'t>(
+    findings: &mut Collector,
+    number: usize,
+    row: &Row<'t>,
+) -> Result<bool, AllocError> {
+    let Some(written) = row.repeat else {
+        return Ok(false);
+    };
+    match (row.object, rounds_in(written)) {
+        (Some(_), Some(rounds)) => Ok(rounds > 1),
+        _ => {
+            let fault = DocumentFault::StatementRepeat(number);
+            findings.refuse_plainly(fault, advice_of(&fault))?;
+            Ok(false)
+        }
+    }
+}
+
+/// Warns of what an object probably doesn't mean.
+fn check_object<'t>(
+    findings: &mut Collector,
+    surroundings: &Surroundings<'t>,
+    number: usize,
+    facts: Facts,
+    object: &Object,
+) -> Result<(), AllocError> {
+    warn_of_literals(findings, Whose::Object(number), object)?;
+    let Facts {
+        variables,
+        references,
+        range: _,
+        escape: _,
+    } = facts;
+    let reached = surroundings.reach.from(references);
+    if !surroundings.reach.are_read(reached) {
+        return Ok(());
+    }
+    let mut assigned = variables;
+    surroundings.reach.add_variables(reached, &mut assigned)?;
+    warn_of_variables(findings, Place::Statement(number), &assigned, object)
+}
+
+/// Checks a statement, and returns the definitions to which its pattern refers.
+fn check_statement<'t>(
+    findings: &mut Collector,
+    surroundings: &Surroundings<'t>,
+    number: usize,
+    row: &Row<'t>,
+) -> Result<u64, AllocError> {
+    check_name(findings, surroundings, number, row)?;
+    let pattern = pattern_of(findings, surroundings, number, row)?;
+    let object = object_of(findings, surroundings, number, row)?;
+    let repeats = check_repeat(findings, number, row)?;
+    let Some(pattern) = pattern else {
+        return Ok(u64::MAX);
+    };
+    let facts = facts_of(findings.alloc, &pattern)?;
+    let references = facts.references;
+    warn_of_facts(findings, Whose::Pattern(number), &facts)?;
+    if let Some(object) = object {
+        check_object(findings, surroundings, number, facts, &object)?;
+        if repeats {
+            warn_of_growth(findings, Place::Statement(number), &pattern, &object)?;
+        }
+    }
+    Ok(references)
+}
+
+/// Warns of the definitions that no statement reaches.
+fn warn_of_unused<'t>(
+    findings: &mut Collector,
+    surroundings: &Surroundings<'t>,
+    rows: &Rows<'t>,
+    used: u64,
+) -> Result<(), AllocError> {
+    let reached = surroundings.reach.from(used);
+    for (place, row) in rows.patterns.iter().take(64).enumerate() {
+        if let Some(name) = row.name {
+            if !has(reached, place) {
+                let message = format!(in findings.alloc; "no statement uses '{name}'")?;
+                findings.warn(Place::Pattern(place.saturating_add(1)), message)?;
+            }
+        }
+    }
+    Ok(())
+}
+
+/// Checks the statements. Each fault of one is an error. A definition that none of them uses is a warning, if there are
+/// statements and all their patterns can be read.
+pub(crate) fn check_statements<'t>(
+    findings: &mut Collector,
+    surroundings: &Surroundings<'t>,
+    rows: &Rows<'t>,
+) -> Result<(), AllocError> {
+    if rows.statements.len() > MAX_STATEMENTS {
+        let fault = DocumentFault::TooManyStatements;
+        return findings.refuse_plainly(fault, advice_of(&fault));
+    }
+    let mut used = 0;
+    for (place, row) in rows.statements.iter().enumerate() {
+        used = used | check_statement(findings, surroundings, place.saturating_add(1), row)?;
+    }
+    if rows.statements.is_empty() {
+        return Ok(());
+    }
+    warn_of_unused(findings, surroundings, rows, used)
+}

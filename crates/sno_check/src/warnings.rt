@@ -1,0 +1,176 @@
+//! Warnings of what patterns and objects probably don't mean.
+
+use crate::Place;
+use crate::ascii::text_of;
+use crate::collector::Collector;
+use crate::expressions::Whose;
+use crate::facts::{Facts, escape_in, has_what_is_sought};
+use crate::nearest::nearest;
+use sno_pattern::{Name, Pattern};
+use sno_read::{Object, Part};
+use std::alloc::{AllocError, Global};
+
+fn warn_of_escape(
+    findings: &mut Collector,
+    whose: Whose,
+    escape: Option<u8>,
+) -> Result<(), AllocError> {
+    let Some(letter) = escape else {
+        return Ok(());
+    };
+    let called = whose.called();
+    let letter = char::from(letter);
+    let message = format!(in findings.alloc;
+        "{called}: \\{letter} is a backslash and a letter here; JSON has the character if its string has one backslash"
+    )?;
+    findings.warn(whose.place(), message)
+}
+
+fn warn_of_range(
+    findings: &mut Collector,
+    whose: Whose,
+    range: Option<(u8, u8)>,
+) -> Result<(), AllocError> {
+    let Some((first, last)) = range else {
+        return Ok(());
+    };
+    let first = char::from(first);
+    let last = char::from(last);
+    let message = format!(in findings.alloc;
+        "pattern: {first}-{last} in a set is three characters, not a range; write all of them"
+    )?;
+    findings.warn(whose.place(), message)
+}
+
+/// Warns of what is strange in a pattern itself.
+pub(crate) fn warn_of_facts(
+    findings: &mut Collector,
+    whose: Whose,
+    facts: &Facts,
+) -> Result<(), AllocError> {
+    warn_of_range(findings, whose, facts.range)?;
+    warn_of_escape(findings, whose, facts.escape)
+}
+
+fn words_of<'n>(alloc: Global, names: &'n [Name]) -> Result<Vec<&'n str>, AllocError> {
+    let mut words = Vec::new(alloc);
+    for name in names {
+        words.push(text_of(name.bytes()))?;
+    }
+    Ok(words)
+}
+
+fn is_among(names: &[Name], wanted: &Name) -> bool {
+    for name in names {
+        if name.bytes() == wanted.bytes() {
+            return true;
+        }
+    }
+    false
+}
+
+fn warn_of_variable(
+    findings: &mut Collector,
+    place: Place,
+    assigned: &[Name],
+    variable: &Name,
+) -> Result<(), AllocError> {
+    let alloc = findings.alloc;
+    let word = text_of(variable.bytes());
+    let words = words_of(alloc, assigned)?;
+    let message = match nearest(alloc, word, &words)? {
+        Some(meant) => format!(in alloc;
+            "object: no part of the pattern assigns {word}; did you mean {meant}?"
+        )?,
+        None => format!(in alloc;
+            "object: no part of the pattern assigns {word}, so it is the null string; characters are written in quotes, as '{word}'"
+        )?,
+    };
+    findings.warn(place, message)
+}
+
+/// Warns of each variable of the object that is not assigned, once.
+pub(crate) fn warn_of_variables(
+    findings: &mut Collector,
+    place: Place,
+    assigned: &[Name],
+    object: &Object,
+) -> Result<(), AllocError> {
+    let mut seen = Vec::new(findings.alloc);
+    for part in object.parts() {
+        if let Part::Var(name) = part {
+            if !is_among(assigned, name) && !is_among(&seen, name) {
+                warn_of_variable(findings, place, assigned, name)?;
+                seen.push(*name)?;
+            }
+        }
+    }
+    Ok(())
+}
+
+/// Warns of what looks like an escape in a literal of the object.
+pub(crate) fn warn_of_literals(
+    findings: &mut Collector,
+    whose: Whose,
+    object: &Object,
+) -> Result<(), AllocError> {
+    let mut escape = None;
+    for part in object.parts() {
+        if let Part::Quoted(text) = part {
+            if escape.is_none() {
+                escape = escape_in(text.bytes());
+            }
+        }
+    }
+    warn_of_escape(findings, whose, escape)
+}
+
+fn finds_itself_again(pattern: &Pattern, object: &Object) -> bool {
+    for part in object.parts() {
+        if let Part::Quoted(text) = part {
+            if has_what_is_sought(pattern, text_of(text.bytes())) {
+                return true;
+            }
+        }
+    }
+    false
+}
+
+/// Warns of a repeated statement whose object has what its pattern seeks.
+pub(crate) fn warn_of_growth(
+    findings: &mut Collector,
+    place: Place,
+    pattern: &Pattern,
+    object: &Object,
+) -> Result<(), AllocError> {
+    if !finds_itself_again(pattern, object) {
+        return Ok(());
+    }
+    let message = String::from_str(
+        findings.alloc,
+        "repeat: the object has what the pattern seeks, so each round finds it again",
+    )?;
+    findings.warn(place, message)
+}
+
+/// Warns of a statement whose text the document doesn't have. The names are sorted.
+pub(crate) fn warn_of_missing_text<'t>(
+    findings: &mut Collector,
+    place: Place,
+    names: &[&'t str],
+    name: &'t str,
+) -> Result<(), AllocError> {
+    if names.binary_search(&name).is_ok() {
+        return Ok(());
+    }
+    let alloc = findings.alloc;
+    let mut meant = None;
+    if !findings.has_many() {
+        meant = nearest(alloc, name, names)?;
+    }
+    let message = match meant {
+        Some(meant) => format!(in alloc; "no text is called '{name}'; did you mean '{meant}'?")?,
+        None => format!(in alloc; "no text is called '{name}'")?,
+    };
+    findings.warn(place, message)
+}
