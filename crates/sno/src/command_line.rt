@@ -9,6 +9,9 @@ const ABOUT: &str = "Tools for documents of texts and statements";
 const CHECK_ABOUT: &str =
     "Checks a document without performing it: every fault at once, and what is probably not meant";
 
+// The subcommand's own usage would leave out the program's name.
+const CHECK_USAGE: &str = "sno check [OPTIONS] [DOCUMENT]";
+
 const JSON_HELP: &str = "Writes the findings as JSON";
 
 const STRICT_HELP: &str = "Ends with status 1 for warnings too";
@@ -55,6 +58,7 @@ fn check_command<'a>(alloc: Global) -> Result<Command<'a>, AllocError> {
         .help(DOCUMENT_HELP);
     Command::new(alloc, "check")
         .about(CHECK_ABOUT)
+        .override_usage(CHECK_USAGE)
         .arg(flag(alloc, "json", JSON_HELP))?
         .arg(flag(alloc, "strict", STRICT_HELP))?
         .arg(document)
