@@ -1,4 +1,4 @@
-# Builds and installs sno_rewrite, its manual page, its completions and its library. `make help` says more.
+# Builds and installs sno_rewrite with its completions and its library, sno, and their manual pages. `make help` says more.
 
 PREFIX ?= /usr/local
 DESTDIR ?=
@@ -12,10 +12,12 @@ INSTALL_PROGRAM = $(INSTALL) -m 755
 INSTALL_DATA = $(INSTALL) -m 644
 
 PROGRAM ?= crates/sno_rewrite_main/out/sno_rewrite_main
+SNO ?= crates/sno/out/sno
 LIBRARY_DIR ?= embed/out
 
 VERSION := $(shell cat VERSION)
 PAGE = $(MANDIR)/man1/sno_rewrite.1
+SNO_PAGE = $(MANDIR)/man1/sno.1
 BASH_COMPLETION = $(DATADIR)/bash-completion/completions/sno_rewrite
 ZSH_COMPLETION = $(DATADIR)/zsh/site-functions/_sno_rewrite
 FISH_COMPLETION = $(DATADIR)/fish/vendor_completions.d/sno_rewrite.fish
@@ -41,13 +43,14 @@ Cflags: -I$${includedir}
 endef
 export PKG_CONFIG_TEXT
 
-.PHONY: all program library install install-program install-library uninstall check help need-program need-library
+.PHONY: all program library install install-program install-sno install-library uninstall check help need-program need-library
 
 all: program library
 
 program:
-	@echo "make: proving and building the program by tools/prove program; the first time takes long"
+	@echo "make: proving and building the programs by tools/prove program and tools/prove sno; the first time takes long"
 	tools/prove program
+	tools/prove sno
 
 library:
 	@echo "make: proving and building the library by tools/prove library and embed/build; the first time takes long"
@@ -77,9 +80,20 @@ install-program: need-program
 	$(INSTALL_PROGRAM) "$(PROGRAM)" "$(DESTDIR)$(BINDIR)/sno_rewrite"
 	sed 's/@VERSION@/$(VERSION)/' docs/man/sno_rewrite.1 > "$(DESTDIR)$(PAGE)"
 	chmod 644 "$(DESTDIR)$(PAGE)"
+	@if test -x "$(SNO)"; then \
+	    $(MAKE) --no-print-directory install-sno; \
+	else \
+	    echo "make: sno isn't built, so it isn't installed; tools/prove sno makes it"; \
+	fi
 	$(INSTALL_DATA) completions/sno_rewrite.bash "$(DESTDIR)$(BASH_COMPLETION)"
 	$(INSTALL_DATA) completions/_sno_rewrite "$(DESTDIR)$(ZSH_COMPLETION)"
 	$(INSTALL_DATA) completions/sno_rewrite.fish "$(DESTDIR)$(FISH_COMPLETION)"
+
+install-sno:
+	$(INSTALL) -d "$(DESTDIR)$(BINDIR)" "$(DESTDIR)$(dir $(SNO_PAGE))"
+	$(INSTALL_PROGRAM) "$(SNO)" "$(DESTDIR)$(BINDIR)/sno"
+	sed 's/@VERSION@/$(VERSION)/' docs/man/sno.1 > "$(DESTDIR)$(SNO_PAGE)"
+	chmod 644 "$(DESTDIR)$(SNO_PAGE)"
 
 install-library: need-library
 	$(INSTALL) -d "$(DESTDIR)$(INCLUDEDIR)" "$(DESTDIR)$(LIBDIR)" "$(DESTDIR)$(dir $(PKG_CONFIG_FILE))"
@@ -91,7 +105,7 @@ install-library: need-library
 	chmod 644 "$(DESTDIR)$(PKG_CONFIG_FILE)"
 
 uninstall:
-	rm -f "$(DESTDIR)$(BINDIR)/sno_rewrite" "$(DESTDIR)$(PAGE)" "$(DESTDIR)$(BASH_COMPLETION)" \
+	rm -f "$(DESTDIR)$(BINDIR)/sno_rewrite" "$(DESTDIR)$(BINDIR)/sno" "$(DESTDIR)$(PAGE)" "$(DESTDIR)$(SNO_PAGE)" "$(DESTDIR)$(BASH_COMPLETION)" \
 	    "$(DESTDIR)$(ZSH_COMPLETION)" "$(DESTDIR)$(FISH_COMPLETION)" "$(DESTDIR)$(HEADER)" "$(DESTDIR)$(ARCHIVE)" \
 	    "$(DESTDIR)$(SHARED)" "$(DESTDIR)$(LINK)" "$(DESTDIR)$(PKG_CONFIG_FILE)"
 
@@ -101,14 +115,16 @@ check: need-program
 	tests/installed "$(abspath $(PROGRAM))"
 
 help:
-	@echo "make                  proves and builds the program and the library"
-	@echo "make program          the program alone, by tools/prove program"
+	@echo "make                  proves and builds the programs and the library"
+	@echo "make program          the programs alone, by tools/prove program and tools/prove sno"
 	@echo "make library          the library alone, by tools/prove library and embed/build"
-	@echo "make install          installs the program, and the library if it is built"
-	@echo "make install-program  the program, its manual page and its completions"
+	@echo "make install          installs the program, and sno and the library if they are built"
+	@echo "make install-program  the program, its manual page and its completions; sno if it is built"
+	@echo "make install-sno      sno and its manual page"
 	@echo "make install-library  the header, the static and the shared library and the file for pkg-config"
 	@echo "make uninstall        removes all of that again"
 	@echo "make check            runs the examples and the tests of the schema and of the installed files"
 	@echo
 	@echo "Variables: PREFIX=$(PREFIX), DESTDIR, BINDIR, LIBDIR, INCLUDEDIR, DATADIR, MANDIR, INSTALL,"
-	@echo "PROGRAM=$(PROGRAM), LIBRARY_DIR=$(LIBRARY_DIR)"
+	@echo "PROGRAM=$(PROGRAM), SNO=$(SNO),"
+	@echo "LIBRARY_DIR=$(LIBRARY_DIR)"
