@@ -59,6 +59,7 @@ fn check_command<'a>(alloc: Global) -> Result<Command<'a>, AllocError> {
     Command::new(alloc, "check")
         .about(CHECK_ABOUT)
         .override_usage(CHECK_USAGE)
+        .after_help(EXAMPLE)
         .arg(flag(alloc, "json", JSON_HELP))?
         .arg(flag(alloc, "strict", STRICT_HELP))?
         .arg(document)

@@ -2,6 +2,7 @@
 
 use crate::advice::advice_of;
 use crate::collector::Collector;
+use crate::cycles::check_cycles;
 use crate::expressions::{Whose, pattern_in};
 use crate::rows::Pair;
 use crate::vocabulary::{Vocabulary, checked_rows, vocabulary_of};
@@ -34,7 +35,8 @@ fn bodies_of(
     Ok(bodies)
 }
 
-/// The definitions. Each fault of one is an error, but for cycles of references. `None` if the names can't be used.
+/// The definitions. Each fault of one is an error, and so is a cycle of references if all definitions can be read. `None` if
+/// the names can't be used.
 pub(crate) fn check_definitions<'t>(
     findings: &mut Collector,
     rows: &[Pair<'t>],
@@ -48,5 +50,9 @@ pub(crate) fn check_definitions<'t>(
         return Ok(None);
     };
     let bodies = bodies_of(findings, &vocabulary, checked)?;
+    // Of too many definitions only the first ones are read.
+    if checked.len() == rows.len() {
+        check_cycles(findings, &vocabulary, checked)?;
+    }
     Ok(Some(Definitions { vocabulary, bodies }))
 }

@@ -43,7 +43,7 @@ pub(crate) fn position_of(text: &str, place: usize) -> Position {
 }
 
 fn printable(character: char) -> char {
-    if character.is_control() {
+    if character.is_control() || character == '\u{FEFF}' {
         '?'
     } else {
         character

@@ -24,6 +24,8 @@ pub(crate) struct Facts {
     pub(crate) range: Option<(u8, u8)>,
     /// The letter after the first backslash of its literals and sets that looks like an escape.
     pub(crate) escape: Option<u8>,
+    /// Whether an `ARBNO` in it repeats another `ARBNO`.
+    pub(crate) repeats_rounds: bool,
 }
 
 impl Facts {
@@ -40,6 +42,12 @@ impl Facts {
         }
     }
 
+    fn note_repeated(&mut self, part: &Pattern) {
+        if let Pattern::Arbno(_) = part {
+            self.repeats_rounds = true;
+        }
+    }
+
     fn gather(&mut self, pattern: &Pattern) -> Result<(), AllocError> {
         match pattern {
             Pattern::Lit(text) => self.note_characters(text.bytes()),
@@ -51,7 +59,10 @@ impl Facts {
                 self.gather(first)?;
                 self.gather(second)?;
             }
-            Pattern::Arbno(part) => self.gather(part)?,
+            Pattern::Arbno(part) => {
+                self.note_repeated(part);
+                self.gather(part)?;
+            }
             Pattern::Cond(part, name) | Pattern::Imm(part, name) => {
                 self.gather(part)?;
                 self.variables.push(*name)?;
@@ -103,6 +114,7 @@ pub(crate) fn facts_of(alloc: Global, pattern: &Pattern) -> Result<Facts, AllocE
         references: 0,
         range: None,
         escape: None,
+        repeats_rounds: false,
     };
     facts.gather(pattern)?;
     Ok(facts)

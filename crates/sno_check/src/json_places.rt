@@ -7,6 +7,8 @@ use json::{Reader, Scratch, Token};
 use sno_document::DocumentFault;
 use std::alloc::{AllocError, Global};
 
+const BYTE_ORDER_MARK: &[u8] = b"\xEF\xBB\xBF";
+
 /// Where a text stops being JSON.
 #[derive(Clone, Copy)]
 struct Trouble {
@@ -95,6 +97,10 @@ fn lexeme_trouble(bytes: &[u8], offset: usize, due: Due) -> Trouble {
     let before = sign_before(bytes, offset);
     match bytes.get(offset) {
         Some(b'"') if opens(before) => string_trouble(bytes, offset),
+        Some(_) if offset == 0 && bytes.starts_with(BYTE_ORDER_MARK) => Trouble {
+            offset,
+            wanted: "the file begins with a byte order mark (U+FEFF); save it without",
+        },
         Some(byte) => Trouble {
             offset,
             wanted: wanted_for(*byte, before, due),

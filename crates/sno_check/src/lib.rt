@@ -12,6 +12,7 @@
 //! | `json_walk`, `json_places` | where bytes stop being JSON, and what is wanted there |
 //! | `rows`, `members` | the document as it is written, with wrong shapes; unknown and repeated members |
 //! | `vocabulary`, `definitions`, `texts`, `statements` | the faults of each part, found independently |
+//! | `cycles` | definitions that refer to one another in a cycle |
 //! | `expressions` | patterns and objects that can't be read |
 //! | `facts`, `reach`, `warnings` | what patterns say, and what is probably not meant |
 //! | `lines`, `json_lines` | `lines_of` and `json_of`: a report in lines and as JSON |
@@ -22,6 +23,7 @@ mod advice;
 mod ascii;
 mod checking;
 mod collector;
+mod cycles;
 mod definitions;
 mod excerpts;
 mod expressions;

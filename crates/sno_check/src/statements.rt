@@ -130,6 +130,7 @@ fn check_object<'t>(
         references,
         range: _,
         escape: _,
+        repeats_rounds: _,
     } = facts;
     let reached = surroundings.reach.from(references);
     if !surroundings.reach.are_read(reached) {

@@ -42,6 +42,21 @@ fn warn_of_range(
     findings.warn(whose.place(), message)
 }
 
+fn warn_of_rounds(
+    findings: &mut Collector,
+    whose: Whose,
+    repeats_rounds: bool,
+) -> Result<(), AllocError> {
+    if !repeats_rounds {
+        return Ok(());
+    }
+    let message = String::from_str(
+        findings.alloc,
+        "pattern: ARBNO in ARBNO tries each way to divide the text into rounds within rounds; write one ARBNO",
+    )?;
+    findings.warn(whose.place(), message)
+}
+
 /// Warns of what is strange in a pattern itself.
 pub(crate) fn warn_of_facts(
     findings: &mut Collector,
@@ -49,7 +64,8 @@ pub(crate) fn warn_of_facts(
     facts: &Facts,
 ) -> Result<(), AllocError> {
     warn_of_range(findings, whose, facts.range)?;
-    warn_of_escape(findings, whose, facts.escape)
+    warn_of_escape(findings, whose, facts.escape)?;
+    warn_of_rounds(findings, whose, facts.repeats_rounds)
 }
 
 fn words_of<'n>(alloc: Global, names: &'n [Name]) -> Result<Vec<&'n str>, AllocError> {
