@@ -1,4 +1,4 @@
-# Builds and installs sno_rewrite with its completions and its library, sno, and their manual pages. `make help` says more.
+# Builds and installs sno_rewrite with its library, sno, and their manual pages and completions. `make help` says more.
 
 PREFIX ?= /usr/local
 DESTDIR ?=
@@ -21,6 +21,9 @@ SNO_PAGE = $(MANDIR)/man1/sno.1
 BASH_COMPLETION = $(DATADIR)/bash-completion/completions/sno_rewrite
 ZSH_COMPLETION = $(DATADIR)/zsh/site-functions/_sno_rewrite
 FISH_COMPLETION = $(DATADIR)/fish/vendor_completions.d/sno_rewrite.fish
+SNO_BASH_COMPLETION = $(DATADIR)/bash-completion/completions/sno
+SNO_ZSH_COMPLETION = $(DATADIR)/zsh/site-functions/_sno
+SNO_FISH_COMPLETION = $(DATADIR)/fish/vendor_completions.d/sno.fish
 HEADER = $(INCLUDEDIR)/sno_rewrite.h
 ARCHIVE = $(LIBDIR)/libsno_rewrite.a
 SHARED = $(LIBDIR)/libsno_rewrite.so.1
@@ -90,10 +93,14 @@ install-program: need-program
 	$(INSTALL_DATA) completions/sno_rewrite.fish "$(DESTDIR)$(FISH_COMPLETION)"
 
 install-sno:
-	$(INSTALL) -d "$(DESTDIR)$(BINDIR)" "$(DESTDIR)$(dir $(SNO_PAGE))"
+	$(INSTALL) -d "$(DESTDIR)$(BINDIR)" "$(DESTDIR)$(dir $(SNO_PAGE))" "$(DESTDIR)$(dir $(SNO_BASH_COMPLETION))" \
+	    "$(DESTDIR)$(dir $(SNO_ZSH_COMPLETION))" "$(DESTDIR)$(dir $(SNO_FISH_COMPLETION))"
 	$(INSTALL_PROGRAM) "$(SNO)" "$(DESTDIR)$(BINDIR)/sno"
 	sed 's/@VERSION@/$(VERSION)/' docs/man/sno.1 > "$(DESTDIR)$(SNO_PAGE)"
 	chmod 644 "$(DESTDIR)$(SNO_PAGE)"
+	$(INSTALL_DATA) completions/sno.bash "$(DESTDIR)$(SNO_BASH_COMPLETION)"
+	$(INSTALL_DATA) completions/_sno "$(DESTDIR)$(SNO_ZSH_COMPLETION)"
+	$(INSTALL_DATA) completions/sno.fish "$(DESTDIR)$(SNO_FISH_COMPLETION)"
 
 install-library: need-library
 	$(INSTALL) -d "$(DESTDIR)$(INCLUDEDIR)" "$(DESTDIR)$(LIBDIR)" "$(DESTDIR)$(dir $(PKG_CONFIG_FILE))"
@@ -106,7 +113,8 @@ install-library: need-library
 
 uninstall:
 	rm -f "$(DESTDIR)$(BINDIR)/sno_rewrite" "$(DESTDIR)$(BINDIR)/sno" "$(DESTDIR)$(PAGE)" "$(DESTDIR)$(SNO_PAGE)" "$(DESTDIR)$(BASH_COMPLETION)" \
-	    "$(DESTDIR)$(ZSH_COMPLETION)" "$(DESTDIR)$(FISH_COMPLETION)" "$(DESTDIR)$(HEADER)" "$(DESTDIR)$(ARCHIVE)" \
+	    "$(DESTDIR)$(ZSH_COMPLETION)" "$(DESTDIR)$(FISH_COMPLETION)" "$(DESTDIR)$(SNO_BASH_COMPLETION)" \
+	    "$(DESTDIR)$(SNO_ZSH_COMPLETION)" "$(DESTDIR)$(SNO_FISH_COMPLETION)" "$(DESTDIR)$(HEADER)" "$(DESTDIR)$(ARCHIVE)" \
 	    "$(DESTDIR)$(SHARED)" "$(DESTDIR)$(LINK)" "$(DESTDIR)$(PKG_CONFIG_FILE)"
 
 check: need-program
@@ -120,7 +128,7 @@ help:
 	@echo "make library          the library alone, by tools/prove library and embed/build"
 	@echo "make install          installs the program, and sno and the library if they are built"
 	@echo "make install-program  the program, its manual page and its completions; sno if it is built"
-	@echo "make install-sno      sno and its manual page"
+	@echo "make install-sno      sno, its manual page and its completions"
 	@echo "make install-library  the header, the static and the shared library and the file for pkg-config"
 	@echo "make uninstall        removes all of that again"
 	@echo "make check            runs the examples and the tests of the schema and of the installed files"

@@ -11,7 +11,7 @@ use std::io::{Read, Write};
 use std::rt::Files;
 
 /// The bytes of the document that is named, or of the input; of one that is too long only the first.
-fn document_bytes<R: Files, I: Read>(
+pub(crate) fn document_bytes<R: Files, I: Read>(
     rt: &R,
     alloc: Global,
     input: &mut I,

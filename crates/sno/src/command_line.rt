@@ -1,5 +1,7 @@
 //! What the arguments ask for.
 
+use crate::edit_options::{EditOptions, edit_command, edit_options};
+use crate::trace_command::{OUT_OF_RANGE, TraceOptions, trace_command, trace_options_in};
 use clap::error::ErrorKind;
 use clap::{Arg, ArgAction, ArgMatches, Command, Error};
 use std::alloc::{AllocError, Global};
@@ -31,6 +33,22 @@ pub(crate) struct CheckOptions<'a> {
     pub(crate) strict: bool,
     /// The file of the document; standard input if there is none.
     pub(crate) document: Option<&'a str>,
+}
+
+/// What is to be done.
+#[derive(Drop)]
+pub(crate) enum Request<'a> {
+    /// A document is to be checked.
+    Check(CheckOptions<'a>),
+    /// Files are to be edited.
+    Edit {
+        /// How it is to be done.
+        options: EditOptions<'a>,
+        /// The files.
+        paths: Vec<&'a str>,
+    },
+    /// A match is to be traced.
+    Trace(TraceOptions<'a>),
 }
 
 /// Why the arguments ask for nothing that can be done.
@@ -73,7 +91,9 @@ fn program<'a>(alloc: Global) -> Result<Command<'a>, AllocError> {
         .after_help(EXAMPLE)
         .subcommand_required(true)
         .disable_help_subcommand(true)
-        .subcommand(check_command(alloc)?)
+        .subcommand(check_command(alloc)?)?
+        .subcommand(edit_command(alloc)?)?
+        .subcommand(trace_command(alloc)?)
 }
 
 fn options_in<'a>(matches: &ArgMatches<'a>) -> CheckOptions<'a> {
@@ -101,23 +121,49 @@ fn matches<'a>(alloc: Global, words: &'a [String]) -> Result<ArgMatches<'a>, Err
     program.try_get_matches_from(words)
 }
 
-/// The options of `sno check` that the arguments give, which come after the program's name.
+/// What is found under a subcommand.
+fn request_in<'a>(alloc: Global, matches: &ArgMatches<'a>) -> Result<Request<'a>, Stop> {
+    if let Some(found) = matches.subcommand_matches("edit") {
+        let Ok(paths) = Vec::from_slice(alloc, found.get_strs("files").unwrap_or(&[])) else {
+            return Err(Stop::Memory);
+        };
+        return Ok(Request::Edit {
+            options: edit_options(found),
+            paths,
+        });
+    }
+    if let Some(found) = matches.subcommand_matches("trace") {
+        return match trace_options_in(found) {
+            Some(options) => Ok(Request::Trace(options)),
+            None => Err(usage_of_trace(alloc)),
+        };
+    }
+    match matches.subcommand_matches("check") {
+        Some(found) => Ok(Request::Check(options_in(found))),
+        None => Ok(Request::Check(options_in(matches))),
+    }
+}
+
+/// What is wrong with numbers that are out of range.
+fn usage_of_trace(alloc: Global) -> Stop {
+    match format!(in alloc; "{OUT_OF_RANGE}") {
+        Ok(text) => Stop::Usage(text),
+        Err(_) => Stop::Memory,
+    }
+}
+
+/// What the arguments ask for, which come after the program's name.
 ///
 /// Refused with
 ///
 /// - `Help` if `--help` or `--version` comes before any fault;
-/// - `Usage` for another first argument than `check`, an argument that is not an option, an option that is given twice,
-///   or a second document;
+/// - `Usage` for another first argument than `check`, `edit` or `trace`, an argument that is not an option, an option that
+///   is given twice, a number that is not in its range, a second document to be checked or traced, or an edit without rules
+///   and files;
 /// - `Memory`.
-pub(crate) fn check_options<'a>(
-    alloc: Global,
-    words: &'a [String],
-) -> Result<CheckOptions<'a>, Stop> {
+pub(crate) fn asked_for<'a>(alloc: Global, words: &'a [String]) -> Result<Request<'a>, Stop> {
     match matches(alloc, words) {
-        Ok(matches) => match matches.subcommand_matches("check") {
-            Some(found) => Ok(options_in(found)),
-            None => Ok(options_in(&matches)),
-        },
+        Ok(matches) => request_in(alloc, &matches),
         Err(error) => Err(stop_of(alloc, &error)),
     }
 }

@@ -1,4 +1,5 @@
-//! The program `sno`, whose first argument says what it does. `sno check` checks a document.
+//! The program `sno`, whose first argument says what it does: `sno check` checks a document, `sno edit` edits files,
+//! and `sno trace` shows how a match goes.
 //!
 //! | File | What it does |
 //! |---|---|
@@ -6,14 +7,21 @@
 //! | `faults` | why nothing was done, with the line and the status of each reason |
 //! | `streams` | bytes in and out |
 //! | `checks` | `sno check`: a document is checked by `sno_check`, and its report written |
+//! | `edit_options`, `edits`, `disk` | `sno edit`: files are edited by `sno_edit`; the files of the system |
+//! | `trace_command`, `traces` | `sno trace`: its arguments; a statement is matched by `sno_trace`, and the lines written |
 //! | `program` | from the arguments and the streams to the status |
 #![tactic(auto)]
 
 mod checks;
 mod command_line;
+mod disk;
+mod edit_options;
+mod edits;
 mod faults;
 mod program;
 mod streams;
+mod trace_command;
+mod traces;
 
 use std::env;
 use std::process::ExitCode;

@@ -1,16 +1,32 @@
 //! From the arguments and the streams of the program to its status.
 
 use crate::checks::run_check;
-use crate::command_line::{Stop, check_options};
+use crate::command_line::{Request, Stop, asked_for};
+use crate::edits::run_edit;
 use crate::faults::{FAILED, MISUSED, ProgramFault};
 use crate::streams::write_all;
+use crate::traces::run_trace;
+use sno_edit::MAX_TRIALS;
 use std::alloc::{AllocError, Global};
-use std::env::Args;
+use std::env::{Args, FillError};
 use std::io;
-use std::io::{ErrorKind, Read, Write};
-use std::rt::Files;
+use std::io::{ErrorKind, IsTerminal, Read, Write};
+use std::rt::{Env, Files};
 
 const NOT_TEXT: &[u8] = b"error: an argument is not UTF-8\n\nFor more information, try '--help'.\n";
+
+const PAST_LIMITS: &[u8] =
+    b"error: '--trials' takes 1 to 1000000000\n\nFor more information, try '--help'.\n";
+
+/// Whether the variable of the environment is there and isn't empty.
+fn is_set<R: Env>(rt: &R, name: &str) -> bool {
+    let mut start = [0; 1];
+    match rt.var(name, &mut start) {
+        Ok(count) => count > 0,
+        Err(FillError::NotPresent) => false,
+        Err(_) => true,
+    }
+}
 
 /// The arguments after the program's name.
 fn words_after_name(alloc: Global, words: Args) -> Result<Vec<String>, AllocError> {
@@ -55,7 +71,30 @@ fn refuse_words<E: Write>(error: &io::Error, errors: &mut E) -> u8 {
     }
 }
 
-fn run_words<R: Files, I: Read, W: Write, E: Write>(
+/// Does what is asked for, and returns the status.
+fn run_request<R: Files + Env, I: Read, W: Write + IsTerminal, E: Write>(
+    rt: &R,
+    alloc: Global,
+    request: &Request<'_>,
+    input: &mut I,
+    output: &mut W,
+    errors: &mut E,
+) -> Result<u8, ProgramFault> {
+    match request {
+        Request::Check(options) => run_check(rt, alloc, options, input, output),
+        Request::Edit { options, paths } => {
+            if options.trials == 0 || options.trials > MAX_TRIALS {
+                let _printed = write_all(errors, PAST_LIMITS);
+                return Ok(MISUSED);
+            }
+            let coloured = output.is_terminal() && !is_set(rt, "NO_COLOR");
+            run_edit(rt, alloc, options, paths, coloured, input, output, errors)
+        }
+        Request::Trace(options) => run_trace(rt, alloc, options, input, output, errors),
+    }
+}
+
+fn run_words<R: Files + Env, I: Read, W: Write + IsTerminal, E: Write>(
     rt: &R,
     alloc: Global,
     words: &[String],
@@ -63,8 +102,8 @@ fn run_words<R: Files, I: Read, W: Write, E: Write>(
     output: &mut W,
     errors: &mut E,
 ) -> u8 {
-    match check_options(alloc, words) {
-        Ok(options) => match run_check(rt, alloc, &options, input, output) {
+    match asked_for(alloc, words) {
+        Ok(request) => match run_request(rt, alloc, &request, input, output, errors) {
             Ok(status) => status,
             Err(fault) => report(fault, errors),
         },
@@ -76,9 +115,9 @@ fn run_words<R: Files, I: Read, W: Write, E: Write>(
 ///
 /// - If the arguments ask for help or the version, it goes to `output`. The status is 0, or 4 if it can't be printed.
 /// - If they are refused, or one of them is not a text, `errors` says how the program is used, and the status is 3.
-/// - Otherwise the status is that of the check, 0 or 1. If it has a fault, the line of the fault goes to `errors`, and
-///   the status is 4, even if the line can't be printed.
-pub(crate) fn run<R: Files, I: Read, W: Write, E: Write>(
+/// - Otherwise the status is that of the check, the edit or the trace. If that has a fault, the line of the fault goes to
+///   `errors`, and the status is 4, even if the line can't be printed.
+pub(crate) fn run<R: Files + Env, I: Read, W: Write + IsTerminal, E: Write>(
     rt: &R,
     alloc: Global,
     words: io::Result<Args>,

@@ -232,17 +232,11 @@ impl Book {
         ensures accepted { IsAccepted (view_of self.old) (view_of self.new) ready result }
         ensures spare { self.new.spare + 1 ≡ self.old.spare }
     {
-        let Ready {
-            proposal,
-            entry,
-            after,
-            text,
-        } = ready;
         let index = self.journal.len();
-        let place = proposal.place();
-        self.journal.push_reserved(entry);
-        put(&mut self.versioned_texts, place, after);
-        proposal.receipt(index, text)
+        let place = ready.proposal.place();
+        self.journal.push_reserved(ready.entry);
+        put(&mut self.versioned_texts, place, ready.after);
+        ready.proposal.receipt(index, ready.text)
     }
 
     /// Accepts a proposal, as [`Book::prepare`] and then [`Book::finish`] do. Its entry is now the last of the journal.

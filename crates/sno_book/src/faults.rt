@@ -1,4 +1,7 @@
 //! Why a book refuses.
+ghost use Rattle.std.specs.Prelude.{◌≡◌};
+ghost use Rattle.sno_book.specs.declared.faults.BookFault.TheVariants.{Memory};
+
 use std::alloc::{AllocError, AllocFailed};
 use thiserror::Error;
 
@@ -17,9 +20,6 @@ pub enum BookFault {
 }
 
 impl From<AllocError> for BookFault {
-    ghost use Rattle.std.specs.Prelude.{◌≡◌};
-    ghost use Rattle.sno_book.specs.declared.faults.BookFault.TheVariants.{Memory};
-
     ghost from_gives = { λ _ e. e ≡ Memory };
 
     fn from(_refused: AllocError) -> BookFault {
@@ -28,9 +28,6 @@ impl From<AllocError> for BookFault {
 }
 
 impl<T: Drop> From<AllocFailed<T>> for BookFault {
-    ghost use Rattle.std.specs.Prelude.{◌≡◌};
-    ghost use Rattle.sno_book.specs.declared.faults.BookFault.TheVariants.{Memory};
-
     ghost from_gives = { λ _ e. e ≡ Memory };
 
     fn from(_refused: AllocFailed<T>) -> BookFault {

@@ -110,20 +110,14 @@ pub fn propose(
 {
     let outcome = perform(alloc, &statement, &snapshot.text)?;
     let outcome = Arc::new(alloc, outcome)?;
-    let Snapshot {
-        place,
-        version,
-        origin,
-        ..
-    } = snapshot;
     let entry = Entry {
         statement,
-        version,
+        version: snapshot.version,
         outcome,
     };
     Ok(Proposal {
         entry,
-        place,
-        origin,
+        place: snapshot.place,
+        origin: snapshot.origin,
     })
 }

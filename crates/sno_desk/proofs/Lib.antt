@@ -4,3 +4,4 @@ pub mod Crossings
 pub mod OpeningLemmas
 pub mod Turns
 pub mod Viewings
+pub mod Worked

@@ -33,8 +33,7 @@ GivesSeen (Ok taken) opening seen name = IsSeen opening seen name taken
 GivesSeen (Err snapshot.NoText) opening seen name = place_in opening name ≡ None
 GivesSeen (Err fault) opening seen name = place_in opening name ≢ None
 
--- the function was called once with the text of this name and its version, as these entries leave it, and this is its
--- result
+-- the result is one that the function may return for the text of this name and its version, as these entries leave it
 pub record IsRead {F T : Type 0} (calls : Once F (Bor (List ℕ) × (ℕ × Unit {0})) T) (f : F) (opening : Opening) (seen : List Entry) (name : List ℕ) (r : T) : Type 0 where
   pub place : ℕ
   pub named : place_in opening name ≡ Some place

@@ -82,13 +82,8 @@ fn screen_of<L: Naming>(
     ensures total { IfOk result (λ d. d.1.total ≡ 0) }
     ensures rest { IfOk result (λ d. (d.2.parts ≡ L.parts) × (d.2.amount ≡ 0)) }
 {
-    let Blank {
-        ledger,
-        history,
-        attempts,
-    } = blank;
-    let (total, rest) = ledger.open::<L>();
-    let screen = Screen::new(alloc, opening, history, attempts, seats)?;
+    let (total, rest) = blank.ledger.open::<L>();
+    let screen = Screen::new(alloc, opening, blank.history, blank.attempts, seats)?;
     Ok((screen, total, rest))
 }
 

@@ -1,4 +1,10 @@
 //! Why a desk refuses.
+ghost use Rattle.std.specs.Prelude.{◌≡◌};
+ghost use Rattle.sno_desk.specs.Faults.{of_view, of_book, of_snapshot, of_statement, of_commit};
+ghost use Rattle.sno_desk.specs.declared.faults.SinceFault.TheVariants.{Memory as SinceMemory};
+ghost use Rattle.sno_desk.specs.declared.faults.SubmitFault.TheVariants.{Memory as SubmitMemory};
+ghost use Rattle.sno_desk.specs.declared.faults.WorkersFault.TheVariants.{Memory as WorkersMemory};
+
 use sno_book::CommitFault as BookRefusal;
 use sno_published::ViewFault;
 use sno_statement::StatementFault;
@@ -124,6 +130,17 @@ pub enum CloseFault {
     Journal,
 }
 
+/// Why a caller's work at a desk left no closed book. The book comes back.
+#[derive(Clone, Copy, Debug, PartialEq, Eq, Error)]
+pub enum AtDeskFault {
+    /// No desk was made, and nobody has worked.
+    #[error(transparent)]
+    Desk(DeskFault),
+    /// The desk could not be closed as it should. No legal run meets this.
+    #[error(transparent)]
+    Close(CloseFault),
+}
+
 /// Why workers returned no replies. Some jobs may have been accepted then. The desk and its seats are valid.
 #[derive(Clone, Copy, Debug, PartialEq, Eq, Error)]
 pub enum WorkersFault {
@@ -133,9 +150,6 @@ pub enum WorkersFault {
 }
 
 impl From<ViewFault> for SnapshotFault {
-    ghost use Rattle.std.specs.Prelude.{◌≡◌};
-    ghost use Rattle.sno_desk.specs.Faults.{of_view};
-
     ghost from_gives = { λ fault e. e ≡ of_view fault };
 
     fn from(fault: ViewFault) -> SnapshotFault {
@@ -147,10 +161,7 @@ impl From<ViewFault> for SnapshotFault {
 }
 
 impl From<AllocError> for SinceFault {
-    ghost use Rattle.std.specs.Prelude.{◌≡◌};
-    ghost use Rattle.sno_desk.specs.declared.faults.SinceFault.TheVariants.{Memory};
-
-    ghost from_gives = { λ _ e. e ≡ Memory };
+    ghost from_gives = { λ _ e. e ≡ SinceMemory };
 
     fn from(_refused: AllocError) -> SinceFault {
         SinceFault::Memory
@@ -158,10 +169,7 @@ impl From<AllocError> for SinceFault {
 }
 
 impl<T: Drop> From<AllocFailed<T>> for SinceFault {
-    ghost use Rattle.std.specs.Prelude.{◌≡◌};
-    ghost use Rattle.sno_desk.specs.declared.faults.SinceFault.TheVariants.{Memory};
-
-    ghost from_gives = { λ _ e. e ≡ Memory };
+    ghost from_gives = { λ _ e. e ≡ SinceMemory };
 
     fn from(_refused: AllocFailed<T>) -> SinceFault {
         SinceFault::Memory
@@ -169,9 +177,6 @@ impl<T: Drop> From<AllocFailed<T>> for SinceFault {
 }
 
 impl From<BookRefusal> for CommitFault {
-    ghost use Rattle.std.specs.Prelude.{◌≡◌};
-    ghost use Rattle.sno_desk.specs.Faults.{of_book};
-
     ghost from_gives = { λ fault e. e ≡ of_book fault };
 
     fn from(fault: BookRefusal) -> CommitFault {
@@ -185,9 +190,6 @@ impl From<BookRefusal> for CommitFault {
 }
 
 impl From<SnapshotFault> for SubmitFault {
-    ghost use Rattle.std.specs.Prelude.{◌≡◌};
-    ghost use Rattle.sno_desk.specs.Faults.{of_snapshot};
-
     ghost from_gives = { λ fault e. e ≡ of_snapshot fault };
 
     fn from(fault: SnapshotFault) -> SubmitFault {
@@ -200,9 +202,6 @@ impl From<SnapshotFault> for SubmitFault {
 }
 
 impl From<StatementFault> for SubmitFault {
-    ghost use Rattle.std.specs.Prelude.{◌≡◌};
-    ghost use Rattle.sno_desk.specs.Faults.{of_statement};
-
     ghost from_gives = { λ fault e. e ≡ of_statement fault };
 
     fn from(fault: StatementFault) -> SubmitFault {
@@ -215,9 +214,6 @@ impl From<StatementFault> for SubmitFault {
 }
 
 impl From<CommitFault> for SubmitFault {
-    ghost use Rattle.std.specs.Prelude.{◌≡◌};
-    ghost use Rattle.sno_desk.specs.Faults.{of_commit};
-
     ghost from_gives = { λ fault e. e ≡ of_commit fault };
 
     fn from(fault: CommitFault) -> SubmitFault {
@@ -232,10 +228,7 @@ impl From<CommitFault> for SubmitFault {
 }
 
 impl From<AllocError> for SubmitFault {
-    ghost use Rattle.std.specs.Prelude.{◌≡◌};
-    ghost use Rattle.sno_desk.specs.declared.faults.SubmitFault.TheVariants.{Memory};
-
-    ghost from_gives = { λ _ e. e ≡ Memory };
+    ghost from_gives = { λ _ e. e ≡ SubmitMemory };
 
     fn from(_refused: AllocError) -> SubmitFault {
         SubmitFault::Memory
@@ -243,10 +236,7 @@ impl From<AllocError> for SubmitFault {
 }
 
 impl<T: Drop> From<AllocFailed<T>> for WorkersFault {
-    ghost use Rattle.std.specs.Prelude.{◌≡◌};
-    ghost use Rattle.sno_desk.specs.declared.faults.WorkersFault.TheVariants.{Memory};
-
-    ghost from_gives = { λ _ e. e ≡ Memory };
+    ghost from_gives = { λ _ e. e ≡ WorkersMemory };
 
     fn from(_refused: AllocFailed<T>) -> WorkersFault {
         WorkersFault::Memory
@@ -254,10 +244,7 @@ impl<T: Drop> From<AllocFailed<T>> for WorkersFault {
 }
 
 impl From<AllocError> for WorkersFault {
-    ghost use Rattle.std.specs.Prelude.{◌≡◌};
-    ghost use Rattle.sno_desk.specs.declared.faults.WorkersFault.TheVariants.{Memory};
-
-    ghost from_gives = { λ _ e. e ≡ Memory };
+    ghost from_gives = { λ _ e. e ≡ WorkersMemory };
 
     fn from(_refused: AllocError) -> WorkersFault {
         WorkersFault::Memory

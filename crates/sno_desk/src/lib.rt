@@ -49,15 +49,14 @@
 //!
 //! # How to begin
 //!
-//! A desk's type has the names of its ledger, its histories and its opening: `L`. Make a [`Blank`] with as many parts
-//! as you want seats. Do all the work in one function that
+//! Write a type with the trait [`DeskWork`], whose `work` is what each seat does, and call [`at_desk`]
+//! (`src/desk_work.rt`, `specs/Worked.antt`) with a book. It opens the desk, lets each seat work in a thread of its own,
+//! and closes the desk.
 //!
-//! - is generic over `L: Naming` and takes the blank and the book;
-//! - requires that `L` names these two;
-//! - doesn't have `L` in its result.
-//!
-//! Call it with `Brand` for `L`. The crate `test_desk` has such functions. A desk isn't dropped: [`close`] it, or
-//! end it by [`Desk::end`].
+//! For threads of another kind, make a [`Blank`] with as many parts as you want seats, and do all the work in one
+//! function that is generic over `L: Naming`: the desk's type has the names of its ledger, its histories and its opening.
+//! The function requires that `L` names the blank and the book, and has no `L` in its result. Call it with `Brand`
+//! for `L`. A desk isn't dropped: [`close`] it, or end it by [`Desk::end`].
 //!
 //! # What is not promised
 //!
@@ -74,6 +73,7 @@
 
 mod blanks;
 mod desk;
+mod desk_work;
 mod faults;
 mod gates;
 mod locked;
@@ -86,9 +86,10 @@ mod workers;
 
 pub use blanks::Blank;
 pub use desk::{Desk, close};
+pub use desk_work::{DeskWork, at_desk};
 pub use faults::{
-    CloseFault, CommitFault, DeskFault, LookFault, SinceFault, SnapshotFault, SubmitFault,
-    WorkersFault,
+    AtDeskFault, CloseFault, CommitFault, DeskFault, LookFault, SinceFault, SnapshotFault,
+    SubmitFault, WorkersFault,
 };
 pub use gates::{Gate, OpenGate};
 pub use seats::{Reply, Seat};

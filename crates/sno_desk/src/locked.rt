@@ -91,17 +91,12 @@ fn publish<L: Naming, R: Wait>(
     seat.audit(total);
     let screen = match screen.publish(rt, alloc, ready.entry()) {
         Ok(screen) => screen,
-        Err(Unpublished::Memory(screen)) => {
-            return (
-                Shown::Open(screen),
-                Err((CommitFault::Memory, ready.back())),
-            );
-        }
-        Err(Unpublished::Stopped(spent)) => {
-            return (
-                Shown::Stopped(spent),
-                Err((CommitFault::Memory, ready.back())),
-            );
+        Err(unpublished) => {
+            let shown = match unpublished {
+                Unpublished::Memory(screen) => Shown::Open(screen),
+                Unpublished::Stopped(spent) => Shown::Stopped(spent),
+            };
+            return (shown, Err((CommitFault::Memory, ready.back())));
         }
     };
     let receipt = book.finish(ready);

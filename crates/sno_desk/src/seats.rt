@@ -230,8 +230,7 @@ impl<L: Naming> Seat<L> {
         ensures parts { result.parts ≡ 1 }
         ensures amount { result.amount ≡ self.accepted }
     {
-        let Seat { share, .. } = self;
-        share
+        self.share
     }
 }
 

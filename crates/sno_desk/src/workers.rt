@@ -99,7 +99,7 @@ impl<L: Naming, G: Gate> Shift<'_, L, G> {
 
 /// A value of this type may go to another thread, and be shared there. The function does nothing: its contract is used
 /// more than once.
-fn may_cross<T: Send + Sync>()
+pub(crate) fn may_cross<T: Send + Sync>()
     ensures sends { IsSend T.row }
     ensures shares { IsSync T.row }
 {}

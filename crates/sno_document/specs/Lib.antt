@@ -7,3 +7,4 @@ pub mod Document
 pub mod Drafts
 pub mod Reads
 pub mod Laws
+pub mod Rules

@@ -106,17 +106,12 @@ pub(crate) fn admit(alloc: Global, drafted: Drafted) -> Result<Rules, DocumentFa
     requires { IsDrafted drafted }
     ensures { Admits (drafted_seen drafted) result }
 {
-    let Drafted {
-        names,
-        bodies,
-        written,
-    } = drafted;
-    match Rules::admit(alloc, names, bodies) {
+    match Rules::admit(alloc, drafted.names, drafted.bodies) {
         Ok(rules) => Ok(rules),
         Err(RulesFault::Memory) => Err(DocumentFault::Memory),
         Err(RulesFault::BadRef(_)) => unreachable!(),
         Err(RulesFault::Unguarded(cycle)) => match cycle.first() {
-            Some(first) => Err(DocumentFault::Unguarded(written[*first])),
+            Some(first) => Err(DocumentFault::Unguarded(drafted.written[*first])),
             None => unreachable!(),
         },
     }

@@ -3,6 +3,7 @@ ghost use Rattle.std.specs.Prelude.{◌≡◌, map, [], codes};
 ghost use Rattle.sno_document.specs.Faults.{Gives};
 ghost use Rattle.sno_document.specs.Shape.{pair_row, statement_row, each_row, pairs_at, statements_at, arrays_of, rows_of};
 ghost use Rattle.sno_document.specs.Trees.{tree_seen};
+ghost use Rattle.sno_document.specs.Rules.{row_on};
 ghost use Rattle.sno_document.specs.DocumentRows.{pair_seen, statement_seen, rows_seen};
 
 use crate::DocumentFault;
@@ -58,10 +59,13 @@ fn pair_rows<'t>(
     Ok(rows)
 }
 
-fn statement_row<'t>(value: &Value<'t>) -> Result<StatementRow<'t>, DocumentFault>
-    ensures { Gives statement_seen result (statement_row (tree_seen value.now)) }
+/// A statement whose text has this name.
+pub(crate) fn row_on<'t>(
+    value: &Value<'t>,
+    text: &'t str,
+) -> Result<StatementRow<'t>, DocumentFault>
+    ensures { Gives statement_seen result (row_on text.now (tree_seen value.now)) }
 {
-    let text = string_at(value, "text").ok_or(DocumentFault::Shape)?;
     let pattern = string_at(value, "pattern").ok_or(DocumentFault::Shape)?;
     let object = optional_string_at(value, "object").ok_or(DocumentFault::Shape)?;
     let anchored = optional_bool_at(value, "anchored").ok_or(DocumentFault::Shape)?;
@@ -73,6 +77,14 @@ fn statement_row<'t>(value: &Value<'t>) -> Result<StatementRow<'t>, DocumentFaul
         anchored,
         repeat,
     })
+}
+
+fn statement_row<'t>(value: &Value<'t>) -> Result<StatementRow<'t>, DocumentFault>
+    ensures { Gives statement_seen result (statement_row (tree_seen value.now)) }
+{
+    let text = string_at(value, "text").ok_or(DocumentFault::Shape)?;
+    let row = row_on(value, text)?;
+    Ok(row)
 }
 
 fn statement_rows<'t>(
@@ -90,7 +102,7 @@ fn statement_rows<'t>(
 
 /// The rows of an array of pairs; no rows if it is missing.
 #[tactic(auto, unfolding(crate::specs::Shape::pairs_at))]
-fn pairs_at<'t>(
+pub(crate) fn pairs_at<'t>(
     alloc: Global,
     value: &Value<'t>,
     key: &str,

@@ -35,7 +35,7 @@ pub struct Document {
 
 /// What comes after the definitions, once they are admitted.
 #[tactic(auto, unfolding(crate::specs::Document::document_with))]
-fn document_with(
+pub(crate) fn document_with(
     alloc: Global,
     rules: Rules,
     mode: Mode,

@@ -1,5 +1,8 @@
 //! Why bytes are not a document.
 
+ghost use Rattle.std.specs.Prelude.{◌≡◌};
+ghost use Rattle.sno_document.specs.declared.faults.DocumentFault.TheVariants.{Memory};
+
 use sno_pattern::Name;
 use sno_read::ReadFault;
 use std::alloc::{AllocError, AllocFailed};
@@ -71,9 +74,6 @@ pub enum DocumentFault {
 }
 
 impl From<AllocError> for DocumentFault {
-    ghost use Rattle.std.specs.Prelude.{◌≡◌};
-    ghost use Rattle.sno_document.specs.declared.faults.DocumentFault.TheVariants.{Memory};
-
     ghost from_gives = { λ _ e. e ≡ Memory };
 
     fn from(_refused: AllocError) -> DocumentFault {
@@ -82,9 +82,6 @@ impl From<AllocError> for DocumentFault {
 }
 
 impl<T: Drop> From<AllocFailed<T>> for DocumentFault {
-    ghost use Rattle.std.specs.Prelude.{◌≡◌};
-    ghost use Rattle.sno_document.specs.declared.faults.DocumentFault.TheVariants.{Memory};
-
     ghost from_gives = { λ _ e. e ≡ Memory };
 
     fn from(_refused: AllocFailed<T>) -> DocumentFault {

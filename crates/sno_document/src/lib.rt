@@ -3,13 +3,14 @@
 //!
 //! [`read_document`] takes the bytes to a [`Document`], whose texts are in a book, or to the first fault of the bytes,
 //! by `IsDocument` of `specs/Document.antt`. Bytes have only one such result ([`one_answer`]). `DocumentFault::Memory` is a
-//! further result.
+//! further result. [`read_rules`] reads statements without texts, for texts from elsewhere (`IsRules` of `specs/Rules.antt`).
 //!
 //! | File | What it does |
 //! |---|---|
 //! | `faults` | `DocumentFault`, with the line of each |
 //! | `trees`, `members`, `document_rows` | the JSON tree of the bytes; its members; the rows of the document as it is written |
 //! | `definitions`, `texts`, `statements`, `documents` | the checks, in the order of the document |
+//! | `rules` | statements that are read for texts from elsewhere |
 //! | `rounds` | how often a statement is to be repeated |
 //! | `laws` | what follows from the definitions |
 //!
@@ -25,6 +26,7 @@ mod laws;
 mod members;
 mod modes;
 mod rounds;
+mod rules;
 mod statements;
 mod texts;
 mod trees;
@@ -33,6 +35,7 @@ pub use documents::{Document, MAX_DOCUMENT, read_document};
 pub use faults::DocumentFault;
 pub use laws::one_answer;
 pub use modes::Mode;
+pub use rules::read_rules;
 pub use sno_book::Book;
 pub use sno_pattern::{Name, Rules};
 pub use sno_read::ReadFault;

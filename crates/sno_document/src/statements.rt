@@ -104,14 +104,8 @@ fn usual_statement(
     let pattern = pattern(alloc, rules.names(), number, row.pattern)?;
     let object = object(alloc, rules.names(), number, row.object)?;
     let rules = Arc::try_clone(rules)?;
-    Ok(Statement::new(
-        number as u32,
-        rules,
-        pattern,
-        object,
-        name,
-        row.anchored.unwrap_or(anchor),
-    ))
+    let anchored = row.anchored.unwrap_or(anchor);
+    Ok(Statement::new(number as u32, rules, pattern, object, name, anchored))
 }
 
 /// Statement number `number`, by the mode, and repeated if it says so.

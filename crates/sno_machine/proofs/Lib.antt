@@ -12,6 +12,7 @@ pub mod HeadLaws
 pub mod BeginningLaws
 pub mod SeekingLaws
 pub mod StartLaws
+pub mod TableLaws
 pub mod SizeLaws
 pub mod CompileLaws
 pub mod LinkingLaws

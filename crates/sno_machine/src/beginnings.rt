@@ -3,11 +3,13 @@ ghost use Rattle.std.specs.Prelude.{◌≡◌, ◌+◌, ◌≤◌, length, IfOk,
 ghost use Rattle.std.specs.Option.{option_copied};
 ghost use Rattle.sno_pattern.specs.Tree.{tree_of};
 ghost use Rattle.sno_pattern.specs.Beginnings.{first_literal};
-ghost use Rattle.sno_machine.specs.Beginnings.{AreBeginnings, NoneBegin, cost};
+ghost use Rattle.sno_machine.specs.Beginnings.{AreBeginnings, AreHeadsOf, NoneBegin, cost};
 
-use crate::heads::{Head, first_of_heads, heads_of};
+use crate::head_tables::HeadTable;
+use crate::heads::{Head, heads_of};
+use crate::needles::{Needle, together};
 use memchr::memmem::Finder;
-use sno_pattern::{Pattern, Text, a_missing_literal_costs_one_trial};
+use sno_pattern::{Pattern, Rules, Text, a_missing_literal_costs_one_trial};
 use std::alloc::{AllocError, Global};
 
 /// What a match can begin with.
@@ -18,13 +20,19 @@ pub enum Beginnings<'a> {
     /// This literal alone.
     Literal(Finder<'a>),
     /// One of these heads.
-    Heads(Vec<Head<'a>>),
+    Few(Needle<'a>),
+    /// One of the heads of this table.
+    Many(HeadTable),
 }
 
 impl<'a> Beginnings<'a> {
-    /// What a match of the pattern can begin with. Refused only if out of memory.
-    pub fn of(alloc: Global, pattern: &'a Pattern) -> Result<Beginnings<'a>, AllocError>
-        ensures begin { IfOk result (AreBeginnings (tree_of pattern.now)) }
+    /// What a match of the pattern with the definitions can begin with. Refused only if out of memory.
+    pub fn of(
+        alloc: Global,
+        rules: &'a Rules,
+        pattern: &'a Pattern,
+    ) -> Result<Beginnings<'a>, AllocError>
+        ensures begin { IfOk result (AreBeginnings rules.now.bodies (tree_of pattern.now)) }
         ensures few { IfOk result (λ beginnings. cost beginnings ≤ 64) }
     {
         // for the proof
@@ -32,9 +40,20 @@ impl<'a> Beginnings<'a> {
         if let Some(literal) = first_literal(pattern) {
             return Ok(Beginnings::Literal(Finder::new(literal.bytes())));
         }
-        match heads_of(alloc, pattern)? {
+        match heads_of(alloc, rules.bodies(), rules.len(), pattern)? {
             None => Ok(Beginnings::Any),
-            Some(heads) => Ok(Beginnings::Heads(heads)),
+            Some(heads) => Ok(Beginnings::one_of(&heads)),
+        }
+    }
+
+    // One of these heads.
+    fn one_of(heads: &[Head<'a>]) -> Beginnings<'a>
+        ensures begin { AreHeadsOf heads.now result }
+        ensures cost { cost result ≡ length heads.now }
+    {
+        match together(heads) {
+            Some(needle) if needle.is_bytes() => Beginnings::Few(needle),
+            _ => Beginnings::Many(HeadTable::of(heads)),
         }
     }
 
@@ -51,7 +70,8 @@ impl<'a> Beginnings<'a> {
         let passed = match self {
             Beginnings::Any => return Some(start),
             Beginnings::Literal(literal) => literal.find(rest),
-            Beginnings::Heads(heads) => first_of_heads(heads, rest),
+            Beginnings::Few(needle) => needle.first(rest),
+            Beginnings::Many(table) => table.first(rest),
         };
         match passed {
             None => None,
@@ -65,7 +85,8 @@ impl<'a> Beginnings<'a> {
     {
         match self {
             Beginnings::Any | Beginnings::Literal(_) => 1,
-            Beginnings::Heads(heads) => heads.len(),
+            Beginnings::Few(needle) => needle.count(),
+            Beginnings::Many(table) => table.trials,
         }
     }
 }

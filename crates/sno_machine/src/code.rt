@@ -5,6 +5,7 @@ ghost use Rattle.sno_pattern.specs.Results.{enough_depth};
 ghost use Rattle.sno_pattern.specs.Outcome.{outcome, outcome_at, trials};
 ghost use Rattle.sno_machine.specs.declared.faults.MatchFault.TheVariants.{TooManyTrials};
 
+use crate::beginnings::Beginnings;
 use crate::compiling::nodes_of;
 use crate::faults::MatchFault;
 use crate::nodes::Compiled;
@@ -21,6 +22,8 @@ pub struct Code<'a> {
 
 impl<'a> Model for Code<'a> {
     ghost use Rattle.sno_pattern.specs.Tree.{tree_of};
+    ghost use Rattle.std.specs.Prelude.{◌≤◌};
+    ghost use Rattle.sno_machine.specs.Beginnings.{AreBeginnings, cost};
     ghost use Rattle.sno_machine.specs.Code.{IsCompiled};
     ghost use Rattle.sno_machine.specs.Sources.{Source, source_code};
 
@@ -30,7 +33,8 @@ impl<'a> Model for Code<'a> {
 
     ghost view = { λ s. record { bodies = s.compiled.rules.now.bodies; pattern = tree_of s.compiled.pattern.now } };
 
-    ghost invariant = { λ s. IsCompiled s.compiled.rules.now.bodies (tree_of s.compiled.pattern.now) s.compiled.nodes };
+    ghost invariant = { λ s. IsCompiled s.compiled.rules.now.bodies (tree_of s.compiled.pattern.now) s.compiled.nodes
+        × AreBeginnings s.compiled.rules.now.bodies (tree_of s.compiled.pattern.now) s.compiled.beginnings × (cost s.compiled.beginnings ≤ 64) };
 }
 
 /// Compiles the pattern with the definitions. Each reference of the pattern has to be to one of them (`Rules::covers`).
@@ -46,9 +50,11 @@ pub fn compile<'a>(
     ensures { IfOk result (λ code. code ≡ record { bodies = rules.now.bodies; pattern = tree_of pattern.now }) }
 {
     let nodes = nodes_of(alloc, rules, pattern)?;
+    let beginnings = Beginnings::of(alloc, rules, pattern)?;
     Ok(Code {
         compiled: Compiled {
             nodes,
+            beginnings,
             rules,
             pattern,
         },

@@ -1,4 +1,7 @@
 //! Why a match has no outcome.
+ghost use Rattle.std.specs.Prelude.{◌≡◌};
+ghost use Rattle.sno_machine.specs.declared.faults.MatchFault.TheVariants.{Memory};
+
 use std::alloc::{AllocError, AllocFailed};
 use thiserror::Error;
 
@@ -14,9 +17,6 @@ pub enum MatchFault {
 }
 
 impl From<AllocError> for MatchFault {
-    ghost use Rattle.std.specs.Prelude.{◌≡◌};
-    ghost use Rattle.sno_machine.specs.declared.faults.MatchFault.TheVariants.{Memory};
-
     ghost from_gives = { λ _ e. e ≡ Memory };
 
     fn from(_refused: AllocError) -> MatchFault {
@@ -25,9 +25,6 @@ impl From<AllocError> for MatchFault {
 }
 
 impl<T: Drop> From<AllocFailed<T>> for MatchFault {
-    ghost use Rattle.std.specs.Prelude.{◌≡◌};
-    ghost use Rattle.sno_machine.specs.declared.faults.MatchFault.TheVariants.{Memory};
-
     ghost from_gives = { λ _ e. e ≡ Memory };
 
     fn from(_refused: AllocFailed<T>) -> MatchFault {

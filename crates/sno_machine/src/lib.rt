@@ -99,6 +99,14 @@
 //!
 //! Without the ` . X`, `'b'` would come right after `Repeat`, which would try it; then no choice would be left at cursor 0.
 //!
+//! # Starts that are passed over
+//!
+//! A match that floats is tried at each cursor. Most patterns begin with a leaf that needs a certain character, as a literal, `ANY`
+//! or `SPAN`. So [`compile`] works out what a match can begin with ([`Beginnings`](beginnings::Beginnings)). The leaves with which it can
+//! begin are its heads, one for each alternative; a reference has the heads of its definition. At a cursor at which no head can begin, the
+//! match does nothing but one trial for each head. Such starts are passed over together: they are sought as bytes or in a
+//! [table](head_tables::HeadTable), and their trials are spent at once.
+//!
 //! # What a trial costs
 //!
 //! A trial of `SPAN`, `BREAK` or `BAL` may go over the whole text, and a text may be gone over from each of its cursors. So a match
@@ -129,6 +137,7 @@
 //! | `running` | one step after the other, and one start after the other |
 //! | `heads` | the characters with which a match can begin |
 //! | `needles` | few heads, which are sought together |
+//! | `head_tables` | many heads, as a table of characters |
 //! | `beginnings` | what a match can begin with |
 //! | `passing` | starts at which no match can begin are passed over |
 //! | `taking` | the parts that take a character wherever they end |
@@ -156,6 +165,7 @@ mod compiling;
 mod conditions;
 mod entries;
 mod faults;
+mod head_tables;
 mod heads;
 mod history;
 mod learnt;

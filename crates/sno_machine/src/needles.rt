@@ -1,11 +1,15 @@
 //! A few heads that are sought together in a text.
-ghost use Rattle.std.specs.Prelude.{◌≡◌, ◌≤◌, ◌∷◌, [], length, IfOk, IfSome};
+ghost use Rattle.std.specs.Prelude.{◌≡◌, ◌≤◌, ◌∷◌, [], not, length, slice_get, IfOk, IfSome};
 ghost use Rattle.memchr.specs.Find.{IsFirstByte};
+ghost use Rattle.sno_pattern.specs.Classes.{has};
 ghost use Rattle.sno_pattern.specs.Tree.{tree_of};
+ghost use Rattle.sno_machine.specs.declared.heads.Head.TheVariants.{Byte};
 ghost use Rattle.sno_machine.specs.Beginnings.{any_begins, heads_in, AreHeads};
 
-use crate::heads::{Head, byte_at, first_of_heads, heads_of};
+use crate::heads::{Head, heads_of};
+use memchr::{memchr, memchr2, memchr3};
 use sno_pattern::{Class, Pattern};
+use sno_primitives::first_in;
 use std::alloc::{AllocError, Global};
 
 /// One head, or two or three that are bytes. It takes no more room than a primitive, so that a node has 32 bytes.
@@ -24,12 +28,12 @@ pub enum Needle<'a> {
 }
 
 impl<'a> Needle<'a> {
-    /// The heads of the pattern. `None` if it has no heads, more than three, or several that aren't all bytes. Refused
-    /// only if out of memory.
+    /// The heads of the pattern, without going into definitions. `None` if it has no heads, more than three, or several that
+    /// aren't all bytes. Refused only if out of memory.
     pub fn of(alloc: Global, pattern: &'a Pattern) -> Result<Option<Needle<'a>>, AllocError>
-        ensures { IfOk result (λ found. IfSome found (λ needle. AreHeads (tree_of pattern.now) (heads_in needle))) }
+        ensures { IfOk result (λ found. IfSome found (λ needle. AreHeads [] 0 (tree_of pattern.now) (heads_in needle))) }
     {
-        match heads_of(alloc, pattern)? {
+        match heads_of(alloc, &[], 0, pattern)? {
             None => Ok(None),
             Some(heads) => Ok(together(&heads)),
         }
@@ -41,7 +45,7 @@ impl<'a> Needle<'a> {
         first: &Pattern,
         second: &'a Pattern,
     ) -> Result<Option<Needle<'a>>, AllocError>
-        ensures { IfOk result (λ found. IfSome found (λ needle. AreHeads (tree_of second.now) (heads_in needle))) }
+        ensures { IfOk result (λ found. IfSome found (λ needle. AreHeads [] 0 (tree_of second.now) (heads_in needle))) }
     {
         if !ends_in_arb(first) {
             return Ok(None);
@@ -62,22 +66,43 @@ impl<'a> Needle<'a> {
         }
     }
 
+    /// Whether it is sought as bytes: one, two or three, or a set that was made of so many.
+    pub fn is_bytes(self) -> bool {
+        match self {
+            Needle::Byte(_) | Needle::Two(_, _) | Needle::Three(_, _, _) => true,
+            Needle::OneOf(class) => class.members().len() <= 3,
+            Needle::NoneOf(_) => false,
+        }
+    }
+
     /// The index of the first character of the text with which one of the heads can begin, if there is one.
     pub fn first(self, text: &[u8]) -> Option<usize>
         ensures { IsFirstByte (any_begins (heads_in self.entry)) text.now result }
     {
         match self {
-            Needle::Byte(byte) => first_of_heads(&[Head::Byte(byte)], text),
-            Needle::OneOf(class) => first_of_heads(&[Head::OneOf(class)], text),
-            Needle::NoneOf(class) => first_of_heads(&[Head::NoneOf(class)], text),
-            Needle::Two(first, second) => {
-                first_of_heads(&[Head::Byte(first), Head::Byte(second)], text)
-            }
-            Needle::Three(first, second, third) => first_of_heads(
-                &[Head::Byte(first), Head::Byte(second), Head::Byte(third)],
-                text,
-            ),
+            Needle::Byte(byte) => memchr(byte, text),
+            Needle::OneOf(class) => first_in(text, class),
+            Needle::NoneOf(class) => first_outside(text, class),
+            Needle::Two(first, second) => memchr2(first, second, text),
+            Needle::Three(first, second, third) => memchr3(first, second, third, text),
         }
+    }
+}
+
+// The index of the first character that is not in the set, if there is one.
+fn first_outside(text: &[u8], class: &Class) -> Option<usize>
+    ensures { IsFirstByte (λ x. not (has class.now x)) text.now result }
+{
+    text.iter().position(|character| !class.has(*character))
+}
+
+// The byte of the head at this place, if it is a byte.
+fn byte_at(heads: &[Head], place: usize) -> Option<u8>
+    ensures { IfSome result (λ byte. slice_get heads.now place ≡ Some (Byte byte)) }
+{
+    match heads.get(place) {
+        Some(Head::Byte(byte)) => Some(*byte),
+        _ => None,
     }
 }
 
@@ -103,8 +128,8 @@ fn needle_of<'a>(head: Head<'a>) -> Needle<'a>
     }
 }
 
-// The heads as a needle, if they are one head, or two or three bytes.
-fn together<'a>(heads: &[Head<'a>]) -> Option<Needle<'a>>
+/// The heads as a needle, if they are one head, or two or three bytes.
+pub fn together<'a>(heads: &[Head<'a>]) -> Option<Needle<'a>>
     ensures { IfSome result (λ needle. heads_in needle ≡ heads.now) }
 {
     match (

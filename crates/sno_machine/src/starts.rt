@@ -14,7 +14,7 @@ use crate::faults::MatchFault;
 use crate::nodes::Compiled;
 use crate::progress::Progress;
 use crate::running::try_starts;
-use sno_pattern::{Assigns, Found, Hit, Pattern, Rules, Text};
+use sno_pattern::{Assigns, Found, Hit, Rules, Text};
 use std::alloc::{AllocError, Global};
 
 /// The outcome of the match, at a depth of references that is counted here.
@@ -26,6 +26,8 @@ pub fn search(
     limit: u32,
 ) -> Result<Found, MatchFault>
     requires compiled { IsCompiled code.now.rules.now.bodies (tree_of code.now.pattern.now) code.now.nodes }
+    requires begin { AreBeginnings code.now.rules.now.bodies (tree_of code.now.pattern.now) code.now.beginnings }
+    requires cheap { cost code.now.beginnings ≤ 64 }
     ensures found { IfOk result (λ found. found ≡ outcome text.now code.now.rules.now.bodies (tree_of code.now.pattern.now) anchored) }
     ensures within { IfOk result (λ _. trials text.now code.now.rules.now.bodies (tree_of code.now.pattern.now) anchored ≤ limit) }
     ensures refused { IfErr result (λ e. e ≡ TooManyTrials → limit < trials text.now code.now.rules.now.bodies (tree_of code.now.pattern.now) anchored) }
@@ -51,7 +53,8 @@ fn report(alloc: Global, progress: &Progress, hit: Option<Hit>) -> Result<Found,
 
 // A depth that is always enough.
 fn depth(text: &Text, rules: &Rules) -> u32
-    ensures { result ≡ enough_depth text.now rules.now.bodies }
+    ensures enough { result ≡ enough_depth text.now rules.now.bodies }
+    ensures deep { length rules.now.bodies ≤ result }
 {
     ((text.bytes().len() + 1) * rules.len()) as u32
 }
@@ -66,13 +69,21 @@ fn try_all<'a>(
     progress: &mut Progress<'a>,
 ) -> Result<Option<Hit>, MatchFault>
     requires compiled { IsCompiled code.now.rules.now.bodies (tree_of code.now.pattern.now) code.now.nodes }
+    requires begin { AreBeginnings code.now.rules.now.bodies (tree_of code.now.pattern.now) code.now.beginnings }
+    requires cheap { cost code.now.beginnings ≤ 64 }
     requires short { length text.now ≤ 65536 }
+    requires deep { length code.now.rules.now.bodies ≤ most }
     ensures found { IfOk result (λ hit. match_by progress.old (flat_map (tried_from text.now code.now.rules.now.bodies most (tree_of code.now.pattern.now)) (starts text.now anchored)) ≡ (progress.new, hit)) }
     ensures refused { IfErr result (Overspent progress.old (flat_map (tried_from text.now code.now.rules.now.bodies most (tree_of code.now.pattern.now)) (starts text.now anchored))) }
 {
     let last = last_start(text, anchored);
-    let beginnings = beginnings_of(alloc, code.pattern, anchored)?;
-    let hit = try_starts(alloc, code, text, most, &beginnings, last, progress)?;
+    if anchored {
+        // A single start is tried in any case.
+        let any = Beginnings::Any;
+        let hit = try_starts(alloc, code, text, most, &any, last, progress)?;
+        return Ok(hit);
+    }
+    let hit = try_starts(alloc, code, text, most, &code.beginnings, last, progress)?;
     Ok(hit)
 }
 
@@ -83,20 +94,4 @@ fn last_start(text: &[u8], anchored: bool) -> usize
     ensures within { result ≤ length text.now }
 {
     if anchored { 0 } else { text.len() }
-}
-
-// What a match can begin with. It isn't worth looking at for a single start.
-fn beginnings_of<'a>(
-    alloc: Global,
-    pattern: &'a Pattern,
-    anchored: bool,
-) -> Result<Beginnings<'a>, AllocError>
-    ensures begin { IfOk result (AreBeginnings (tree_of pattern.now)) }
-    ensures few { IfOk result (λ beginnings. cost beginnings ≤ 64) }
-{
-    if anchored {
-        return Ok(Beginnings::Any);
-    }
-    let beginnings = Beginnings::of(alloc, pattern)?;
-    Ok(beginnings)
 }

@@ -23,8 +23,8 @@ abbrev pub Within : List ℕ → ℕ → ℕ → Type 0
 Within t c e = (c ≤ e) × (e ≤ length t)
 
 -- A match ends nowhere before the cursor at which it begins, and nowhere past the end of the text.
-abbrev pub EndsLieBehind : Type 0
-EndsLieBehind = (t : List ℕ) (bodies : List Tree) (k : ℕ) (p : Tree) (c : ℕ) → c ≤ length t → AllEnds (Within t c) (results t bodies k p c)
+abbrev pub EndsLieAtOrPast : Type 0
+EndsLieAtOrPast = (t : List ℕ) (bodies : List Tree) (k : ℕ) (p : Tree) (c : ℕ) → c ≤ length t → AllEnds (Within t c) (results t bodies k p c)
 
 -- A part that takes a character ends past the cursor at which it begins.
 abbrev pub TakingMovesOn : Type 0

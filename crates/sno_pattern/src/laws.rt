@@ -1,10 +1,10 @@
 //! Laws of matching. Each function does nothing: its contract is the law.
 ghost use Rattle.sno_pattern.specs.NameList.{RepeatsAreFound};
-ghost use Rattle.sno_pattern.specs.Laws.{CyclesAreUnguarded, DepthIsEnough, EndsLieBehind, MissingCostsOne, NowhereCostsEachStart, OutcomeIsSettled, Repetition, TakingMovesOn, TrialsAreSettled};
+ghost use Rattle.sno_pattern.specs.Laws.{CyclesAreUnguarded, DepthIsEnough, EndsLieAtOrPast, MissingCostsOne, NowhereCostsEachStart, OutcomeIsSettled, Repetition, TakingMovesOn, TrialsAreSettled};
 
 /// Every end of a match is at or past the cursor where the match begins, and within the text.
 pub fn ends_lie_at_or_past_the_cursor()
-    ensures { EndsLieBehind }
+    ensures { EndsLieAtOrPast }
 {}
 
 /// Every end of a part that takes a character, by the rule of admission, is past the cursor where the part begins.

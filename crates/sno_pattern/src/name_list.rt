@@ -2,6 +2,7 @@
 ghost use Rattle.std.specs.Prelude.{◌≡◌, ◌↔◌, [], length, slice_get, IsTrue};
 ghost use Rattle.std.specs.Option.{option_copied};
 ghost use Rattle.sno_pattern.specs.NameList.{names_of, AreNames, GivesNames, place_of, first_reserved};
+ghost use Rattle.sno_pattern.specs.declared.name_list.NamesFault.TheVariants.{Memory};
 
 use crate::Name;
 use indexmap::IndexSet;
@@ -47,9 +48,6 @@ pub enum NamesFault {
 }
 
 impl<T: Drop> From<AllocFailed<T>> for NamesFault {
-    ghost use Rattle.std.specs.Prelude.{◌≡◌};
-    ghost use Rattle.sno_pattern.specs.declared.name_list.NamesFault.TheVariants.{Memory};
-
     ghost from_gives = { λ _ e. e ≡ Memory };
 
     fn from(_refused: AllocFailed<T>) -> NamesFault {

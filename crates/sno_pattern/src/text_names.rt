@@ -10,7 +10,6 @@ ghost use Rattle.std.proofs.Common.{rules};
 ghost use Rattle.sno_pattern.specs.TextNames.{is_text_name, IsTextName};
 
 use std::alloc::Global;
-use std::fmt;
 use std::hash::{Hash, Hasher};
 use std::marker::Model;
 use thiserror::Error;
@@ -19,7 +18,7 @@ use thiserror::Error;
 pub const MAX_TEXT_NAME: usize = 255;
 
 /// The name of a text: 1 to 255 characters, each from `!` to `~`.
-#[derive(Drop)]
+#[derive(Debug, Drop)]
 pub struct TextName {
     characters: Vec<u8>,
 }
@@ -105,11 +104,5 @@ impl Hash for TextName {
 
     fn hash<H: Hasher>(&self, state: &mut H) {
         self.bytes().hash(state);
-    }
-}
-
-impl fmt::Debug for TextName {
-    fn fmt<W: fmt::Write>(&self, f: &mut fmt::Formatter<W>) -> fmt::Result {
-        fmt::Debug::fmt(&self.bytes(), f)
     }
 }

@@ -6,7 +6,6 @@ ghost use Rattle.std.specs.List.{list_all};
 ghost use Rattle.sno_pattern.specs.Texts.{text_of, first_non_ascii};
 ghost use Rattle.std.specs.Char.{is_ascii};
 
-use std::fmt;
 use std::marker::Model;
 use thiserror::Error;
 
@@ -14,7 +13,7 @@ use thiserror::Error;
 pub const MAX_TEXT: usize = 65_536;
 
 /// A text: at most 65,536 ASCII characters, with a cursor before, between and after them.
-#[derive(Drop)]
+#[derive(Debug, Drop)]
 pub struct Text {
     characters: Vec<u8>,
 }
@@ -94,10 +93,4 @@ impl PartialEq for Text {
 
 impl Eq for Text {
     ghost laws = { nat_list_eq_equiv };
-}
-
-impl fmt::Debug for Text {
-    fn fmt<W: fmt::Write>(&self, f: &mut fmt::Formatter<W>) -> fmt::Result {
-        fmt::Debug::fmt(&self.bytes(), f)
-    }
 }

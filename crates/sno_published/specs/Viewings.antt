@@ -27,14 +27,14 @@ IsCause Ended before after = after.seen ≡ before.seen
 IsCause Older before after = (after.seen ≡ before.seen) × (length before.shown < length before.seen)
 IsCause Memory before after = after.seen ≡ after.shown
 
--- the function was called once with these characters and this version, and this is its result
+-- the result is one that the function may return for these characters and this version
 pub record IsLent {F T : Type 0} (calls : Once F (Bor (List ℕ) × (ℕ × Unit {0})) T) (f : F) (opening : Opening) (place : ℕ) (held : VersionedText) (r : T) : Type 0 where
   pub text : Bor (List ℕ)
   pub version : ℕ
   pub there : held ≡ text_at opening place text.now version
   pub returned : FnOnceReturns calls f (text, (version, tt)) r
 
--- the function was called exactly if there is a text at the place
+-- there is a result exactly if there is a text at the place
 abbrev pub GivesLent : {F T : Type 0} → Once F (Bor (List ℕ) × (ℕ × Unit {0})) T → F → Opening → Option VersionedText → ℕ → Option T → Type 0
 GivesLent calls f opening None place None = Unit {0}
 GivesLent calls f opening None place (Some r) = ⊥

@@ -137,9 +137,9 @@ unfolding pattern_of whole_of unless_too_deep end_at inside alternation_at conca
 null_set_comes_first = refl
 
 -- @ V
-blank_behind_the_sign : pattern_of [] 0 (codes "@ V") ≡ Err (fault.Unexpected 1)
+blank_after_the_sign : pattern_of [] 0 (codes "@ V") ≡ Err (fault.Unexpected 1)
 unfolding pattern_of whole_of unless_too_deep end_at inside alternation_at concatenation_at parts_at items_at item_at targets_at sign_at element_at quotation_at from_name_at repetition_at group_at set_call_at number_call_at plain_of reference_at cursor_at blanks_at closing_at opening_at variable_at name_at number_at set_at literal_at depth keyword_of call_of number_from start_of sign_of what_follows is_letter is_name_char is_reserved
-blank_behind_the_sign = refl
+blank_after_the_sign = refl
 
 -- 'a' . and the end
 target_is_due : pattern_of [] 0 (codes "'a' .") ≡ Err (fault.Unexpected 5)

@@ -4,7 +4,6 @@ use Rattle.std.specs.Option.{option_map}
 use Rattle.std.specs.List.{All}
 use Rattle.std.specs.Prelude.{IsSome}
 use Rattle.std.proofs.Math.ListN.{length-set, length-replicate, length-map}
-use Rattle.std.proofs.Math.Seq.{take-append_seam}
 use Rattle.std.proofs.lemmas.List.{get_or-replicate}
 use Rattle.std.proofs.lemmas.List.Elements.{All-head, All-tail}
 use Rattle.std.proofs.lemmas.Bool.{cases_eq}
@@ -23,10 +22,6 @@ use Rattle.sno_listing.specs.declared.refusals.Reason.{Reason}
 use Rattle.sno_desk.specs.Seen.{IsTold}
 use Rattle.sno_rewrite.specs.Owners.{AreInTurn, IsAnsweredWithin, IsReceipt, Owns, answer_in, reason_in}
 use Rattle.sno_rewrite.specs.Shared.{IsOrder}
-
--- a vector holds what was put into its slice
-pub restored : {X : Type 0} (n : ℕ) (new more : List X) → n ≡ length new → take n (new ++ more) ≡ new
-restored n new more e = ap (λ k. take k (new ++ more)) e ∙ take-append_seam new more
 
 -- an element that is set is at its place, and all else is as it was
 set_there : {X : Type 0} (xs : List X) (i : ℕ) (y : X) → i < length xs → slice_get (set xs i y) i ≡ Some y

@@ -1,6 +1,7 @@
 //! Why a run fails.
 ghost use Rattle.std.specs.Prelude.{◌≡◌};
-ghost use Rattle.sno_rewrite.specs.Faults.{status};
+ghost use Rattle.sno_rewrite.specs.Faults.{status, run_fault};
+ghost use Rattle.sno_rewrite.specs.declared.faults.RunFault.TheVariants.{Memory};
 
 use sno_document::DocumentFault;
 use std::alloc::{AllocError, AllocFailed};
@@ -36,9 +37,6 @@ pub enum RunFault {
 }
 
 impl From<DocumentFault> for RunFault {
-    ghost use Rattle.std.specs.Prelude.{◌≡◌};
-    ghost use Rattle.sno_rewrite.specs.Faults.{run_fault};
-
     ghost from_gives = { λ fault e. e ≡ run_fault fault };
 
     fn from(fault: DocumentFault) -> RunFault {
@@ -50,9 +48,6 @@ impl From<DocumentFault> for RunFault {
 }
 
 impl From<AllocError> for RunFault {
-    ghost use Rattle.std.specs.Prelude.{◌≡◌};
-    ghost use Rattle.sno_rewrite.specs.declared.faults.RunFault.TheVariants.{Memory};
-
     ghost from_gives = { λ _ e. e ≡ Memory };
 
     fn from(_refused: AllocError) -> RunFault {
@@ -61,9 +56,6 @@ impl From<AllocError> for RunFault {
 }
 
 impl<T: Drop> From<AllocFailed<T>> for RunFault {
-    ghost use Rattle.std.specs.Prelude.{◌≡◌};
-    ghost use Rattle.sno_rewrite.specs.declared.faults.RunFault.TheVariants.{Memory};
-
     ghost from_gives = { λ _ e. e ≡ Memory };
 
     fn from(_refused: AllocFailed<T>) -> RunFault {

@@ -99,15 +99,10 @@ pub(crate) fn perform_serial(
     requires { IsReady document }
     ensures serial { IfOk result (λ p. serial (document_seen document) ≡ Some (history_seen p)) }
 {
-    let Document {
-        book,
-        statements,
-        ..
-    } = document;
     let mut performed = BookWithRefusals {
-        book,
+        book: document.book,
         refused: Vec::new(alloc),
     };
-    run(alloc, &mut performed, &statements)?;
+    run(alloc, &mut performed, &document.statements)?;
     Ok(performed)
 }

@@ -110,14 +110,9 @@ fn perform_at_desk<L: Naming + Send + Sync, R: Threads + Wait + Sync>(
     ensures shared { IfOk result (λ p. IsShared workers tries (document_seen document) (history_seen p)) }
     ensures fault { IfErr result IsOwn }
 {
-    let Document {
-        book,
-        statements,
-        ..
-    } = document;
-    let (desk, seats) = open_desk::<L, R>(rt, alloc, blank, book, workers)?;
-    let (book, replies) = work(rt, alloc, desk, seats, &statements, tries)?;
-    let performed = settle_replies(alloc, book, &statements, &replies, tries)?;
+    let (desk, seats) = open_desk::<L, R>(rt, alloc, blank, document.book, workers)?;
+    let (book, replies) = work(rt, alloc, desk, seats, &document.statements, tries)?;
+    let performed = settle_replies(alloc, book, &document.statements, &replies, tries)?;
     Ok(performed)
 }
 

@@ -2,7 +2,8 @@
 ghost use Rattle.std.specs.Prelude.{◌≡◌};
 ghost use Rattle.std.specs.Option.{option_map};
 ghost use Rattle.std.specs.Arc.{arc_value};
-ghost use Rattle.sno_statement.specs.Perform.{after_of, outcome_seen};
+ghost use Rattle.sno_statement.specs.Perform.{after_of, outcome_seen, of_match};
+ghost use Rattle.sno_statement.specs.declared.outcomes.StatementFault.TheVariants.{Memory};
 
 use crate::Bindings;
 use sno_machine::MatchFault;
@@ -69,9 +70,6 @@ pub enum StatementFault {
 }
 
 impl From<MatchFault> for StatementFault {
-    ghost use Rattle.std.specs.Prelude.{◌≡◌};
-    ghost use Rattle.sno_statement.specs.Perform.{of_match};
-
     ghost from_gives = { λ fault e. e ≡ of_match fault };
 
     fn from(fault: MatchFault) -> StatementFault {
@@ -83,9 +81,6 @@ impl From<MatchFault> for StatementFault {
 }
 
 impl From<AllocError> for StatementFault {
-    ghost use Rattle.std.specs.Prelude.{◌≡◌};
-    ghost use Rattle.sno_statement.specs.declared.outcomes.StatementFault.TheVariants.{Memory};
-
     ghost from_gives = { λ _ e. e ≡ Memory };
 
     fn from(_refused: AllocError) -> StatementFault {
@@ -94,9 +89,6 @@ impl From<AllocError> for StatementFault {
 }
 
 impl<T: Drop> From<AllocFailed<T>> for StatementFault {
-    ghost use Rattle.std.specs.Prelude.{◌≡◌};
-    ghost use Rattle.sno_statement.specs.declared.outcomes.StatementFault.TheVariants.{Memory};
-
     ghost from_gives = { λ _ e. e ≡ Memory };
 
     fn from(_refused: AllocFailed<T>) -> StatementFault {

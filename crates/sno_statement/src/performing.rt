@@ -54,39 +54,7 @@ fn bind_later(
     Ok(())
 }
 
-/// The bindings of a few assignments: each is bound in its turn.
-fn bind_each(
-    alloc: Global,
-    subject: &Text,
-    sets: &[Assign],
-    conds: &[(Name, usize, usize)],
-) -> Result<Bindings, AllocError>
-    requires { SetsLie subject.now sets.now }
-    ensures { IfOk result (λ b. b ≡ bind_conds subject.now (bind_sets subject.now [] sets.now) conds.now) }
-{
-    let mut bindings = Bindings::new(alloc);
-    bind_at_once(alloc, subject, &mut bindings, sets)?;
-    bind_later(alloc, subject, &mut bindings, conds)?;
-    Ok(bindings)
-}
-
-/// The bindings of many assignments: only the last one of each variable is bound.
-fn bind_last(
-    alloc: Global,
-    subject: &Text,
-    sets: &[Assign],
-    conds: &[(Name, usize, usize)],
-) -> Result<Bindings, AllocError>
-    requires { SetsLie subject.now sets.now }
-    ensures { IfOk result (λ b. b ≡ bind_conds subject.now (bind_sets subject.now [] sets.now) conds.now) }
-{
-    let mut lasts = LastAssignments::new(alloc);
-    lasts.note_at_once(subject, sets)?;
-    lasts.note_later(conds)?;
-    lasts.into_bindings(alloc, subject)
-}
-
-/// What the variables are bound to after these assignments.
+/// What the variables are bound to after these assignments. Of many, only the last one of each variable is bound.
 fn bindings_of(
     alloc: Global,
     subject: &Text,
@@ -97,10 +65,15 @@ fn bindings_of(
     ensures { IfOk result (λ b. b ≡ bind_conds subject.now (bind_sets subject.now [] sets.now) conds.now) }
 {
     if sets.len() < MANY && conds.len() < MANY {
-        bind_each(alloc, subject, sets, conds)
-    } else {
-        bind_last(alloc, subject, sets, conds)
+        let mut bindings = Bindings::new(alloc);
+        bind_at_once(alloc, subject, &mut bindings, sets)?;
+        bind_later(alloc, subject, &mut bindings, conds)?;
+        return Ok(bindings);
     }
+    let mut lasts = LastAssignments::new(alloc);
+    lasts.note_at_once(subject, sets)?;
+    lasts.note_later(conds)?;
+    lasts.into_bindings(alloc, subject)
 }
 
 /// What a success does: its bindings, and the new text if there is an object.

@@ -3,7 +3,7 @@ ghost use Rattle.std.specs.Prelude.{◌≡◌, [], IfErr};
 
 use crate::answers::{Answer, check_bytes, check_eq, tell, tell_ready};
 use crate::jobs::{book, check_book, statement};
-use sno_book::Book;
+use sno_book::{Book, Proposal, Receipt};
 use sno_desk::{Blank, CommitFault, Desk, DeskFault, Naming, OpenGate, Seat, SubmitFault, close};
 use sno_statement::Statement;
 use std::alloc::Global;
@@ -107,7 +107,23 @@ fn check_answer<L: Naming>(
     answer
 }
 
-/// The statement is proposed, and its proposal committed.
+/// What a commit came to.
+fn answer_of(rt: &impl Abort, committed: &Result<Receipt, (CommitFault, Proposal)>) -> Answer {
+    match committed {
+        Ok(receipt) => {
+            check_eq(rt, &receipt.index, &0);
+            Answer::Given
+        }
+        Err((fault, back)) => {
+            check_eq(rt, fault, &CommitFault::Memory);
+            check_eq(rt, &back.version(), &0);
+            Answer::Refused
+        }
+    }
+}
+
+/// The statement is proposed, and its proposal committed. If memory is refused, this is done once more: the desk goes
+/// on, so a second commit is accepted if there is memory again.
 #[derive(Drop)]
 struct Commits(Arc<Statement>);
 
@@ -121,18 +137,17 @@ impl Turn for Commits {
     ) -> Result<Answer, Fail> {
         let proposal = seat.propose(alloc, &self.0)?;
         tell_ready(rt)?;
-        let answer = match desk.commit(rt, seat, proposal) {
-            Ok(receipt) => {
-                check_eq(rt, &receipt.index, &0);
-                Answer::Given
-            }
-            Err((fault, back)) => {
-                check_eq(rt, &fault, &CommitFault::Memory);
-                check_eq(rt, &back.version(), &0);
-                Answer::Refused
-            }
+        let answer = answer_of(rt, &desk.commit(rt, seat, proposal));
+        let answer = check_answer(rt, seat, &self.0, answer);
+        if answer == Answer::Given {
+            return Ok(answer);
+        }
+        tell(rt, answer)?;
+        let Ok(proposal) = seat.propose(alloc, &self.0) else {
+            return Ok(Answer::Refused);
         };
-        Ok(check_answer(rt, seat, &self.0, answer))
+        let again = answer_of(rt, &desk.commit(rt, seat, proposal));
+        Ok(check_answer(rt, seat, &self.0, again))
     }
 }
 

@@ -22,7 +22,7 @@ enum Event {
     /// The entry of the other seat has this index.
     Entry(usize),
     /// It is told whether the statement with this number was accepted.
-    Told(u32, bool),
+    Done(u32, bool),
 }
 
 /// At which attempts a gate lets another seat overtake, and where it is shut.
@@ -85,7 +85,7 @@ impl<L: Naming> Gate for Overtaking<'_, L> {
     }
 
     fn done<R: Wait>(&self, _rt: &R, number: u32, accepted: bool) {
-        let _noted = self.note(Event::Told(number, accepted));
+        let _noted = self.note(Event::Done(number, accepted));
     }
 }
 
@@ -163,7 +163,7 @@ static SUBMITTED: [Submitted; 6] = [
             Event::Asked(1, 2),
             Event::Entry(1),
             Event::Asked(1, 3),
-            Event::Told(1, false),
+            Event::Done(1, false),
         ],
     },
     // Accepted at the third attempt.
@@ -181,7 +181,7 @@ static SUBMITTED: [Submitted; 6] = [
             Event::Asked(1, 2),
             Event::Entry(1),
             Event::Asked(1, 3),
-            Event::Told(1, true),
+            Event::Done(1, true),
         ],
     },
     // Overtaken at both tries.
@@ -198,7 +198,7 @@ static SUBMITTED: [Submitted; 6] = [
             Event::Entry(0),
             Event::Asked(1, 2),
             Event::Entry(1),
-            Event::Told(1, false),
+            Event::Done(1, false),
         ],
     },
     // The gate is asked before the match.
@@ -210,7 +210,7 @@ static SUBMITTED: [Submitted; 6] = [
             shut_at: 1,
         },
         line: "gate shut",
-        events: &[Event::Asked(1, 1), Event::Told(1, false)],
+        events: &[Event::Asked(1, 1), Event::Done(1, false)],
     },
     Submitted {
         job: LONG,
@@ -220,7 +220,7 @@ static SUBMITTED: [Submitted; 6] = [
             shut_at: 0,
         },
         line: "text too long",
-        events: &[Event::Asked(1, 1), Event::Told(1, false)],
+        events: &[Event::Asked(1, 1), Event::Done(1, false)],
     },
     // The gate is asked after the snapshot.
     Submitted {
@@ -231,7 +231,7 @@ static SUBMITTED: [Submitted; 6] = [
             shut_at: 1,
         },
         line: "no text",
-        events: &[Event::Told(1, false)],
+        events: &[Event::Done(1, false)],
     },
 ];
 

@@ -17,12 +17,8 @@ publish-requires-clause-step g c =
     let step = has_step (view_of book) c.args.ready c.requires.free c.requires.performed c.requires.kin c.kin_agree.ensures in
     next_step (view_of book) c.args.ready g.L.Naming.opening c.args.screen c.entry.result.now step c.requires.opening c.requires.level.0 c.entry.ensures
 
-pub returns-in-Err-Memory-clause-begins : goal.returns-in-Err-Memory-clause-begins
-returns-in-Err-Memory-clause-begins g c =
-    subst (λ (v : Viewing). Begins c.args.seat.now.viewer.seen v.seen) (sym c.audit.ensures.viewer) (prefix_self c.args.seat.now.viewer.seen)
-
-pub returns-in-Err-Stopped-clause-begins : goal.returns-in-Err-Stopped-clause-begins
-returns-in-Err-Stopped-clause-begins g c =
+pub returns-in-Err-clause-begins : goal.returns-in-Err-clause-begins
+returns-in-Err-clause-begins g c =
     subst (λ (v : Viewing). Begins c.args.seat.now.viewer.seen v.seen) (sym c.audit.ensures.viewer) (prefix_self c.args.seat.now.viewer.seen)
 
 pub returns-clause-committed : goal.returns-clause-committed

@@ -18,7 +18,7 @@ returns-in_err-hit-clause-refused c =
     let k = c.depth-most.result in
     let r = c.new-progress.result in
     let limit = ap (λ z. z.limit) c.new-progress.ensures in
-    let all = trials_of t bodies p c.args.anchored k r c.depth-most.ensures (ap (λ z. z.trials) c.new-progress.ensures) in
+    let all = trials_of t bodies p c.args.anchored k r c.depth-most.ensures.enough (ap (λ z. z.trials) c.new-progress.ensures) in
     let over = subst (λ z. Overspent r (flat_map (tried_from z bodies k p) (starts z c.args.anchored)) c.in_err-hit.field-0.0) c.bytes.ensures.value c.in_err-hit.ensures.refused in
     rw (e.1, e.2) (λ is. let more = overspent_trials r (flat_map (tried_from t bodies k p) (starts t c.args.anchored)) c.in_err-hit.field-0.0 over is in omega (arith, limit, all, more))
 
@@ -30,7 +30,7 @@ returns-clause-found c =
     let k = c.depth-most.result in
     let r = c.new-progress.result in
     let same = subst (λ z. match_by r (flat_map (tried_from z bodies k p) (starts z c.args.anchored)) ≡ (c.try_all.new.progress, c.in_ok-hit.hit)) c.bytes.ensures.value c.in_ok-hit.ensures.found in
-    c.in_ok-found.ensures.found ∙ ap found_of (sym same) ∙ sym (outcome_by t bodies p c.args.anchored k r c.depth-most.ensures (ap (λ z. z.sets) c.new-progress.ensures))
+    c.in_ok-found.ensures.found ∙ ap found_of (sym same) ∙ sym (outcome_by t bodies p c.args.anchored k r c.depth-most.ensures.enough (ap (λ z. z.sets) c.new-progress.ensures))
 
 pub returns-clause-within : goal.returns-clause-within
 returns-clause-within c =
@@ -41,6 +41,6 @@ returns-clause-within c =
     let r = c.new-progress.result in
     let limit = ap (λ z. z.limit) c.new-progress.ensures in
     let same = subst (λ z. match_by r (flat_map (tried_from z bodies k p) (starts z c.args.anchored)) ≡ (c.try_all.new.progress, c.in_ok-hit.hit)) c.bytes.ensures.value c.in_ok-hit.ensures.found in
-    let all = trials_of t bodies p c.args.anchored k r c.depth-most.ensures (ap (λ z. z.trials) c.new-progress.ensures) in
+    let all = trials_of t bodies p c.args.anchored k r c.depth-most.ensures.enough (ap (λ z. z.trials) c.new-progress.ensures) in
     let few = within_limit r c.try_all.new.progress (flat_map (tried_from t bodies k p) (starts t c.args.anchored)) c.in_ok-hit.hit same c.report.ensures.within in
     omega (arith, limit, all, few)

@@ -3,8 +3,9 @@ use Rattle.std.proofs.Common.{◌≡◌, ℕ, ◌+◌, List, Option, drop, lengt
 use Rattle.std.proofs.Math.ListN.{length-set}
 use Rattle.std.proofs.lemmas.Option.{slice_get_read}
 use Rattle.sno_book.specs.Proposals.{Receipt}
+use Rattle.sno_desk.proofs.Worked.{restored}
 use Rattle.sno_rewrite.specs.Owners.{Owns}
-use Rattle.sno_rewrite.proofs.OwnerLemmas.{owns_more, owns_same, restored}
+use Rattle.sno_rewrite.proofs.OwnerLemmas.{owns_more, owns_same}
 use Rattle.sno_rewrite.proofs.owners.owners.Goals as goal
 use Rattle.sno_rewrite.proofs.owners.owners.Goals.{in-Ok+in_ok-note-in-Ok, in-Err}
 

@@ -6,9 +6,9 @@ use Rattle.std.specs.Prelude.{sum_by}
 use mathlib.Core.List.{IsPrefix as Begins}
 use Rattle.sno_desk.specs.Answers.{Answers}
 use Rattle.sno_desk.specs.declared.seats.Seat.{Seat}
+use Rattle.sno_desk.proofs.Worked.{restored}
 use Rattle.sno_rewrite.specs.Owners.{AreInTurn}
 use Rattle.sno_rewrite.proofs.AloneLemmas.{alone_of}
-use Rattle.sno_rewrite.proofs.OwnerLemmas.{restored}
 use Rattle.sno_rewrite.proofs.ReplyLemmas.{as_many}
 use Rattle.sno_rewrite.proofs.TurnLemmas.{turns_all}
 use Rattle.sno_rewrite.proofs.WithinLemmas.{within_book}

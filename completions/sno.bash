@@ -1,0 +1,43 @@
+# Completion of sno for bash.
+
+_sno() {
+    local word="${COMP_WORDS[COMP_CWORD]}" previous="${COMP_WORDS[COMP_CWORD - 1]}"
+    local options=" check edit trace --help -h --version -V "
+    local given index
+    # In --trials=4, bash makes the equals sign a word of its own.
+    if [ "$word" = "=" ]; then
+        word=""
+    elif [ "$previous" = "=" ]; then
+        previous="${COMP_WORDS[COMP_CWORD - 2]}"
+    fi
+    if [ "$COMP_CWORD" -gt 1 ]; then
+        case "${COMP_WORDS[1]}" in
+            check) options=" --json --strict --help -h " ;;
+            edit) options=" --diff --check --anchor --trials --help -h " ;;
+            trace) options=" --statement --lines --help -h " ;;
+            *) options="" ;;
+        esac
+    fi
+    case "$previous" in
+        --trials) options="1000 1000000 1000000000" ;;
+        --statement) options="1 2 3 4 5 6 7 8 9" ;;
+        --lines) options="100 1000 10000" ;;
+        *)
+            if [ "$COMP_CWORD" -gt 1 ] && [ "${word#-}" = "$word" ]; then
+                # Documents, rules and files: those of the folder, by the option -o default below.
+                COMPREPLY=()
+                return
+            fi
+            # An option may be given once.
+            for ((index = 1; index < COMP_CWORD; index++)); do
+                given="${COMP_WORDS[index]}"
+                options="${options/ $given / }"
+            done
+            ;;
+    esac
+    # bash 3 has no mapfile, and no option or number has a blank.
+    # shellcheck disable=SC2207
+    COMPREPLY=($(compgen -W "$options" -- "$word"))
+}
+
+complete -o default -F _sno sno

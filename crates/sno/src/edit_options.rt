@@ -1,0 +1,104 @@
+//! What the arguments of `sno edit` ask for.
+
+use clap::{Arg, ArgAction, ArgMatches, Command};
+use std::alloc::{AllocError, Global};
+
+const ABOUT: &str =
+    "Performs the statements of RULES on each file, in order, and writes the files that change";
+
+// The subcommand's own usage would leave out the program's name.
+const USAGE: &str = "sno edit [OPTIONS] RULES FILE..";
+
+const DIFF_HELP: &str = "Writes what would change as a unified diff, and no file";
+
+const CHECK_HELP: &str = "Names the files that would change, and writes none";
+
+const ANCHOR_HELP: &str = "Anchors each statement that does not say whether it is anchored";
+
+const TRIALS_HELP: &str = "How many trials a match may take, 1 to 1000000000";
+
+const RULES_HELP: &str =
+    "The file of a document whose statements need no text; - is standard input";
+
+const FILES_HELP: &str = "The files, each a text by itself";
+
+const EXAMPLE: &str = "Example: sno edit --diff rules.json src/*.c";
+
+/// What is done with the texts that the rules leave.
+#[derive(Clone, Copy, Debug, PartialEq, Eq)]
+pub(crate) enum Purpose {
+    /// The files that change are written.
+    Write,
+    /// A unified diff is written, and no file.
+    Diff,
+    /// The files that would change are named.
+    Check,
+}
+
+/// How `sno edit` is to be done.
+#[derive(Clone, Copy, Debug, PartialEq, Eq)]
+pub(crate) struct EditOptions<'a> {
+    /// What is done with the texts.
+    pub(crate) purpose: Purpose,
+    /// Whether statements that don't say it are anchored.
+    pub(crate) anchor: bool,
+    /// How many trials a match may take, as it was written.
+    pub(crate) trials: u32,
+    /// The file of the rules; `-` is standard input.
+    pub(crate) rules: &'a str,
+}
+
+fn flag<'a>(alloc: Global, name: &'a str, help: &'a str) -> Arg<'a> {
+    Arg::new(alloc, name)
+        .long(name)
+        .action(ArgAction::SetTrue)
+        .help(help)
+}
+
+fn positional<'a>(alloc: Global, id: &'a str, name: &'a str, help: &'a str) -> Arg<'a> {
+    Arg::new(alloc, id)
+        .value_name(name)
+        .required(true)
+        .help(help)
+}
+
+/// The subcommand.
+pub(crate) fn edit_command<'a>(alloc: Global) -> Result<Command<'a>, AllocError> {
+    let trials = Arg::new(alloc, "trials")
+        .long("trials")
+        .value_name("N")
+        .value_parser(clap::value_parser!(u32))
+        .action(ArgAction::Set)
+        .default_value("1000000")
+        .help(TRIALS_HELP);
+    let files = positional(alloc, "files", "FILE", FILES_HELP)
+        .action(ArgAction::Append)
+        .num_args(1..);
+    Command::new(alloc, "edit")
+        .about(ABOUT)
+        .override_usage(USAGE)
+        .after_help(EXAMPLE)
+        .arg(flag(alloc, "diff", DIFF_HELP).conflicts_with("check")?)?
+        .arg(flag(alloc, "check", CHECK_HELP))?
+        .arg(flag(alloc, "anchor", ANCHOR_HELP))?
+        .arg(trials)?
+        .arg(positional(alloc, "rules", "RULES", RULES_HELP).action(ArgAction::Set))?
+        .arg(files)
+}
+
+/// The options that were found.
+pub(crate) fn edit_options<'a>(matches: &ArgMatches<'a>) -> EditOptions<'a> {
+    let purpose = if matches.get_flag("diff") {
+        Purpose::Diff
+    } else if matches.get_flag("check") {
+        Purpose::Check
+    } else {
+        Purpose::Write
+    };
+    EditOptions {
+        purpose,
+        anchor: matches.get_flag("anchor"),
+        trials: matches.get_one::<u32>("trials").unwrap_or(1_000_000),
+        rules: matches.get_str("rules").unwrap_or("-"),
+    }
+}

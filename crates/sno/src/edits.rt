@@ -1,0 +1,243 @@
+//! `sno edit`.
+ghost use Rattle.sno_statement.specs.Statement.{IsLimit};
+
+use crate::disk::Disk;
+use crate::edit_options::{EditOptions, Purpose};
+use crate::faults::{FAILED, ProgramFault};
+use crate::streams::{read_up_to, write_all};
+use sno_document::{DocumentFault, MAX_DOCUMENT, Mode};
+use sno_edit::{Done, EditRules, FileFault, edit_files, plan_file, script_of, unified_diff};
+use std::alloc::{AllocError, Global};
+use std::fs;
+use std::io::{Read, Write};
+use std::rt::Files;
+
+/// The status after rules that are not rules.
+const BAD_RULES: u8 = 2;
+
+/// What became of the files so far.
+#[derive(Clone, Copy)]
+struct Tally {
+    files: usize,
+    changed: usize,
+    matches: u64,
+    /// Whether a statement was refused on a file.
+    refused: bool,
+    /// Whether a file could not be taken or written.
+    failed: bool,
+}
+
+impl Tally {
+    fn of(files: usize) -> Tally {
+        Tally {
+            files,
+            changed: 0,
+            matches: 0,
+            refused: false,
+            failed: false,
+        }
+    }
+
+    fn count(&mut self, done: Done) {
+        self.matches = self.matches.saturating_add(done.matches);
+        if done.changed {
+            self.changed = self.changed.saturating_add(1);
+        }
+    }
+
+    fn count_fault(&mut self, fault: &FileFault) {
+        match fault {
+            FileFault::Refused(_) => self.refused = true,
+            _ => self.failed = true,
+        }
+    }
+
+    fn status(&self, purpose: Purpose) -> u8 {
+        let is_left = match purpose {
+            Purpose::Check => self.changed > 0,
+            Purpose::Write | Purpose::Diff => self.matches == 0,
+        };
+        if self.failed {
+            FAILED
+        } else if self.refused || is_left {
+            1
+        } else {
+            0
+        }
+    }
+}
+
+/// The bytes of the rules; of rules that are too long only the first.
+fn rules_bytes<R: Files, I: Read>(
+    rt: &R,
+    alloc: Global,
+    input: &mut I,
+    rules: &str,
+) -> Result<Vec<u8>, ProgramFault> {
+    if rules == "-" {
+        return read_up_to(alloc, input, MAX_DOCUMENT);
+    }
+    match fs::open(rt, rules) {
+        Ok(mut file) => read_up_to(alloc, &mut file, MAX_DOCUMENT),
+        Err(_) => Err(ProgramFault::Read),
+    }
+}
+
+/// Writes why a file stays as it was. If the line can't be written, the status is the same.
+fn report_fault<E: Write>(errors: &mut E, path: &str, fault: &FileFault) {
+    let _printed = errors.writeln(format_args!("{path}: {fault}"));
+}
+
+fn put_summary(lines: &mut String, tally: &Tally, verb: &str) -> Result<(), AllocError> {
+    let changed = tally.changed;
+    let total = tally.files;
+    let matches = tally.matches;
+    let files = if total == 1 { "file" } else { "files" };
+    let ending = if matches == 1 { "match" } else { "matches" };
+    writeln!(
+        lines,
+        "{changed} of {total} {files} {verb}, {matches} {ending}"
+    )
+}
+
+/// Edits the files, and writes a line for each that changed.
+fn write_files<R: Files, W: Write, E: Write>(
+    rt: &R,
+    alloc: Global,
+    rules: &EditRules,
+    paths: &[&str],
+    output: &mut W,
+    errors: &mut E,
+) -> Result<Tally, ProgramFault> {
+    let ends = edit_files(alloc, &mut Disk { rt }, rules, paths)?;
+    let mut tally = Tally::of(paths.len());
+    let mut lines = String::new(alloc);
+    for (path, end) in paths.iter().zip(ends.iter()) {
+        match end {
+            Ok(done) => {
+                tally.count(*done);
+                if done.changed {
+                    writeln!(lines, "{path}")?;
+                }
+            }
+            Err(fault) => {
+                tally.count_fault(fault);
+                report_fault(errors, path, fault);
+            }
+        }
+    }
+    put_summary(&mut lines, &tally, "changed")?;
+    write_all(output, lines.as_bytes())?;
+    Ok(tally)
+}
+
+/// What is written of a file that would change: its diff, or its path.
+fn shown<R: Files>(
+    rt: &R,
+    alloc: Global,
+    rules: &EditRules,
+    path: &str,
+    show: Show,
+) -> Result<(Done, String), FileFault> {
+    let plan = plan_file(alloc, &mut Disk { rt }, rules, path)?;
+    let done = Done {
+        changed: plan.changes(),
+        matches: plan.matches,
+    };
+    if !done.changed {
+        return Ok((done, String::new(alloc)));
+    }
+    match show {
+        Show::Path => Ok((done, format!(in alloc; "{path}\n")?)),
+        Show::Diff { coloured } => {
+            let script = script_of(alloc, plan.before.bytes(), plan.after.bytes())?;
+            Ok((done, unified_diff(alloc, path, &script, coloured)?))
+        }
+    }
+}
+
+/// What is shown of a file that would change.
+#[derive(Clone, Copy)]
+enum Show {
+    /// Its path.
+    Path,
+    /// Its diff.
+    Diff {
+        /// Whether it is coloured.
+        coloured: bool,
+    },
+}
+
+/// Shows what would change, and writes no file.
+fn show_files<R: Files, W: Write, E: Write>(
+    rt: &R,
+    alloc: Global,
+    rules: &EditRules,
+    paths: &[&str],
+    show: Show,
+    output: &mut W,
+    errors: &mut E,
+) -> Result<Tally, ProgramFault> {
+    let mut tally = Tally::of(paths.len());
+    for path in paths {
+        match shown(rt, alloc, rules, path, show) {
+            Ok((done, text)) => {
+                tally.count(done);
+                write_all(output, text.as_bytes())?;
+            }
+            Err(fault) => {
+                tally.count_fault(&fault);
+                report_fault(errors, path, &fault);
+            }
+        }
+    }
+    Ok(tally)
+}
+
+/// Writes that no file was touched, since the rules are not rules, and returns the status.
+fn refuse_rules<E: Write>(errors: &mut E, fault: &DocumentFault) -> u8 {
+    let _printed = errors.writeln(fault);
+    BAD_RULES
+}
+
+/// Edits files by rules and returns the status:
+///
+/// - 4 if a file could not be taken or written;
+/// - otherwise 1 if a statement was refused on a file, or if there was no match in any, or, if files are only checked,
+///   if one would change;
+/// - otherwise 0;
+/// - 2 if the rules are not rules. Then `errors` has their first fault, and no file was touched.
+///
+/// Refused with `Read` if the rules can't be read, then no file was touched; with `Memory` or `Write`.
+pub(crate) fn run_edit<R: Files, I: Read, W: Write, E: Write>(
+    rt: &R,
+    alloc: Global,
+    options: &EditOptions<'_>,
+    paths: &[&str],
+    coloured: bool,
+    input: &mut I,
+    output: &mut W,
+    errors: &mut E,
+) -> Result<u8, ProgramFault>
+    requires { IsLimit options.now.trials }
+{
+    let bytes = rules_bytes(rt, alloc, input, options.rules)?;
+    let mode = Mode {
+        anchor: options.anchor,
+        trials: options.trials,
+    };
+    let rules = match EditRules::read(alloc, &bytes, mode) {
+        Ok(rules) => rules,
+        Err(DocumentFault::Memory) => return Err(ProgramFault::Memory),
+        Err(fault) => return Ok(refuse_rules(errors, &fault)),
+    };
+    let tally = match options.purpose {
+        Purpose::Write => write_files(rt, alloc, &rules, paths, output, errors)?,
+        Purpose::Diff => {
+            let show = Show::Diff { coloured };
+            show_files(rt, alloc, &rules, paths, show, output, errors)?
+        }
+        Purpose::Check => show_files(rt, alloc, &rules, paths, Show::Path, output, errors)?,
+    };
+    Ok(tally.status(options.purpose))
+}

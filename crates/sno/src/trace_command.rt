@@ -1,0 +1,79 @@
+//! The arguments of `sno trace`.
+
+use clap::{Arg, ArgAction, ArgMatches, Command};
+use std::alloc::{AllocError, Global};
+
+const ABOUT: &str =
+    "Shows how the match of one statement goes: each trial, each immediate assignment, and the end";
+
+// The subcommand's own usage would leave out the program's name.
+const USAGE: &str = "sno trace [OPTIONS] [DOCUMENT]";
+
+const STATEMENT_HELP: &str =
+    "The number of the statement, from 1; those before it are performed first";
+
+const LINES_HELP: &str = "How many lines are shown, 1 to 10000";
+
+const DOCUMENT_HELP: &str = "The file of the document; standard input if it is missing";
+
+const EXAMPLE: &str = "Example: sno trace --statement 2 document.json";
+
+/// The most lines that may be asked for.
+const MAX_LINES: u32 = 10_000;
+
+/// How many lines are shown without the option. Calls go as deep as rounds and references are nested in the trials that are shown,
+/// and an ordinary stack holds some 2,000 references.
+const USUAL_LINES: u32 = 1_000;
+
+/// What is written if a number is not in its range.
+pub(crate) const OUT_OF_RANGE: &str =
+    "error: '--statement' takes a number from 1, and '--lines' takes 1 to 10000\n\nFor more information, try '--help'.\n";
+
+/// How `sno trace` is to be done.
+#[derive(Clone, Copy, Debug, PartialEq, Eq)]
+pub(crate) struct TraceOptions<'a> {
+    /// The number of the statement, from 1.
+    pub(crate) statement: u32,
+    /// How many lines are shown at most.
+    pub(crate) lines: u32,
+    /// The file of the document; standard input if there is none.
+    pub(crate) document: Option<&'a str>,
+}
+
+fn numeric<'a>(alloc: Global, name: &'a str, default: &'a str, help: &'a str) -> Arg<'a> {
+    Arg::new(alloc, name)
+        .long(name)
+        .value_name("N")
+        .value_parser(clap::value_parser!(u32))
+        .action(ArgAction::Set)
+        .default_value(default)
+        .help(help)
+}
+
+pub(crate) fn trace_command<'a>(alloc: Global) -> Result<Command<'a>, AllocError> {
+    let document = Arg::new(alloc, "document")
+        .value_name("DOCUMENT")
+        .action(ArgAction::Set)
+        .help(DOCUMENT_HELP);
+    Command::new(alloc, "trace")
+        .about(ABOUT)
+        .override_usage(USAGE)
+        .after_help(EXAMPLE)
+        .arg(numeric(alloc, "statement", "1", STATEMENT_HELP))?
+        .arg(numeric(alloc, "lines", "1000", LINES_HELP))?
+        .arg(document)
+}
+
+/// The options that were found; `None` if a number is not in its range.
+pub(crate) fn trace_options_in<'a>(matches: &ArgMatches<'a>) -> Option<TraceOptions<'a>> {
+    let statement = matches.get_one::<u32>("statement").unwrap_or(1);
+    let lines = matches.get_one::<u32>("lines").unwrap_or(USUAL_LINES);
+    if statement == 0 || lines == 0 || lines > MAX_LINES {
+        return None;
+    }
+    Some(TraceOptions {
+        statement,
+        lines,
+        document: matches.get_str("document"),
+    })
+}

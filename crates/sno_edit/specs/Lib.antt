@@ -1,0 +1,6 @@
+pub mod Edits
+pub mod Held
+pub mod Faults
+pub mod Scripts
+pub mod Files
+pub mod Rules

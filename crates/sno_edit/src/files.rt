@@ -1,0 +1,135 @@
+//! Files, edited.
+ghost use Rattle.std.specs.Prelude.{◌≡◌, map, not, IfOk, IfErr, OnErr, Ok};
+ghost use Rattle.std.specs.Arc.{arc_value};
+ghost use Rattle.sno_pattern.specs.Identifiers.{same};
+ghost use Rattle.sno_pattern.specs.Texts.{text_of};
+ghost use Rattle.sno_edit.specs.Held.{Kept};
+ghost use Rattle.sno_edit.specs.Files.{AreFilesEnds, HasCause, HasTextCause, IsFileEnd, IsPlan};
+ghost use Rattle.sno_edit.specs.Rules.{statements_in};
+
+use crate::edits::edited;
+use crate::{EditRules, EditedText, FileFault, Folder, Position};
+use sno_pattern::{MAX_TEXT, Text, first_non_ascii};
+use std::alloc::{AllocError, Global};
+use std::sync::Arc;
+
+/// What the rules make of a file, before anything is written.
+#[derive(Drop)]
+pub struct Plan {
+    /// The text that the file holds.
+    pub before: Arc<Text>,
+    /// The text that the rules leave.
+    pub after: Arc<Text>,
+    /// How many matches there were.
+    pub matches: u64,
+}
+
+impl Plan {
+    /// Whether the text that the rules leave is another one.
+    pub fn changes(&self) -> bool
+        ensures { result ≡ not (same (arc_value self.now.before) (arc_value self.now.after)) }
+    {
+        self.before.bytes() != self.after.bytes()
+    }
+}
+
+/// What became of a file that was edited.
+#[derive(Clone, Copy, Debug, PartialEq, Eq)]
+pub struct Done {
+    /// Whether it holds another text than before. If not, it was not written.
+    pub changed: bool,
+    /// How many matches there were.
+    pub matches: u64,
+}
+
+/// The text that these bytes are. Refused with `TooLong`, then with `NonAscii`, each exactly then; with `Memory`.
+fn text_in(alloc: Global, bytes: Vec<u8>) -> Result<Arc<Text>, FileFault>
+    ensures text { IfOk result (λ text. text_of bytes.items ≡ Ok (arc_value text)) }
+    ensures same { IfOk result (λ text. arc_value text ≡ bytes.items) }
+    ensures cause { IfErr result (λ e. HasTextCause bytes.items e) }
+{
+    if bytes.len() > MAX_TEXT {
+        return Err(FileFault::TooLong);
+    }
+    if let Some(place) = first_non_ascii(&bytes) {
+        return Err(FileFault::NonAscii(Position::of(&bytes, place)));
+    }
+    match Text::new(bytes) {
+        Ok(text) => Ok(Arc::new(alloc, text)?),
+        Err(_) => unreachable!(),
+    }
+}
+
+/// Returns what the rules make of the file with this path. No file is changed.
+///
+/// Refused with
+///
+/// - `Unread` if the file can't be read;
+/// - `TooLong` for more than 65,536 bytes, then `NonAscii` for a byte above 127, then `Refused` for a statement that is
+///   refused on the text, each exactly then;
+/// - `Memory`.
+pub fn plan_file<F: Folder>(
+    alloc: Global,
+    folder: &mut F,
+    rules: &EditRules,
+    path: &str,
+) -> Result<Plan, FileFault>
+    ensures planned { IfOk result (λ plan. IsPlan (statements_in rules.now) path.now (F.holds folder.old) plan) }
+    ensures cause { IfErr result (λ e. HasCause (statements_in rules.now) path.now (F.holds folder.old) e) }
+    ensures kept { Kept (F.holds folder.old) (F.holds folder.new) }
+{
+    let bytes = folder.read(alloc, path, MAX_TEXT)?;
+    let before = text_in(alloc, bytes)?;
+    let EditedText { text, matches } = edited(alloc, rules, path, Arc::try_clone(&before)?)?;
+    Ok(Plan {
+        before,
+        after: text,
+        matches,
+    })
+}
+
+/// Edits the file with this path by the rules. It is written only if its text changes.
+///
+/// Refused as [`plan_file`] is, or with `Unwritten` if the new text can't be written. Then each file holds what it held.
+pub fn edit_file<F: Folder>(
+    alloc: Global,
+    folder: &mut F,
+    rules: &EditRules,
+    path: &str,
+) -> Result<Done, FileFault>
+    ensures { IsFileEnd (statements_in rules.now) path.now (F.holds folder.old) (F.holds folder.new) result }
+{
+    let plan = plan_file(alloc, folder, rules, path)?;
+    let changed = plan.changes();
+    if changed {
+        folder.replace(alloc, path, plan.after.bytes())?;
+    }
+    Ok(Done {
+        changed,
+        matches: plan.matches,
+    })
+}
+
+/// Edits the files with these paths by the rules, in order, and returns a report for each, in the same order. A file
+/// that is refused stays as it was, and the others go on.
+///
+/// Refused only if there is no memory for the reports. Then no file was touched.
+pub fn edit_files<F: Folder>(
+    alloc: Global,
+    folder: &mut F,
+    rules: &EditRules,
+    paths: &[&str],
+) -> Result<Vec<Result<Done, FileFault>>, AllocError>
+    ensures edited { IfOk result (λ ends. AreFilesEnds F.holds (statements_in rules.now) folder.old (map (λ p. p.now) paths.now) folder.new ends.items) }
+    ensures untouched { OnErr result (folder.new ≡ folder.old) }
+{
+    let mut ends = Vec::with_capacity(alloc, paths.len())?;
+    for path in paths {
+        let end = edit_file(alloc, folder, rules, path);
+        match ends.push(end) {
+            Ok(()) => {}
+            Err(_) => unreachable!(),
+        }
+    }
+    Ok(ends)
+}

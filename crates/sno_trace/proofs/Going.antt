@@ -1,0 +1,116 @@
+-- Going on from the Ends of a list, one event at a time, within a limit of trials.
+use Rattle.std.proofs.Common.{◌≡◌, ℕ, zero, suc, ◌+◌, ◌-◌, ◌<◌, ◌≤◌, true, false, cond, List, [], ◌∷◌, ◌++◌, length, drop, get_or, nat_lt, ap, sym, subst, ◌∙◌, arith, append_assoc}
+use Rattle.std.proofs.Math.Numerals.{sub-one}
+use Rattle.std.proofs.lemmas.List.{drop_more, drop_all, append-nil}
+use Rattle.std.specs.List.{list_any}
+use Rattle.sno_pattern.specs.Events.{CondList}
+use Rattle.sno_pattern.specs.Laws.{AllEnds}
+use Rattle.sno_pattern.specs.declared.events.Assign.{Assign}
+use Rattle.sno_trace.specs.declared.events.Trial.{Trial}
+use Rattle.sno_trace.specs.declared.events.Noted.{Noted}
+use Rattle.sno_trace.specs.declared.events.Noted.TheVariants.{Try, Set, End, Halt, Stop}
+use Rattle.sno_trace.specs.Noted.{cut, put_before, spread, go_on, upto, erase, noted_rounds}
+use Rattle.sno_trace.specs.Steps.{is_last, trials_of}
+use Rattle.sno_trace.proofs.NotedLaws.{go_on_ended, go_on_unended, upto_one, upto_none}
+use Rattle.sno_trace.proofs.Limit.{enough}
+
+-- the event at an index is the first of what is left there
+pub left_at : (l : List Noted) (i : ℕ) (x y : Noted) → i < length l → x ≡ get_or l i x → x ≡ y → drop i l ≡ y ∷ drop (i + 1) l
+left_at l i x y h is_item is = drop_more l i x h ∙ ap (λ z. z ∷ drop (i + 1) l) (sym is_item ∙ is)
+
+module _ (f : ℕ → List Noted) (total : List Noted) where
+  -- a trial is added
+  pub go_on_tried : (n k : ℕ) (all new l rest : List Noted) (x : Trial) → l ≡ Try x ∷ rest → 0 < n → k ≡ n - 1 → new ≡ all ++ Try x ∷ [] → all ++ upto n (go_on l f) ≡ total → new ++ upto k (go_on rest f) ≡ total
+  go_on_tried n k all new l rest x is some less added e =
+      ap (λ m. m ++ upto k (go_on rest f)) added ∙ append_assoc all (Try x ∷ []) (upto k (go_on rest f))
+      ∙ ap (λ j. all ++ Try x ∷ upto j (go_on rest f)) less
+      ∙ sym (ap (λ m. all ++ m) (upto_one n x (go_on rest f) some))
+      ∙ sym (ap (λ m. all ++ upto n (go_on m f)) is) ∙ e
+
+  -- no trial is left
+  pub go_on_stopped : (n : ℕ) (all new l rest : List Noted) (x : Trial) → l ≡ Try x ∷ rest → n ≡ 0 → new ≡ all ++ Stop ∷ [] → all ++ upto n (go_on l f) ≡ total → new ≡ total
+  go_on_stopped n all new l rest x is none added e =
+      added ∙ sym (ap (λ m. all ++ m) (upto_none n x (go_on rest f) none)) ∙ sym (ap (λ m. all ++ upto n (go_on m f)) is) ∙ e
+
+  -- an assignment is added
+  pub go_on_set : (n : ℕ) (all new l rest : List Noted) (t : Assign) → l ≡ Set t ∷ rest → new ≡ all ++ Set t ∷ [] → all ++ upto n (go_on l f) ≡ total → new ++ upto n (go_on rest f) ≡ total
+  go_on_set n all new l rest t is added e =
+      ap (λ m. m ++ upto n (go_on rest f)) added ∙ append_assoc all (Set t ∷ []) (upto n (go_on rest f)) ∙ sym (ap (λ m. all ++ upto n (go_on m f)) is) ∙ e
+
+  -- a Halt is the last event, and so is a Stop
+  pub go_on_halt : (n : ℕ) (all new l rest : List Noted) → l ≡ Halt ∷ rest → new ≡ all ++ Halt ∷ [] → all ++ upto n (go_on l f) ≡ total → new ≡ total
+  go_on_halt n all new l rest is added e = added ∙ sym (ap (λ m. all ++ upto n (go_on m f)) is) ∙ e
+
+  pub go_on_stop : (n : ℕ) (all new l rest : List Noted) → l ≡ Stop ∷ rest → new ≡ all ++ Stop ∷ [] → all ++ upto n (go_on l f) ≡ total → new ≡ total
+  go_on_stop n all new l rest is added e = added ∙ sym (ap (λ m. all ++ upto n (go_on m f)) is) ∙ e
+
+  -- what follows an End is added
+  pub go_on_end : (n k : ℕ) (all new l rest later : List Noted) (c : ℕ) (a : CondList) → l ≡ End c a ∷ rest → later ≡ upto n (f c) → false ≡ list_any is_last later → k ≡ n - trials_of later → new ≡ all ++ cut (put_before a later) → all ++ upto n (go_on l f) ≡ total
+      → new ++ upto k (go_on rest f) ≡ total
+  go_on_end n k all new l rest later c a is same going less added e =
+      ap (λ m. m ++ upto k (go_on rest f)) added
+      ∙ append_assoc all (cut (put_before a later)) (upto k (go_on rest f))
+      ∙ ap (λ j. all ++ (cut (put_before a later) ++ upto j (go_on rest f))) less
+      ∙ ap (λ m. all ++ (cut (put_before a m) ++ upto (n - trials_of m) (go_on rest f))) same
+      ∙ sym (ap (λ m. all ++ m) (go_on_unended n c a rest f (sym (going ∙ ap (list_any is_last) same))))
+      ∙ sym (ap (λ m. all ++ upto n (go_on m f)) is) ∙ e
+
+  -- what follows an End is the last
+  pub go_on_last : (n : ℕ) (all new l rest later : List Noted) (c : ℕ) (a : CondList) → l ≡ End c a ∷ rest → later ≡ upto n (f c) → true ≡ list_any is_last later → new ≡ all ++ cut (put_before a later) → all ++ upto n (go_on l f) ≡ total → new ≡ total
+  go_on_last n all new l rest later c a is same ended added e =
+      added
+      ∙ ap (λ m. all ++ cut (put_before a m)) same
+      ∙ sym (ap (λ m. all ++ m) (go_on_ended n c a rest f (sym (ended ∙ ap (list_any is_last) same))))
+      ∙ sym (ap (λ m. all ++ upto n (go_on m f)) is) ∙ e
+
+  -- nothing follows an End
+  pub go_on_none : (n : ℕ) (all l rest : List Noted) (c : ℕ) (a : CondList) → l ≡ End c a ∷ rest → f c ≡ [] → all ++ upto n (go_on l f) ≡ total → all ++ upto n (go_on rest f) ≡ total
+  go_on_none n all l rest c a is none e =
+      ap (λ m. all ++ upto n (cut (put_before a m ++ spread rest f))) (sym none) ∙ sym (ap (λ m. all ++ upto n (go_on m f)) is) ∙ e
+
+  -- nothing is left to go on from
+  pub go_on_all : (n : ℕ) (all l : List Noted) (i : ℕ) → length l ≤ i → all ++ upto n (go_on (drop i l) f) ≡ total → all ≡ total
+  go_on_all n all l i h e = sym (append-nil all) ∙ sym (ap (λ m. all ++ upto n (go_on m f)) (drop_all i l h)) ∙ e
+
+-- the events after the first
+pub AllEnds-tail : (P : ℕ → Type 0) (l rest : List Noted) (x : Noted) → l ≡ x ∷ rest → AllEnds P (erase l) → AllEnds P (erase rest)
+AllEnds-tail P l rest x is h = tail x (subst (λ m. AllEnds P (erase m)) is h)
+  where
+    tail : (x : Noted) → AllEnds P (erase (x ∷ rest)) → AllEnds P (erase rest)
+    tail (Try y) g = g
+    tail (Set t) g = g
+    tail (End e a) g = g.1
+    tail Halt g = g
+    tail Stop g = g
+
+-- the first of them, if it is an End
+pub AllEnds-head : (P : ℕ → Type 0) (l rest : List Noted) (c : ℕ) (a : CondList) → l ≡ End c a ∷ rest → AllEnds P (erase l) → P c
+AllEnds-head P l rest c a is h = (let g : AllEnds P (erase (End c a ∷ rest)) = subst (λ m. AllEnds P (erase m)) is h in g.0)
+
+-- the Ends of what is shown are Ends of the list
+pub AllEnds-upto : (P : ℕ → Type 0) (n : ℕ) (l : List Noted) → AllEnds P (erase l) → AllEnds P (erase (upto n l))
+AllEnds-upto P n [] h = tt
+AllEnds-upto P zero (Try x ∷ l) h = tt
+AllEnds-upto P (suc n) (Try x ∷ l) h = AllEnds-upto P n l h
+AllEnds-upto P n (Set t ∷ l) h = AllEnds-upto P n l h
+AllEnds-upto P n (End e a ∷ l) h = (h.0, AllEnds-upto P n l h.1)
+AllEnds-upto P n (Halt ∷ l) h = AllEnds-upto P n l h
+AllEnds-upto P n (Stop ∷ l) h = AllEnds-upto P n l h
+
+-- what follows a round that ended at e
+abbrev pub next_round : (ℕ → List Noted) → ℕ → ℕ → ℕ → List Noted
+next_round once n c e = cond (nat_lt c e) (noted_rounds once (n - 1) e) []
+
+-- no round
+pub rounds_none : (limit : ℕ) (once : ℕ → List Noted) (n c : ℕ) (l : List Noted) → l ≡ [] → n ≡ 0 → l ≡ upto limit (noted_rounds once n c)
+rounds_none limit once n c l none h = none ∙ sym (ap (λ m. upto limit (noted_rounds once m c)) h)
+
+-- one round and then what follows it
+pub rounds_begun : (limit : ℕ) (once : ℕ → List Noted) (n c : ℕ) (all begun : List Noted) → 0 < n → all ≡ End c [] ∷ [] → begun ≡ upto limit (once c)
+    → all ++ upto limit (go_on begun (next_round once n c)) ≡ upto limit (noted_rounds once n c)
+rounds_begun limit once zero c all begun h is same = absurd (omega arith)
+rounds_begun limit once (suc n) c all begun h is same =
+    ap (λ m. m ++ upto limit (go_on begun (next_round once (suc n) c))) is
+    ∙ ap (λ m. End c [] ∷ upto limit (go_on m (next_round once (suc n) c))) same
+    ∙ ap (λ m. End c [] ∷ m) (enough (once c) (next_round once (suc n) c) limit limit (omega arith))
+    ∙ ap (λ k. End c [] ∷ upto limit (go_on (once c) (λ e. cond (nat_lt c e) (noted_rounds once k e) []))) (sub-one (suc n))

@@ -1,0 +1,10 @@
+mod NotedLaws
+mod Erasing
+mod Limit
+mod Whole
+mod Honesty
+mod Ranges
+mod Going
+mod Parts
+mod Work
+mod Starts

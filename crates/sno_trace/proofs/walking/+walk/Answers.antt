@@ -1,0 +1,195 @@
+-- Each call has less to do than the one that makes it, and what each adds is what the definitions say.
+use Rattle.std.proofs.Common.{◌≡◌, ◌+◌, ◌-◌, [], ◌∷◌, ◌++◌, length, drop, arith, ap, sym, ◌∙◌}
+use Rattle.std.proofs.lemmas.Result.{IfOk-weaker}
+use Rattle.std.specs.List.{list_any}
+use Rattle.sno_pattern.specs.Tree.{tree_of}
+use Rattle.sno_pattern.specs.Laws.{Within}
+use Rattle.sno_trace.specs.declared.events.Noted.TheVariants.{Try, Set, End}
+use Rattle.sno_trace.specs.Noted.{go_on, noted, noted_rounds, noted_definition, upto}
+use Rattle.sno_trace.specs.Steps.{is_last, trials_of}
+use Rattle.sno_trace.proofs.NotedLaws.{few_trials}
+use Rattle.sno_trace.proofs.Parts.{inside, both_sides, one_side, seq_does, cond_does, imm_does, named_no_more, named_missing, named_does, round_taken, round_dropped}
+use Rattle.sno_trace.proofs.Going.{left_at, go_on_tried, go_on_set, go_on_end, go_on_last, go_on_none, AllEnds-tail, AllEnds-head, next_round, rounds_begun}
+use Rattle.sno_trace.proofs.Work.{nodes, work_round, work_body, falls, nodes_of_seq, nodes_of_alt, nodes_of_arbno, nodes_of_cond, nodes_of_imm, some_nodes}
+use Rattle.sno_trace.proofs.walking.+walk.Goals as goal
+use Rattle.sno_trace.proofs.walking.+walk.Goals.{walk-then-not-has_last+in_ok-others-in-Alt+in_ok-append-in-Alt, walk-else-not-has_last, follow-in-Try+else-left-eq0+in_ok-push-in-Try-2, follow-in-Set+in_ok-push-in-Set, follow-in-End+in_ok-later-in-End+in_ok-add_after-in-End+else-branch, repeat-in-Try+else-left-eq0+in_ok-push-in-Try-2, repeat-in-Set+in_ok-push-in-Set, repeat-in-End+then-c-end+in_ok-later-in-End+in_ok-add_after-in-End+else-branch, repeat-in-End+else-c-end}
+
+pub follow-walk-requires : goal.follow-walk-requires
+follow-walk-requires t c = (
+  omega (arith, c.decreases, work_round (length c.args.text.now) c.args.rules.now.bodies c.args.depth (nodes (tree_of c.args.pattern.now)) 0 1 (omega arith)),
+  (AllEnds-head (Within c.args.text.now 0) _ _ _ _ (left_at c.args.first.now c.loop-event.event-index _ (End c.in-End.end c.in-End.conds) c.loop-event-test.true c.event-item.is c.in-End.is) c.loop-event.invariant.inside).1,
+)
+
+pub follow-returns-then-branch : goal.follow-returns-then-branch
+follow-returns-then-branch t c =
+    go_on_last (noted c.args.text.now c.args.rules.now.bodies c.args.depth (tree_of c.args.pattern.now)) _ c.loop-event.left _ _ _ _ _ _ _ (left_at c.args.first.now c.loop-event.event-index _ (End c.in-End.end c.in-End.conds) c.loop-event-test.true c.event-item.is c.in-End.is) (c.deref.ensures.value ∙ c.in_ok-later-in-End.ensures)
+    (sym c.if-branch.true ∙ c.in_ok-add_after-in-End.ensures.ended) c.in_ok-add_after-in-End.ensures.added c.loop-event.invariant.added
+
+pub follow-overflow_sub-left-in-End : goal.follow-overflow_sub-left-in-End
+follow-overflow_sub-left-in-End t c =
+    omega (arith, few_trials c.loop-event.left ((noted c.args.text.now c.args.rules.now.bodies c.args.depth (tree_of c.args.pattern.now)) c.in-End.end), c.count_trials-left.ensures.value, ap trials_of (c.deref-in-End.ensures.value ∙ c.in_ok-later-in-End.ensures))
+
+pub follow-loop-event-preserved : goal.follow-loop-event-preserved
+follow-loop-event-preserved t c =
+    elim c.match-event.branch [
+      | follow-in-Try+else-left-eq0+in_ok-push-in-Try-2 w ↦ record {
+        added = go_on_tried (noted c.args.text.now c.args.rules.now.bodies c.args.depth (tree_of c.args.pattern.now)) _ c.loop-event.left _ _ _ _ _ _ (left_at c.args.first.now c.loop-event.event-index _ (Try w.in-Try.trial) c.loop-event-test.true c.event-item.is w.in-Try.is) (omega (arith, w.if-left-eq0.false)) w.left-is
+            (ap (λ v. v.items) w.all-is ∙ w.in_ok-push-in-Try-2.ensures.items ∙ ap (λ x. c.loop-event.all.items ++ Try x ∷ []) w.copied.ensures) c.loop-event.invariant.added;
+        inside = AllEnds-tail (Within c.args.text.now 0) _ _ _ (left_at c.args.first.now c.loop-event.event-index _ (Try w.in-Try.trial) c.loop-event-test.true c.event-item.is w.in-Try.is) c.loop-event.invariant.inside;
+      }
+      | follow-in-Set+in_ok-push-in-Set w ↦ record {
+        added = ap (λ j. c.match-event.all.items ++ upto j (go_on (drop (c.loop-event.event-index + 1) c.args.first.now) (noted c.args.text.now c.args.rules.now.bodies c.args.depth (tree_of c.args.pattern.now)))) w.left-is
+            ∙ go_on_set (noted c.args.text.now c.args.rules.now.bodies c.args.depth (tree_of c.args.pattern.now)) _ c.loop-event.left _ _ _ _ _ (left_at c.args.first.now c.loop-event.event-index _ (Set w.in-Set.assign) c.loop-event-test.true c.event-item.is w.in-Set.is) (ap (λ v. v.items) w.all-is ∙ w.in_ok-push-in-Set.ensures.items) c.loop-event.invariant.added;
+        inside = AllEnds-tail (Within c.args.text.now 0) _ _ _ (left_at c.args.first.now c.loop-event.event-index _ (Set w.in-Set.assign) c.loop-event-test.true c.event-item.is w.in-Set.is) c.loop-event.invariant.inside;
+      }
+      | follow-in-End+in_ok-later-in-End+in_ok-add_after-in-End+else-branch w ↦ record {
+        added = go_on_end (noted c.args.text.now c.args.rules.now.bodies c.args.depth (tree_of c.args.pattern.now)) _ c.loop-event.left _ _ _ _ _ _ _ _ (left_at c.args.first.now c.loop-event.event-index _ (End w.in-End.end w.in-End.conds) c.loop-event-test.true c.event-item.is w.in-End.is) (w.deref.ensures.value ∙ w.in_ok-later-in-End.ensures)
+            (sym w.if-branch.false ∙ w.in_ok-add_after-in-End.ensures.ended)
+            (w.left-is ∙ ap (λ j. c.loop-event.left - j) (w.count_trials-left.ensures.value ∙ ap trials_of (w.deref-in-End.ensures.value ∙ sym w.deref.ensures.value)))
+            (ap (λ v. v.items) w.all-is ∙ w.in_ok-add_after-in-End.ensures.added) c.loop-event.invariant.added;
+        inside = AllEnds-tail (Within c.args.text.now 0) _ _ _ (left_at c.args.first.now c.loop-event.event-index _ (End w.in-End.end w.in-End.conds) c.loop-event-test.true c.event-item.is w.in-End.is) c.loop-event.invariant.inside;
+      }
+    ]
+
+pub named-returns-then-depth-eq0 : goal.named-returns-then-depth-eq0
+named-returns-then-depth-eq0 t c =
+    named_no_more c.args.text.now c.args.rules.now.bodies c.args.depth c.args.limit c.args.number c.args.c _ c.new.ensures.items c.if-depth-eq0.true
+
+pub named-walk-requires : goal.named-walk-requires
+named-walk-requires t c = (
+  omega (arith, c.decreases, work_body (length c.args.text.now) c.args.rules.now.bodies c.args.depth c.args.number (tree_of c.in-Some.body.now) c.in-Some.ensures (omega arith)),
+  c.requires,
+)
+
+pub named-returns-in-None : goal.named-returns-in-None
+named-returns-in-None t c =
+    named_missing c.args.text.now c.args.rules.now.bodies c.args.depth c.args.limit c.args.number c.args.c _ c.new-in-None.ensures.items c.in-None.ensures
+
+pub named-returns-in-Some : goal.named-returns-in-Some
+named-returns-in-Some t c =
+    IfOk-weaker c.walk.result (λ v. v.items ≡ upto c.args.limit (noted c.args.text.now c.args.rules.now.bodies (c.args.depth - 1) (tree_of c.in-Some.body.now) c.args.c)) (λ v. v.items ≡ upto c.args.limit (noted_definition c.args.text.now c.args.rules.now.bodies c.args.depth c.args.number c.args.c))
+    (λ v is. named_does c.args.text.now c.args.rules.now.bodies c.args.depth c.args.limit c.args.number c.args.c (tree_of c.in-Some.body.now) _ (omega arith) c.in-Some.ensures is) c.walk.ensures
+
+pub repeat-walk-requires : goal.repeat-walk-requires
+repeat-walk-requires t c = (
+  omega (arith, c.decreases, work_round (length c.args.text.now) c.args.rules.now.bodies c.args.depth (nodes (tree_of c.args.part.now)) 0 (c.args.count + 1) (omega arith)),
+  c.requires,
+)
+
+pub repeat-loop-event-init : goal.repeat-loop-event-init
+repeat-loop-event-init t c =
+    record {
+      added = rounds_begun c.args.limit (noted c.args.text.now c.args.rules.now.bodies c.args.depth (tree_of c.args.part.now)) c.args.count c.args.c _ _ (omega arith)
+          (c.in_ok-push_end.ensures ∙ ap (λ l. l ++ End c.args.c [] ∷ []) c.new-all.ensures.items) (c.as_slice-event-items.ensures.value ∙ c.in_ok-once.ensures);
+      inside = inside c.args.text.now c.args.rules.now.bodies c.args.depth c.args.limit (tree_of c.args.part.now) c.args.c _ _ c.requires c.as_slice-event-items.ensures.value c.in_ok-once.ensures;
+    }
+
+pub repeat-repeat-requires : goal.repeat-repeat-requires
+repeat-repeat-requires t c = (
+  omega (arith, c.decreases, work_round (length c.args.text.now) c.args.rules.now.bodies c.args.depth (nodes (tree_of c.args.part.now)) (c.args.count - 1 + 1) (c.args.count + 1) (omega arith)),
+  (AllEnds-head (Within c.args.text.now 0) _ _ _ _ (left_at c.as_slice-event-items.result.now c.loop-event.event-index _ (End c.in-End.end c.in-End.conds) c.loop-event-test.true c.event-item.is c.in-End.is) c.loop-event.invariant.inside).1,
+)
+
+pub repeat-returns-then-branch : goal.repeat-returns-then-branch
+repeat-returns-then-branch t c =
+    go_on_last (next_round (noted c.args.text.now c.args.rules.now.bodies c.args.depth (tree_of c.args.part.now)) c.args.count c.args.c) _ c.loop-event.left _ _ _ _ _ _ _ (left_at c.as_slice-event-items.result.now c.loop-event.event-index _ (End c.in-End.end c.in-End.conds) c.loop-event-test.true c.event-item.is c.in-End.is) (round_taken c.loop-event.left (noted c.args.text.now c.args.rules.now.bodies c.args.depth (tree_of c.args.part.now)) c.args.count c.args.c c.in-End.end _ _ c.if-c-end.true c.deref.ensures.value c.in_ok-later-in-End.ensures)
+    (sym c.if-branch.true ∙ c.in_ok-add_after-in-End.ensures.ended) c.in_ok-add_after-in-End.ensures.added c.loop-event.invariant.added
+
+pub repeat-overflow_sub-left-then-c-end : goal.repeat-overflow_sub-left-then-c-end
+repeat-overflow_sub-left-then-c-end t c =
+    omega (arith, few_trials c.loop-event.left (noted_rounds (noted c.args.text.now c.args.rules.now.bodies c.args.depth (tree_of c.args.part.now)) (c.args.count - 1) c.in-End.end), c.count_trials-left.ensures.value, ap trials_of (c.deref-then-c-end.ensures.value ∙ c.in_ok-later-in-End.ensures))
+
+pub repeat-loop-event-preserved : goal.repeat-loop-event-preserved
+repeat-loop-event-preserved t c =
+    elim c.match-event.branch [
+      | repeat-in-Try+else-left-eq0+in_ok-push-in-Try-2 w ↦ record {
+        added = go_on_tried (next_round (noted c.args.text.now c.args.rules.now.bodies c.args.depth (tree_of c.args.part.now)) c.args.count c.args.c) _ c.loop-event.left _ _ _ _ _ _ (left_at c.as_slice-event-items.result.now c.loop-event.event-index _ (Try w.in-Try.trial) c.loop-event-test.true c.event-item.is w.in-Try.is) (omega (arith, w.if-left-eq0.false)) w.left-is
+            (ap (λ v. v.items) w.all-is ∙ w.in_ok-push-in-Try-2.ensures.items ∙ ap (λ x. c.loop-event.all.items ++ Try x ∷ []) w.copied.ensures) c.loop-event.invariant.added;
+        inside = AllEnds-tail (Within c.args.text.now 0) _ _ _ (left_at c.as_slice-event-items.result.now c.loop-event.event-index _ (Try w.in-Try.trial) c.loop-event-test.true c.event-item.is w.in-Try.is) c.loop-event.invariant.inside;
+      }
+      | repeat-in-Set+in_ok-push-in-Set w ↦ record {
+        added = ap (λ j. c.match-event.all.items ++ upto j (go_on (drop (c.loop-event.event-index + 1) c.as_slice-event-items.result.now) (next_round (noted c.args.text.now c.args.rules.now.bodies c.args.depth (tree_of c.args.part.now)) c.args.count c.args.c))) w.left-is
+            ∙ go_on_set (next_round (noted c.args.text.now c.args.rules.now.bodies c.args.depth (tree_of c.args.part.now)) c.args.count c.args.c) _ c.loop-event.left _ _ _ _ _ (left_at c.as_slice-event-items.result.now c.loop-event.event-index _ (Set w.in-Set.assign) c.loop-event-test.true c.event-item.is w.in-Set.is) (ap (λ v. v.items) w.all-is ∙ w.in_ok-push-in-Set.ensures.items) c.loop-event.invariant.added;
+        inside = AllEnds-tail (Within c.args.text.now 0) _ _ _ (left_at c.as_slice-event-items.result.now c.loop-event.event-index _ (Set w.in-Set.assign) c.loop-event-test.true c.event-item.is w.in-Set.is) c.loop-event.invariant.inside;
+      }
+      | repeat-in-End+then-c-end+in_ok-later-in-End+in_ok-add_after-in-End+else-branch w ↦ record {
+        added = go_on_end (next_round (noted c.args.text.now c.args.rules.now.bodies c.args.depth (tree_of c.args.part.now)) c.args.count c.args.c) _ c.loop-event.left _ _ _ _ _ _ _ _ (left_at c.as_slice-event-items.result.now c.loop-event.event-index _ (End w.in-End.end w.in-End.conds) c.loop-event-test.true c.event-item.is w.in-End.is) (round_taken c.loop-event.left (noted c.args.text.now c.args.rules.now.bodies c.args.depth (tree_of c.args.part.now)) c.args.count c.args.c w.in-End.end _ _ w.if-c-end.true w.deref.ensures.value w.in_ok-later-in-End.ensures)
+            (sym w.if-branch.false ∙ w.in_ok-add_after-in-End.ensures.ended)
+            (w.left-is ∙ ap (λ j. c.loop-event.left - j) (w.count_trials-left.ensures.value ∙ ap trials_of (w.deref-then-c-end.ensures.value ∙ sym w.deref.ensures.value)))
+            (ap (λ v. v.items) w.all-is ∙ w.in_ok-add_after-in-End.ensures.added) c.loop-event.invariant.added;
+        inside = AllEnds-tail (Within c.args.text.now 0) _ _ _ (left_at c.as_slice-event-items.result.now c.loop-event.event-index _ (End w.in-End.end w.in-End.conds) c.loop-event-test.true c.event-item.is w.in-End.is) c.loop-event.invariant.inside;
+      }
+      | repeat-in-End+else-c-end w ↦ record {
+        added = ap (λ v. v.items ++ upto c.match-event.left (go_on (drop (c.loop-event.event-index + 1) c.as_slice-event-items.result.now) (next_round (noted c.args.text.now c.args.rules.now.bodies c.args.depth (tree_of c.args.part.now)) c.args.count c.args.c))) w.all-is
+            ∙ ap (λ j. c.loop-event.all.items ++ upto j (go_on (drop (c.loop-event.event-index + 1) c.as_slice-event-items.result.now) (next_round (noted c.args.text.now c.args.rules.now.bodies c.args.depth (tree_of c.args.part.now)) c.args.count c.args.c))) w.left-is
+            ∙ go_on_none (next_round (noted c.args.text.now c.args.rules.now.bodies c.args.depth (tree_of c.args.part.now)) c.args.count c.args.c) _ c.loop-event.left _ _ _ _ _ (left_at c.as_slice-event-items.result.now c.loop-event.event-index _ (End w.in-End.end w.in-End.conds) c.loop-event-test.true c.event-item.is w.in-End.is) (round_dropped (noted c.args.text.now c.args.rules.now.bodies c.args.depth (tree_of c.args.part.now)) c.args.count c.args.c w.in-End.end w.if-c-end.false) c.loop-event.invariant.added;
+        inside = AllEnds-tail (Within c.args.text.now 0) _ _ _ (left_at c.as_slice-event-items.result.now c.loop-event.event-index _ (End w.in-End.end w.in-End.conds) c.loop-event-test.true c.event-item.is w.in-End.is) c.loop-event.invariant.inside;
+      }
+    ]
+
+pub walk-walk-requires : goal.walk-walk-requires
+walk-walk-requires t c =
+    (falls _ _ _ _ _ 0 t c.decreases (omega (arith, nodes_of_seq _ _ _ (ap tree_of c.in-Seq.is), ap (λ p. nodes (tree_of p)) c.deref.ensures)) (omega arith), c.requires)
+
+pub walk-follow-requires : goal.walk-follow-requires
+walk-follow-requires t c =
+    (falls _ _ _ _ _ 1 t c.decreases (omega (arith, nodes_of_seq _ _ _ (ap tree_of c.in-Seq.is), ap (λ p. nodes (tree_of p)) c.deref-in-Seq-2.ensures)) (omega arith), inside c.args.text.now c.args.rules.now.bodies c.args.depth c.args.limit (tree_of c.deref.result.now) c.args.c _ _ c.requires c.deref-in-Seq.ensures.value c.in_ok-first-in-Seq.ensures)
+
+pub walk-walk-requires-in-Alt : goal.walk-walk-requires-in-Alt
+walk-walk-requires-in-Alt t c =
+    (falls _ _ _ _ _ 0 t c.decreases (omega (arith, nodes_of_alt _ _ _ (ap tree_of c.in-Alt.is), ap (λ p. nodes (tree_of p)) c.deref-in-Alt.ensures)) (omega arith), c.requires)
+
+pub walk-repeat-requires : goal.walk-repeat-requires
+walk-repeat-requires t c =
+    (falls _ _ _ _ _ (length c.bytes.result.now - c.args.c + 1 + 1) t c.decreases (omega (arith, nodes_of_arbno _ _ (ap tree_of c.in-Arbno.is), ap (λ p. nodes (tree_of p)) c.deref-in-Arbno.ensures)) (omega (arith, ap length c.bytes.ensures.value)), c.requires)
+
+pub walk-walk-requires-in-Cond : goal.walk-walk-requires-in-Cond
+walk-walk-requires-in-Cond t c =
+    (falls _ _ _ _ _ 0 t c.decreases (omega (arith, nodes_of_cond _ _ _ (ap tree_of c.in-Cond.is), ap (λ p. nodes (tree_of p)) c.deref-in-Cond.ensures)) (omega arith), c.requires)
+
+pub walk-walk-requires-in-Imm : goal.walk-walk-requires-in-Imm
+walk-walk-requires-in-Imm t c =
+    (falls _ _ _ _ _ 0 t c.decreases (omega (arith, nodes_of_imm _ _ _ (ap tree_of c.in-Imm.is), ap (λ p. nodes (tree_of p)) c.deref-in-Imm.ensures)) (omega arith), c.requires)
+
+pub walk-named-requires : goal.walk-named-requires
+walk-named-requires t c =
+    (falls _ _ _ _ _ 0 t c.decreases (some_nodes (tree_of c.args.pattern.now)) (omega arith), c.requires)
+
+pub walk-returns-in_ok-events-in-Seq : goal.walk-returns-in_ok-events-in-Seq
+walk-returns-in_ok-events-in-Seq t c =
+    seq_does c.args.text.now c.args.rules.now.bodies c.args.depth c.args.limit c.args.c (tree_of c.args.pattern.now) (tree_of c.in-Seq.left.value) (tree_of c.in-Seq.right.value) (tree_of c.deref.result.now) (tree_of c.deref-in-Seq-2.result.now) _ _ _
+    (ap tree_of c.in-Seq.is) (ap tree_of c.deref.ensures) (ap tree_of c.deref-in-Seq-2.ensures) c.deref-in-Seq.ensures.value c.in_ok-first-in-Seq.ensures c.in_ok-events-in-Seq.ensures
+
+pub walk-returns-in_ok-events-in-Cond : goal.walk-returns-in_ok-events-in-Cond
+walk-returns-in_ok-events-in-Cond t c =
+    cond_does c.args.text.now c.args.rules.now.bodies c.args.depth c.args.limit c.args.c (tree_of c.args.pattern.now) (tree_of c.in-Cond.part.value) (tree_of c.deref-in-Cond.result.now) c.in-Cond.name _ _ _
+    (ap tree_of c.in-Cond.is) (ap tree_of c.deref-in-Cond.ensures) c.deref-in-Cond-2.ensures.value c.in_ok-inner-in-Cond.ensures c.in_ok-events-in-Cond.ensures
+
+pub walk-returns-in_ok-events-in-Imm : goal.walk-returns-in_ok-events-in-Imm
+walk-returns-in_ok-events-in-Imm t c =
+    imm_does c.args.text.now c.args.rules.now.bodies c.args.depth c.args.limit c.args.c (tree_of c.args.pattern.now) (tree_of c.in-Imm.part.value) (tree_of c.deref-in-Imm.result.now) c.in-Imm.name _ _ _
+    (ap tree_of c.in-Imm.is) (ap tree_of c.deref-in-Imm.ensures) c.deref-in-Imm-2.ensures.value c.in_ok-inner-in-Imm.ensures c.in_ok-events-in-Imm.ensures
+
+pub walk-overflow_sub-rest : goal.walk-overflow_sub-rest
+walk-overflow_sub-rest t c =
+    omega (arith, few_trials c.args.limit (noted c.args.text.now c.args.rules.now.bodies c.args.depth (tree_of c.deref-in-Alt.result.now) c.args.c), c.count_trials.ensures.value, ap trials_of (c.deref-then-not-has_last.ensures.value ∙ c.in_ok-events-in-Alt.ensures))
+
+pub walk-walk-requires-then-not-has_last : goal.walk-walk-requires-then-not-has_last
+walk-walk-requires-then-not-has_last t c =
+    (falls _ _ _ _ _ 0 t c.decreases (omega (arith, nodes_of_alt _ _ _ (ap tree_of c.in-Alt.is), ap (λ p. nodes (tree_of p)) c.deref-then-not-has_last-2.ensures)) (omega arith), c.requires)
+
+pub walk-returns-after-not-has_last : goal.walk-returns-after-not-has_last
+walk-returns-after-not-has_last t c =
+    elim c.if-not-has_last.branch [
+      | walk-then-not-has_last+in_ok-others-in-Alt+in_ok-append-in-Alt w ↦
+          c.cut.ensures
+          ∙ both_sides c.args.text.now c.args.rules.now.bodies c.args.depth c.args.limit (c.args.limit - w.count_trials.result) c.args.c (tree_of c.args.pattern.now) (tree_of c.in-Alt.left.value) (tree_of c.in-Alt.right.value) (tree_of c.deref-in-Alt.result.now) (tree_of w.deref-then-not-has_last-2.result.now) _ _ _
+          (ap tree_of c.in-Alt.is) (ap tree_of c.deref-in-Alt.ensures) (ap tree_of w.deref-then-not-has_last-2.ensures)
+          c.in_ok-events-in-Alt.ensures (sym w.if-not-has_last.true ∙ c.has_last.ensures ∙ ap (list_any is_last) c.deref-in-Alt-2.ensures.value)
+          (ap (λ j. c.args.limit - j) (w.count_trials.ensures.value ∙ ap trials_of w.deref-then-not-has_last.ensures.value))
+          w.in_ok-others-in-Alt.ensures (ap (λ v. v.items) w.events-is ∙ w.in_ok-append-in-Alt.ensures.items)
+      | walk-else-not-has_last w ↦
+          c.cut.ensures
+          ∙ one_side c.args.text.now c.args.rules.now.bodies c.args.depth c.args.limit c.args.c (tree_of c.args.pattern.now) (tree_of c.in-Alt.left.value) (tree_of c.in-Alt.right.value) (tree_of c.deref-in-Alt.result.now) _ _ (ap tree_of c.in-Alt.is) (ap tree_of c.deref-in-Alt.ensures)
+          c.in_ok-events-in-Alt.ensures (sym w.if-not-has_last.false ∙ c.has_last.ensures ∙ ap (list_any is_last) c.deref-in-Alt-2.ensures.value) (ap (λ v. v.items) w.events-is)
+    ]

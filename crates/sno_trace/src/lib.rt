@@ -1,0 +1,51 @@
+//! What happens in a match, step by step.
+//!
+//! [`trace`] lists the events of a match with notes: of each trial the leaf, the cursor at which it is tried, and where it ends. The
+//! contract of `trace` says that the list is the definition's, up to a limit of trials.
+//!
+//! # What is promised, and where
+//!
+//! - `specs/Noted.antt` has the definitions of `sno_pattern` once more, with notes on the events. [`notes_come_off`]: without the
+//!   notes they are `results`.
+//! - [`notes_are_honest`]: a trial ends at an end that its leaf has at its cursor, in their order; it fails only if there is none.
+//! - [`what_is_shown_is_the_match`]: if the trials of the match fit into the limit, what is shown is the match up to the event that ends
+//!   it, with its outcome and its trials.
+//! - [`what_is_shown_begins_the_match`], [`a_limit_is_used_up`]: if they don't fit, what is shown is a front of the match, with as many
+//!   trials as the limit.
+//!
+//! The clauses of [`trace`] are these promises of its result.
+//!
+//! # What is not promised
+//!
+//! What [`lines_of`] prints is tested, not proved. No clause says how much memory and stack a trace takes: calls go as deep as rounds
+//! and references are nested.
+//!
+//! | File | What it holds |
+//! |---|---|
+//! | `events` | the noted events |
+//! | `lists` | lists of them: cut, counted, changed by assignments |
+//! | `leaves` | what a leaf does |
+//! | `walking` | what a pattern does from a cursor |
+//! | `scanning` | the starts, one after the other |
+//! | `tracing` | `trace` |
+//! | `laws` | laws, each the contract of a function that does nothing |
+//! | `spelling`, `lines` | a trace in lines |
+#![tactic(auto)]
+
+mod events;
+mod laws;
+mod leaves;
+mod lines;
+mod lists;
+mod scanning;
+mod spelling;
+mod tracing;
+mod walking;
+
+pub use events::{Leaf, Noted, Trial};
+pub use laws::{
+    a_limit_is_used_up, notes_are_honest, notes_come_off, what_is_shown_begins_the_match,
+    what_is_shown_is_the_match,
+};
+pub use lines::lines_of;
+pub use tracing::{MatchTrace, trace};

@@ -1,0 +1,86 @@
+//! A match, noted: the starts in turn, up to the event that ends it.
+ghost use Rattle.std.specs.Prelude.{◌≡◌, ◌+◌, ◌≤◌, ◌++◌, ℕ, length, map, IfOk, OnOk};
+ghost use Rattle.std.specs.List.{list_any, range_with_len};
+ghost use Rattle.sno_pattern.specs.Tree.{tree_of};
+ghost use Rattle.sno_pattern.specs.Results.{enough_depth};
+ghost use Rattle.sno_pattern.specs.Outcome.{starts};
+ghost use Rattle.sno_trace.specs.Steps.{is_ending};
+ghost use Rattle.sno_trace.specs.Promise.{IsShown, until_ended};
+
+use crate::events::Noted;
+use crate::lists::{copied, count_trials};
+use crate::walking::walk;
+use sno_pattern::{Pattern, Rules, Text};
+use std::alloc::{AllocError, Global};
+
+// Adds the events of one start up to the one that ends the match, and returns whether there is one.
+fn add_start<'a>(
+    alloc: Global,
+    start: usize,
+    events: &[Noted<'a>],
+    all: &mut Vec<(usize, Noted<'a>)>,
+) -> Result<bool, AllocError>
+    ensures added { OnOk result (all.new.items ≡ all.old.items ++ until_ended (map (λ x. (start, x)) events.now)) }
+    ensures ended { IfOk result (λ b. b ≡ list_any is_ending events.now) }
+{
+    for event in events {
+        match event {
+            Noted::Try(trial) => all.push((start, Noted::Try(trial.copied())))?,
+            Noted::Set(assign) => all.push((start, Noted::Set(*assign)))?,
+            Noted::End(end, conds) => {
+                all.push((start, Noted::End(*end, copied(alloc, conds)?)))?;
+                return Ok(true);
+            }
+            Noted::Halt => {
+                all.push((start, Noted::Halt))?;
+                return Ok(true);
+            }
+            Noted::Stop => {
+                all.push((start, Noted::Stop))?;
+                return Ok(true);
+            }
+        }
+    }
+    Ok(false)
+}
+
+// A depth that is always enough. It has more bits than a cursor, since nothing here says how few definitions there are.
+pub fn enough_depth(text: &Text, rules: &Rules) -> u128
+    ensures { result ≡ enough_depth text.now rules.now.bodies }
+{
+    (text.bytes().len() as u128 + 1) * rules.len() as u128
+}
+
+// The last cursor at which a match may begin.
+fn last_start(text: &Text, anchored: bool) -> usize
+    ensures starts { range_with_len 0 (result + 1) ≡ starts text.now anchored }
+    ensures within { result ≤ length text.now }
+    ensures short { result ≤ 65536 }
+{
+    if anchored { 0 } else { text.bytes().len() }
+}
+
+// The events of the match within the limit, each with its start.
+pub fn scan<'a>(
+    alloc: Global,
+    rules: &'a Rules,
+    pattern: &'a Pattern,
+    text: &Text,
+    anchored: bool,
+    limit: usize,
+) -> Result<Vec<(usize, Noted<'a>)>, AllocError>
+    ensures { IfOk result (λ v. IsShown text.now rules.now.bodies (tree_of pattern.now) anchored limit v.items) }
+{
+    let most = enough_depth(text, rules);
+    let last = last_start(text, anchored);
+    let mut all = Vec::new(alloc);
+    let mut left = limit;
+    for start in 0..last + 1 {
+        let events = walk(alloc, text, rules, most, left, pattern, start)?;
+        if add_start(alloc, start, &events, &mut all)? {
+            return Ok(all);
+        }
+        left -= count_trials(&events);
+    }
+    Ok(all)
+}

@@ -1,0 +1,92 @@
+//! The trace of a match.
+ghost use Rattle.std.specs.Prelude.{◌≡◌, ◌<◌, ◌≤◌, IfOk};
+ghost use Rattle.std.specs.List.{list_any};
+ghost use Rattle.sno_pattern.specs.Tree.{tree_of};
+ghost use Rattle.sno_pattern.specs.Outcome.{trials, trials_in};
+ghost use Rattle.sno_trace.specs.Promise.{IsShown, IsWholeMatch, IsFront, is_stop, off, before_stop};
+
+use crate::events::Noted;
+use crate::laws::{a_limit_is_used_up, what_is_shown_begins_the_match, what_is_shown_is_the_match};
+use crate::scanning::scan;
+use sno_pattern::{Pattern, Rules, Text};
+use std::alloc::{AllocError, Global};
+
+// How many trials are shown at first.
+const FEW: usize = 64;
+
+/// What happened in a match, in order.
+#[derive(Debug, Drop)]
+pub struct MatchTrace<'a> {
+    /// Each event with the cursor from which the match was tried. The last one is the End or the Halt that ended the match, or a
+    /// Stop if a limit was reached. If there is none of these, the match failed at each start.
+    pub events: Vec<(usize, Noted<'a>)>,
+}
+
+fn is_stop(shown: &(usize, Noted<'_>)) -> bool
+    ensures { result ≡ is_stop shown.now }
+{
+    matches!(shown.1, Noted::Stop)
+}
+
+// Whether more would come.
+fn has_stop(events: &[(usize, Noted<'_>)]) -> bool
+    ensures { result ≡ list_any is_stop events.now }
+{
+    events.iter().any(|shown| is_stop(shown))
+}
+
+// What is shown within the limit. Fewer trials are tried first, since a match mostly ends early.
+fn shown<'a>(
+    alloc: Global,
+    rules: &'a Rules,
+    pattern: &'a Pattern,
+    text: &Text,
+    anchored: bool,
+    limit: usize,
+) -> Result<Vec<(usize, Noted<'a>)>, AllocError>
+    ensures { IfOk result (λ v. IsShown text.now rules.now.bodies (tree_of pattern.now) anchored limit v.items) }
+{
+    let mut most = FEW;
+    while most < limit {
+        let events = scan(alloc, rules, pattern, text, anchored, most)?;
+        if !has_stop(&events) {
+            return Ok(events);
+        }
+        most = most.saturating_mul(2);
+    }
+    let events = scan(alloc, rules, pattern, text, anchored, limit)?;
+    Ok(events)
+}
+
+/// What happens when the pattern is matched with the text: anchored at cursor 0 alone, floating at each cursor in turn. Each event
+/// comes with its start, in the order of the definition, up to the one that ends the match; at most `limit` trials are shown. If
+/// the match takes more, the last event is a Stop in place of the next trial.
+///
+/// Time and memory grow with the trials that are shown, and the depth of the calls with the rounds and references that are
+/// nested within them.
+///
+/// Refused only if out of memory.
+pub fn trace<'a>(
+    alloc: Global,
+    rules: &'a Rules,
+    pattern: &'a Pattern,
+    text: &Text,
+    anchored: bool,
+    limit: usize,
+) -> Result<MatchTrace<'a>, AllocError>
+    // The noted events of the match, within the limit.
+    ensures shown { IfOk result (λ trace. IsShown text.now rules.now.bodies (tree_of pattern.now) anchored limit trace.events.items) }
+    // If its trials fit, the trace is the match up to the event that ends it, with its outcome and its trials ..
+    ensures whole { IfOk result (λ trace. trials text.now rules.now.bodies (tree_of pattern.now) anchored ≤ limit → IsWholeMatch text.now rules.now.bodies (tree_of pattern.now) anchored trace.events.items) }
+    // .. and if they don't, it has as many as the limit.
+    ensures full { IfOk result (λ trace. limit < trials text.now rules.now.bodies (tree_of pattern.now) anchored → trials_in (off (before_stop trace.events.items)) ≡ limit) }
+    // In any case it begins the match.
+    ensures front { IfOk result (λ trace. IsFront text.now rules.now.bodies (tree_of pattern.now) anchored trace.events.items) }
+{
+    // for the proof
+    what_is_shown_is_the_match();
+    a_limit_is_used_up();
+    what_is_shown_begins_the_match();
+    let events = shown(alloc, rules, pattern, text, anchored, limit)?;
+    Ok(MatchTrace { events })
+}

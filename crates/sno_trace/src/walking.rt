@@ -1,0 +1,186 @@
+//! What a pattern does from a cursor, noted, up to a limit of trials.
+ghost use Rattle.std.specs.Prelude.{◌≡◌, ◌≤◌, length, IfOk};
+ghost use Rattle.sno_pattern.specs.Tree.{tree_of};
+ghost use Rattle.sno_pattern.specs.Laws.{AllEnds, Within};
+ghost use Rattle.sno_trace.specs.Noted.{erase, go_on, noted, noted_rounds, noted_definition, upto};
+
+use crate::events::Noted;
+use crate::leaves::leaf;
+use crate::lists::{add_after, assign_later, assign_now, count_trials, cut, has_last, push_end};
+use sno_pattern::{Pattern, Rules, Text};
+use std::alloc::{AllocError, Global};
+
+// What the pattern does from a cursor, at most `depth` references deep, up to `limit` trials.
+#[cycle(walk)]
+#[tactic(auto, unfolding(crate::specs::Noted::noted_of))]
+pub fn walk<'a>(
+    alloc: Global,
+    text: &Text,
+    rules: &'a Rules,
+    depth: u128,
+    limit: usize,
+    pattern: &'a Pattern,
+    c: usize,
+) -> Result<Vec<Noted<'a>>, AllocError>
+    requires { c ≤ length text.now }
+    ensures { IfOk result (λ v. v.items ≡ upto limit (noted text.now rules.now.bodies depth (tree_of pattern.now) c)) }
+{
+    match pattern {
+        Pattern::Seq(left, right) => {
+            let first = walk(alloc, text, rules, depth, limit, left, c)?;
+            let events = follow(alloc, text, rules, depth, limit, &first, right)?;
+            Ok(events)
+        }
+        Pattern::Alt(left, right) => {
+            let mut events = walk(alloc, text, rules, depth, limit, left, c)?;
+            if !has_last(&events) {
+                let rest = limit - count_trials(&events);
+                let mut others = walk(alloc, text, rules, depth, rest, right, c)?;
+                events.append(&mut others)?;
+            }
+            Ok(cut(events))
+        }
+        Pattern::Arbno(part) => {
+            let left = text.bytes().len() - c;
+            repeat(alloc, text, rules, depth, limit, part, left + 1, c)
+        }
+        Pattern::Cond(part, name) => {
+            let inner = walk(alloc, text, rules, depth, limit, part, c)?;
+            let events = assign_later(alloc, *name, c, &inner)?;
+            Ok(events)
+        }
+        Pattern::Imm(part, name) => {
+            let inner = walk(alloc, text, rules, depth, limit, part, c)?;
+            let events = assign_now(alloc, *name, c, &inner)?;
+            Ok(events)
+        }
+        Pattern::Ref(number) => named(alloc, text, rules, depth, limit, *number, c),
+        _ => leaf(alloc, text.bytes(), depth, limit, pattern, c),
+    }
+}
+
+// What the definition with this number does from a cursor; nothing if the depth is used up.
+#[cycle(walk)]
+fn named<'a>(
+    alloc: Global,
+    text: &Text,
+    rules: &'a Rules,
+    depth: u128,
+    limit: usize,
+    number: usize,
+    c: usize,
+) -> Result<Vec<Noted<'a>>, AllocError>
+    requires { c ≤ length text.now }
+    ensures { IfOk result (λ v. v.items ≡ upto limit (noted_definition text.now rules.now.bodies depth number c)) }
+{
+    if depth == 0 {
+        return Ok(Vec::new(alloc));
+    }
+    match rules.body(number) {
+        None => Ok(Vec::new(alloc)),
+        Some(body) => walk(alloc, text, rules, depth - 1, limit, body, c),
+    }
+}
+
+// What the pattern does after each End of `first`, up to the first Halt or Stop.
+#[cycle(walk)]
+fn follow<'a>(
+    alloc: Global,
+    text: &Text,
+    rules: &'a Rules,
+    depth: u128,
+    limit: usize,
+    first: &[Noted<'a>],
+    pattern: &'a Pattern,
+) -> Result<Vec<Noted<'a>>, AllocError>
+    requires { AllEnds (Within text.now 0) (erase first.now) }
+    ensures { IfOk result (λ v. v.items ≡ upto limit (go_on first.now (noted text.now rules.now.bodies depth (tree_of pattern.now)))) }
+{
+    let mut all = Vec::new(alloc);
+    let mut left = limit;
+    for event in first {
+        match event {
+            Noted::Try(trial) => {
+                if left == 0 {
+                    all.push(Noted::Stop)?;
+                    return Ok(all);
+                }
+                all.push(Noted::Try(trial.copied()))?;
+                left -= 1;
+            }
+            Noted::Set(assign) => all.push(Noted::Set(*assign))?,
+            Noted::End(end, conds) => {
+                let later = walk(alloc, text, rules, depth, left, pattern, *end)?;
+                if add_after(alloc, conds, &later, &mut all)? {
+                    return Ok(all);
+                }
+                left -= count_trials(&later);
+            }
+            Noted::Halt => {
+                all.push(Noted::Halt)?;
+                return Ok(all);
+            }
+            Noted::Stop => {
+                all.push(Noted::Stop)?;
+                return Ok(all);
+            }
+        }
+    }
+    Ok(all)
+}
+
+// What at most `count` rounds of the pattern do. First comes no round; then each round that took a character, with all that
+// follows it before the next alternative of the round.
+#[cycle(walk)]
+fn repeat<'a>(
+    alloc: Global,
+    text: &Text,
+    rules: &'a Rules,
+    depth: u128,
+    limit: usize,
+    part: &'a Pattern,
+    count: usize,
+    c: usize,
+) -> Result<Vec<Noted<'a>>, AllocError>
+    requires { c ≤ length text.now }
+    ensures { IfOk result (λ v. v.items ≡ upto limit (noted_rounds (noted text.now rules.now.bodies depth (tree_of part.now)) count c)) }
+{
+    let mut all = Vec::new(alloc);
+    if count == 0 {
+        return Ok(all);
+    }
+    push_end(alloc, &mut all, c)?;
+    let once = walk(alloc, text, rules, depth, limit, part, c)?;
+    let mut left = limit;
+    for event in once.as_slice() {
+        match event {
+            Noted::Try(trial) => {
+                if left == 0 {
+                    all.push(Noted::Stop)?;
+                    return Ok(all);
+                }
+                all.push(Noted::Try(trial.copied()))?;
+                left -= 1;
+            }
+            Noted::Set(assign) => all.push(Noted::Set(*assign))?,
+            Noted::End(end, conds) => {
+                if c < *end {
+                    let later = repeat(alloc, text, rules, depth, left, part, count - 1, *end)?;
+                    if add_after(alloc, conds, &later, &mut all)? {
+                        return Ok(all);
+                    }
+                    left -= count_trials(&later);
+                }
+            }
+            Noted::Halt => {
+                all.push(Noted::Halt)?;
+                return Ok(all);
+            }
+            Noted::Stop => {
+                all.push(Noted::Stop)?;
+                return Ok(all);
+            }
+        }
+    }
+    Ok(all)
+}
