@@ -1,6 +1,6 @@
 //! Why the program ends early.
 use sno_book::BookFault;
-use sno_desk::{CloseFault, CommitFault, DeskFault, LookFault, SubmitFault};
+use sno_desk::{AtDeskFault, CommitFault, LookFault, SubmitFault};
 use sno_machine::MatchFault;
 use sno_pattern::{NameFault, NamesFault, RulesFault, TextFault};
 use sno_read::ReadFault;
@@ -23,15 +23,13 @@ pub(crate) enum Fault {
     #[error(transparent)]
     Book(#[from] BookFault),
     #[error(transparent)]
-    Desk(#[from] DeskFault),
+    Desk(#[from] AtDeskFault),
     #[error(transparent)]
     Look(#[from] LookFault),
     #[error(transparent)]
     Commit(#[from] CommitFault),
     #[error(transparent)]
     Submit(#[from] SubmitFault),
-    #[error(transparent)]
-    Close(#[from] CloseFault),
     #[error(transparent)]
     Match(#[from] MatchFault),
     #[error("out of memory")]

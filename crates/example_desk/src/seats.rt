@@ -49,14 +49,15 @@ pub(crate) fn write<L: Naming, R: Wait>(
 }
 
 /// A seat that submits: the desk does all that `edit` does, and asks the gate before each match.
-pub(crate) fn submit<L: Naming, R: Wait + Clock>(
+pub(crate) fn submit<L: Naming, R: Wait, C: Clock>(
     rt: &R,
+    clock: &C,
     alloc: Global,
     desk: &Desk<L>,
     seat: &mut Seat<L>,
     edits: &Edits,
 ) -> Result<(), Fault> {
-    let gate = Pause { clock: rt };
+    let gate = Pause { clock };
     let statement = Arc::try_clone(&edits.mark)?;
     let _receipt = desk.submit(rt, alloc, seat, statement, TRIES, &gate)?;
     Ok(())

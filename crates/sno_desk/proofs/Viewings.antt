@@ -1,35 +1,24 @@
 -- What a seat returns, from what its viewer sees.
-use Rattle.std.proofs.Common.{◌≡◌, ◌≢◌, ◌≤◌, ℕ, List, [], length, Some, None, refl, sym, subst}
-use Rattle.std.specs.Prelude.{Option, slice_index_or}
+use Rattle.std.proofs.Common.{◌≡◌, ◌≢◌, ℕ, List, [], ◌∷◌, map, Some, None, refl}
+use Rattle.std.specs.Option.{option_map}
+use Rattle.std.specs.Prelude.{Option}
 use Rattle.std.specs.Fn.{Once}
 use denote.Ref.{Bor}
 use Rattle.sno_book.specs.States.{VersionedText}
 use Rattle.sno_book.specs.Entries.{Entry}
-use Rattle.sno_book.specs.Journals.{Legal}
-use Rattle.sno_book.specs.Openings.{Opening, IsOpening, names_in, start, place_in}
-use Rattle.sno_book.specs.Origins.{Stands}
-use Rattle.sno_book.specs.Views.{View}
-use Rattle.sno_published.specs.Tables.{text_after, text_at}
+use Rattle.sno_book.specs.Openings.{Opening, place_in}
+use Rattle.sno_book.specs.Snapshots.{Snapshot}
+use Rattle.sno_published.specs.Snapshots.{if_all, snapshot_at, snapshot_of, snapshots_of}
+use Rattle.sno_published.specs.Tables.{text_after}
 use Rattle.sno_published.specs.Viewings.{GivesLent, IsCause, Viewing}
 use Rattle.sno_published.specs.declared.faults.ViewFault.{ViewFault}
 use Rattle.sno_published.specs.declared.faults.ViewFault.TheVariants.{Ended, Older, Memory}
-use Rattle.sno_desk.specs.Seen.{view_after}
+use Rattle.sno_desk.specs.Seen.{places_of}
 use Rattle.sno_book.proofs.Standing.{standing}
 
 -- at the place of a name there is a text after any entries
 pub stays_there : (opening : Opening) (entries : List Entry) (name : List ℕ) (place : ℕ) → place_in opening name ≡ Some place → text_after opening entries place ≢ None
 stays_there opening entries name place at none = let stood = standing opening entries name place at in absurd (cc (stood.there, none))
-
--- a text that was found after legal entries is at its place there
-pub stands_after : (opening : Opening) (origin : View) (seen : List Entry) (place version : ℕ) (text : List ℕ) → origin ≡ view_after opening seen → IsOpening opening
-    → Legal (start opening) seen → length seen ≤ opening.room → Some (text_at opening place text version) ≡ text_after opening seen place → Stands origin place version text
-stands_after opening origin seen place version text from opens legal within found =
-    let here : Stands (view_after opening seen) place version text = record {
-      lawful = record { opening = opens; legal = legal; within = within };
-      name = slice_index_or (names_in opening.texts) place [];
-      there = sym found;
-    } in
-    subst (λ (v : View). Stands v place version text) (sym from) here
 
 -- a look that was refused has shown nothing more
 pub sees_no_more : (fault : ViewFault) (before after : Viewing) → fault ≢ Memory → IsCause fault before after → after.seen ≡ before.seen
@@ -43,3 +32,27 @@ pub lent_none : {F T : Type 0} (calls : Once F (Bor (List ℕ) × (ℕ × Unit {
 lent_none calls f opening None place o none given = refl
 lent_none calls f opening (Some held) place None none given = absurd given
 lent_none calls f opening (Some held) place (Some r) none given = absurd cc
+
+-- a list with one value more is there if the rest is
+is_there : {A : Type 0} (a : A) (rest : Option (List A)) → rest ≢ None → option_map (λ more. a ∷ more) rest ≢ None
+is_there a None there = absurd (there refl)
+is_there a (Some more) there = λ none. absurd cc
+
+was_there : {A : Type 0} (a : A) (rest : Option (List A)) → option_map (λ more. a ∷ more) rest ≢ None → rest ≢ None
+was_there a None there = absurd (there refl)
+was_there a (Some more) there = λ none. absurd cc
+
+one_there : (opening : Opening) (seen : List Entry) (name : List ℕ) (places : List (Option ℕ)) (rest : List (Option Snapshot)) → (if_all places ≢ None → if_all rest ≢ None)
+    → (found : Option ℕ) → place_in opening name ≡ found → if_all (found ∷ places) ≢ None → if_all (snapshot_at opening seen found ∷ rest) ≢ None
+one_there opening seen name places rest others None at there = absurd (there refl)
+one_there opening seen name places rest others (Some place) at there = held (text_after opening seen place) refl
+  where
+    held : (found : Option VersionedText) → text_after opening seen place ≡ found → if_all (snapshot_at opening seen (Some place) ∷ rest) ≢ None
+    held None is = absurd (stays_there opening seen name place at is)
+    held (Some text) is = rw is (is_there _ (if_all rest) (others (was_there place (if_all places) there)))
+
+-- if the opening has a text of each of the names, there is a snapshot of each
+pub all_there : (opening : Opening) (seen : List Entry) (names : List (List ℕ)) → places_of opening names ≢ None → snapshots_of opening seen names ≢ None
+all_there opening seen [] there = λ none. absurd cc
+all_there opening seen (name ∷ names) there =
+    one_there opening seen name (map (place_in opening) names) (map (snapshot_of opening seen) names) (all_there opening seen names) (place_in opening name) refl there

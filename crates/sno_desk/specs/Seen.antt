@@ -1,5 +1,5 @@
 -- What a seat sees of its desk.
-use Rattle.std.specs.Prelude.{◌≡◌, ◌≢◌, ℕ, List, [], ◌∷◌, ◌++◌, length, Some, None, Result, Ok, Err}
+use Rattle.std.specs.Prelude.{◌≡◌, ◌≢◌, ℕ, List, [], ◌∷◌, ◌++◌, length, map, Option, Some, None, Result, Ok, Err}
 use mathlib.Core.List.{IsPrefix as Begins}
 use denote.Ref.{Bor}
 use Rattle.std.specs.Fn.{Once}
@@ -10,6 +10,7 @@ use Rattle.sno_book.specs.Proposals.{Receipt}
 use Rattle.sno_book.specs.Snapshots.{Snapshot}
 use Rattle.sno_book.specs.States.{VersionedText}
 use Rattle.sno_book.specs.Views.{View}
+use Rattle.sno_published.specs.Snapshots.{if_all}
 use Rattle.sno_published.specs.Tables.{text_after, text_at}
 use Rattle.sno_published.specs.Viewings.{IsLent, Viewing}
 use Rattle.sno_desk.specs.declared.faults.SnapshotFault.{SnapshotFault}
@@ -32,6 +33,15 @@ abbrev pub GivesSeen : Result Snapshot SnapshotFault → Opening → List Entry 
 GivesSeen (Ok taken) opening seen name = IsSeen opening seen name taken
 GivesSeen (Err snapshot.NoText) opening seen name = place_in opening name ≡ None
 GivesSeen (Err fault) opening seen name = place_in opening name ≢ None
+
+-- the places of these names, if the opening has a text of each
+abbrev pub places_of : Opening → List (List ℕ) → Option (List ℕ)
+places_of opening names = if_all (map (place_in opening) names)
+
+-- `NoText` exactly if the opening has no text of one of these names
+abbrev pub IsCauseForAll : SnapshotFault → Opening → List (List ℕ) → Type 0
+IsCauseForAll snapshot.NoText opening names = places_of opening names ≡ None
+IsCauseForAll fault opening names = places_of opening names ≢ None
 
 -- the result is one that the function may return for the text of this name and its version, as these entries leave it
 pub record IsRead {F T : Type 0} (calls : Once F (Bor (List ℕ) × (ℕ × Unit {0})) T) (f : F) (opening : Opening) (seen : List Entry) (name : List ℕ) (r : T) : Type 0 where

@@ -18,7 +18,7 @@
 //!   if the desk is stopped. [`close`] returns the book with the opening that the desk began with.
 //! - **Readers don't wait.** [`Seat::snapshot`] (`src/seats.rt`, `specs/Seen.antt`) takes no handle that may wait. It
 //!   returns the text as the entries that the seat has then seen leave it. What a seat has seen only grows: it is the
-//!   seat's view.
+//!   seat's view. [`Seat::snapshots`] returns several texts after one view.
 //! - **A receipt is for what was passed.** [`Desk::commit`] (`src/desk.rt`, `specs/Receipts.antt`) returns the
 //!   proposal's entry, which is at the receipt's index in the seat's view, and the text that the proposal was made for.
 //!   A refused proposal comes back as it was. Each refusal except `Stopped` is the one that the book's own rule gives

@@ -1,15 +1,16 @@
 //! Seats.
-ghost use Rattle.std.specs.Prelude.{◌≡◌, ◌+◌, ◌<◌, ◌≤◌, ◌^◌, Decides, MatchBool, OnOk, OnErr, IfOk, IfErr, length, sum_by};
+ghost use Rattle.std.specs.Prelude.{◌≡◌, ◌≢◌, ◌+◌, ◌<◌, ◌≤◌, ◌^◌, Decides, MatchBool, OnOk, OnErr, IfOk, IfErr, None, length, Some, map, sum_by};
 ghost use Rattle.std.specs.Arc.{arc_value};
 ghost use Rattle.std.specs.List.{All};
 ghost use mathlib.Core.List.{IsPrefix};
 ghost use Rattle.sno_book.specs.Views.{IsPrefix as BeginsView};
+ghost use Rattle.sno_published.specs.Snapshots.{snapshots_of};
 ghost use Rattle.sno_desk.specs.Proposed.{GivesProposed};
-ghost use Rattle.sno_desk.specs.Seen.{GivesSeen, IsLookCause, IsRead, IsViewAfter, view_after};
+ghost use Rattle.sno_desk.specs.Seen.{GivesSeen, IsCauseForAll, IsLookCause, IsRead, IsViewAfter, places_of, view_after};
 ghost use Rattle.sno_desk.specs.declared.faults.LookFault.TheVariants.{Stopped};
 
 use crate::{LookFault, SnapshotFault, SubmitFault};
-use sno_book::{Origin, Proposal, Receipt, Snapshot, propose};
+use sno_book::{Opening, Origin, Proposal, Receipt, Snapshot, propose};
 use sno_pattern::{Text, TextName};
 use sno_published::{Naming, Table, Viewer};
 use sno_statement::Statement;
@@ -124,6 +125,37 @@ impl<L: Naming> Seat<L> {
         Ok(Snapshot::new(Origin::of(&self.viewer), place, version, text))
     }
 
+    /// Returns snapshots of the texts of these names, in their order, all as they are shown at one moment. It takes no
+    /// lock and waits for nobody. On `Ok` each is the text at the place that its name has in the opening, as the
+    /// entries that the seat has seen now leave it. These entries begin with all that the seat had seen or was told of.
+    /// While the texts are shared, no entry can be published.
+    ///
+    /// Refused, in this order:
+    ///
+    /// - `NoText`, exactly if the opening has no text of one of the names, and nothing more is seen;
+    /// - `Stopped`, and nothing more is seen;
+    /// - `Memory`, and what is shown was seen.
+    pub fn snapshots(
+        &mut self,
+        alloc: Global,
+        names: &[&TextName],
+    ) -> Result<Vec<Snapshot>, SnapshotFault>
+        ensures gives { IfOk result (λ v. snapshots_of L.opening self.new.viewer.seen (map (λ n. n.now) names.now) ≡ Some v.items) }
+        ensures no_text { IfErr result (λ e. IsCauseForAll e L.opening (map (λ n. n.now) names.now)) }
+        ensures begins { IsPrefix self.old.viewer.seen self.new.viewer.seen }
+        ensures shown { OnOk result (self.new.viewer.seen ≡ self.new.viewer.shown) }
+        ensures cause { IfErr result (λ e. IsViewAfter e self.old.viewer self.new.viewer) }
+        ensures same { self.new.accepted ≡ self.old.accepted }
+    {
+        if !has_all(self.viewer.opening(), names) {
+            return Err(SnapshotFault::NoText);
+        }
+        match self.viewer.snapshots(alloc, names)? {
+            Some(snapshots) => Ok(snapshots),
+            None => Err(SnapshotFault::NoText),
+        }
+    }
+
     /// Takes a snapshot of the statement's text, and performs the statement on it. It takes no lock and waits for
     /// nobody. What comes back can be committed by [`Desk::commit`](crate::Desk::commit) through this seat.
     ///
@@ -232,6 +264,18 @@ impl<L: Naming> Seat<L> {
     {
         self.share
     }
+}
+
+/// Whether the opening has a text of each of these names.
+fn has_all(opening: &Opening, names: &[&TextName]) -> bool
+    ensures { Decides result (places_of opening.now (map (λ n. n.now) names.now) ≢ None) }
+{
+    for name in names {
+        if opening.place(name).is_none() {
+            return false;
+        }
+    }
+    true
 }
 
 /// Whether a table shows all that each of the seats has seen.

@@ -3,3 +3,4 @@ pub mod Adding
 pub mod LastEntries
 pub mod Replays
 pub mod Views
+pub mod Taken

@@ -6,3 +6,4 @@ pub mod Tables
 pub mod ViewRule
 pub mod Screens
 pub mod Viewings
+pub mod Snapshots

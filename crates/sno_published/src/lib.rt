@@ -57,6 +57,7 @@ mod naming;
 mod operations;
 mod rule;
 mod screens;
+mod snapshots;
 mod stored_texts;
 mod tables;
 mod view_rule;

@@ -1,5 +1,5 @@
 //! Viewers.
-ghost use Rattle.std.specs.Prelude.{◌≡◌, ◌≢◌, ◌≤◌, ◌⊎◌, IfOk, IfErr, IfSome, OnOk, MatchBool, MatchResult, Decides, [], length};
+ghost use Rattle.std.specs.Prelude.{◌≡◌, ◌≢◌, ◌≤◌, ◌⊎◌, IfOk, IfErr, IfSome, OnOk, MatchBool, MatchResult, Decides, [], length, map};
 ghost use Rattle.std.specs.Arc.{arc_value};
 ghost use Rattle.std.specs.Option.{option_map, option_map_or};
 ghost use mathlib.Core.List.{IsPrefix};
@@ -7,14 +7,16 @@ ghost use Rattle.left_right.specs.Sides.{view};
 ghost use Rattle.sno_book.specs.Journals.{Legal};
 ghost use Rattle.sno_book.specs.Openings.{start};
 ghost use Rattle.sno_published.specs.Histories.{GoesOn};
+ghost use Rattle.sno_published.specs.Snapshots.{snapshots_of};
 ghost use Rattle.sno_published.specs.Tables.{text_after, text_at};
 ghost use Rattle.sno_published.specs.Viewings.{GivesLent, IsCause};
 ghost use Rattle.sno_published.specs.declared.faults.ViewFault.TheVariants.{Memory};
 
+use crate::snapshots::snapshots_of;
 use crate::{Front, FullView, Naming, SeenEntries, Table, ViewFault, ViewRule};
 use left_right::reader::{Reader, Reading};
-use sno_book::{Opening, Text, ViewSource};
-use std::alloc::AllocError;
+use sno_book::{Opening, Snapshot, Text, TextName, ViewSource};
+use std::alloc::{AllocError, Global};
 use std::marker::Model;
 use std::sync::Arc;
 
@@ -193,6 +195,27 @@ impl<L: Naming> Viewer<L> {
         let found = share(reading.get(), place);
         self.reader = Some(reading.leave());
         found
+    }
+
+    /// Sees what is shown, and returns snapshots of the texts of these names, in their order, all as the same entries
+    /// leave them. `None` if the opening has no text of one of the names. It waits for nobody. While the texts are
+    /// shared, no entry can be published.
+    ///
+    /// Refused as by [`Viewer::text`].
+    pub fn snapshots(
+        &mut self,
+        alloc: Global,
+        names: &[&TextName],
+    ) -> Result<Option<Vec<Snapshot>>, ViewFault>
+        ensures begins { IsPrefix self.old.seen self.new.seen }
+        ensures shown { OnOk result (self.new.seen ≡ self.new.shown) }
+        ensures found { IfOk result (λ o. option_map (λ v. v.items) o ≡ snapshots_of L.opening self.new.seen (map (λ n. n.now) names.now)) }
+        ensures refused { IfErr result (λ e. IsCause e self.old self.new) }
+    {
+        let reading = begin(&mut self.reader, &mut self.front)?;
+        let found = snapshots_of(alloc, reading.get(), names);
+        self.reader = Some(reading.leave());
+        found.map_err(|_| ViewFault::Memory)
     }
 
     /// Is told what a table of its own desk shows. From now on the longer of the two lists is what it has seen. It

@@ -7,6 +7,8 @@ mod answers;
 #[cfg(test)]
 mod asked;
 #[cfg(test)]
+mod at_work;
+#[cfg(test)]
 mod beside;
 #[cfg(test)]
 mod commits;

@@ -2,7 +2,7 @@
 use crate::compare::check_eq;
 use crate::desks::{Work, at_desk};
 use crate::jobs::{book, statement};
-use sno_desk::{Desk, Entry, LookFault, Naming, Seat, SubmitFault, TextName};
+use sno_desk::{Desk, Entry, LookFault, Naming, Seat, SnapshotFault, SubmitFault, TextName};
 use sno_statement::Statement;
 use std::alloc::Global;
 use std::process::Abort;
@@ -48,6 +48,28 @@ fn check_read<L: Naming>(
     Ok(())
 }
 
+/// Compares snapshots of the text twice, and of no text; one name that is missing refuses all.
+fn check_snapshots<L: Naming>(
+    rt: &impl Abort,
+    alloc: Global,
+    seat: &mut Seat<L>,
+    there: &Arc<Statement>,
+    missing: &Arc<Statement>,
+) -> Result<(), Fail> {
+    let taken = seat.snapshots(alloc, &[there.text(), there.text()])?;
+    check_eq(rt, &taken.len(), &2);
+    for snapshot in taken.iter() {
+        assert!(rt; snapshot.text.bytes() == b"c".as_slice());
+        check_eq(rt, &snapshot.version, &2);
+    }
+    check_eq(rt, &seat.snapshots(alloc, &[])?.len(), &0);
+    let refused = seat.snapshots(alloc, &[there.text(), missing.text()]).err();
+    check_eq(rt, &refused, &Some(SnapshotFault::NoText));
+    let refused = seat.snapshots(alloc, &[missing.text(), there.text()]).err();
+    check_eq(rt, &refused, &Some(SnapshotFault::NoText));
+    Ok(())
+}
+
 /// Compares the numbers of the entries' statements.
 fn check_numbers(rt: &impl Abort, entries: &[Entry], expected: &[u32]) {
     check_eq(rt, &entries.len(), &expected.len());
@@ -74,6 +96,7 @@ impl Work for LooksOn {
         check_read(rt, reader, self.first.text(), "c", 2)?;
         check_eq(rt, &reader.seen(), &2);
         self.check_missing(rt, alloc, reader);
+        check_snapshots(rt, alloc, reader, &self.first, &self.elsewhere)?;
         check_numbers(rt, &desk.since(rt, reader, 0)?, &[1, 2]);
         check_numbers(rt, &desk.since(rt, reader, 1)?, &[2]);
         check_numbers(rt, &desk.since(rt, reader, 2)?, &[]);

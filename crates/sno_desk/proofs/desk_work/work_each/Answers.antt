@@ -1,19 +1,16 @@
 -- A seat may go to another thread, several threads may share the desk, and each call leaves its seat where it may.
-use Rattle.std.proofs.Common.{get_or, subst}
 use mathlib.Core.List.{[], ◌∷◌}
 use mir.Syntax.{named}
 use denote.Ref.{ShrRef}
 use denote.Exit.{yes}
 use denote.Param.{param}
-use denote.Param.Send.{IsSend, IsSync, param_send, param_sync, arg_send, arg_sync, shr_sync, sendable}
+use denote.Param.Send.{IsSend, IsSync, param_send, param_sync, arg_send, arg_sync, shr_sync}
 use Rattle.std.proofs.Crossing.{sync}
 use Rattle.std.specs.contracts.alloc.Global as Global
 use Rattle.sno_desk.specs.contracts.desk.Desk as Desk
 use Rattle.sno_book.specs.contracts.books.Book as Book
 use Rattle.sno_book.specs.contracts.entries.Entry as Entry
 use Rattle.sno_book.specs.contracts.entries.Receipt as Receipt
-use Rattle.sno_desk.specs.Turns.{position}
-use Rattle.sno_desk.specs.declared.seats.Seat.{Seat}
 use Rattle.sno_desk.proofs.Crossings.{book_send, book_sync, receipt_send, receipt_sync, seat_send, desk_sync, closure_sync}
 use Rattle.sno_desk.proofs.desk_work.work_each.Lts as Lts
 use Rattle.sno_desk.proofs.desk_work.work_each.Goals as goal

@@ -3,7 +3,8 @@ use Rattle.std.proofs.Common.{◌≡◌, Some, None, ap, sym, subst, ◌∙◌}
 use Rattle.std.specs.Arc.{arc_value}
 use Rattle.sno_book.specs.Openings.{Opening, IsOpening, place_in}
 use Rattle.sno_published.specs.Tables.{text_after, text_at}
-use Rattle.sno_desk.proofs.Viewings.{stands_after, stays_there}
+use Rattle.sno_published.proofs.Taken.{stands_after}
+use Rattle.sno_desk.proofs.Viewings.{stays_there}
 use Rattle.sno_desk.proofs.seats.Seat.snapshot.Goals as goal
 
 pub returns-in_default-2-clause-gives : goal.returns-in_default-2-clause-gives

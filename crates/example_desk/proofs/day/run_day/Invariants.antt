@@ -1,8 +1,0 @@
--- The new ledger and histories, and the book that was made.
-use Rattle.example_desk.proofs.day.run_day.Given as goal
-
-abbrev pub ghosts-at_desk-L-Ledger : goal.ghosts-at_desk-L-Ledger
-ghosts-at_desk-L-Ledger g a = record { name = a.blank.ledger.name; parts = a.blank.ledger.parts }
-
-abbrev pub ghosts-at_desk-L-Naming : goal.ghosts-at_desk-L-Naming
-ghosts-at_desk-L-Naming g a = record { book = a.blank.history.history; tries = a.blank.attempts.history; opening = a.book.opening }
