@@ -1,5 +1,5 @@
 //! A day at the desk: a book, its desk with four seats, their threads, and the close.
-ghost use Rattle.std.specs.Prelude.{◌≡◌, ◌≤◌, [], Unit, IfOk};
+ghost use Rattle.std.specs.Prelude.{◌≡◌, ◌≤◌, [], IfOk};
 ghost use Rattle.std.specs.Thread.{IsSend, IsSync};
 
 use crate::faults::Fault;

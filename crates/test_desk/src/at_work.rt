@@ -1,5 +1,4 @@
 //! A desk at which each seat works in a thread of its own.
-ghost use Rattle.std.specs.Prelude.{Unit};
 
 use crate::compare::check_eq;
 use crate::day::check_text;
