@@ -229,7 +229,7 @@ fn finish_all<R: Files>(
     requires staged { length staged.now ≡ length files.now }
     requires on_disk { length on_disk.now ≡ length files.now }
     requires room { vec_len results.now + length files.now ≤ vec_capacity results.now }
-    ensures len { vec_len results.new ≡ vec_len results.old + length files.now }
+    ensures len { length results.new.items ≡ length results.old.items + length files.now }
 {
     for i in 0..files.len() {
         let result = finish(rt, alloc, &files[i], &staged[i], on_disk[i]);
