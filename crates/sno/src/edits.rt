@@ -28,6 +28,9 @@ struct Tally {
 }
 
 impl Tally {
+    ghost use Rattle.std.specs.Prelude.{◌≡◌};
+    ghost use Rattle.sno.specs.Statuses.{edit_status};
+
     fn of(files: usize) -> Tally {
         Tally {
             files,
@@ -52,14 +55,17 @@ impl Tally {
         }
     }
 
-    fn status(&self, purpose: Purpose) -> u8 {
-        let is_left = match purpose {
+    /// The status to end with.
+    fn status(&self, purpose: Purpose) -> u8
+        ensures { result ≡ edit_status purpose self.now }
+    {
+        let is_missed = match purpose {
             Purpose::Check => self.changed > 0,
             Purpose::Write | Purpose::Diff => self.matches == 0,
         };
         if self.failed {
             FAILED
-        } else if self.refused || is_left {
+        } else if self.refused || is_missed {
             1
         } else {
             0
