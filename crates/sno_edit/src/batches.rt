@@ -47,7 +47,7 @@ fn plan_one<'a, F: Folder>(
 ) -> Result<Done, FileFault>
     ensures { (added : List NewText) × (writes.new.items ≡ writes.old.items ++ added) × ArePlanned (statements_in rules.now) (F.holds folder.now) (path.now ∷ []) (result ∷ []) added }
 {
-    let plan = plan_file(alloc, folder, rules, "*")?;
+    let plan = plan_file(alloc, folder, rules, path)?;
     let changed = plan.changes();
     let Plan { after, matches, .. } = plan;
     if !changed {
