@@ -1,3 +1,4 @@
-jq --rawfile text examples/own/calls.c '.texts = [{name: "file", text: $text}]' \
-    examples/own/calls.json | ./sno_rewrite --json | jq -j '.texts[0].text' > calls.new
-cat calls.new
+cp examples/own/calls.c calls.c
+./sno edit --diff examples/own/calls.json calls.c > calls.diff
+./sno edit examples/own/calls.json calls.c
+cat calls.c

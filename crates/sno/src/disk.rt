@@ -1,8 +1,10 @@
 //! The files of the system, as `sno_edit` sees a folder. What they hold is not claimed here: the system is no part of
 //! the proof.
+ghost use Rattle.std.specs.Prelude.{◌≡◌, ◌≤◌, ◌<◌, ◌+◌, length, vec_len, vec_capacity};
 
-use sno_edit::{Folder, ReadFault, WriteFault};
-use std::alloc::Global;
+use sno_edit::{Folder, NewText, ReadFault, WriteFault};
+use std::alloc::{AllocError, Global};
+use std::collections::BTreeSet;
 use std::fs::{Metadata, OpenFile, OpenOptions};
 use std::io;
 use std::io::{ErrorKind, Read, Write};
@@ -12,12 +14,17 @@ use std::rt::Files;
 /// How many names are tried for a new file.
 const NAMES: u32 = 1_000;
 
-const PIECE: usize = 8_192;
-
 /// The files of the system.
 #[derive(Drop)]
 pub(crate) struct Disk<'a, R: Files> {
     pub(crate) rt: &'a R,
+}
+
+/// A new file, and the one whose place it is to take.
+#[derive(Drop)]
+struct NewFile {
+    path: String,
+    target: String,
 }
 
 /// The metadata of a file, through symbolic links. Only a regular file is taken.
@@ -32,35 +39,40 @@ fn regular<R: Files>(rt: &R, path: &str) -> io::Result<Metadata> {
     Ok(metadata)
 }
 
-/// Adds at most one piece of the reader after the bytes already read, and returns whether the end was not reached.
-fn read_piece<T: Read>(reader: &mut T, bytes: &mut Vec<u8>) -> io::Result<bool> {
-    let mut piece = [0; PIECE];
-    let count = reader.read(&mut piece)?;
-    bytes.extend_from_slice(&piece[..count])?;
-    Ok(count > 0)
-}
-
-/// The bytes of a file up to its end, or only the first ones if there are more than `most`: then more than `most`.
+/// The bytes of a file up to its end, or only the first ones if there are more than `most`: then one more.
 fn read_file<R: Files>(rt: &R, alloc: Global, path: &str, most: usize) -> io::Result<Vec<u8>> {
     let _metadata = regular(rt, path)?;
-    let mut file = OpenOptions::new().read(true).open(rt, path)?;
+    let file = OpenOptions::new().read(true).open(rt, path)?;
     let mut bytes = Vec::new(alloc);
-    for _ in 0..u64::MAX {
-        if bytes.len() > most || !read_piece(&mut file, &mut bytes)? {
-            break;
-        }
-    }
+    let mut reader = file.take((most as u64).saturating_add(1));
+    let _count = reader.read_to_end(&mut bytes)?;
     Ok(bytes)
 }
 
-/// A new file in the folder of this path, which is absolute, and its path.
-fn new_file<R: Files>(rt: &R, alloc: Global, path: &str) -> io::Result<(R::File, String)> {
-    let folder = match path.rsplit_once('/') {
+/// The path of the file that a path leads to: of a symbolic link its target.
+fn target_of<R: Files>(rt: &R, alloc: Global, path: &str) -> io::Result<String> {
+    if rt.symlink_metadata(path)?.is_symlink() {
+        let target = rt.canonicalize(alloc, path)?;
+        return format!(in alloc; "{}", target.as_path().as_str()).map_err(io::Error::from);
+    }
+    format!(in alloc; "{path}").map_err(io::Error::from)
+}
+
+/// A new file in the folder of this file, and its path. Its name has the number of the file, so that those of several
+/// files are different.
+fn new_file<R: Files>(
+    rt: &R,
+    alloc: Global,
+    target: &str,
+    old: &Metadata,
+) -> io::Result<(R::File, String)> {
+    let folder = match target.rsplit_once('/') {
         Some((folder, _)) => folder,
         None => ".",
     };
+    let file = old.ino();
     for number in 0..NAMES {
-        let name = format!(in alloc; "{folder}/.sno-edit-{number}")?;
+        let name = format!(in alloc; "{folder}/.sno-edit-{file}-{number}")?;
         match OpenOptions::new()
             .write(true)
             .create_new(true)
@@ -74,8 +86,7 @@ fn new_file<R: Files>(rt: &R, alloc: Global, path: &str) -> io::Result<(R::File,
     Err(io::Error::from(ErrorKind::AlreadyExists))
 }
 
-/// Gives a new file the owner, if that is allowed, and the permissions of the old one, then the bytes, and waits until
-/// they are on the disk.
+/// Gives a new file the owner, if that is allowed, and the permissions of the old one, then the bytes.
 fn fill<R: Files>(
     rt: &R,
     file: &mut R::File,
@@ -85,32 +96,173 @@ fn fill<R: Files>(
 ) -> io::Result<()> {
     let _refused = rt.chown(name, Some(old.uid()), Some(old.gid()));
     file.set_permissions(old.permissions())?;
-    file.write_all(bytes)?;
+    file.write_all(bytes)
+}
+
+/// Removes a new file that is not to take a place.
+fn discard<R: Files>(rt: &R, path: &str) {
+    let _left = rt.remove_file(path);
+}
+
+/// Makes a new file with these bytes beside the one with this path, or beside the one that it links to.
+fn stage<R: Files>(rt: &R, alloc: Global, path: &str, bytes: &[u8]) -> io::Result<NewFile> {
+    let target = target_of(rt, alloc, path)?;
+    let old = regular(rt, target.as_str())?;
+    let (mut file, name) = new_file(rt, alloc, target.as_str(), &old)?;
+    let filled = fill(rt, &mut file, name.as_str(), &old, bytes);
+    drop(file);
+    match filled {
+        Ok(()) => Ok(NewFile { path: name, target }),
+        Err(e) => {
+            discard(rt, name.as_str());
+            Err(e)
+        }
+    }
+}
+
+/// Waits until the bytes of a new file are on the disk.
+fn sync<R: Files>(rt: &R, file: &NewFile) -> io::Result<()> {
+    let file = OpenOptions::new().read(true).open(rt, file.path.as_str())?;
     file.sync_all()
 }
 
-/// Puts a new file with these bytes in place of the one with this path, or of the one that it links to.
-fn replace_file<R: Files>(rt: &R, alloc: Global, path: &str, bytes: &[u8]) -> io::Result<()> {
-    let target = rt.canonicalize(alloc, path)?;
-    let target = target.as_path().as_str();
-    let old = regular(rt, target)?;
-    let (mut file, name) = new_file(rt, alloc, target)?;
-    let filled = fill(rt, &mut file, name.as_str(), &old, bytes);
-    drop(file);
-    let replaced = match filled {
-        Ok(()) => rt.rename(name.as_str(), target),
-        Err(e) => Err(e),
-    };
-    if replaced.is_err() {
-        let _left = rt.remove_file(name.as_str());
+/// Puts a new file that is on the disk in its place. If that fails, it is removed.
+fn put_in_place<R: Files>(rt: &R, file: &NewFile) -> io::Result<()> {
+    let renamed = rt.rename(file.path.as_str(), file.target.as_str());
+    if renamed.is_err() {
+        discard(rt, file.path.as_str());
     }
-    replaced
+    renamed
+}
+
+/// Puts a new file with these bytes in place of the one with this path, or of the one that it links to.
+fn replace_one<R: Files>(rt: &R, alloc: Global, path: &str, bytes: &[u8]) -> io::Result<()> {
+    let file = stage(rt, alloc, path, bytes)?;
+    match sync(rt, &file) {
+        Ok(()) => put_in_place(rt, &file),
+        Err(e) => {
+            discard(rt, file.path.as_str());
+            Err(e)
+        }
+    }
+}
+
+fn write_fault(e: io::Error) -> WriteFault {
+    match e.kind() {
+        ErrorKind::OutOfMemory => WriteFault::Memory,
+        kind => WriteFault::Failed(kind),
+    }
+}
+
+/// Makes a new file for each of the files. There is none if that fails.
+fn stage_all<R: Files>(
+    rt: &R,
+    alloc: Global,
+    files: &[NewText<'_>],
+    staged: &mut Vec<Option<NewFile>>,
+)
+    requires room { vec_len staged.now + length files.now ≤ vec_capacity staged.now }
+    ensures len { vec_len staged.new ≡ vec_len staged.old + length files.now }
+{
+    for file in files {
+        let new = stage(rt, alloc, file.path, file.text.bytes()).ok();
+        match staged.push(new) {
+            Ok(()) => {}
+            Err(_) => unreachable!(),
+        }
+    }
+}
+
+/// Whether there is a new file and its bytes are on the disk, after a wait. If not, there is none afterwards.
+fn is_on_disk<R: Files>(rt: &R, staged: &Option<NewFile>) -> bool {
+    let Some(file) = staged else {
+        return false;
+    };
+    let synced = sync(rt, file).is_ok();
+    if !synced {
+        discard(rt, file.path.as_str());
+    }
+    synced
+}
+
+/// Waits for each new file until it is on the disk. Since all are written, the first wait is for most of them.
+fn sync_all<R: Files>(rt: &R, staged: &[Option<NewFile>], on_disk: &mut Vec<bool>)
+    requires room { vec_len on_disk.now + length staged.now ≤ vec_capacity on_disk.now }
+    ensures len { vec_len on_disk.new ≡ vec_len on_disk.old + length staged.now }
+{
+    for file in staged {
+        match on_disk.push(is_on_disk(rt, file)) {
+            Ok(()) => {}
+            Err(_) => unreachable!(),
+        }
+    }
+}
+
+/// Puts a new file in its place if it is on the disk. If not, the file is replaced alone: after the others there may be
+/// room for it.
+fn finish<R: Files>(
+    rt: &R,
+    alloc: Global,
+    file: &NewText<'_>,
+    staged: &Option<NewFile>,
+    on_disk: bool,
+) -> Result<(), WriteFault> {
+    let replaced = match staged {
+        Some(new) if on_disk => put_in_place(rt, new),
+        _ => replace_one(rt, alloc, file.path, file.text.bytes()),
+    };
+    match replaced {
+        Ok(()) => Ok(()),
+        Err(e) => Err(write_fault(e)),
+    }
+}
+
+/// Finishes each of the files, and adds its result.
+fn finish_all<R: Files>(
+    rt: &R,
+    alloc: Global,
+    files: &[NewText<'_>],
+    staged: &[Option<NewFile>],
+    on_disk: &[bool],
+    results: &mut Vec<Result<(), WriteFault>>,
+)
+    requires staged { length staged.now ≡ length files.now }
+    requires on_disk { length on_disk.now ≡ length files.now }
+    requires room { vec_len results.now + length files.now ≤ vec_capacity results.now }
+    ensures len { length results.new.items ≡ length results.old.items + length files.now }
+{
+    for i in 0..files.len() {
+        let result = finish(rt, alloc, &files[i], &staged[i], on_disk[i]);
+        match results.push(result) {
+            Ok(()) => {}
+            Err(_) => unreachable!(),
+        }
+    }
+}
+
+/// How many of the first paths are of different files. A link and its target are one file; a path of no file counts
+/// too. At least one; if memory runs out, only that.
+pub(crate) fn different_files<R: Files>(rt: &R, alloc: Global, paths: &[&str]) -> usize
+    ensures few { result ≤ length paths.now }
+    ensures some { 0 < length paths.now → 0 < result }
+{
+    let mut seen = BTreeSet::new(alloc);
+    for count in 0..paths.len() {
+        if let Ok(metadata) = rt.metadata(paths[count]) {
+            match seen.insert((metadata.dev(), metadata.ino())) {
+                Ok(true) => {}
+                Ok(false) => return count.max(1),
+                Err(_) => return 1,
+            }
+        }
+    }
+    paths.len()
 }
 
 impl<R: Files> Folder for Disk<'_, R> {
     ghost holds = { λ _ _ _. Unit {0} };
 
-    fn read(&mut self, alloc: Global, path: &str, most: usize) -> Result<Vec<u8>, ReadFault> {
+    fn read(&self, alloc: Global, path: &str, most: usize) -> Result<Vec<u8>, ReadFault> {
         match read_file(self.rt, alloc, path, most) {
             Ok(bytes) => {
                 if bytes.len() > most {
@@ -126,12 +278,25 @@ impl<R: Files> Folder for Disk<'_, R> {
     }
 
     fn replace(&mut self, alloc: Global, path: &str, bytes: &[u8]) -> Result<(), WriteFault> {
-        match replace_file(self.rt, alloc, path, bytes) {
+        match replace_one(self.rt, alloc, path, bytes) {
             Ok(()) => Ok(()),
-            Err(e) => match e.kind() {
-                ErrorKind::OutOfMemory => Err(WriteFault::Memory),
-                kind => Err(WriteFault::Failed(kind)),
-            },
+            Err(e) => Err(write_fault(e)),
         }
+    }
+
+    // New files are written, then each is waited for, then each takes its place: a wait after all writes is shorter
+    // than one after each.
+    fn replace_all(
+        &mut self,
+        alloc: Global,
+        files: &[NewText<'_>],
+    ) -> Result<Vec<Result<(), WriteFault>>, AllocError> {
+        let mut results = Vec::with_capacity(alloc, files.len())?;
+        let mut staged = Vec::with_capacity(alloc, files.len())?;
+        let mut on_disk = Vec::with_capacity(alloc, files.len())?;
+        stage_all(self.rt, alloc, files, &mut staged);
+        sync_all(self.rt, &staged, &mut on_disk);
+        finish_all(self.rt, alloc, files, &staged, &on_disk, &mut results);
+        Ok(results)
     }
 }

@@ -1,7 +1,7 @@
 //! `sno edit`.
 ghost use Rattle.sno_statement.specs.Statement.{IsLimit};
 
-use crate::disk::Disk;
+use crate::disk::{Disk, different_files};
 use crate::edit_options::{EditOptions, Purpose};
 use crate::faults::{FAILED, ProgramFault};
 use crate::streams::{read_up_to, write_all};
@@ -28,6 +28,9 @@ struct Tally {
 }
 
 impl Tally {
+    ghost use Rattle.std.specs.Prelude.{◌≡◌};
+    ghost use Rattle.sno.specs.Statuses.{edit_status};
+
     fn of(files: usize) -> Tally {
         Tally {
             files,
@@ -52,14 +55,17 @@ impl Tally {
         }
     }
 
-    fn status(&self, purpose: Purpose) -> u8 {
-        let is_left = match purpose {
+    /// The status to end with.
+    fn status(&self, purpose: Purpose) -> u8
+        ensures { result ≡ edit_status purpose self.now }
+    {
+        let is_missed = match purpose {
             Purpose::Check => self.changed > 0,
             Purpose::Write | Purpose::Diff => self.matches == 0,
         };
         if self.failed {
             FAILED
-        } else if self.refused || is_left {
+        } else if self.refused || is_missed {
             1
         } else {
             0
@@ -100,18 +106,14 @@ fn put_summary(lines: &mut String, tally: &Tally, verb: &str) -> Result<(), Allo
     )
 }
 
-/// Edits the files, and writes a line for each that changed.
-fn write_files<R: Files, W: Write, E: Write>(
-    rt: &R,
-    alloc: Global,
-    rules: &EditRules,
+/// Counts what became of files, and adds a line for each that changed.
+fn report_ends<E: Write>(
+    lines: &mut String,
+    tally: &mut Tally,
     paths: &[&str],
-    output: &mut W,
+    ends: &[Result<Done, FileFault>],
     errors: &mut E,
-) -> Result<Tally, ProgramFault> {
-    let ends = edit_files(alloc, &mut Disk { rt }, rules, paths)?;
-    let mut tally = Tally::of(paths.len());
-    let mut lines = String::new(alloc);
+) -> Result<(), AllocError> {
     for (path, end) in paths.iter().zip(ends.iter()) {
         match end {
             Ok(done) => {
@@ -126,6 +128,29 @@ fn write_files<R: Files, W: Write, E: Write>(
             }
         }
     }
+    Ok(())
+}
+
+/// Edits the files, and writes a line for each that changed. Files that several paths lead to are edited once for each,
+/// one after the other.
+fn write_files<R: Files, W: Write, E: Write>(
+    rt: &R,
+    alloc: Global,
+    rules: &EditRules,
+    paths: &[&str],
+    output: &mut W,
+    errors: &mut E,
+) -> Result<Tally, ProgramFault> {
+    let mut tally = Tally::of(paths.len());
+    let mut lines = String::new(alloc);
+    let mut begin = 0;
+    while begin < paths.len() {
+        let (_, rest) = paths.split_at(begin);
+        let (files, _) = rest.split_at(different_files(rt, alloc, rest));
+        let ends = edit_files(alloc, &mut Disk { rt }, rules, files)?;
+        report_ends(&mut lines, &mut tally, files, &ends, errors)?;
+        begin += files.len();
+    }
     put_summary(&mut lines, &tally, "changed")?;
     write_all(output, lines.as_bytes())?;
     Ok(tally)
@@ -139,7 +164,7 @@ fn shown<R: Files>(
     path: &str,
     show: Show,
 ) -> Result<(Done, String), FileFault> {
-    let plan = plan_file(alloc, &mut Disk { rt }, rules, path)?;
+    let plan = plan_file(alloc, &Disk { rt }, rules, path)?;
     let done = Done {
         changed: plan.changes(),
         matches: plan.matches,

@@ -4,3 +4,4 @@ pub mod Faults
 pub mod Scripts
 pub mod Files
 pub mod Rules
+pub mod Batches

@@ -7,6 +7,7 @@ ghost use Rattle.sno_edit.specs.Held.{Kept};
 ghost use Rattle.sno_edit.specs.Files.{AreFilesEnds, HasCause, HasTextCause, IsFileEnd, IsPlan};
 ghost use Rattle.sno_edit.specs.Rules.{statements_in};
 
+use crate::batches::{BATCH, batch_len, edit_batch};
 use crate::edits::edited;
 use crate::{EditRules, EditedText, FileFault, Folder, Position};
 use sno_pattern::{MAX_TEXT, Text, first_non_ascii};
@@ -70,13 +71,12 @@ fn text_in(alloc: Global, bytes: Vec<u8>) -> Result<Arc<Text>, FileFault>
 /// - `Memory`.
 pub fn plan_file<F: Folder>(
     alloc: Global,
-    folder: &mut F,
+    folder: &F,
     rules: &EditRules,
     path: &str,
 ) -> Result<Plan, FileFault>
-    ensures planned { IfOk result (λ plan. IsPlan (statements_in rules.now) path.now (F.holds folder.old) plan) }
-    ensures cause { IfErr result (λ e. HasCause (statements_in rules.now) path.now (F.holds folder.old) e) }
-    ensures kept { Kept (F.holds folder.old) (F.holds folder.new) }
+    ensures planned { IfOk result (λ plan. IsPlan (statements_in rules.now) path.now (F.holds folder.now) plan) }
+    ensures cause { IfErr result (λ e. HasCause (statements_in rules.now) path.now (F.holds folder.now) e) }
 {
     let bytes = folder.read(alloc, path, MAX_TEXT)?;
     let before = text_in(alloc, bytes)?;
@@ -111,7 +111,8 @@ pub fn edit_file<F: Folder>(
 }
 
 /// Edits the files with these paths by the rules, in order, and returns a report for each, in the same order. A file
-/// that is refused stays as it was, and the others go on.
+/// that is refused stays as it was, and the others go on. Files are written a batch at a time, by
+/// [`Folder::replace_all`]; what they hold afterwards is as if each were edited before the next.
 ///
 /// Refused only if there is no memory for the reports. Then no file was touched.
 pub fn edit_files<F: Folder>(
@@ -124,12 +125,13 @@ pub fn edit_files<F: Folder>(
     ensures untouched { OnErr result (folder.new ≡ folder.old) }
 {
     let mut ends = Vec::with_capacity(alloc, paths.len())?;
-    for path in paths {
-        let end = edit_file(alloc, folder, rules, path);
-        match ends.push(end) {
-            Ok(()) => {}
-            Err(_) => unreachable!(),
-        }
+    let mut planned = Vec::with_capacity(alloc, BATCH)?;
+    let mut begin = 0;
+    while begin < paths.len() {
+        let (_, rest) = paths.split_at(begin);
+        let (batch, _) = rest.split_at(batch_len(rest));
+        edit_batch(alloc, folder, rules, batch, &mut planned, &mut ends);
+        begin += batch.len();
     }
     Ok(ends)
 }

@@ -17,10 +17,12 @@
 //! | `folders` | `Folder`, and why a file is not read or written |
 //! | `faults` | `FileFault`: why a file stays as it was |
 //! | `files` | `plan_file`, `edit_file`, `edit_files` |
+//! | `batches` | files that are planned one after the other and then written together |
 //! | `scripts` | the lines that two texts share, and those that only one has |
 //! | `hunks` | a script as a unified diff |
 #![tactic(auto)]
 
+mod batches;
 mod edits;
 mod faults;
 mod files;
@@ -34,7 +36,7 @@ mod tests;
 pub use edits::{EditedText, RefusedStatement};
 pub use faults::{FileFault, Position};
 pub use files::{Done, Plan, edit_file, edit_files, plan_file};
-pub use folders::{Folder, ReadFault, WriteFault};
+pub use folders::{Folder, NewText, ReadFault, WriteFault};
 pub use hunks::unified_diff;
 pub use rules::EditRules;
 pub use scripts::{DiffLine, Mark, script_of};

@@ -1,17 +1,26 @@
--- Each file adds its report.
-use Rattle.std.proofs.Common.{[], arith, sym, subst}
+-- Each batch adds its reports.
+use Rattle.std.proofs.Common.{◌≡◌, ◌≤◌, ◌+◌, length, take, vec_len, vec_capacity, [], arith, ap, sym, subst, ◌∙◌}
 use Rattle.sno_edit.specs.Files.{AreFilesEnds}
 use Rattle.sno_edit.specs.Rules.{statements_in}
-use Rattle.sno_edit.proofs.FileLemmas.{ends_more}
+use Rattle.sno_edit.proofs.BatchLemmas.{batch_more}
 use Rattle.sno_edit.proofs.files.edit_files.Goals as goal
 
-pub loop-path-init : goal.loop-path-init
-loop-path-init g c = (
+pub loop-begin-init : goal.loop-begin-init
+loop-begin-init g c = (
   subst (λ e. AreFilesEnds g.F.Folder.holds (statements_in c.args.rules.now) c.args.folder.now [] c.args.folder.now e) (sym c.in_ok-ends.ensures.items) AreFilesEnds.no_file,
+  omega arith,
   c.in_ok-ends.ensures.len,
   c.in_ok-ends.ensures.capacity,
+  c.in_ok-planned.ensures.capacity,
 )
 
-pub loop-path-preserved : goal.loop-path-preserved
-loop-path-preserved g c =
-    (ends_more _ _ _ _ _ _ _ _ _ _ _ c.loop-path-test.true c.loop-path.invariant.0 c.edit_file-end.ensures c.in-Ok.ensures.items, omega (arith, c.in-Ok.ensures.len, c.loop-path.invariant.1), omega (arith, c.in-Ok.ensures.capacity, c.loop-path.invariant.2))
+pub loop-begin-preserved : goal.loop-begin-preserved
+loop-begin-preserved g c = (
+  batch_more _ _ _ _ _ _ _ _ _ _ c.split_at.ensures.back
+      (c.split_at-in-loop-begin.ensures.front ∙ ap (λ n. take n c.split_at.result.1.now) (sym c.split_at-in-loop-begin.ensures.front_len))
+      (c.edit_batch.ensures.ends _ _ c.loop-begin.invariant.0),
+  omega (arith, c.split_at-in-loop-begin.ensures.back_len, c.split_at.ensures.back_len),
+  omega (arith, c.edit_batch.ensures.len, c.loop-begin.invariant.2),
+  omega (arith, c.edit_batch.ensures.capacity, c.loop-begin.invariant.3),
+  omega (arith, c.edit_batch.ensures.plans, c.loop-begin.invariant.4),
+)

@@ -1,0 +1,8 @@
+-- There is a result for each file.
+use Rattle.std.proofs.Common.{◌≡◌, ◌+◌, length, ap, arith, refl}
+use Rattle.sno.proofs.DiskLemmas.{none_claimed}
+use Rattle.sno.proofs.disk.DiskFolder.replace_all.Goals as goal
+
+pub returns-clause-replaced : goal.returns-clause-replaced
+returns-clause-replaced g c =
+    none_claimed _ _ _ _ (omega (arith, c.finish_all.ensures.len, ap length c.in_ok-results.ensures.items)) refl
