@@ -1,13 +1,13 @@
 //! `sno trace`.
 
 use crate::checks::document_bytes;
-use crate::faults::{MISUSED, ProgramFault};
+use crate::faults::{FAILED, MISUSED, ProgramFault};
 use crate::streams::write_all;
 use crate::trace_command::TraceOptions;
 use sno_book::{Book, CommitFault, Snapshot, SnapshotFault, fresh_is_kin, propose};
 use sno_document::{Document, DocumentFault, Mode, read_document};
 use sno_statement::{Outcome, Statement, StatementFault, USUAL_TRIALS};
-use sno_trace::{MatchTrace, Noted, lines_of, trace};
+use sno_trace::{MatchTrace, Noted, TraceFault, lines_of, trace};
 use std::alloc::{AllocError, Global};
 use std::io::{Read, Write};
 use std::rt::Files;
@@ -15,6 +15,9 @@ use std::sync::Arc;
 
 /// The status after a document that is refused.
 const INVALID: u8 = 2;
+
+/// What is written if calls would nest too deep.
+const TOO_DEEP: &str = "too deep: with fewer --lines less is nested";
 
 /// What is written, and the status after it.
 #[derive(Drop)]
@@ -85,7 +88,7 @@ fn show(
     statement: &Arc<Statement>,
     snapshot: Snapshot,
     lines: u32,
-) -> Result<TraceLines, AllocError> {
+) -> Result<TraceLines, TraceFault> {
     let is_refused = statement.limit() <= lines;
     let limit = if is_refused { statement.limit() } else { lines };
     let found = trace(
@@ -120,7 +123,7 @@ fn shown(
     alloc: Global,
     document: Document,
     options: &TraceOptions<'_>,
-) -> Result<Option<TraceLines>, AllocError> {
+) -> Result<Option<TraceLines>, TraceFault> {
     let Document {
         mut book,
         statements,
@@ -141,7 +144,7 @@ fn shown(
             lines: Vec::from_slice(alloc, b"no text\n")?,
             status: 1,
         })),
-        Err(SnapshotFault::Memory) => Err(AllocError),
+        Err(SnapshotFault::Memory) => Err(TraceFault::Memory),
     }
 }
 
@@ -149,7 +152,8 @@ fn shown(
 ///
 /// - 0 if it succeeds, and 1 if it fails or is refused;
 /// - 2 if the document is refused, after the line of its fault in `errors`;
-/// - 3 if the document has no such statement, which `errors` says.
+/// - 3 if the document has no such statement, which `errors` says;
+/// - 4 if calls would nest too deep, which `errors` says.
 ///
 /// Refused with `Read`, `Memory` or `Write`. Unless it is `Write`, nothing was written to `output`.
 pub(crate) fn run_trace<R: Files, I: Read, W: Write, E: Write>(
@@ -173,14 +177,19 @@ pub(crate) fn run_trace<R: Files, I: Read, W: Write, E: Write>(
             return Ok(INVALID);
         }
     };
-    match shown(alloc, document, options)? {
-        Some(shown) => {
+    match shown(alloc, document, options) {
+        Ok(Some(shown)) => {
             write_all(output, &shown.lines)?;
             Ok(shown.status)
         }
-        None => {
+        Ok(None) => {
             let _printed = errors.writeln("error: the document has no such statement");
             Ok(MISUSED)
         }
+        Err(TraceFault::TooDeep) => {
+            let _printed = errors.writeln(TOO_DEEP);
+            Ok(FAILED)
+        }
+        Err(TraceFault::Memory) => Err(ProgramFault::Memory),
     }
 }

@@ -33,6 +33,7 @@
 #![tactic(auto)]
 
 mod events;
+mod faults;
 mod laws;
 mod leaves;
 mod lines;
@@ -43,6 +44,7 @@ mod tracing;
 mod walking;
 
 pub use events::{Leaf, Noted, Trial};
+pub use faults::{MAX_DEPTH, TraceFault};
 pub use laws::{
     a_limit_is_used_up, notes_are_honest, notes_come_off, what_is_shown_begins_the_match,
     what_is_shown_is_the_match,
