@@ -5,7 +5,8 @@ ghost use Rattle.sno_trace.specs.declared.faults.TraceFault.TheVariants.{Memory}
 use std::alloc::{AllocError, AllocFailed};
 use thiserror::Error;
 
-/// How deep parts, rounds and references may be nested in a trace. An ordinary stack of 8 MiB holds about twice as many.
+/// How deep parts, rounds and references may be nested in a trace. Each takes at most 2,900 bytes of the
+/// stack as it is built today, so an ordinary one of 8 MiB holds them.
 pub const MAX_DEPTH: usize = 2_500;
 
 /// Why a match has no trace.

@@ -66,10 +66,13 @@ fn shown<'a>(
 /// comes with its start, in the order of the definition, up to the one that ends the match; at most `limit` trials are shown. If
 /// the match takes more, the last event is a Stop in place of the next trial.
 ///
-/// Time and memory grow with the trials that are shown, and the depth of the calls with the rounds and references that are
+/// Time and memory grow with the trials that are shown, and the depth of the calls with the parts, rounds and references that are
 /// nested within them.
 ///
-/// Refused only if out of memory.
+/// Refused with
+///
+/// - `TooDeep` only if parts, rounds and references are nested deeper than `MAX_DEPTH` from some start;
+/// - `Memory`.
 pub fn trace<'a>(
     alloc: Global,
     rules: &'a Rules,
