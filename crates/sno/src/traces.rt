@@ -7,7 +7,7 @@ use crate::trace_command::TraceOptions;
 use sno_book::{Book, CommitFault, Snapshot, SnapshotFault, fresh_is_kin, propose};
 use sno_document::{Document, DocumentFault, Mode, read_document};
 use sno_statement::{Outcome, Statement, StatementFault, USUAL_TRIALS};
-use sno_trace::{MatchTrace, Noted, TraceFault, lines_of, trace};
+use sno_trace::{MatchTrace, Noted, TraceFault, lines_of, page_of, trace};
 use std::alloc::{AllocError, Global};
 use std::io::{Read, Write};
 use std::rt::Files;
@@ -87,10 +87,11 @@ fn show(
     alloc: Global,
     statement: &Arc<Statement>,
     snapshot: Snapshot,
-    lines: u32,
+    options: &TraceOptions<'_>,
 ) -> Result<TraceLines, TraceFault> {
-    let is_refused = statement.limit() <= lines;
-    let limit = if is_refused { statement.limit() } else { lines };
+    let most = options.lines;
+    let is_refused = statement.limit() <= most;
+    let limit = if is_refused { statement.limit() } else { most };
     let found = trace(
         alloc,
         statement.rules(),
@@ -99,14 +100,25 @@ fn show(
         statement.anchored(),
         limit as usize,
     )?;
-    let lines = lines_of(
-        alloc,
-        statement.rules(),
-        &snapshot.text,
-        &found,
-        lines as usize,
-        is_refused,
-    )?;
+    let lines = if options.html {
+        page_of(
+            alloc,
+            statement.rules(),
+            &snapshot.text,
+            &found,
+            most as usize,
+            is_refused,
+        )?
+    } else {
+        lines_of(
+            alloc,
+            statement.rules(),
+            &snapshot.text,
+            &found,
+            most as usize,
+            is_refused,
+        )?
+    };
     let matched = match outcome_in(&found, is_refused) {
         Some(matched) => matched,
         None => succeeds(alloc, statement, snapshot)?,
@@ -139,7 +151,7 @@ fn shown(
         return Ok(None);
     };
     match book.snapshot(statement.text()) {
-        Ok(snapshot) => Ok(Some(show(alloc, statement, snapshot, options.lines)?)),
+        Ok(snapshot) => Ok(Some(show(alloc, statement, snapshot, options)?)),
         Err(SnapshotFault::NoText) => Ok(Some(TraceLines {
             lines: Vec::from_slice(alloc, b"no text\n")?,
             status: 1,
