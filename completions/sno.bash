@@ -14,7 +14,7 @@ _sno() {
         case "${COMP_WORDS[1]}" in
             check) options=" --json --strict --help -h " ;;
             edit) options=" --diff --check --anchor --trials --help -h " ;;
-            trace) options=" --statement --lines --help -h " ;;
+            trace) options=" --statement --lines --html --help -h " ;;
             *) options="" ;;
         esac
     fi

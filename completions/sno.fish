@@ -14,3 +14,4 @@ complete -c sno -n '__fish_seen_subcommand_from edit' -l anchor -d 'Anchor each 
 complete -c sno -n '__fish_seen_subcommand_from edit' -l trials -x -a '1000 1000000 1000000000' -d 'How many trials a match may take'
 complete -c sno -n '__fish_seen_subcommand_from trace' -l statement -x -a '(seq 9)' -d 'The number of the statement'
 complete -c sno -n '__fish_seen_subcommand_from trace' -l lines -x -a '100 1000 10000' -d 'How many lines are shown'
+complete -c sno -n '__fish_seen_subcommand_from trace' -l html -d 'Write a page of HTML'

@@ -14,6 +14,8 @@ const STATEMENT_HELP: &str =
 
 const LINES_HELP: &str = "How many lines are shown, 1 to 10000";
 
+const HTML_HELP: &str = "Writes a page of HTML, stepped through by the arrow keys";
+
 const DOCUMENT_HELP: &str = "The file of the document; standard input if it is missing";
 
 const EXAMPLE: &str = "Example: sno trace --statement 2 document.json";
@@ -21,8 +23,7 @@ const EXAMPLE: &str = "Example: sno trace --statement 2 document.json";
 /// The most lines that may be asked for.
 const MAX_LINES: u32 = 10_000;
 
-/// How many lines are shown without the option. Calls go as deep as rounds and references are nested in the trials that are shown,
-/// and an ordinary stack holds some 2,000 references.
+/// How many lines are shown without the option. A trace that nests too deep is refused, and few trials nest less.
 const USUAL_LINES: u32 = 1_000;
 
 /// What is written if a number is not in its range.
@@ -36,6 +37,8 @@ pub(crate) struct TraceOptions<'a> {
     pub(crate) statement: u32,
     /// How many lines are shown at most.
     pub(crate) lines: u32,
+    /// Whether they are written as a page of HTML.
+    pub(crate) html: bool,
     /// The file of the document; standard input if there is none.
     pub(crate) document: Option<&'a str>,
 }
@@ -55,12 +58,17 @@ pub(crate) fn trace_command<'a>(alloc: Global) -> Result<Command<'a>, AllocError
         .value_name("DOCUMENT")
         .action(ArgAction::Set)
         .help(DOCUMENT_HELP);
+    let html = Arg::new(alloc, "html")
+        .long("html")
+        .action(ArgAction::SetTrue)
+        .help(HTML_HELP);
     Command::new(alloc, "trace")
         .about(ABOUT)
         .override_usage(USAGE)
         .after_help(EXAMPLE)
         .arg(numeric(alloc, "statement", "1", STATEMENT_HELP))?
         .arg(numeric(alloc, "lines", "1000", LINES_HELP))?
+        .arg(html)?
         .arg(document)
 }
 
@@ -74,6 +82,7 @@ pub(crate) fn trace_options_in<'a>(matches: &ArgMatches<'a>) -> Option<TraceOpti
     Some(TraceOptions {
         statement,
         lines,
+        html: matches.get_one::<bool>("html").unwrap_or(false),
         document: matches.get_str("document"),
     })
 }

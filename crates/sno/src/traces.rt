@@ -1,13 +1,13 @@
 //! `sno trace`.
 
 use crate::checks::document_bytes;
-use crate::faults::{MISUSED, ProgramFault};
+use crate::faults::{FAILED, MISUSED, ProgramFault};
 use crate::streams::write_all;
 use crate::trace_command::TraceOptions;
 use sno_book::{Book, CommitFault, Snapshot, SnapshotFault, fresh_is_kin, propose};
 use sno_document::{Document, DocumentFault, Mode, read_document};
 use sno_statement::{Outcome, Statement, StatementFault, USUAL_TRIALS};
-use sno_trace::{MatchTrace, Noted, lines_of, trace};
+use sno_trace::{MatchTrace, Noted, TraceFault, lines_of, page_of, trace};
 use std::alloc::{AllocError, Global};
 use std::io::{Read, Write};
 use std::rt::Files;
@@ -15,6 +15,9 @@ use std::sync::Arc;
 
 /// The status after a document that is refused.
 const INVALID: u8 = 2;
+
+/// What is written if calls would nest too deep.
+const TOO_DEEP: &str = "too deep: with fewer --lines less is nested";
 
 /// What is written, and the status after it.
 #[derive(Drop)]
@@ -84,10 +87,11 @@ fn show(
     alloc: Global,
     statement: &Arc<Statement>,
     snapshot: Snapshot,
-    lines: u32,
-) -> Result<TraceLines, AllocError> {
-    let is_refused = statement.limit() <= lines;
-    let limit = if is_refused { statement.limit() } else { lines };
+    options: &TraceOptions<'_>,
+) -> Result<TraceLines, TraceFault> {
+    let most = options.lines;
+    let is_refused = statement.limit() <= most;
+    let limit = if is_refused { statement.limit() } else { most };
     let found = trace(
         alloc,
         statement.rules(),
@@ -96,14 +100,25 @@ fn show(
         statement.anchored(),
         limit as usize,
     )?;
-    let lines = lines_of(
-        alloc,
-        statement.rules(),
-        &snapshot.text,
-        &found,
-        lines as usize,
-        is_refused,
-    )?;
+    let lines = if options.html {
+        page_of(
+            alloc,
+            statement.rules(),
+            &snapshot.text,
+            &found,
+            most as usize,
+            is_refused,
+        )?
+    } else {
+        lines_of(
+            alloc,
+            statement.rules(),
+            &snapshot.text,
+            &found,
+            most as usize,
+            is_refused,
+        )?
+    };
     let matched = match outcome_in(&found, is_refused) {
         Some(matched) => matched,
         None => succeeds(alloc, statement, snapshot)?,
@@ -120,7 +135,7 @@ fn shown(
     alloc: Global,
     document: Document,
     options: &TraceOptions<'_>,
-) -> Result<Option<TraceLines>, AllocError> {
+) -> Result<Option<TraceLines>, TraceFault> {
     let Document {
         mut book,
         statements,
@@ -136,12 +151,12 @@ fn shown(
         return Ok(None);
     };
     match book.snapshot(statement.text()) {
-        Ok(snapshot) => Ok(Some(show(alloc, statement, snapshot, options.lines)?)),
+        Ok(snapshot) => Ok(Some(show(alloc, statement, snapshot, options)?)),
         Err(SnapshotFault::NoText) => Ok(Some(TraceLines {
             lines: Vec::from_slice(alloc, b"no text\n")?,
             status: 1,
         })),
-        Err(SnapshotFault::Memory) => Err(AllocError),
+        Err(SnapshotFault::Memory) => Err(TraceFault::Memory),
     }
 }
 
@@ -149,7 +164,8 @@ fn shown(
 ///
 /// - 0 if it succeeds, and 1 if it fails or is refused;
 /// - 2 if the document is refused, after the line of its fault in `errors`;
-/// - 3 if the document has no such statement, which `errors` says.
+/// - 3 if the document has no such statement, which `errors` says;
+/// - 4 if calls would nest too deep, which `errors` says.
 ///
 /// Refused with `Read`, `Memory` or `Write`. Unless it is `Write`, nothing was written to `output`.
 pub(crate) fn run_trace<R: Files, I: Read, W: Write, E: Write>(
@@ -173,14 +189,19 @@ pub(crate) fn run_trace<R: Files, I: Read, W: Write, E: Write>(
             return Ok(INVALID);
         }
     };
-    match shown(alloc, document, options)? {
-        Some(shown) => {
+    match shown(alloc, document, options) {
+        Ok(Some(shown)) => {
             write_all(output, &shown.lines)?;
             Ok(shown.status)
         }
-        None => {
+        Ok(None) => {
             let _printed = errors.writeln("error: the document has no such statement");
             Ok(MISUSED)
         }
+        Err(TraceFault::TooDeep) => {
+            let _printed = errors.writeln(TOO_DEEP);
+            Ok(FAILED)
+        }
+        Err(TraceFault::Memory) => Err(ProgramFault::Memory),
     }
 }

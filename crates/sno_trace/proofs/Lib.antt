@@ -5,6 +5,7 @@ mod Whole
 mod Honesty
 mod Ranges
 mod Going
+mod Nesting
 mod Parts
 mod Work
 mod Starts

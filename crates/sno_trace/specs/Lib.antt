@@ -1,3 +1,4 @@
 pub mod Noted
 pub mod Steps
+pub mod Depth
 pub mod Promise

@@ -17,35 +17,40 @@
 //!
 //! # What is not promised
 //!
-//! What [`lines_of`] prints is tested, not proved. No clause says how much memory and stack a trace takes: calls go as deep as rounds
-//! and references are nested.
+//! What [`lines_of`] and [`page_of`] write is tested, not proved. No clause says how much memory and stack a trace takes. `TooDeep` is
+//! pinned one way: it comes only if parts, rounds and references nest deeper than [`MAX_DEPTH`].
 //!
 //! | File | What it holds |
 //! |---|---|
 //! | `events` | the noted events |
+//! | `faults` | why a match has no trace, and the greatest depth |
 //! | `lists` | lists of them: cut, counted, changed by assignments |
 //! | `leaves` | what a leaf does |
 //! | `walking` | what a pattern does from a cursor |
 //! | `scanning` | the starts, one after the other |
 //! | `tracing` | `trace` |
 //! | `laws` | laws, each the contract of a function that does nothing |
-//! | `spelling`, `lines` | a trace in lines |
+//! | `spelling`, `lines`, `pages` | a trace in lines, and as a page of HTML |
 #![tactic(auto)]
 
 mod events;
+mod faults;
 mod laws;
 mod leaves;
 mod lines;
 mod lists;
+mod pages;
 mod scanning;
 mod spelling;
 mod tracing;
 mod walking;
 
 pub use events::{Leaf, Noted, Trial};
+pub use faults::{MAX_DEPTH, TraceFault};
 pub use laws::{
     a_limit_is_used_up, notes_are_honest, notes_come_off, what_is_shown_begins_the_match,
     what_is_shown_is_the_match,
 };
 pub use lines::lines_of;
+pub use pages::page_of;
 pub use tracing::{MatchTrace, trace};

@@ -1,13 +1,16 @@
 //! A match, noted: the starts in turn, up to the event that ends it.
-ghost use Rattle.std.specs.Prelude.{◌≡◌, ◌+◌, ◌≤◌, ◌++◌, ℕ, length, map, IfOk, OnOk};
+ghost use Rattle.std.specs.Prelude.{◌≡◌, ◌+◌, ◌≤◌, ◌++◌, ℕ, length, map, IfOk, IfErr, OnOk};
 ghost use Rattle.std.specs.List.{list_any, range_with_len};
 ghost use Rattle.sno_pattern.specs.Tree.{tree_of};
 ghost use Rattle.sno_pattern.specs.Results.{enough_depth};
 ghost use Rattle.sno_pattern.specs.Outcome.{starts};
 ghost use Rattle.sno_trace.specs.Steps.{is_ending};
 ghost use Rattle.sno_trace.specs.Promise.{IsShown, until_ended};
+ghost use Rattle.sno_trace.specs.Depth.{IsDeeper};
+ghost use Rattle.sno_trace.specs.declared.faults.TraceFault.TheVariants.{TooDeep};
 
 use crate::events::Noted;
+use crate::faults::{MAX_DEPTH, TraceFault};
 use crate::lists::{copied, count_trials};
 use crate::walking::walk;
 use sno_pattern::{Pattern, Rules, Text};
@@ -68,15 +71,16 @@ pub fn scan<'a>(
     text: &Text,
     anchored: bool,
     limit: usize,
-) -> Result<Vec<(usize, Noted<'a>)>, AllocError>
-    ensures { IfOk result (λ v. IsShown text.now rules.now.bodies (tree_of pattern.now) anchored limit v.items) }
+) -> Result<Vec<(usize, Noted<'a>)>, TraceFault>
+    ensures shown { IfOk result (λ v. IsShown text.now rules.now.bodies (tree_of pattern.now) anchored limit v.items) }
+    ensures deep { IfErr result (λ e. e ≡ TooDeep → IsDeeper text.now rules.now.bodies (tree_of pattern.now) anchored MAX_DEPTH) }
 {
     let most = enough_depth(text, rules);
     let last = last_start(text, anchored);
     let mut all = Vec::new(alloc);
     let mut left = limit;
     for start in 0..last + 1 {
-        let events = walk(alloc, text, rules, most, left, pattern, start)?;
+        let events = walk(alloc, text, rules, most, MAX_DEPTH, left, pattern, start)?;
         if add_start(alloc, start, &events, &mut all)? {
             return Ok(all);
         }

@@ -1,15 +1,18 @@
 //! The trace of a match.
-ghost use Rattle.std.specs.Prelude.{◌≡◌, ◌<◌, ◌≤◌, IfOk};
+ghost use Rattle.std.specs.Prelude.{◌≡◌, ◌<◌, ◌≤◌, IfOk, IfErr};
 ghost use Rattle.std.specs.List.{list_any};
 ghost use Rattle.sno_pattern.specs.Tree.{tree_of};
 ghost use Rattle.sno_pattern.specs.Outcome.{trials, trials_in};
 ghost use Rattle.sno_trace.specs.Promise.{IsShown, IsWholeMatch, IsFront, is_stop, off, before_stop};
+ghost use Rattle.sno_trace.specs.Depth.{IsDeeper};
+ghost use Rattle.sno_trace.specs.declared.faults.TraceFault.TheVariants.{TooDeep};
 
 use crate::events::Noted;
+use crate::faults::{MAX_DEPTH, TraceFault};
 use crate::laws::{a_limit_is_used_up, what_is_shown_begins_the_match, what_is_shown_is_the_match};
 use crate::scanning::scan;
 use sno_pattern::{Pattern, Rules, Text};
-use std::alloc::{AllocError, Global};
+use std::alloc::Global;
 
 // How many trials are shown at first.
 const FEW: usize = 64;
@@ -43,8 +46,9 @@ fn shown<'a>(
     text: &Text,
     anchored: bool,
     limit: usize,
-) -> Result<Vec<(usize, Noted<'a>)>, AllocError>
-    ensures { IfOk result (λ v. IsShown text.now rules.now.bodies (tree_of pattern.now) anchored limit v.items) }
+) -> Result<Vec<(usize, Noted<'a>)>, TraceFault>
+    ensures shown { IfOk result (λ v. IsShown text.now rules.now.bodies (tree_of pattern.now) anchored limit v.items) }
+    ensures deep { IfErr result (λ e. e ≡ TooDeep → IsDeeper text.now rules.now.bodies (tree_of pattern.now) anchored MAX_DEPTH) }
 {
     let mut most = FEW;
     while most < limit {
@@ -62,10 +66,13 @@ fn shown<'a>(
 /// comes with its start, in the order of the definition, up to the one that ends the match; at most `limit` trials are shown. If
 /// the match takes more, the last event is a Stop in place of the next trial.
 ///
-/// Time and memory grow with the trials that are shown, and the depth of the calls with the rounds and references that are
+/// Time and memory grow with the trials that are shown, and the depth of the calls with the parts, rounds and references that are
 /// nested within them.
 ///
-/// Refused only if out of memory.
+/// Refused with
+///
+/// - `TooDeep` only if parts, rounds and references are nested deeper than `MAX_DEPTH` from some start;
+/// - `Memory`.
 pub fn trace<'a>(
     alloc: Global,
     rules: &'a Rules,
@@ -73,7 +80,7 @@ pub fn trace<'a>(
     text: &Text,
     anchored: bool,
     limit: usize,
-) -> Result<MatchTrace<'a>, AllocError>
+) -> Result<MatchTrace<'a>, TraceFault>
     // The noted events of the match, within the limit.
     ensures shown { IfOk result (λ trace. IsShown text.now rules.now.bodies (tree_of pattern.now) anchored limit trace.events.items) }
     // If its trials fit, the trace is the match up to the event that ends it, with its outcome and its trials ..
@@ -82,6 +89,8 @@ pub fn trace<'a>(
     ensures full { IfOk result (λ trace. limit < trials text.now rules.now.bodies (tree_of pattern.now) anchored → trials_in (off (before_stop trace.events.items)) ≡ limit) }
     // In any case it begins the match.
     ensures front { IfOk result (λ trace. IsFront text.now rules.now.bodies (tree_of pattern.now) anchored trace.events.items) }
+    // It is refused as too deep only if the match is nested deeper than the most.
+    ensures deep { IfErr result (λ e. e ≡ TooDeep → IsDeeper text.now rules.now.bodies (tree_of pattern.now) anchored MAX_DEPTH) }
 {
     // for the proof
     what_is_shown_is_the_match();

@@ -1,16 +1,20 @@
 //! What a pattern does from a cursor, noted, up to a limit of trials.
-ghost use Rattle.std.specs.Prelude.{◌≡◌, ◌≤◌, length, IfOk};
-ghost use Rattle.sno_pattern.specs.Tree.{tree_of};
+ghost use Rattle.std.specs.Prelude.{◌≡◌, ◌≤◌, ◌+◌, ℕ, length, IfOk, IfErr};
+ghost use Rattle.sno_pattern.specs.Tree.{tree_of, Arbno, Ref};
 ghost use Rattle.sno_pattern.specs.Laws.{AllEnds, Within};
 ghost use Rattle.sno_trace.specs.Noted.{erase, go_on, noted, noted_rounds, noted_definition, upto};
+ghost use Rattle.sno_trace.specs.Depth.{EndsAt, Nests};
+ghost use Rattle.sno_trace.specs.declared.faults.TraceFault.TheVariants.{TooDeep};
 
 use crate::events::Noted;
+use crate::faults::{TraceFault, deeper};
 use crate::leaves::leaf;
 use crate::lists::{add_after, assign_later, assign_now, count_trials, cut, has_last, push_end};
 use sno_pattern::{Pattern, Rules, Text};
-use std::alloc::{AllocError, Global};
+use std::alloc::Global;
 
-// What the pattern does from a cursor, at most `depth` references deep, up to `limit` trials.
+// What the pattern does from a cursor, at most `depth` references deep, up to `limit` trials. It is refused if it is nested deeper
+// than `room`.
 #[cycle(walk)]
 #[tactic(auto, unfolding(crate::specs::Noted::noted_of))]
 pub fn walk<'a>(
@@ -18,44 +22,54 @@ pub fn walk<'a>(
     text: &Text,
     rules: &'a Rules,
     depth: u128,
+    room: usize,
     limit: usize,
     pattern: &'a Pattern,
     c: usize,
-) -> Result<Vec<Noted<'a>>, AllocError>
+) -> Result<Vec<Noted<'a>>, TraceFault>
     requires { c ≤ length text.now }
-    ensures { IfOk result (λ v. v.items ≡ upto limit (noted text.now rules.now.bodies depth (tree_of pattern.now) c)) }
+    ensures done { IfOk result (λ v. v.items ≡ upto limit (noted text.now rules.now.bodies depth (tree_of pattern.now) c)) }
+    ensures deep { IfErr result (λ e. e ≡ TooDeep → Nests text.now rules.now.bodies room depth (tree_of pattern.now) c) }
 {
+    let inside = deeper(room)?;
     match pattern {
         Pattern::Seq(left, right) => {
-            let first = walk(alloc, text, rules, depth, limit, left, c)?;
-            let events = follow(alloc, text, rules, depth, limit, &first, right)?;
+            let first = walk(alloc, text, rules, depth, inside, limit, left, c)?;
+            let events = follow(alloc, text, rules, depth, inside, limit, &first, right)?;
             Ok(events)
         }
         Pattern::Alt(left, right) => {
-            let mut events = walk(alloc, text, rules, depth, limit, left, c)?;
+            let mut events = walk(alloc, text, rules, depth, inside, limit, left, c)?;
             if !has_last(&events) {
                 let rest = limit - count_trials(&events);
-                let mut others = walk(alloc, text, rules, depth, rest, right, c)?;
+                let mut others = walk(alloc, text, rules, depth, inside, rest, right, c)?;
                 events.append(&mut others)?;
             }
             Ok(cut(events))
         }
         Pattern::Arbno(part) => {
             let left = text.bytes().len() - c;
-            repeat(alloc, text, rules, depth, limit, part, left + 1, c)
+            let events = repeat(alloc, text, rules, depth, room, limit, part, left + 1, c)?;
+            Ok(events)
         }
         Pattern::Cond(part, name) => {
-            let inner = walk(alloc, text, rules, depth, limit, part, c)?;
+            let inner = walk(alloc, text, rules, depth, inside, limit, part, c)?;
             let events = assign_later(alloc, *name, c, &inner)?;
             Ok(events)
         }
         Pattern::Imm(part, name) => {
-            let inner = walk(alloc, text, rules, depth, limit, part, c)?;
+            let inner = walk(alloc, text, rules, depth, inside, limit, part, c)?;
             let events = assign_now(alloc, *name, c, &inner)?;
             Ok(events)
         }
-        Pattern::Ref(number) => named(alloc, text, rules, depth, limit, *number, c),
-        _ => leaf(alloc, text.bytes(), depth, limit, pattern, c),
+        Pattern::Ref(number) => {
+            let events = named(alloc, text, rules, depth, inside, limit, *number, c)?;
+            Ok(events)
+        }
+        _ => {
+            let events = leaf(alloc, text.bytes(), depth, limit, pattern, c)?;
+            Ok(events)
+        }
     }
 }
 
@@ -66,19 +80,24 @@ fn named<'a>(
     text: &Text,
     rules: &'a Rules,
     depth: u128,
+    room: usize,
     limit: usize,
     number: usize,
     c: usize,
-) -> Result<Vec<Noted<'a>>, AllocError>
+) -> Result<Vec<Noted<'a>>, TraceFault>
     requires { c ≤ length text.now }
-    ensures { IfOk result (λ v. v.items ≡ upto limit (noted_definition text.now rules.now.bodies depth number c)) }
+    ensures done { IfOk result (λ v. v.items ≡ upto limit (noted_definition text.now rules.now.bodies depth number c)) }
+    ensures deep { IfErr result (λ e. e ≡ TooDeep → Nests text.now rules.now.bodies (room + 1) depth (Ref number) c) }
 {
     if depth == 0 {
         return Ok(Vec::new(alloc));
     }
     match rules.body(number) {
         None => Ok(Vec::new(alloc)),
-        Some(body) => walk(alloc, text, rules, depth - 1, limit, body, c),
+        Some(body) => {
+            let events = walk(alloc, text, rules, depth - 1, room, limit, body, c)?;
+            Ok(events)
+        }
     }
 }
 
@@ -89,12 +108,14 @@ fn follow<'a>(
     text: &Text,
     rules: &'a Rules,
     depth: u128,
+    room: usize,
     limit: usize,
     first: &[Noted<'a>],
     pattern: &'a Pattern,
-) -> Result<Vec<Noted<'a>>, AllocError>
+) -> Result<Vec<Noted<'a>>, TraceFault>
     requires { AllEnds (Within text.now 0) (erase first.now) }
-    ensures { IfOk result (λ v. v.items ≡ upto limit (go_on first.now (noted text.now rules.now.bodies depth (tree_of pattern.now)))) }
+    ensures done { IfOk result (λ v. v.items ≡ upto limit (go_on first.now (noted text.now rules.now.bodies depth (tree_of pattern.now)))) }
+    ensures deep { IfErr result (λ e. e ≡ TooDeep → (end : ℕ) × EndsAt first.now end × Nests text.now rules.now.bodies room depth (tree_of pattern.now) end) }
 {
     let mut all = Vec::new(alloc);
     let mut left = limit;
@@ -110,7 +131,7 @@ fn follow<'a>(
             }
             Noted::Set(assign) => all.push(Noted::Set(*assign))?,
             Noted::End(end, conds) => {
-                let later = walk(alloc, text, rules, depth, left, pattern, *end)?;
+                let later = walk(alloc, text, rules, depth, room, left, pattern, *end)?;
                 if add_after(alloc, conds, &later, &mut all)? {
                     return Ok(all);
                 }
@@ -137,20 +158,23 @@ fn repeat<'a>(
     text: &Text,
     rules: &'a Rules,
     depth: u128,
+    room: usize,
     limit: usize,
     part: &'a Pattern,
     count: usize,
     c: usize,
-) -> Result<Vec<Noted<'a>>, AllocError>
+) -> Result<Vec<Noted<'a>>, TraceFault>
     requires { c ≤ length text.now }
-    ensures { IfOk result (λ v. v.items ≡ upto limit (noted_rounds (noted text.now rules.now.bodies depth (tree_of part.now)) count c)) }
+    ensures done { IfOk result (λ v. v.items ≡ upto limit (noted_rounds (noted text.now rules.now.bodies depth (tree_of part.now)) count c)) }
+    ensures deep { IfErr result (λ e. e ≡ TooDeep → Nests text.now rules.now.bodies room depth (Arbno (tree_of part.now)) c) }
 {
     let mut all = Vec::new(alloc);
     if count == 0 {
         return Ok(all);
     }
+    let inside = deeper(room)?;
     push_end(alloc, &mut all, c)?;
-    let once = walk(alloc, text, rules, depth, limit, part, c)?;
+    let once = walk(alloc, text, rules, depth, inside, limit, part, c)?;
     let mut left = limit;
     for event in once.as_slice() {
         match event {
@@ -165,7 +189,17 @@ fn repeat<'a>(
             Noted::Set(assign) => all.push(Noted::Set(*assign))?,
             Noted::End(end, conds) => {
                 if c < *end {
-                    let later = repeat(alloc, text, rules, depth, left, part, count - 1, *end)?;
+                    let later = repeat(
+                        alloc,
+                        text,
+                        rules,
+                        depth,
+                        inside,
+                        left,
+                        part,
+                        count - 1,
+                        *end,
+                    )?;
                     if add_after(alloc, conds, &later, &mut all)? {
                         return Ok(all);
                     }
