@@ -15,13 +15,11 @@ use sno_statement::Statement;
 use std::alloc::Global;
 use std::sync::Arc;
 
-/// Returns the statement that the JSON of the bytes is, with this number and for these definitions. It is read as a
-/// statement of a document is, and other members are ignored. `mode` has what it doesn't say itself, with 1 to
-/// 1,000,000,000 trials.
+/// Returns the statement that the JSON of the bytes is, with this number and for these definitions. It is read as a statement of a
+/// document is, and other members are ignored. `mode` has what it doesn't say itself, with 1 to 1,000,000,000 trials.
 ///
-/// Refused with the first fault, in this order, as `specs/Document.antt` checks a statement: `DocumentTooLong`,
-/// `NotJson`, `Shape`, `StatementName`, `StatementPattern`, `StatementObject`, `StatementRepeat`. `Memory` may come
-/// instead of any result.
+/// Refused with the first fault, in this order, as `specs/Document.antt` checks a statement: `DocumentTooLong`, `NotJson`, `Shape`, `StatementName`,
+/// `StatementPattern`, `StatementObject`, `StatementRepeat`. `Memory` may come instead of any result.
 pub fn read_statement(
     alloc: Global,
     rules: &Arc<Rules>,
