@@ -2,6 +2,7 @@ pub mod Faults
 pub mod Json
 pub mod Trees
 pub mod Shape
+pub mod Single
 pub mod DocumentRows
 pub mod Document
 pub mod Drafts

@@ -79,7 +79,7 @@ pub(crate) fn row_on<'t>(
     })
 }
 
-fn statement_row<'t>(value: &Value<'t>) -> Result<StatementRow<'t>, DocumentFault>
+pub(crate) fn statement_row<'t>(value: &Value<'t>) -> Result<StatementRow<'t>, DocumentFault>
     ensures { Gives statement_seen result (statement_row (tree_seen value.now)) }
 {
     let text = string_at(value, "text").ok_or(DocumentFault::Shape)?;

@@ -4,6 +4,7 @@
 //! [`read_document`] takes the bytes to a [`Document`], whose texts are in a book, or to the first fault of the bytes,
 //! by `IsDocument` of `specs/Document.antt`. Bytes have only one such result ([`one_answer`]). `DocumentFault::Memory` is a
 //! further result. [`read_rules`] reads statements without texts, for texts from elsewhere (`IsRules` of `specs/Rules.antt`).
+//! [`read_statement`] reads one statement by itself, for definitions that are there (`specs/Single.antt`).
 //!
 //! | File | What it does |
 //! |---|---|
@@ -11,6 +12,7 @@
 //! | `trees`, `members`, `document_rows` | the JSON tree of the bytes; its members; the rows of the document as it is written |
 //! | `definitions`, `texts`, `statements`, `documents` | the checks, in the order of the document |
 //! | `rules` | statements that are read for texts from elsewhere |
+//! | `single` | one statement by itself |
 //! | `rounds` | how often a statement is to be repeated |
 //! | `laws` | what follows from the definitions |
 //!
@@ -27,6 +29,7 @@ mod members;
 mod modes;
 mod rounds;
 mod rules;
+mod single;
 mod statements;
 mod texts;
 mod trees;
@@ -36,6 +39,7 @@ pub use faults::DocumentFault;
 pub use laws::one_answer;
 pub use modes::Mode;
 pub use rules::read_rules;
+pub use single::read_statement;
 pub use sno_book::Book;
 pub use sno_pattern::{Name, Rules};
 pub use sno_read::ReadFault;

@@ -1,5 +1,5 @@
 //! The statements of a document.
-ghost use Rattle.std.specs.Prelude.{◌≡◌, ◌≤◌, ◌+◌, [], map, length, IfOk, IfSome, IsTrue};
+ghost use Rattle.std.specs.Prelude.{◌≡◌, ◌≤◌, ◌<◌, ◌^◌, ◌+◌, [], map, length, IfOk, IfSome, IsTrue};
 ghost use Rattle.std.specs.Option.{option_copied, option_map};
 ghost use Rattle.std.specs.Arc.{arc_value};
 ghost use Rattle.sno_pattern.specs.Tree.{tree_of, refs_below};
@@ -97,7 +97,7 @@ fn usual_statement(
     number: usize,
     row: &StatementRow<'_>,
 ) -> Result<Statement, DocumentFault>
-    requires { number ≤ MAX_STATEMENTS }
+    requires { number < 2 ^ 32 }
     ensures { Gives (λ s. s) result (usual_row (arc_value rules.now) anchor number (statement_seen row.now)) }
 {
     let name = text_name(alloc, number, row.text)?;
@@ -110,14 +110,14 @@ fn usual_statement(
 
 /// Statement number `number`, by the mode, and repeated if it says so.
 #[tactic(auto, unfolding(crate::specs::Document::task_row))]
-fn statement(
+pub(crate) fn statement(
     alloc: Global,
     rules: &Arc<Rules>,
     mode: Mode,
     number: usize,
     row: &StatementRow<'_>,
 ) -> Result<Statement, DocumentFault>
-    requires number { number ≤ MAX_STATEMENTS }
+    requires number { number < 2 ^ 32 }
     requires limit { IsLimit mode.trials }
     ensures { Gives (λ s. s) result (task_row (arc_value rules.now) mode number (statement_seen row.now)) }
 {

@@ -23,9 +23,11 @@ abbrev pub array_of : List Data → Data
 array_of ds = array (items_of ds)
 
 -- a text: its name, its characters and its version
+abbrev pub text_members : VersionedText → Members
+text_members held = member (codes "name") (string held.name) (member (codes "text") (string held.text) (member (codes "version") (count held.version) no_members))
+
 unfoldable pub text_data : VersionedText → Data
-text_data held =
-    object (member (codes "name") (string held.name) (member (codes "text") (string held.text) (member (codes "version") (count held.version) no_members)))
+text_data held = object (text_members held)
 
 -- the value of a variable: a string, or a number
 abbrev pub value_data : Datum → Data

@@ -1,5 +1,5 @@
 //! The listing of a run as JSON.
-ghost use Rattle.std.specs.Prelude.{◌≡◌, ◌++◌, ◌∷◌, [], map, length, false, IfOk, IsTrue};
+ghost use Rattle.std.specs.Prelude.{◌≡◌, ◌<◌, ◌+◌, ◌^◌, ◌++◌, ◌∷◌, [], map, length, false, IfOk, IsTrue};
 ghost use Rattle.std.specs.Option.{option_map};
 ghost use Rattle.std.specs.Arc.{arc_value};
 ghost use Rattle.std.specs.List.{list_all};
@@ -10,14 +10,14 @@ ghost use Rattle.serde_json.specs.Written.{compact_text};
 ghost use Rattle.sno_statement.specs.Perform.{outcome_seen};
 ghost use Rattle.sno_listing.specs.Listing.{reason_words};
 ghost use Rattle.sno_listing.specs.VersionedTexts.{text_seen};
-ghost use Rattle.sno_listing.specs.JsonListing.{array_of, text_data, value_data, binding_data, bindings_data, subject_members, matched_members, failed_members, repeated_members, done_members, entry_data, entries_data, refused_data, json_listing_data, json_listing};
+ghost use Rattle.sno_listing.specs.JsonListing.{array_of, text_members, text_data, value_data, binding_data, bindings_data, subject_members, matched_members, failed_members, repeated_members, done_members, entry_data, entries_data, refused_data, json_listing_data, json_listing};
 
 use crate::listing::put_reason;
 use crate::versioned_texts::VersionedText;
 use crate::{Reason, Refusal};
 use serde_json::{Map, Value, json, put};
 use sno_book::Entry;
-use sno_pattern::{Name, TextName};
+use sno_pattern::{Name, Text, TextName};
 use sno_statement::{Bindings, Datum, Outcome};
 use std::alloc::{AllocError, Global};
 
@@ -47,13 +47,30 @@ fn text_name_value(alloc: Global, name: &TextName) -> Result<Value, AllocError>
     ascii_value(alloc, name.bytes())
 }
 
+/// Returns the members of the object that the JSON listing has for a text, in the order of their names. Refused only if
+/// memory runs out.
+pub fn text_members(
+    alloc: Global,
+    name: &TextName,
+    text: &Text,
+    version: u64,
+) -> Result<Map<String, Value>, AllocError>
+    ensures { IfOk result (λ m. members_view m.entries ≡ text_members (record { name = name.now; text = text.now; version = version })) }
+{
+    let name = text_name_value(alloc, name)?;
+    let characters = ascii_value(alloc, text.bytes())?;
+    let mut members = Map::new(alloc);
+    put(&mut members, alloc, "version", Value::from(version))?;
+    put(&mut members, alloc, "text", characters)?;
+    put(&mut members, alloc, "name", name)?;
+    Ok(members)
+}
+
 #[tactic(auto, unfolding(crate::specs::JsonListing::text_data))]
 fn text_value(alloc: Global, text: &VersionedText<'_>) -> Result<Value, AllocError>
     ensures { IfOk result (λ v. view v ≡ text_data (text_seen text.now)) }
 {
-    let name = text_name_value(alloc, text.name)?;
-    let characters = ascii_value(alloc, text.text.bytes())?;
-    json!(in alloc; {"name": name, "text": characters, "version": text.version})
+    Ok(Value::Object(text_members(alloc, text.name, text.text, text.version)?))
 }
 
 fn datum_value(alloc: Global, datum: &Datum) -> Result<Value, AllocError>
@@ -169,8 +186,10 @@ fn repeated_members(
     Ok(members)
 }
 
+/// Returns the members of the object that the JSON listing has for an entry at this index, in the order of their names.
+/// Refused only if memory runs out.
 #[tactic(auto, unfolding(crate::specs::JsonListing::matched_members, crate::specs::JsonListing::repeated_members))]
-fn done_members(
+pub fn done_members(
     alloc: Global,
     index: usize,
     entry: &Entry,
@@ -215,18 +234,25 @@ fn entry_value(alloc: Global, index: usize, entry: &Entry) -> Result<Value, Allo
     Ok(Value::Object(done_members(alloc, index, entry)?))
 }
 
-fn entry_values(alloc: Global, journal: &[Entry]) -> Result<Vec<Value>, AllocError>
-    ensures { IfOk result (λ v. map view v.items ≡ entries_data 0 journal.now) }
+/// Returns the objects that the JSON listing has for entries, the first of which is at the index `first`. Refused only if
+/// memory runs out.
+pub fn entry_values(
+    alloc: Global,
+    first: usize,
+    journal: &[Entry],
+) -> Result<Vec<Value>, AllocError>
+    requires { first + length journal.now < 2 ^ 64 }
+    ensures { IfOk result (λ v. map view v.items ≡ entries_data first journal.now) }
 {
     let mut values = Vec::with_capacity(alloc, journal.len())?;
     for (index, entry) in journal.iter().enumerate() {
-        values.push(entry_value(alloc, index, entry)?)?;
+        values.push(entry_value(alloc, first + index, entry)?)?;
     }
     Ok(values)
 }
 
-/// The words of a reason.
-fn reason_value(alloc: Global, reason: Reason) -> Result<Value, AllocError>
+/// Returns the words that the JSON listing has for a reason. Refused only if memory runs out.
+pub fn reason_value(alloc: Global, reason: Reason) -> Result<Value, AllocError>
     ensures { IfOk result (λ v. view v ≡ string (reason_words reason)) }
 {
     let mut words = Vec::new(alloc);
@@ -271,7 +297,7 @@ fn listing_value(
 ) -> Result<Value, AllocError>
     ensures { IfOk result (λ v. view v ≡ json_listing_data (record { state = map text_seen texts.now; journal = journal.now; refused = refused.now })) }
 {
-    let entries = Value::Array(entry_values(alloc, journal)?);
+    let entries = Value::Array(entry_values(alloc, 0, journal)?);
     let refused = Value::Array(refusal_values(alloc, refused)?);
     let texts = Value::Array(text_values(alloc, texts)?);
     json!(in alloc; {"entries": entries, "refused": refused, "texts": texts})
