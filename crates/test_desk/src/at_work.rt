@@ -71,7 +71,10 @@ impl<R: Abort> DeskWork for Replaces<'_, R> {
         seat: &mut Seat<L>,
         number: usize,
     ) {
-        self.replace(rt, alloc, desk, seat, number as u32);
+        let Ok(number) = u32::try_from(number) else {
+            return;
+        };
+        self.replace(rt, alloc, desk, seat, number);
         let _before = self.done.fetch_add(1, Ordering::SeqCst);
     }
 }
