@@ -1,6 +1,7 @@
 //! What the arguments ask for.
 
 use crate::edit_options::{EditOptions, edit_command, edit_options};
+use crate::serve_command::{SERVE_OUT_OF_RANGE, ServeOptions, serve_command, serve_options_in};
 use crate::trace_command::{OUT_OF_RANGE, TraceOptions, trace_command, trace_options_in};
 use clap::error::ErrorKind;
 use clap::{Arg, ArgAction, ArgMatches, Command, Error};
@@ -49,6 +50,8 @@ pub(crate) enum Request<'a> {
     },
     /// A match is to be traced.
     Trace(TraceOptions<'a>),
+    /// A document is to be served.
+    Serve(ServeOptions<'a>),
 }
 
 /// Why the arguments ask for nothing that can be done.
@@ -93,7 +96,8 @@ fn program<'a>(alloc: Global) -> Result<Command<'a>, AllocError> {
         .disable_help_subcommand(true)
         .subcommand(check_command(alloc)?)?
         .subcommand(edit_command(alloc)?)?
-        .subcommand(trace_command(alloc)?)
+        .subcommand(trace_command(alloc)?)?
+        .subcommand(serve_command(alloc)?)
 }
 
 fn options_in<'a>(matches: &ArgMatches<'a>) -> CheckOptions<'a> {
@@ -135,7 +139,13 @@ fn request_in<'a>(alloc: Global, matches: &ArgMatches<'a>) -> Result<Request<'a>
     if let Some(found) = matches.subcommand_matches("trace") {
         return match trace_options_in(found) {
             Some(options) => Ok(Request::Trace(options)),
-            None => Err(usage_of_trace(alloc)),
+            None => Err(usage_of(alloc, OUT_OF_RANGE)),
+        };
+    }
+    if let Some(found) = matches.subcommand_matches("serve") {
+        return match serve_options_in(found) {
+            Some(options) => Ok(Request::Serve(options)),
+            None => Err(usage_of(alloc, SERVE_OUT_OF_RANGE)),
         };
     }
     match matches.subcommand_matches("check") {
@@ -145,8 +155,8 @@ fn request_in<'a>(alloc: Global, matches: &ArgMatches<'a>) -> Result<Request<'a>
 }
 
 /// What is wrong with numbers that are out of range.
-fn usage_of_trace(alloc: Global) -> Stop {
-    match format!(in alloc; "{OUT_OF_RANGE}") {
+fn usage_of(alloc: Global, wrong: &str) -> Stop {
+    match format!(in alloc; "{wrong}") {
         Ok(text) => Stop::Usage(text),
         Err(_) => Stop::Memory,
     }
@@ -157,9 +167,9 @@ fn usage_of_trace(alloc: Global) -> Stop {
 /// Refused with
 ///
 /// - `Help` if `--help` or `--version` comes before any fault;
-/// - `Usage` for another first argument than `check`, `edit` or `trace`, an argument that is not an option, an option that
-///   is given twice, a number that is not in its range, a second document to be checked or traced, or an edit without rules
-///   and files;
+/// - `Usage` for another first argument than `check`, `edit`, `trace` or `serve`, an argument that is not an option, an option that
+///   is given twice, a number that is not in its range, a second document, a service without a document, or an edit without
+///   rules and files;
 /// - `Memory`.
 pub(crate) fn asked_for<'a>(alloc: Global, words: &'a [String]) -> Result<Request<'a>, Stop> {
     match matches(alloc, words) {

@@ -1,5 +1,5 @@
 //! The program `sno`, whose first argument says what it does: `sno check` checks a document, `sno edit` edits files,
-//! and `sno trace` shows how a match goes.
+//! `sno trace` shows how a match goes, and `sno serve` serves a document over its streams.
 //!
 //! | File | What it does |
 //! |---|---|
@@ -9,6 +9,7 @@
 //! | `checks` | `sno check`: a document is checked by `sno_check`, and its report written |
 //! | `edit_options`, `edits`, `disk` | `sno edit`: files are edited by `sno_edit`; the files of the system |
 //! | `trace_command`, `traces` | `sno trace`: its arguments; a statement is matched by `sno_trace`, and the lines written |
+//! | `serve_command`, `serves` | `sno serve`: its arguments; a document is served by `sno_serve`, and the listing written |
 //! | `program` | from the arguments and the streams to the status |
 #![tactic(auto)]
 
@@ -19,6 +20,8 @@ mod edit_options;
 mod edits;
 mod faults;
 mod program;
+mod serve_command;
+mod serves;
 mod streams;
 mod trace_command;
 mod traces;

@@ -4,6 +4,7 @@ use crate::checks::run_check;
 use crate::command_line::{Request, Stop, asked_for};
 use crate::edits::run_edit;
 use crate::faults::{FAILED, MISUSED, ProgramFault};
+use crate::serves::run_serve;
 use crate::streams::write_all;
 use crate::traces::run_trace;
 use sno_edit::MAX_TRIALS;
@@ -12,6 +13,8 @@ use std::env::{Args, FillError};
 use std::io;
 use std::io::{ErrorKind, IsTerminal, Read, Write};
 use std::rt::{Env, Files};
+use std::sync::Wait;
+use std::thread::Threads;
 
 const NOT_TEXT: &[u8] = b"error: an argument is not UTF-8\n\nFor more information, try '--help'.\n";
 
@@ -72,7 +75,12 @@ fn refuse_words<E: Write>(error: &io::Error, errors: &mut E) -> u8 {
 }
 
 /// Does what is asked for, and returns the status.
-fn run_request<R: Files + Env, I: Read, W: Write + IsTerminal, E: Write>(
+fn run_request<
+    R: Files + Env + Threads + Wait + Sync,
+    I: Read + Send + Drop,
+    W: Write + IsTerminal + Send + Drop,
+    E: Write,
+>(
     rt: &R,
     alloc: Global,
     request: &Request<'_>,
@@ -91,17 +99,16 @@ fn run_request<R: Files + Env, I: Read, W: Write + IsTerminal, E: Write>(
             run_edit(rt, alloc, options, paths, coloured, input, output, errors)
         }
         Request::Trace(options) => run_trace(rt, alloc, options, input, output, errors),
+        Request::Serve(options) => run_serve(rt, alloc, options, input, output, errors),
     }
 }
 
-fn run_words<R: Files + Env, I: Read, W: Write + IsTerminal, E: Write>(
-    rt: &R,
-    alloc: Global,
-    words: &[String],
-    input: &mut I,
-    output: &mut W,
-    errors: &mut E,
-) -> u8 {
+fn run_words<
+    R: Files + Env + Threads + Wait + Sync,
+    I: Read + Send + Drop,
+    W: Write + IsTerminal + Send + Drop,
+    E: Write,
+>(rt: &R, alloc: Global, words: &[String], input: &mut I, output: &mut W, errors: &mut E) -> u8 {
     match asked_for(alloc, words) {
         Ok(request) => match run_request(rt, alloc, &request, input, output, errors) {
             Ok(status) => status,
@@ -115,9 +122,14 @@ fn run_words<R: Files + Env, I: Read, W: Write + IsTerminal, E: Write>(
 ///
 /// - If the arguments ask for help or the version, it goes to `output`. The status is 0, or 4 if it can't be printed.
 /// - If they are refused, or one of them is not a text, `errors` says how the program is used, and the status is 3.
-/// - Otherwise the status is that of the check, the edit or the trace. If that has a fault, the line of the fault goes to
+/// - Otherwise the status is that of the check, the edit, the trace or the service. If that has a fault, the line of the fault goes to
 ///   `errors`, and the status is 4, even if the line can't be printed.
-pub(crate) fn run<R: Files + Env, I: Read, W: Write + IsTerminal, E: Write>(
+pub(crate) fn run<
+    R: Files + Env + Threads + Wait + Sync,
+    I: Read + Send + Drop,
+    W: Write + IsTerminal + Send + Drop,
+    E: Write,
+>(
     rt: &R,
     alloc: Global,
     words: io::Result<Args>,

@@ -1,0 +1,103 @@
+//! The arguments of `sno serve`.
+
+use clap::{Arg, ArgAction, ArgMatches, Command};
+use std::alloc::{AllocError, Global};
+
+const ABOUT: &str =
+    "Performs the statements of DOCUMENT, then answers each line of standard input by a line: a statement, a text to be read, or an index to list entries from";
+
+// The subcommand's own usage would leave out the program's name.
+const USAGE: &str = "sno serve [OPTIONS] DOCUMENT";
+
+const SEATS_HELP: &str = "How many threads take lines, 1 to 16";
+
+const TRIES_HELP: &str =
+    "How often a statement is tried while its text changes under it, 1 to 1000";
+
+const TRIALS_HELP: &str = "How many trials a match may take, 1 to 1000000000";
+
+const LISTING_HELP: &str = "Writes the listing as JSON to this file at the end of the input";
+
+const DOCUMENT_HELP: &str = "The file of the document";
+
+const EXAMPLE: &str = "Example: sno serve --listing listing.json document.json";
+
+/// The most seats.
+const MAX_SEATS: u32 = 16;
+
+/// The most tries.
+const MAX_TRIES: u32 = 1_000;
+
+/// The most trials.
+const MAX_TRIALS: u32 = 1_000_000_000;
+
+/// What is written if a number is not in its range.
+pub(crate) const SERVE_OUT_OF_RANGE: &str =
+    "error: '--seats' takes 1 to 16, '--tries' 1 to 1000, and '--trials' 1 to 1000000000\n\nFor more information, try '--help'.\n";
+
+/// How `sno serve` is to be done.
+#[derive(Clone, Copy, Debug, PartialEq, Eq)]
+pub(crate) struct ServeOptions<'a> {
+    /// How many threads take lines.
+    pub(crate) seats: u32,
+    /// How often a statement is tried.
+    pub(crate) tries: u32,
+    /// How many trials a match may take.
+    pub(crate) trials: u32,
+    /// The file of the listing, if one is to be written.
+    pub(crate) listing: Option<&'a str>,
+    /// The file of the document.
+    pub(crate) document: &'a str,
+}
+
+fn numeric<'a>(alloc: Global, name: &'a str, default: &'a str, help: &'a str) -> Arg<'a> {
+    Arg::new(alloc, name)
+        .long(name)
+        .value_name("N")
+        .value_parser(clap::value_parser!(u32))
+        .action(ArgAction::Set)
+        .default_value(default)
+        .help(help)
+}
+
+pub(crate) fn serve_command<'a>(alloc: Global) -> Result<Command<'a>, AllocError> {
+    let listing = Arg::new(alloc, "listing")
+        .long("listing")
+        .value_name("FILE")
+        .action(ArgAction::Set)
+        .help(LISTING_HELP);
+    let document = Arg::new(alloc, "document")
+        .value_name("DOCUMENT")
+        .required(true)
+        .action(ArgAction::Set)
+        .help(DOCUMENT_HELP);
+    Command::new(alloc, "serve")
+        .about(ABOUT)
+        .override_usage(USAGE)
+        .after_help(EXAMPLE)
+        .arg(numeric(alloc, "seats", "1", SEATS_HELP))?
+        .arg(numeric(alloc, "tries", "100", TRIES_HELP))?
+        .arg(numeric(alloc, "trials", "1000000", TRIALS_HELP))?
+        .arg(listing)?
+        .arg(document)
+}
+
+/// The options that were found; `None` if a number is not in its range.
+pub(crate) fn serve_options_in<'a>(matches: &ArgMatches<'a>) -> Option<ServeOptions<'a>> {
+    let seats = matches.get_one::<u32>("seats").unwrap_or(0);
+    let tries = matches.get_one::<u32>("tries").unwrap_or(0);
+    let trials = matches.get_one::<u32>("trials").unwrap_or(0);
+    if seats == 0 || seats > MAX_SEATS || tries == 0 || tries > MAX_TRIES {
+        return None;
+    }
+    if trials == 0 || trials > MAX_TRIALS {
+        return None;
+    }
+    Some(ServeOptions {
+        seats,
+        tries,
+        trials,
+        listing: matches.get_str("listing"),
+        document: matches.get_str("document").unwrap_or(""),
+    })
+}

@@ -1,0 +1,100 @@
+//! `sno serve`.
+
+use crate::checks::document_bytes;
+use crate::faults::ProgramFault;
+use crate::serve_command::ServeOptions;
+use crate::streams::write_all;
+use sno_document::{DocumentFault, Mode, read_document};
+use sno_listing::listing_of;
+use sno_serve::{ServeFault, Served, serve};
+use std::alloc::Global;
+use std::fs::OpenOptions;
+use std::io::{Read, Write};
+use std::rt::Files;
+use std::sync::Wait;
+use std::thread::Threads;
+
+/// The status after a document that is refused.
+const INVALID: u8 = 2;
+
+/// Writes the listing to the file.
+fn write_listing<R: Files>(
+    rt: &R,
+    alloc: Global,
+    path: &str,
+    served: &Served,
+) -> Result<(), ProgramFault> {
+    let listing = listing_of(alloc, &served.book, &served.refused, true)?;
+    let opened = OpenOptions::new()
+        .write(true)
+        .create(true)
+        .truncate(true)
+        .open(rt, path);
+    let Ok(mut file) = opened else {
+        return Err(ProgramFault::Write);
+    };
+    write_all(&mut file, &listing)
+}
+
+/// What a fault of the service is to the program.
+fn fault_of(fault: ServeFault) -> ProgramFault {
+    match fault {
+        ServeFault::Memory | ServeFault::Desk => ProgramFault::Memory,
+        ServeFault::Read => ProgramFault::Read,
+        ServeFault::Write => ProgramFault::Write,
+    }
+}
+
+/// Serves a document over the streams, and returns the status: 0 at the end of the input; 2 if the document is refused.
+///
+/// Refused with `Read`, `Write` or `Memory`. The listing is written even if a line could not be read, or a reply not be
+/// written.
+pub(crate) fn run_serve<
+    R: Files + Threads + Wait + Sync,
+    I: Read + Send + Drop,
+    W: Write + Send + Drop,
+    E: Write,
+>(
+    rt: &R,
+    alloc: Global,
+    options: &ServeOptions<'_>,
+    mut input: I,
+    output: W,
+    errors: &mut E,
+) -> Result<u8, ProgramFault> {
+    let bytes = document_bytes(rt, alloc, &mut input, Some(options.document))?;
+    let mode = Mode {
+        anchor: false,
+        trials: options.trials,
+    };
+    let document = match read_document(alloc, &bytes, mode) {
+        Ok(document) => document,
+        Err(DocumentFault::Memory) => return Err(ProgramFault::Memory),
+        Err(fault) => {
+            let _printed = errors.writeln(fault);
+            return Ok(INVALID);
+        }
+    };
+    drop(bytes);
+    let seats = options.seats as usize;
+    let served = match serve(
+        rt,
+        alloc,
+        document,
+        mode,
+        seats,
+        options.tries,
+        input,
+        output,
+    ) {
+        Ok(served) => served,
+        Err(fault) => return Err(fault_of(fault)),
+    };
+    if let Some(path) = options.listing {
+        write_listing(rt, alloc, path, &served)?;
+    }
+    match served.fault {
+        None => Ok(0),
+        Some(fault) => Err(fault_of(fault)),
+    }
+}

@@ -1,0 +1,109 @@
+-- Replies: JSON objects with the caller's id.
+use Rattle.std.specs.Prelude.{◌≡◌, ◌⊎◌, ℕ, List, Option, Some, None, Result, Ok, Err, codes, drop, nat_lt, if◌then◌else◌}
+use Rattle.serde_json.specs.Data.{Data, string, object, Members, no_members, member, put}
+use Rattle.sno_statement.specs.Statement.{Statement}
+use Rattle.sno_book.specs.Entries.{Entry}
+use Rattle.sno_book.specs.Openings.{Opening}
+use Rattle.sno_book.specs.Snapshots.{Snapshot}
+use Rattle.sno_listing.specs.Listing.{reason_words}
+use Rattle.sno_listing.specs.JsonListing.{array_of, text_members, done_members, entries_data}
+use Rattle.sno_listing.specs.declared.refusals.Reason.{Reason}
+use Rattle.sno_listing.specs.declared.refusals.Reason.TheVariants as reason
+use Rattle.sno_listing.specs.declared.refusals.Refusal.{Refusal}
+use Rattle.sno_desk.specs.Answers.{Answer, Answers, AnswersAt}
+use Rattle.sno_desk.specs.Seen.{GivesSeen}
+use Rattle.sno_desk.specs.declared.faults.SnapshotFault.{SnapshotFault}
+use Rattle.sno_desk.specs.declared.faults.SnapshotFault.TheVariants as snapshot
+use Rattle.sno_desk.specs.declared.faults.SubmitFault.{SubmitFault}
+use Rattle.sno_desk.specs.declared.faults.SubmitFault.TheVariants as submit
+use Rattle.sno_serve.specs.declared.answers.TheConstants.{MAX_INDEX}
+use Rattle.sno_serve.specs.declared.asked.Asked.{Asked}
+use Rattle.sno_serve.specs.declared.asked.Asked.TheVariants as asks
+
+-- the object with these members, and with the id if there is one
+abbrev pub with_id : Option Data → Members → Data
+with_id None members = object members
+with_id (Some id) members = object (put (codes "id") id members)
+
+-- an object with one member, and with the id
+abbrev pub word_reply : Option Data → List ℕ → List ℕ → Data
+word_reply id key words = with_id id (member key (string words) no_members)
+
+-- why a statement was refused: the listing's words for its reasons, and a word for each further one
+abbrev pub submit_words : SubmitFault → List ℕ
+submit_words submit.NoText = reason_words reason.NoText
+submit_words submit.TextTooLong = reason_words reason.TextTooLong
+submit_words submit.TooManyTrials = reason_words reason.TooManyTrials
+submit_words (submit.TriesSpent seen now) = reason_words (reason.TriesSpent seen now)
+submit_words submit.GateShut = codes "gate shut"
+submit_words submit.Stopped = codes "stopped"
+submit_words submit.Full = codes "full"
+submit_words submit.Memory = codes "out of memory"
+
+-- the reply to a statement: its entry, as the listing has it, or the reason why it was refused
+abbrev pub submit_reply : Option Data → Answer → Data
+submit_reply id (Ok receipt) = with_id id (done_members receipt.index receipt.entry receipt.entry.outcome)
+submit_reply id (Err fault) = word_reply id (codes "reason") (submit_words fault)
+
+-- the reply to a read: the text, as the listing has it
+abbrev pub read_reply : Option Data → List ℕ → Snapshot → Data
+read_reply id name taken = with_id id (text_members (record { name = name; text = taken.text; version = taken.version }))
+
+-- the entries from an index on
+abbrev pub since_reply : Option Data → ℕ → List Entry → Data
+since_reply id from entries = with_id id (member (codes "entries") (array_of (entries_data from entries)) no_members)
+
+-- the reply to a read by what the seat's snapshot gave
+abbrev pub look_reply : Option Data → List ℕ → Result Snapshot SnapshotFault → Data
+look_reply id name (Ok taken) = read_reply id name taken
+look_reply id name (Err snapshot.NoText) = word_reply id (codes "reason") (codes "no text")
+look_reply id name (Err snapshot.Stopped) = word_reply id (codes "reason") (codes "stopped")
+look_reply id name (Err snapshot.Memory) = word_reply id (codes "reason") (codes "out of memory")
+
+-- the reason for which the listing has a refused statement, if it is one of its reasons
+abbrev pub reason_in : SubmitFault → Option Reason
+reason_in submit.NoText = Some reason.NoText
+reason_in submit.TextTooLong = Some reason.TextTooLong
+reason_in submit.TooManyTrials = Some reason.TooManyTrials
+reason_in (submit.TriesSpent seen now) = Some (reason.TriesSpent seen now)
+reason_in fault = None
+
+abbrev pub refusal_by : ℕ → Option Reason → Option Refusal
+refusal_by s None = None
+refusal_by s (Some r) = Some (record { number = s; reason = r })
+
+-- what the listing has of a refused statement with this number
+abbrev pub refusal_in : ℕ → Answer → Option Refusal
+refusal_in s (Ok receipt) = None
+refusal_in s (Err fault) = refusal_by s (reason_in fault)
+
+-- no journal has an entry past the highest index
+abbrev pub capped : ℕ → ℕ
+capped n = if nat_lt n MAX_INDEX then n else MAX_INDEX
+
+-- a submit by the seat, with its reply and what the listing has of its refusal
+pub record IsPerformed (tries : ℕ) (opening : Opening) (before after : List Entry) (id : Option Data) (s : Statement) (d : Data) (refused : Option Refusal) : Type 0 where
+  pub answer : Answer
+  pub answers : Answers (λ _ _. ⊥) tries opening s answer
+  pub at : AnswersAt tries opening before after s answer
+  pub reply : d ≡ submit_reply id answer
+  pub refusal : refused ≡ refusal_in s.number answer
+
+-- a snapshot by the seat, with its reply
+pub record IsLooked (opening : Opening) (after : List Entry) (id : Option Data) (name : List ℕ) (d : Data) : Type 0 where
+  pub taken : Result Snapshot SnapshotFault
+  pub gives : GivesSeen taken opening after name
+  pub reply : d ≡ look_reply id name taken
+
+-- some words say why the line can't be read
+pub record IsFaulted (id : Option Data) (d : Data) : Type 0 where
+  pub words : List ℕ
+  pub reply : d ≡ word_reply id (codes "error") words
+
+-- the reply to what was asked at a seat: what it had seen before, and has seen now
+abbrev pub IsReplied : ℕ → Opening → List Entry → List Entry → Option Data → Asked → Data → Option Refusal → Type 0
+IsReplied tries opening before after id (asks.Perform s) d refused = IsPerformed tries opening before after id s d refused
+IsReplied tries opening before after id (asks.Read name) d refused = IsLooked opening after id name d × (refused ≡ None)
+IsReplied tries opening before after id (asks.Since n) d refused =
+    ((d ≡ since_reply id (capped n) (drop (capped n) after)) ⊎ (d ≡ word_reply id (codes "reason") (codes "stopped"))) × (refused ≡ None)
+IsReplied tries opening before after id (asks.Fault fault) d refused = IsFaulted id d × (refused ≡ None)

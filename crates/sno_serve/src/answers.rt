@@ -1,0 +1,174 @@
+//! A line with its reply, at a seat.
+ghost use Rattle.std.specs.Prelude.{◌≡◌, ◌≤◌, ◌⊎◌, IfOk, None, codes, drop};
+ghost use Rattle.std.specs.Arc.{arc_value};
+ghost use Rattle.std.specs.Option.{option_map};
+ghost use mathlib.Core.List.{IsPrefix as Begins};
+ghost use Rattle.serde_json.specs.View.{view};
+ghost use Rattle.sno_serve.specs.Replies.{IsReplied, IsPerformed, IsLooked, capped, refusal_in, reason_in, since_reply, word_reply};
+
+use crate::replies::{fault_reply, read_reply, reason_reply, since_reply, submit_reply};
+use crate::{Asked, Line};
+use serde_json::Value;
+use sno_desk::{Desk, Naming, OpenGate, Reply, Seat, SinceFault, SnapshotFault, SubmitFault};
+use sno_listing::{Reason, Refusal};
+use sno_pattern::TextName;
+use sno_statement::Statement;
+use std::alloc::{AllocError, Global};
+use std::sync::{Arc, Wait};
+
+/// The index past which no journal has an entry.
+const MAX_INDEX: u64 = 1_000_000;
+
+/// The reply to a line.
+#[derive(Drop)]
+pub struct Answered {
+    /// The reply.
+    pub reply: Value,
+    /// What the listing has of it, if it is a refused statement.
+    pub refused: Option<Refusal>,
+}
+
+/// The reason for which the listing has a refused statement, if it is one of its reasons.
+fn reason_in(fault: &SubmitFault) -> Option<Reason>
+    ensures { result ≡ reason_in fault.now }
+{
+    match *fault {
+        SubmitFault::NoText => Some(Reason::NoText),
+        SubmitFault::TextTooLong => Some(Reason::TextTooLong),
+        SubmitFault::TooManyTrials => Some(Reason::TooManyTrials),
+        SubmitFault::TriesSpent { seen, now } => Some(Reason::TriesSpent { seen, now }),
+        SubmitFault::GateShut | SubmitFault::Stopped | SubmitFault::Full | SubmitFault::Memory => {
+            None
+        }
+    }
+}
+
+/// What the listing has of a refused statement with this number.
+pub(crate) fn refusal_in(number: u32, reply: &Reply) -> Option<Refusal>
+    ensures { result ≡ refusal_in number reply.now }
+{
+    match reply {
+        Ok(_) => None,
+        Err(fault) => match reason_in(fault) {
+            None => None,
+            Some(reason) => Some(Refusal { number, reason }),
+        },
+    }
+}
+
+/// Submits a statement.
+fn perform<L: Naming, R: Wait>(
+    rt: &R,
+    alloc: Global,
+    desk: &Desk<L>,
+    seat: &mut Seat<L>,
+    id: Option<Value>,
+    statement: Statement,
+    tries: u32,
+) -> Result<Answered, AllocError>
+    requires { (1 ≤ tries) × (tries ≤ 1000) }
+    ensures performed { IfOk result (λ a. IsPerformed tries L.opening seat.old.viewer.seen seat.new.viewer.seen (option_map view id) statement (view a.reply) a.refused) }
+    ensures begins { Begins seat.old.viewer.seen seat.new.viewer.seen }
+{
+    let number = statement.number();
+    let statement = Arc::new(alloc, statement)?;
+    let reply = desk.submit(rt, alloc, seat, statement, tries, &OpenGate);
+    let refused = refusal_in(number, &reply);
+    let reply = submit_reply(alloc, id, &reply)?;
+    Ok(Answered { reply, refused })
+}
+
+/// Reads a text, as the seat sees it now.
+fn look<L: Naming>(
+    alloc: Global,
+    seat: &mut Seat<L>,
+    id: Option<Value>,
+    name: &TextName,
+) -> Result<Value, AllocError>
+    ensures looked { IfOk result (λ v. IsLooked L.opening seat.new.viewer.seen (option_map view id) name.now (view v)) }
+    ensures begins { Begins seat.old.viewer.seen seat.new.viewer.seen }
+{
+    match seat.snapshot(name) {
+        Ok(taken) => read_reply(alloc, id, name, &taken),
+        Err(SnapshotFault::NoText) => reason_reply(alloc, id, "no text"),
+        Err(SnapshotFault::Stopped) => reason_reply(alloc, id, "stopped"),
+        Err(SnapshotFault::Memory) => reason_reply(alloc, id, "out of memory"),
+    }
+}
+
+fn capped(index: u64) -> usize
+    ensures value { result ≡ capped index }
+    ensures within { result ≤ MAX_INDEX }
+{
+    if index < MAX_INDEX {
+        index as usize
+    } else {
+        MAX_INDEX as usize
+    }
+}
+
+/// Lists the entries from an index on.
+fn list<L: Naming, R: Wait>(
+    rt: &R,
+    alloc: Global,
+    desk: &Desk<L>,
+    seat: &mut Seat<L>,
+    id: Option<Value>,
+    index: u64,
+) -> Result<Value, AllocError>
+    ensures listed { IfOk result (λ v. (view v ≡ since_reply (option_map view id) (capped index) (drop (capped index) seat.new.viewer.seen)) ⊎ (view v ≡ word_reply (option_map view id) (codes "reason") (codes "stopped"))) }
+    ensures begins { Begins seat.old.viewer.seen seat.new.viewer.seen }
+{
+    let from = capped(index);
+    match desk.since(rt, seat, from) {
+        Ok(entries) => since_reply(alloc, id, from, &entries),
+        Err(SinceFault::Stopped) => reason_reply(alloc, id, "stopped"),
+        Err(SinceFault::Memory) => Err(AllocError),
+    }
+}
+
+/// Answers a line at a seat. `tries` is from 1 to 1,000.
+///
+/// The reply to a statement is that of [`Desk::submit`]: its entry at its index, as the JSON listing has it, or the reason
+/// why it was refused. The reply to a read is what [`Seat::snapshot`] gives, and that to an index what [`Desk::since`] does.
+/// A line that can't be read gets words that say why. Each has the line's id, if there is one.
+///
+/// Refused only if memory runs out. A statement may have been accepted then.
+pub fn answer<L: Naming, R: Wait>(
+    rt: &R,
+    alloc: Global,
+    desk: &Desk<L>,
+    seat: &mut Seat<L>,
+    line: Line,
+    tries: u32,
+) -> Result<Answered, AllocError>
+    requires { (1 ≤ tries) × (tries ≤ 1000) }
+    ensures replied { IfOk result (λ a. IsReplied tries L.opening seat.old.viewer.seen seat.new.viewer.seen (option_map view line.id) line.asked (view a.reply) a.refused) }
+    ensures begins { Begins seat.old.viewer.seen seat.new.viewer.seen }
+{
+    let Line { id, asked } = line;
+    match asked {
+        Asked::Perform(statement) => perform(rt, alloc, desk, seat, id, statement, tries),
+        Asked::Read(name) => {
+            let reply = look(alloc, seat, id, &name)?;
+            Ok(Answered {
+                reply,
+                refused: None,
+            })
+        }
+        Asked::Since(index) => {
+            let reply = list(rt, alloc, desk, seat, id, index)?;
+            Ok(Answered {
+                reply,
+                refused: None,
+            })
+        }
+        Asked::Fault(fault) => {
+            let reply = fault_reply(alloc, id, &fault)?;
+            Ok(Answered {
+                reply,
+                refused: None,
+            })
+        }
+    }
+}

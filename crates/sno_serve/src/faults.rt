@@ -1,0 +1,33 @@
+//! Why a service ended early.
+
+use std::alloc::{AllocError, AllocFailed};
+use thiserror::Error;
+
+/// Why a service ended early. The entries that were accepted are in the book.
+#[derive(Clone, Copy, Debug, PartialEq, Eq, Error)]
+pub enum ServeFault {
+    /// Out of memory.
+    #[error("out of memory")]
+    Memory,
+    /// A line could not be read.
+    #[error("read failed")]
+    Read,
+    /// A reply could not be written.
+    #[error("write failed")]
+    Write,
+    /// There was no place for a seat, or the desk could not be closed.
+    #[error("desk failed")]
+    Desk,
+}
+
+impl From<AllocError> for ServeFault {
+    fn from(_refused: AllocError) -> ServeFault {
+        ServeFault::Memory
+    }
+}
+
+impl<T: Drop> From<AllocFailed<T>> for ServeFault {
+    fn from(_refused: AllocFailed<T>) -> ServeFault {
+        ServeFault::Memory
+    }
+}

@@ -1,0 +1,32 @@
+//! A desk that is served over streams: a JSON value a line, and a JSON object a line in reply.
+//!
+//! [`line_in`] reads one line, [`answer`] answers it, and [`serve`] reads lines until there are no more and writes the replies. What a
+//! line asks for is said by `asked_in` of `specs/Asked.antt`, and the replies by `specs/Replies.antt`.
+//!
+//! | File | What it does |
+//! |---|---|
+//! | `asked` | what a line asks for |
+//! | `replies` | the JSON of each reply |
+//! | `answers` | a line with its reply, at a seat |
+//! | `intake`, `outlet` | lines of a reader; lines to a writer, and what was refused |
+//! | `service` | seats that take lines until there are no more |
+//! | `faults` | why a service ended early |
+#![tactic(auto)]
+
+mod answers;
+mod asked;
+mod faults;
+mod intake;
+mod outlet;
+mod replies;
+mod service;
+#[cfg(test)]
+mod tests;
+
+pub use answers::{Answered, answer};
+pub use asked::{Asked, Line, line_in};
+pub use faults::ServeFault;
+pub use intake::MAX_LINE;
+pub use service::{Served, serve};
+pub use sno_desk::{Desk, Naming, Seat};
+pub use sno_document::{Document, Mode, Rules};

@@ -1,0 +1,248 @@
+//! Seats that take lines until there are no more.
+ghost use Rattle.std.specs.Prelude.{◌≡◌, ◌≤◌, [], IfOk};
+ghost use mathlib.Core.List.{IsPrefix as Begins};
+ghost use Rattle.sno_book.specs.Books.{view_of};
+ghost use Rattle.sno_book.specs.Views.{IsLawful};
+ghost use Rattle.sno_statement.specs.Statement.{IsLimit};
+ghost use Rattle.sno_document.specs.Reads.{IsReady};
+ghost use Rattle.sno_desk.specs.Worked.{HasWorkedAt};
+
+use crate::answers::refusal_in;
+use crate::intake::{Intake, Next};
+use crate::outlet::Outlet;
+use crate::replies::error_reply;
+use crate::{Answered, Asked, Line, ServeFault, answer, line_in};
+use serde_json::Value;
+use sno_book::Book;
+use sno_desk::{AtDeskFault, Desk, DeskWork, Naming, OpenGate, Seat, at_desk};
+use sno_document::{Document, Mode, Rules};
+use sno_listing::Refusal;
+use sno_statement::Statement;
+use std::alloc::{AllocError, Global};
+use std::io::{Read, Write};
+use std::sync::{Arc, Mutex, Wait};
+use std::thread::Threads;
+
+/// What all seats share.
+#[derive(Drop)]
+struct Service<I: Read, W: Write> {
+    rules: Arc<Rules>,
+    statements: Vec<Arc<Statement>>,
+    mode: Mode,
+    tries: u32,
+    numbers: Mutex<u32>,
+    intake: Mutex<Intake<I>>,
+    outlet: Mutex<Outlet<W>>,
+    ghost limit: { IsLimit mode.trials },
+    ghost lawful: { (1 ≤ tries) × (tries ≤ 1000) },
+}
+
+/// What a service leaves.
+#[derive(Drop)]
+pub struct Served {
+    /// The book, whose journal has the entries that were accepted.
+    pub book: Book,
+    /// What the listing has of refused statements, by rising number.
+    pub refused: Vec<Refusal>,
+    /// What ended the service before the end of the input, if anything did.
+    pub fault: Option<ServeFault>,
+}
+
+/// A reply as a line.
+fn line_of(alloc: Global, reply: &Value) -> Result<Vec<u8>, AllocError> {
+    let mut line = reply.to_vec(alloc)?;
+    line.push(b'\n')?;
+    Ok(line)
+}
+
+impl<I: Read + Drop, W: Write + Drop> Service<I, W> {
+    fn fail<R: Wait>(&self, rt: &R, fault: ServeFault) {
+        self.outlet.lock(rt).fail(fault);
+    }
+
+    /// Performs the statements of the document.
+    #[tactic(auto, using(sno_published::proofs::Prefixes::prefix_trans, sno_published::proofs::Prefixes::prefix_self))]
+    fn begin<L: Naming, R: Wait>(
+        &self,
+        rt: &R,
+        alloc: Global,
+        desk: &Desk<L>,
+        seat: &mut Seat<L>,
+    ) -> Result<(), AllocError>
+        ensures begins { Begins seat.old.viewer.seen seat.new.viewer.seen }
+    {
+        for statement in &self.statements {
+            let number = statement.number();
+            let shared = Arc::try_clone(statement)?;
+            let reply = desk.submit(rt, alloc, seat, shared, self.tries, &OpenGate);
+            self.outlet.lock(rt).refuse(refusal_in(number, &reply));
+        }
+        Ok(())
+    }
+
+    /// The next line. The first seat that takes one performs the statements of the document before it.
+    #[tactic(auto, using(sno_published::proofs::Prefixes::prefix_trans, sno_published::proofs::Prefixes::prefix_self))]
+    fn next<L: Naming, R: Wait>(
+        &self,
+        rt: &R,
+        alloc: Global,
+        desk: &Desk<L>,
+        seat: &mut Seat<L>,
+    ) -> Result<Next, ServeFault>
+        ensures begins { Begins seat.old.viewer.seen seat.new.viewer.seen }
+    {
+        let mut intake = self.intake.lock(rt);
+        if !intake.is_begun {
+            intake.is_begun = true;
+            self.begin(rt, alloc, desk, seat)?;
+        }
+        if !self.outlet.lock(rt).is_open() {
+            intake.end();
+        }
+        let next = intake.next(alloc)?;
+        Ok(next)
+    }
+
+    /// What a line asks for. A statement takes the next number.
+    fn read<R: Wait>(&self, rt: &R, alloc: Global, line: &[u8]) -> Result<Line, AllocError> {
+        let mut number = self.numbers.lock(rt);
+        let line = line_in(alloc, &self.rules, self.mode, *number, line)?;
+        if matches!(&line.asked, Asked::Perform(_)) {
+            *number = (*number).saturating_add(1);
+        }
+        Ok(line)
+    }
+
+    /// Answers a line, and writes the reply.
+    #[tactic(auto, using(sno_published::proofs::Prefixes::prefix_trans, sno_published::proofs::Prefixes::prefix_self))]
+    fn reply<L: Naming, R: Wait>(
+        &self,
+        rt: &R,
+        alloc: Global,
+        desk: &Desk<L>,
+        seat: &mut Seat<L>,
+        line: &[u8],
+    ) -> Result<(), AllocError>
+        ensures begins { Begins seat.old.viewer.seen seat.new.viewer.seen }
+    {
+        let line = self.read(rt, alloc, line)?;
+        let Answered { reply, refused } = answer(rt, alloc, desk, seat, line, self.tries)?;
+        let bytes = line_of(alloc, &reply)?;
+        let mut outlet = self.outlet.lock(rt);
+        outlet.refuse(refused);
+        outlet.put(&bytes);
+        Ok(())
+    }
+
+    /// Writes the reply to a line that is too long.
+    fn refuse_line<R: Wait>(&self, rt: &R, alloc: Global) -> Result<(), AllocError> {
+        let reply = error_reply(alloc, None, "longer than 16777216 bytes")?;
+        let bytes = line_of(alloc, &reply)?;
+        self.outlet.lock(rt).put(&bytes);
+        Ok(())
+    }
+
+    /// Takes one line and answers it. Returns whether there may be more.
+    #[tactic(auto, using(sno_published::proofs::Prefixes::prefix_trans, sno_published::proofs::Prefixes::prefix_self))]
+    fn step<L: Naming, R: Wait>(
+        &self,
+        rt: &R,
+        alloc: Global,
+        desk: &Desk<L>,
+        seat: &mut Seat<L>,
+    ) -> Result<bool, ServeFault>
+        ensures begins { Begins seat.old.viewer.seen seat.new.viewer.seen }
+    {
+        match self.next(rt, alloc, desk, seat)? {
+            Next::End => Ok(false),
+            Next::TooLong => {
+                self.refuse_line(rt, alloc)?;
+                Ok(true)
+            }
+            Next::Line(line) => {
+                self.reply(rt, alloc, desk, seat, &line)?;
+                Ok(true)
+            }
+        }
+    }
+}
+
+impl<I: Read + Drop, W: Write + Drop> DeskWork for Service<I, W> {
+    ghost takes = { λ _ before after. Begins before.seen after.seen };
+
+    #[tactic(auto, using(sno_published::proofs::Prefixes::prefix_trans, sno_published::proofs::Prefixes::prefix_self))]
+    fn work<L: Naming, R: Wait>(
+        &self,
+        rt: &R,
+        alloc: Global,
+        desk: &Desk<L>,
+        seat: &mut Seat<L>,
+        _number: usize,
+    ) {
+        for _turn in 0..u64::MAX {
+            match self.step(rt, alloc, desk, seat) {
+                Ok(true) => {}
+                Ok(false) => return,
+                Err(fault) => {
+                    self.fail(rt, fault);
+                    return;
+                }
+            }
+        }
+    }
+}
+
+/// Serves a document: performs its statements, then answers each line of the reader by a line of the writer, until there
+/// are no more. From 1 to 16 seats take lines as they come, each in a thread of its own. A statement takes the number after
+/// that of the one read before it, counted on from the document's.
+///
+/// On `Ok` the book has the document's opening, and its journal is legal: it has the entries that were accepted. If a reply
+/// could not be written, a line not be read, or memory ran out, the service ended there, and `fault` says so.
+///
+/// Refused: `Memory`; `Desk` if there is no place for the seats, or the desk could not be closed, which no legal run meets.
+pub fn serve<I: Read + Send + Drop, W: Write + Send + Drop, R: Threads + Wait + Sync>(
+    rt: &R,
+    alloc: Global,
+    document: Document,
+    mode: Mode,
+    seats: usize,
+    tries: u32,
+    reader: I,
+    writer: W,
+) -> Result<Served, ServeFault>
+    requires limit { IsLimit mode.trials }
+    requires few { (1 ≤ seats) × (seats ≤ 16) }
+    requires lawful { (1 ≤ tries) × (tries ≤ 1000) }
+    requires ready { IsReady document }
+    ensures opening { IfOk result (λ s. s.book.opening ≡ document.book.opening) }
+    ensures lawful { IfOk result (λ s. IsLawful (view_of s.book)) }
+{
+    let Document {
+        rules,
+        book,
+        statements,
+    } = document;
+    let first = statements.len() as u32 + 1;
+    let service = Service {
+        rules,
+        statements,
+        mode,
+        tries,
+        numbers: Mutex::new(first),
+        intake: Mutex::new(Intake::new(alloc, reader)?),
+        outlet: Mutex::new(Outlet::new(alloc, writer)),
+    };
+    let book = match at_desk(rt, alloc, book, seats, &service) {
+        Ok(book) => book,
+        Err((AtDeskFault::Desk(_), _)) | Err((AtDeskFault::Close(_), _)) => {
+            return Err(ServeFault::Desk);
+        }
+    };
+    let (mut refused, fault) = service.outlet.into_inner().into_parts();
+    refused.sort_by_key(|r| r.number)?;
+    Ok(Served {
+        book,
+        refused,
+        fault,
+    })
+}
