@@ -2,7 +2,7 @@
 
 _sno() {
     local word="${COMP_WORDS[COMP_CWORD]}" previous="${COMP_WORDS[COMP_CWORD - 1]}"
-    local options=" check edit trace --help -h --version -V "
+    local options=" check edit trace serve --help -h --version -V "
     local given index
     # In --trials=4, bash makes the equals sign a word of its own.
     if [ "$word" = "=" ]; then
@@ -15,6 +15,7 @@ _sno() {
             check) options=" --json --strict --help -h " ;;
             edit) options=" --diff --check --anchor --trials --help -h " ;;
             trace) options=" --statement --lines --html --help -h " ;;
+            serve) options=" --seats --tries --trials --listing --help -h " ;;
             *) options="" ;;
         esac
     fi
@@ -22,6 +23,13 @@ _sno() {
         --trials) options="1000 1000000 1000000000" ;;
         --statement) options="1 2 3 4 5 6 7 8 9" ;;
         --lines) options="100 1000 10000" ;;
+        --seats) options="1 2 4 8 16" ;;
+        --tries) options="1 10 100 1000" ;;
+        --listing)
+            # A file: the option -o default below.
+            COMPREPLY=()
+            return
+            ;;
         *)
             if [ "$COMP_CWORD" -gt 1 ] && [ "${word#-}" = "$word" ]; then
                 # Documents, rules and files: those of the folder, by the option -o default below.

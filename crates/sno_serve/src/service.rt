@@ -196,8 +196,9 @@ impl<I: Read + Drop, W: Write + Drop> DeskWork for Service<I, W> {
 /// are no more. From 1 to 16 seats take lines as they come, each in a thread of its own. A statement takes the number after
 /// that of the one read before it, counted on from the document's.
 ///
-/// On `Ok` the book has the document's opening, and its journal is legal: it has the entries that were accepted. If a reply
-/// could not be written, a line not be read, or memory ran out, the service ended there, and `fault` says so.
+/// On `Ok` the book has the document's opening, and its journal is legal. It begins with what each seat has seen, and has as
+/// many entries as the seats have accepted. So the entry of each accepted reply is there, at its index. If a reply could not be
+/// written, a line not be read, or memory ran out, the service ended there, and `fault` says so.
 ///
 /// Refused: `Memory`; `Desk` if there is no place for the seats, or the desk could not be closed, which no legal run meets.
 pub fn serve<I: Read + Send + Drop, W: Write + Send + Drop, R: Threads + Wait + Sync>(
@@ -216,6 +217,7 @@ pub fn serve<I: Read + Send + Drop, W: Write + Send + Drop, R: Threads + Wait + 
     requires ready { IsReady document }
     ensures opening { IfOk result (λ s. s.book.opening ≡ document.book.opening) }
     ensures lawful { IfOk result (λ s. IsLawful (view_of s.book)) }
+    ensures worked { IfOk result (λ s. HasWorkedAt (λ before after. Begins before.seen after.seen) seats s.book.journal) }
 {
     let Document {
         rules,

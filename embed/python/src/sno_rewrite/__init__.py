@@ -6,6 +6,7 @@
     'aXc'
 """
 
+from ._desk import Desk, DeskError
 from ._documents import Patterns, Statement, Statements, Texts
 from ._library import USUAL_TRIALS
 from ._listings import Entry, Fault, Listing, Refusal, Text
@@ -13,6 +14,8 @@ from ._rewrite import rewrite, rewrite_document
 
 __all__ = [
     "USUAL_TRIALS",
+    "Desk",
+    "DeskError",
     "Entry",
     "Fault",
     "Listing",
