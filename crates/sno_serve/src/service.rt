@@ -5,6 +5,7 @@ ghost use Rattle.sno_book.specs.Books.{view_of};
 ghost use Rattle.sno_book.specs.Views.{IsLawful};
 ghost use Rattle.sno_statement.specs.Statement.{IsLimit};
 ghost use Rattle.sno_document.specs.Reads.{IsReady};
+ghost use Rattle.std.specs.Thread.{IsSend, IsSync};
 ghost use Rattle.sno_desk.specs.Worked.{HasWorkedAt};
 
 use crate::answers::refusal_in;
@@ -192,6 +193,12 @@ impl<I: Read + Drop, W: Write + Drop> DeskWork for Service<I, W> {
     }
 }
 
+/// A value of this type may go to another thread, and be shared there.
+fn may_cross<T: Send + Sync>()
+    ensures sends { IsSend T.row }
+    ensures shares { IsSync T.row }
+{}
+
 /// Serves a document: performs its statements, then answers each line of the reader by a line of the writer, until there
 /// are no more. From 1 to 16 seats take lines as they come, each in a thread of its own. A statement takes the number after
 /// that of the one read before it, counted on from the document's.
@@ -224,6 +231,9 @@ pub fn serve<I: Read + Send + Drop, W: Write + Send + Drop, R: Threads + Wait + 
         book,
         statements,
     } = document;
+    // for the proof
+    may_cross::<Statement>();
+    may_cross::<Rules>();
     let first = statements.len() as u32 + 1;
     let service = Service {
         rules,
