@@ -1,7 +1,7 @@
 //! What the arguments ask for.
 
 use crate::edit_options::{EditOptions, edit_command, edit_options};
-use crate::serve_command::{SERVE_OUT_OF_RANGE, ServeOptions, serve_command, serve_options_in};
+use crate::serve_command::{ServeOptions, serve_command, serve_options};
 use crate::trace_command::{OUT_OF_RANGE, TraceOptions, trace_command, trace_options_in};
 use clap::error::ErrorKind;
 use clap::{Arg, ArgAction, ArgMatches, Command, Error};
@@ -139,14 +139,11 @@ fn request_in<'a>(alloc: Global, matches: &ArgMatches<'a>) -> Result<Request<'a>
     if let Some(found) = matches.subcommand_matches("trace") {
         return match trace_options_in(found) {
             Some(options) => Ok(Request::Trace(options)),
-            None => Err(usage_of(alloc, OUT_OF_RANGE)),
+            None => Err(usage_of_trace(alloc)),
         };
     }
     if let Some(found) = matches.subcommand_matches("serve") {
-        return match serve_options_in(found) {
-            Some(options) => Ok(Request::Serve(options)),
-            None => Err(usage_of(alloc, SERVE_OUT_OF_RANGE)),
-        };
+        return Ok(Request::Serve(serve_options(found)));
     }
     match matches.subcommand_matches("check") {
         Some(found) => Ok(Request::Check(options_in(found))),
@@ -155,8 +152,8 @@ fn request_in<'a>(alloc: Global, matches: &ArgMatches<'a>) -> Result<Request<'a>
 }
 
 /// What is wrong with numbers that are out of range.
-fn usage_of(alloc: Global, wrong: &str) -> Stop {
-    match format!(in alloc; "{wrong}") {
+fn usage_of_trace(alloc: Global) -> Stop {
+    match format!(in alloc; "{OUT_OF_RANGE}") {
         Ok(text) => Stop::Usage(text),
         Err(_) => Stop::Memory,
     }

@@ -4,6 +4,7 @@ use crate::checks::run_check;
 use crate::command_line::{Request, Stop, asked_for};
 use crate::edits::run_edit;
 use crate::faults::{FAILED, MISUSED, ProgramFault};
+use crate::serve_command::SERVE_OUT_OF_RANGE;
 use crate::serves::run_serve;
 use crate::streams::write_all;
 use crate::traces::run_trace;
@@ -99,7 +100,13 @@ fn run_request<
             run_edit(rt, alloc, options, paths, coloured, input, output, errors)
         }
         Request::Trace(options) => run_trace(rt, alloc, options, input, output, errors),
-        Request::Serve(options) => run_serve(rt, alloc, options, input, output, errors),
+        Request::Serve(options) => {
+            if !options.are_in_range() {
+                let _printed = write_all(errors, SERVE_OUT_OF_RANGE.as_bytes());
+                return Ok(MISUSED);
+            }
+            run_serve(rt, alloc, options, input, output, errors)
+        }
     }
 }
 

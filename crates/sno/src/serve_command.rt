@@ -1,4 +1,6 @@
 //! The arguments of `sno serve`.
+ghost use Rattle.std.specs.Prelude.{◌≡◌, ◌≤◌, true};
+ghost use Rattle.sno_statement.specs.Statement.{IsLimit};
 
 use clap::{Arg, ArgAction, ArgMatches, Command};
 use std::alloc::{AllocError, Global};
@@ -82,22 +84,29 @@ pub(crate) fn serve_command<'a>(alloc: Global) -> Result<Command<'a>, AllocError
         .arg(document)
 }
 
-/// The options that were found; `None` if a number is not in its range.
-pub(crate) fn serve_options_in<'a>(matches: &ArgMatches<'a>) -> Option<ServeOptions<'a>> {
-    let seats = matches.get_one::<u32>("seats").unwrap_or(0);
-    let tries = matches.get_one::<u32>("tries").unwrap_or(0);
-    let trials = matches.get_one::<u32>("trials").unwrap_or(0);
-    if seats == 0 || seats > MAX_SEATS || tries == 0 || tries > MAX_TRIES {
-        return None;
-    }
-    if trials == 0 || trials > MAX_TRIALS {
-        return None;
-    }
-    Some(ServeOptions {
-        seats,
-        tries,
-        trials,
+/// The options that were found.
+pub(crate) fn serve_options<'a>(matches: &ArgMatches<'a>) -> ServeOptions<'a> {
+    ServeOptions {
+        seats: matches.get_one::<u32>("seats").unwrap_or(0),
+        tries: matches.get_one::<u32>("tries").unwrap_or(0),
+        trials: matches.get_one::<u32>("trials").unwrap_or(0),
         listing: matches.get_str("listing"),
         document: matches.get_str("document").unwrap_or(""),
-    })
+    }
+}
+
+impl ServeOptions<'_> {
+    /// Whether each number is in its range.
+    pub(crate) fn are_in_range(&self) -> bool
+        ensures seats { result ≡ true → (1 ≤ self.now.seats) × (self.now.seats ≤ 16) }
+        ensures tries { result ≡ true → (1 ≤ self.now.tries) × (self.now.tries ≤ 1000) }
+        ensures trials { result ≡ true → IsLimit self.now.trials }
+    {
+        self.seats >= 1
+            && self.seats <= MAX_SEATS
+            && self.tries >= 1
+            && self.tries <= MAX_TRIES
+            && self.trials >= 1
+            && self.trials <= MAX_TRIALS
+    }
 }
