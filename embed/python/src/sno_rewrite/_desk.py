@@ -51,13 +51,14 @@ class Desk:
 
     def close(self) -> int:
         """Ends the input, waits for all replies, and returns the status of the program."""
-        assert self._service.stdin
+        assert self._service.stdin and self._service.stdout
         with self._lock:
             try:
                 self._service.stdin.close()
             except BrokenPipeError:
                 pass
         self._reader.join()
+        self._service.stdout.close()
         return self._service.wait()
 
     def __enter__(self) -> "Desk":
