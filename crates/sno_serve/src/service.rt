@@ -204,8 +204,8 @@ fn may_cross<T: Send + Sync>()
 /// that of the one read before it, counted on from the document's.
 ///
 /// On `Ok` the book has the document's opening, and its journal is legal. It begins with what each seat has seen, and has as
-/// many entries as the seats have accepted. So the entry of each accepted reply is there, at its index. If a reply could not be
-/// written, a line not be read, or memory ran out, the service ended there, and `fault` says so.
+/// many entries as the seats have accepted. If a reply could not be written, a line not be read, or memory ran out, the service
+/// ended there, and `fault` says so.
 ///
 /// Refused: `Memory`; `Desk` if there is no place for the seats, or the desk could not be closed, which no legal run meets.
 pub fn serve<I: Read + Send + Drop, W: Write + Send + Drop, R: Threads + Wait + Sync>(
