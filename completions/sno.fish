@@ -11,6 +11,7 @@ complete -c sno -n '__fish_seen_subcommand_from check' -l json -d 'Write the fin
 complete -c sno -n '__fish_seen_subcommand_from check' -l strict -d 'End with status 1 for warnings too'
 complete -c sno -n '__fish_seen_subcommand_from edit' -l diff -d 'Write what would change as a unified diff, and no file'
 complete -c sno -n '__fish_seen_subcommand_from edit' -l check -d 'Name the files that would change, and write none'
+complete -c sno -n '__fish_seen_subcommand_from edit' -l sync -d 'Wait until each new file is on the disk before it takes the place of the old one'
 complete -c sno -n '__fish_seen_subcommand_from edit' -l anchor -d 'Anchor each statement that does not say itself whether it is anchored'
 complete -c sno -n '__fish_seen_subcommand_from edit' -l trials -x -a '1000 1000000 1000000000' -d 'How many trials a match may take'
 complete -c sno -n '__fish_seen_subcommand_from trace' -l statement -x -a '(seq 9)' -d 'The number of the statement'

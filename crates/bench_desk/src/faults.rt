@@ -2,7 +2,7 @@
 ghost use Rattle.std.specs.Prelude.{◌≡◌};
 ghost use Rattle.bench_desk.specs.Faults.{status};
 
-use sno_desk::{SnapshotFault, SubmitFault};
+use sno_desk::{LookFault, SnapshotFault, SubmitFault};
 use std::alloc::{AllocError, AllocFailed};
 use thiserror::Error;
 
@@ -10,7 +10,7 @@ use thiserror::Error;
 #[derive(Clone, Copy, Debug, Error)]
 pub enum Fault {
     /// The program doesn't know these arguments.
-    #[error("usage: bench_desk [--submits N --writers W --readers R | --times N], where N is 1 to 1000000 submits or 1 to 100000 times, W is 1 to 16, and R is 0 to 16 - W")]
+    #[error("usage: bench_desk [--submits N --writers W --readers R [--looks snapshots|eager|one|own] | --times N], where N is 1 to 1000000 submits or 1 to 100000 times, W is 1 to 16, and R is 0 to 16 - W")]
     Usage,
     /// A text or a statement of the load is invalid.
     #[error("no load")]
@@ -33,6 +33,9 @@ pub enum Fault {
     /// A reader got no snapshot.
     #[error("a snapshot was refused: {0}")]
     NoSnapshot(SnapshotFault),
+    /// A reader could not read a text in place.
+    #[error("a read was refused: {0}")]
+    NoRead(LookFault),
     /// A reader saw a lower version than before.
     #[error("a version went down")]
     WentDown,
@@ -61,6 +64,7 @@ impl Fault {
             Fault::NoLoad | Fault::NoDesk | Fault::Memory | Fault::Clock | Fault::Write => 4,
             Fault::Refused(_)
             | Fault::NoSnapshot(_)
+            | Fault::NoRead(_)
             | Fault::WentDown
             | Fault::Elsewhere
             | Fault::Twice
@@ -85,6 +89,12 @@ impl<T: Drop> From<AllocFailed<T>> for Fault {
 impl From<SnapshotFault> for Fault {
     fn from(fault: SnapshotFault) -> Fault {
         Fault::NoSnapshot(fault)
+    }
+}
+
+impl From<LookFault> for Fault {
+    fn from(fault: LookFault) -> Fault {
+        Fault::NoRead(fault)
     }
 }
 

@@ -2,7 +2,7 @@
 //!
 //! ```text
 //! bench_desk
-//! bench_desk --submits N --writers W --readers R
+//! bench_desk --submits N --writers W --readers R [--looks HOW]
 //! bench_desk --times N
 //! ```
 //!
@@ -13,7 +13,8 @@
 //!   each seat has accepted as many statements as it has receipts; and that no reader saw a version lower than an
 //!   earlier one.
 //! - With `--submits N`, 1 to 1,000,000, W seats, 1 to 16, submit N statements alongside R readers, 0 to 16 - W. It
-//!   also prints how long that took, and the number of submits and snapshots per second.
+//!   also prints how long that took, and the number of submits and snapshots per second. HOW is `snapshots`; `eager`,
+//!   if no reader gives its core away; `one`, if all readers read one text in place; or `own`, if each reads its own.
 //! - With `--times N`, 1 to 100,000, it prints the nanoseconds, to a tenth, of one snapshot and of one commit. The
 //!   desks have 10 and 1,000 texts, and their journals begin with no entries and with 100,000. Each time is the least
 //!   of five runs, and a run does the work N times.

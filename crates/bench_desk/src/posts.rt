@@ -3,7 +3,7 @@ ghost use Rattle.std.specs.Prelude.{◌≤◌};
 
 use crate::faults::Fault;
 use crate::texts::TEXTS;
-use crate::words::Load;
+use crate::words::{Load, Look};
 use sno_desk::{Desk, Naming, OpenGate, Receipt, Seat, TextName};
 use sno_statement::Statement;
 use std::alloc::Global;
@@ -14,7 +14,7 @@ use std::{mem, thread};
 /// How many tries a submit has. In a load of many writers, one text is replaced fewer times by others.
 const TRIES: u32 = 1_000;
 
-/// What was done at a seat: the receipts, how many snapshots were taken, how many statements the seat has accepted, and the first fault.
+/// What was done at a seat: the receipts, how many times a text was looked at, how many statements the seat has accepted, and the first fault.
 #[derive(Drop)]
 pub struct Record {
     pub receipts: Vec<Receipt>,
@@ -81,15 +81,51 @@ impl<L: Naming> Post<L> {
         Ok(())
     }
 
-    /// Takes snapshots while writers are at work.
-    fn read(&mut self, names: &[TextName], writers: &AtomicU64) -> Result<(), Fault> {
+    /// Reads one text in place, as many times as there are versions. No version may be lower than the one that was seen
+    /// before.
+    fn read_in_place(&mut self, name: &TextName, versions: &mut [u64]) -> Result<(), Fault> {
+        for version in versions.iter_mut() {
+            let found = self.seat.read(name, |_text, version| version)?;
+            if found < *version {
+                return Err(Fault::WentDown);
+            }
+            *version = found;
+            self.record.snapshots = self.record.snapshots.saturating_add(1);
+        }
+        Ok(())
+    }
+
+    /// Looks at texts once, in this way.
+    fn look_once(
+        &mut self,
+        names: &[TextName],
+        look: Look,
+        reader: usize,
+        versions: &mut [u64],
+    ) -> Result<(), Fault> {
+        let place = match look {
+            Look::Snapshots | Look::Eager => return self.look(names, versions),
+            Look::One => 0,
+            Look::Own => reader % TEXTS,
+        };
+        match names.get(place) {
+            Some(name) => self.read_in_place(name, versions),
+            None => Err(Fault::NoLoad),
+        }
+    }
+
+    /// Looks at texts while writers are at work.
+    fn read(&mut self, shared: &Shared, reader: usize) -> Result<(), Fault> {
         let mut versions = [0u64; TEXTS];
+        let look = shared.load.look;
         for _ in 0..u64::MAX {
-            if writers.load(Ordering::SeqCst) == 0 {
+            if shared.writers.load(Ordering::SeqCst) == 0 {
                 break;
             }
-            self.look(names, &mut versions)?;
-            thread::yield_now();
+            self.look_once(&shared.names, look, reader, &mut versions)?;
+            if matches!(look, Look::Snapshots) {
+                thread::yield_now();
+            }
         }
         Ok(())
     }
@@ -152,7 +188,7 @@ impl<L: Naming> Shift<'_, L> {
             shared.writers.fetch_sub(1, Ordering::SeqCst);
             done
         } else {
-            post.read(&shared.names, &shared.writers)
+            post.read(shared, place)
         };
         post.record.fault = done.err();
     }

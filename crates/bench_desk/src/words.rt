@@ -15,12 +15,26 @@ const MAX_SEATS: u32 = 16;
 /// The most repetitions in a timed run, so that the journal has room for five runs.
 const MAX_TIMES: u32 = 100_000;
 
-/// How many statements are submitted, by how many seats, and how many other seats read.
+/// How readers look at texts.
+#[derive(Clone, Copy)]
+pub enum Look {
+    /// Snapshots of all texts. A reader gives its core away after each round.
+    Snapshots,
+    /// The same, and no core is given away.
+    Eager,
+    /// The first text is read in place.
+    One,
+    /// The text of the reader's own place is read in place.
+    Own,
+}
+
+/// How many statements are submitted, by how many seats, and how many other seats read, in which way.
 #[derive(Clone, Copy)]
 pub struct Load {
     pub submits: u32,
     pub writers: usize,
     pub readers: usize,
+    pub look: Look,
     ghost room: { submits ≤ 1000000 },
     ghost some: { 1 ≤ writers },
     ghost few: { writers + readers ≤ 16 },
@@ -68,15 +82,34 @@ fn option_in(words: &mut Args, name: &str, least: u32, most: u32) -> Result<u32,
     }
 }
 
-/// The load of `--submits N --writers W --readers R`, after the first of these arguments.
+/// How readers look, from the arguments after the others, if there are any.
+fn look_in(words: &mut Args) -> Result<Look, Fault> {
+    let Some(option) = words.next() else {
+        return Ok(Look::Snapshots);
+    };
+    let Some(look) = words.next() else {
+        return Err(Fault::Usage);
+    };
+    match (option.as_str(), look.as_str()) {
+        ("--looks", "snapshots") => Ok(Look::Snapshots),
+        ("--looks", "eager") => Ok(Look::Eager),
+        ("--looks", "one") => Ok(Look::One),
+        ("--looks", "own") => Ok(Look::Own),
+        _ => Err(Fault::Usage),
+    }
+}
+
+/// The load of `--submits N --writers W --readers R [--looks HOW]`, after the first of these arguments.
 fn load_in(words: &mut Args) -> Result<Load, Fault> {
     let submits = number_in(words.next(), 1, MAX_SUBMITS)?;
     let writers = option_in(words, "--writers", 1, MAX_SEATS)?;
     let readers = option_in(words, "--readers", 0, MAX_SEATS - writers)?;
+    let look = look_in(words)?;
     Ok(Load {
         submits,
         writers: writers as usize,
         readers: readers as usize,
+        look,
     })
 }
 
@@ -101,6 +134,7 @@ fn plain() -> Task {
             submits: 8_000,
             writers: 8,
             readers: 8,
+            look: Look::Snapshots,
         },
         is_timed: false,
     }

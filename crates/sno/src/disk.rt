@@ -1,7 +1,8 @@
 //! The files of the system, as `sno_edit` sees a folder. What they hold is not claimed here: the system is no part of
 //! the proof.
-ghost use Rattle.std.specs.Prelude.{◌≡◌, ◌≤◌, ◌<◌, ◌+◌, length, vec_len, vec_capacity};
+ghost use Rattle.std.specs.Prelude.{◌≡◌, ◌≤◌, ◌<◌, ◌+◌, length, vec_len, vec_capacity, OnOk};
 
+use crate::synced::{replace_synced, replace_together};
 use sno_edit::{Folder, NewText, ReadFault, WriteFault};
 use std::alloc::{AllocError, Global};
 use std::collections::BTreeSet;
@@ -18,13 +19,15 @@ const NAMES: u32 = 1_000;
 #[derive(Drop)]
 pub(crate) struct Disk<'a, R: Files> {
     pub(crate) rt: &'a R,
+    /// Whether a new file has to be on the disk before it takes the old one's place.
+    pub(crate) sync: bool,
 }
 
 /// A new file, and the one whose place it is to take.
 #[derive(Drop)]
-struct NewFile {
-    path: String,
-    target: String,
+pub(crate) struct NewFile {
+    pub(crate) path: String,
+    pub(crate) target: String,
 }
 
 /// The metadata of a file, through symbolic links. Only a regular file is taken.
@@ -100,12 +103,17 @@ fn fill<R: Files>(
 }
 
 /// Removes a new file that is not to take a place.
-fn discard<R: Files>(rt: &R, path: &str) {
+pub(crate) fn discard<R: Files>(rt: &R, path: &str) {
     let _left = rt.remove_file(path);
 }
 
 /// Makes a new file with these bytes beside the one with this path, or beside the one that it links to.
-fn stage<R: Files>(rt: &R, alloc: Global, path: &str, bytes: &[u8]) -> io::Result<NewFile> {
+pub(crate) fn stage<R: Files>(
+    rt: &R,
+    alloc: Global,
+    path: &str,
+    bytes: &[u8],
+) -> io::Result<NewFile> {
     let target = target_of(rt, alloc, path)?;
     let old = regular(rt, target.as_str())?;
     let (mut file, name) = new_file(rt, alloc, target.as_str(), &old)?;
@@ -120,14 +128,8 @@ fn stage<R: Files>(rt: &R, alloc: Global, path: &str, bytes: &[u8]) -> io::Resul
     }
 }
 
-/// Waits until the bytes of a new file are on the disk.
-fn sync<R: Files>(rt: &R, file: &NewFile) -> io::Result<()> {
-    let file = OpenOptions::new().read(true).open(rt, file.path.as_str())?;
-    file.sync_all()
-}
-
-/// Puts a new file that is on the disk in its place. If that fails, it is removed.
-fn put_in_place<R: Files>(rt: &R, file: &NewFile) -> io::Result<()> {
+/// Puts a new file in its place. If that fails, it is removed.
+pub(crate) fn put_in_place<R: Files>(rt: &R, file: &NewFile) -> io::Result<()> {
     let renamed = rt.rename(file.path.as_str(), file.target.as_str());
     if renamed.is_err() {
         discard(rt, file.path.as_str());
@@ -136,108 +138,62 @@ fn put_in_place<R: Files>(rt: &R, file: &NewFile) -> io::Result<()> {
 }
 
 /// Puts a new file with these bytes in place of the one with this path, or of the one that it links to.
-fn replace_one<R: Files>(rt: &R, alloc: Global, path: &str, bytes: &[u8]) -> io::Result<()> {
-    let file = stage(rt, alloc, path, bytes)?;
-    match sync(rt, &file) {
-        Ok(()) => put_in_place(rt, &file),
-        Err(e) => {
-            discard(rt, file.path.as_str());
-            Err(e)
-        }
+fn replace_one<R: Files>(
+    rt: &R,
+    alloc: Global,
+    sync: bool,
+    path: &str,
+    bytes: &[u8],
+) -> io::Result<()> {
+    if sync {
+        return replace_synced(rt, alloc, path, bytes);
     }
+    let file = stage(rt, alloc, path, bytes)?;
+    put_in_place(rt, &file)
 }
 
-fn write_fault(e: io::Error) -> WriteFault {
+pub(crate) fn write_fault(e: io::Error) -> WriteFault {
     match e.kind() {
         ErrorKind::OutOfMemory => WriteFault::Memory,
         kind => WriteFault::Failed(kind),
     }
 }
 
-/// Makes a new file for each of the files. There is none if that fails.
-fn stage_all<R: Files>(
+/// Replaces each of the files, one after the other, and adds its result.
+fn replace_each<R: Files>(
     rt: &R,
     alloc: Global,
     files: &[NewText<'_>],
-    staged: &mut Vec<Option<NewFile>>,
-)
-    requires room { vec_len staged.now + length files.now ≤ vec_capacity staged.now }
-    ensures len { vec_len staged.new ≡ vec_len staged.old + length files.now }
-{
-    for file in files {
-        let new = stage(rt, alloc, file.path, file.text.bytes()).ok();
-        match staged.push(new) {
-            Ok(()) => {}
-            Err(_) => unreachable!(),
-        }
-    }
-}
-
-/// Whether there is a new file and its bytes are on the disk, after a wait. If not, there is none afterwards.
-fn is_on_disk<R: Files>(rt: &R, staged: &Option<NewFile>) -> bool {
-    let Some(file) = staged else {
-        return false;
-    };
-    let synced = sync(rt, file).is_ok();
-    if !synced {
-        discard(rt, file.path.as_str());
-    }
-    synced
-}
-
-/// Waits for each new file until it is on the disk. Since all are written, the first wait is for most of them.
-fn sync_all<R: Files>(rt: &R, staged: &[Option<NewFile>], on_disk: &mut Vec<bool>)
-    requires room { vec_len on_disk.now + length staged.now ≤ vec_capacity on_disk.now }
-    ensures len { vec_len on_disk.new ≡ vec_len on_disk.old + length staged.now }
-{
-    for file in staged {
-        match on_disk.push(is_on_disk(rt, file)) {
-            Ok(()) => {}
-            Err(_) => unreachable!(),
-        }
-    }
-}
-
-/// Puts a new file in its place if it is on the disk. If not, the file is replaced alone: after the others there may be
-/// room for it.
-fn finish<R: Files>(
-    rt: &R,
-    alloc: Global,
-    file: &NewText<'_>,
-    staged: &Option<NewFile>,
-    on_disk: bool,
-) -> Result<(), WriteFault> {
-    let replaced = match staged {
-        Some(new) if on_disk => put_in_place(rt, new),
-        _ => replace_one(rt, alloc, file.path, file.text.bytes()),
-    };
-    match replaced {
-        Ok(()) => Ok(()),
-        Err(e) => Err(write_fault(e)),
-    }
-}
-
-/// Finishes each of the files, and adds its result.
-fn finish_all<R: Files>(
-    rt: &R,
-    alloc: Global,
-    files: &[NewText<'_>],
-    staged: &[Option<NewFile>],
-    on_disk: &[bool],
     results: &mut Vec<Result<(), WriteFault>>,
 )
-    requires staged { length staged.now ≡ length files.now }
-    requires on_disk { length on_disk.now ≡ length files.now }
     requires room { vec_len results.now + length files.now ≤ vec_capacity results.now }
     ensures len { length results.new.items ≡ length results.old.items + length files.now }
 {
-    for i in 0..files.len() {
-        let result = finish(rt, alloc, &files[i], &staged[i], on_disk[i]);
-        match results.push(result) {
+    for file in files {
+        let replaced = replace_one(rt, alloc, false, file.path, file.text.bytes());
+        match results.push(replaced.map_err(write_fault)) {
             Ok(()) => {}
             Err(_) => unreachable!(),
         }
     }
+}
+
+/// Replaces each of the files, and adds its result. Refused only if out of memory. Then no file is changed.
+fn replace_files<R: Files>(
+    rt: &R,
+    alloc: Global,
+    sync: bool,
+    files: &[NewText<'_>],
+    results: &mut Vec<Result<(), WriteFault>>,
+) -> Result<(), AllocError>
+    requires room { vec_len results.now + length files.now ≤ vec_capacity results.now }
+    ensures len { OnOk result (length results.new.items ≡ length results.old.items + length files.now) }
+{
+    if sync {
+        return replace_together(rt, alloc, files, results);
+    }
+    replace_each(rt, alloc, files, results);
+    Ok(())
 }
 
 /// How many of the first paths are of different files. A link and its target are one file; a path of no file counts
@@ -278,25 +234,19 @@ impl<R: Files> Folder for Disk<'_, R> {
     }
 
     fn replace(&mut self, alloc: Global, path: &str, bytes: &[u8]) -> Result<(), WriteFault> {
-        match replace_one(self.rt, alloc, path, bytes) {
+        match replace_one(self.rt, alloc, self.sync, path, bytes) {
             Ok(()) => Ok(()),
             Err(e) => Err(write_fault(e)),
         }
     }
 
-    // New files are written, then each is waited for, then each takes its place: a wait after all writes is shorter
-    // than one after each.
     fn replace_all(
         &mut self,
         alloc: Global,
         files: &[NewText<'_>],
     ) -> Result<Vec<Result<(), WriteFault>>, AllocError> {
         let mut results = Vec::with_capacity(alloc, files.len())?;
-        let mut staged = Vec::with_capacity(alloc, files.len())?;
-        let mut on_disk = Vec::with_capacity(alloc, files.len())?;
-        stage_all(self.rt, alloc, files, &mut staged);
-        sync_all(self.rt, &staged, &mut on_disk);
-        finish_all(self.rt, alloc, files, &staged, &on_disk, &mut results);
+        replace_files(self.rt, alloc, self.sync, files, &mut results)?;
         Ok(results)
     }
 }

@@ -1,6 +1,7 @@
 //! What the arguments of `sno edit` ask for.
 
 use clap::{Arg, ArgAction, ArgMatches, Command};
+use sno_edit::Purpose;
 use std::alloc::{AllocError, Global};
 
 const ABOUT: &str =
@@ -13,6 +14,9 @@ const DIFF_HELP: &str = "Writes what would change as a unified diff, and no file
 
 const CHECK_HELP: &str = "Names the files that would change, and writes none";
 
+const SYNC_HELP: &str =
+    "Waits until each new file is on the disk before it takes the place of the old one";
+
 const ANCHOR_HELP: &str = "Anchors each statement that does not say whether it is anchored";
 
 const TRIALS_HELP: &str = "How many trials a match may take, 1 to 1000000000";
@@ -24,22 +28,13 @@ const FILES_HELP: &str = "The files, each a text by itself";
 
 const EXAMPLE: &str = "Example: sno edit --diff rules.json src/*.c";
 
-/// What is done with the texts that the rules leave.
-#[derive(Clone, Copy, Debug, PartialEq, Eq)]
-pub(crate) enum Purpose {
-    /// The files that change are written.
-    Write,
-    /// A unified diff is written, and no file.
-    Diff,
-    /// The files that would change are named.
-    Check,
-}
-
 /// How `sno edit` is to be done.
 #[derive(Clone, Copy, Debug, PartialEq, Eq)]
 pub(crate) struct EditOptions<'a> {
     /// What is done with the texts.
     pub(crate) purpose: Purpose,
+    /// Whether a new file has to be on the disk before it takes the old one's place.
+    pub(crate) sync: bool,
     /// Whether statements that don't say it are anchored.
     pub(crate) anchor: bool,
     /// How many trials a match may take, as it was written.
@@ -80,6 +75,7 @@ pub(crate) fn edit_command<'a>(alloc: Global) -> Result<Command<'a>, AllocError>
         .after_help(EXAMPLE)
         .arg(flag(alloc, "diff", DIFF_HELP).conflicts_with("check")?)?
         .arg(flag(alloc, "check", CHECK_HELP))?
+        .arg(flag(alloc, "sync", SYNC_HELP))?
         .arg(flag(alloc, "anchor", ANCHOR_HELP))?
         .arg(trials)?
         .arg(positional(alloc, "rules", "RULES", RULES_HELP).action(ArgAction::Set))?
@@ -97,6 +93,7 @@ pub(crate) fn edit_options<'a>(matches: &ArgMatches<'a>) -> EditOptions<'a> {
     };
     EditOptions {
         purpose,
+        sync: matches.get_flag("sync"),
         anchor: matches.get_flag("anchor"),
         trials: matches.get_one::<u32>("trials").unwrap_or(1_000_000),
         rules: matches.get_str("rules").unwrap_or("-"),

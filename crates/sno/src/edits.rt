@@ -2,11 +2,13 @@
 ghost use Rattle.sno_statement.specs.Statement.{IsLimit};
 
 use crate::disk::{Disk, different_files};
-use crate::edit_options::{EditOptions, Purpose};
-use crate::faults::{FAILED, ProgramFault};
+use crate::edit_options::EditOptions;
+use crate::faults::ProgramFault;
 use crate::streams::{read_up_to, write_all};
 use sno_document::{DocumentFault, MAX_DOCUMENT, Mode};
-use sno_edit::{Done, EditRules, FileFault, edit_files, plan_file, script_of, unified_diff};
+use sno_edit::{
+    Done, EditRules, FileFault, Purpose, Tally, edit_files, plan_file, script_of, unified_diff,
+};
 use std::alloc::{AllocError, Global};
 use std::fs;
 use std::io::{Read, Write};
@@ -14,64 +16,6 @@ use std::rt::Files;
 
 /// The status after rules that are not rules.
 const BAD_RULES: u8 = 2;
-
-/// What became of the files so far.
-#[derive(Clone, Copy)]
-struct Tally {
-    files: usize,
-    changed: usize,
-    matches: u64,
-    /// Whether a statement was refused on a file.
-    refused: bool,
-    /// Whether a file could not be taken or written.
-    failed: bool,
-}
-
-impl Tally {
-    ghost use Rattle.std.specs.Prelude.{◌≡◌};
-    ghost use Rattle.sno.specs.Statuses.{edit_status};
-
-    fn of(files: usize) -> Tally {
-        Tally {
-            files,
-            changed: 0,
-            matches: 0,
-            refused: false,
-            failed: false,
-        }
-    }
-
-    fn count(&mut self, done: Done) {
-        self.matches = self.matches.saturating_add(done.matches);
-        if done.changed {
-            self.changed = self.changed.saturating_add(1);
-        }
-    }
-
-    fn count_fault(&mut self, fault: &FileFault) {
-        match fault {
-            FileFault::Refused(_) => self.refused = true,
-            _ => self.failed = true,
-        }
-    }
-
-    /// The status to end with.
-    fn status(&self, purpose: Purpose) -> u8
-        ensures { result ≡ edit_status purpose self.now }
-    {
-        let is_missed = match purpose {
-            Purpose::Check => self.changed > 0,
-            Purpose::Write | Purpose::Diff => self.matches == 0,
-        };
-        if self.failed {
-            FAILED
-        } else if self.refused || is_missed {
-            1
-        } else {
-            0
-        }
-    }
-}
 
 /// The bytes of the rules; of rules that are too long only the first.
 fn rules_bytes<R: Files, I: Read>(
@@ -115,17 +59,11 @@ fn report_ends<E: Write>(
     errors: &mut E,
 ) -> Result<(), AllocError> {
     for (path, end) in paths.iter().zip(ends.iter()) {
+        tally.count(end);
         match end {
-            Ok(done) => {
-                tally.count(*done);
-                if done.changed {
-                    writeln!(lines, "{path}")?;
-                }
-            }
-            Err(fault) => {
-                tally.count_fault(fault);
-                report_fault(errors, path, fault);
-            }
+            Ok(done) if done.changed => writeln!(lines, "{path}")?,
+            Ok(_) => {}
+            Err(fault) => report_fault(errors, path, fault),
         }
     }
     Ok(())
@@ -138,6 +76,7 @@ fn write_files<R: Files, W: Write, E: Write>(
     alloc: Global,
     rules: &EditRules,
     paths: &[&str],
+    sync: bool,
     output: &mut W,
     errors: &mut E,
 ) -> Result<Tally, ProgramFault> {
@@ -147,7 +86,7 @@ fn write_files<R: Files, W: Write, E: Write>(
     while begin < paths.len() {
         let (_, rest) = paths.split_at(begin);
         let (files, _) = rest.split_at(different_files(rt, alloc, rest));
-        let ends = edit_files(alloc, &mut Disk { rt }, rules, files)?;
+        let ends = edit_files(alloc, &mut Disk { rt, sync }, rules, files)?;
         report_ends(&mut lines, &mut tally, files, &ends, errors)?;
         begin += files.len();
     }
@@ -164,7 +103,7 @@ fn shown<R: Files>(
     path: &str,
     show: Show,
 ) -> Result<(Done, String), FileFault> {
-    let plan = plan_file(alloc, &Disk { rt }, rules, path)?;
+    let plan = plan_file(alloc, &Disk { rt, sync: false }, rules, path)?;
     let done = Done {
         changed: plan.changes(),
         matches: plan.matches,
@@ -207,11 +146,11 @@ fn show_files<R: Files, W: Write, E: Write>(
     for path in paths {
         match shown(rt, alloc, rules, path, show) {
             Ok((done, text)) => {
-                tally.count(done);
+                tally.count(&Ok(done));
                 write_all(output, text.as_bytes())?;
             }
             Err(fault) => {
-                tally.count_fault(&fault);
+                tally.count(&Err(fault));
                 report_fault(errors, path, &fault);
             }
         }
@@ -257,7 +196,7 @@ pub(crate) fn run_edit<R: Files, I: Read, W: Write, E: Write>(
         Err(fault) => return Ok(refuse_rules(errors, &fault)),
     };
     let tally = match options.purpose {
-        Purpose::Write => write_files(rt, alloc, &rules, paths, output, errors)?,
+        Purpose::Write => write_files(rt, alloc, &rules, paths, options.sync, output, errors)?,
         Purpose::Diff => {
             let show = Show::Diff { coloured };
             show_files(rt, alloc, &rules, paths, show, output, errors)?

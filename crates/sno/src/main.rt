@@ -7,7 +7,8 @@
 //! | `faults` | why nothing was done, with the line and the status of each reason |
 //! | `streams` | bytes in and out |
 //! | `checks` | `sno check`: a document is checked by `sno_check`, and its report written |
-//! | `edit_options`, `edits`, `disk` | `sno edit`: files are edited by `sno_edit`; the files of the system |
+//! | `edit_options`, `edits` | `sno edit`: its arguments; files are edited by `sno_edit` |
+//! | `disk`, `synced` | the files of the system; new files that have to be on the disk |
 //! | `trace_command`, `traces` | `sno trace`: its arguments; a statement is matched by `sno_trace`, and the lines written |
 //! | `serve_command`, `serves` | `sno serve`: its arguments; a document is served by `sno_serve`, and the listing written |
 //! | `program` | from the arguments and the streams to the status |
@@ -23,6 +24,7 @@ mod program;
 mod serve_command;
 mod serves;
 mod streams;
+mod synced;
 mod trace_command;
 mod traces;
 

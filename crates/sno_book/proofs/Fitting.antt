@@ -1,10 +1,7 @@
 -- Proposals that fit a book: exactly those that nothing refuses.
-use Rattle.std.proofs.Common.{◌≡◌, ◌<◌, ℕ, zero, suc, ◌+◌, Bool, false, cond, List, [], ◌∷◌, ◌++◌, length, nat_eq, Some, None, Ok, slice_get, refl, ap, sym, subst, ◌∙◌, arith}
+use Rattle.std.proofs.Common.{◌≡◌, ◌<◌, ℕ, zero, suc, List, [], ◌∷◌, ◌++◌, length, nat_eq, Some, None, Ok, slice_get, refl, ap, sym, subst, ◌∙◌, arith}
 use Rattle.std.specs.Arc.{arc_value}
-use Rattle.std.specs.List.{position_from}
 use Rattle.std.proofs.lemmas.Bool.{eq-eqb}
-use Rattle.sno_pattern.specs.Identifiers.{same}
-use Rattle.sno_pattern.specs.NameList.{IsNone, AreApart, place_of}
 use Rattle.sno_pattern.proofs.Repeats.{repeats_are_found}
 use Rattle.sno_statement.specs.Perform.{perform}
 use Rattle.sno_book.specs.States.{VersionedText, State}
@@ -22,7 +19,8 @@ use Rattle.sno_book.proofs.Places.{StandsAt, stands_at, same_is}
 use Rattle.sno_book.proofs.Steps.{replay_snoc}
 use Rattle.sno_book.proofs.BookLaws.{IsFree, free, free_step, place_inside, refusal_there, stands_there}
 use Rattle.sno_book.proofs.Rising.{versions_count_entries, kin_agree}
-use Rattle.sno_book.proofs.Fresh.{same_equal, chosen, not_full}
+use Rattle.sno_book.proofs.Fresh.{chosen, not_full}
+use Rattle.sno_book.proofs.Named.{placed_at}
 
 -- the text at the place of a name has that name
 named_at : (name : List ℕ) (k : ℕ) (names : List (List ℕ)) (stored : List StoredText) (versioned : VersionedText) → StandsAt name names k
@@ -39,26 +37,6 @@ name_there k [] stored versioned there = cc
 name_there k (n ∷ names) [] versioned there = cc
 name_there zero (n ∷ names) (x ∷ stored) versioned there = let here : n ≡ versioned.name = cc in ap (λ (m : List ℕ). Some m) here
 name_there (suc k) (n ∷ names) (x ∷ stored) versioned there = name_there k names stored versioned there
-
-other_at : (k : ℕ) (x name : List ℕ) (names : List (List ℕ)) → IsNone x names → slice_get names k ≡ Some name → same name x ≡ false
-other_at k x name [] h there = cc
-other_at zero x name (n ∷ names) h there = let here : n ≡ name = cc in subst (λ (m : List ℕ). same m x ≡ false) here h.0
-other_at (suc k) x name (n ∷ names) h there = other_at k x name names h.1 there
-
--- if no two names are equal, a name's place is its index
-placed_from : (i k : ℕ) (name : List ℕ) (names : List (List ℕ)) → AreApart names → slice_get names k ≡ Some name → position_from (same name) i names ≡ Some (i + k)
-placed_from i k name [] h there = cc
-placed_from i zero name (n ∷ names) h there =
-    let here : name ≡ n = cc in
-    let count : i ≡ i + zero = omega arith in
-    ap (λ (b : Bool). cond b (Some i) (position_from (same name) (i + 1) names)) (same_equal name n here) ∙ ap (λ (m : ℕ). Some m) count
-placed_from i (suc k) name (n ∷ names) h there =
-    let count : i + 1 + k ≡ i + suc k = omega arith in
-    ap (λ (b : Bool). cond b (Some i) (position_from (same name) (i + 1) names)) (other_at k n name names h.0 there)
-    ∙ placed_from (i + 1) k name names h.1 there ∙ ap (λ (m : ℕ). Some m) count
-
-placed_at : (k : ℕ) (name : List ℕ) (names : List (List ℕ)) → AreApart names → slice_get names k ≡ Some name → place_of names name ≡ Some k
-placed_at k name names h there = let count : 0 + k ≡ k = omega arith in placed_from 0 k name names h there ∙ ap (λ (m : ℕ). Some m) count
 
 -- a proposal that nothing refuses fits
 pub fits : (v : View) (p : Proposal) (stored : List StoredText) → Keeps v stored → refusal v p ≡ None → Fits v p

@@ -4,6 +4,7 @@ pub mod TextRows
 pub mod BookLaws
 pub mod Rising
 pub mod Fresh
+pub mod Named
 pub mod Fitting
 pub mod Pairs
 pub mod SameTrees

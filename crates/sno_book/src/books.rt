@@ -168,13 +168,11 @@ impl Book {
     fn refusal(&self, proposal: &Proposal) -> Option<CommitFault>
         ensures { result ≡ refusal (view_of self.now) proposal.now }
     {
-        let Some((place, versioned)) = self.versioned_text(proposal.statement().text()) else {
-            return Some(CommitFault::NoText);
-        };
-        if place != proposal.place() {
+        let place = proposal.place();
+        if !self.opening.has_at(place, proposal.statement().text()) {
             return Some(CommitFault::NoText);
         }
-        self.refusal_beside(versioned, proposal)
+        self.refusal_beside(text_at(&self.versioned_texts, place), proposal)
     }
 
     /// Whether memory is kept for one entry more. It takes no memory.

@@ -1,9 +1,9 @@
 //! What a book begins with.
-ghost use Rattle.std.specs.Prelude.{◌≡◌, ◌≤◌, length, nat_eq, slice_get};
+ghost use Rattle.std.specs.Prelude.{◌≡◌, ◌≤◌, Decides, Some, length, nat_eq, slice_get};
 ghost use Rattle.std.specs.Option.{option_map};
 ghost use Rattle.std.specs.Arc.{arc_value};
 ghost use Rattle.sno_pattern.specs.NameList.{place_of};
-ghost use Rattle.sno_book.specs.Openings.{names_in, texts_seen, IsOpening};
+ghost use Rattle.sno_book.specs.Openings.{names_in, place_in, texts_seen, IsOpening};
 
 use indexmap::IndexMap;
 use sno_pattern::{Text, TextName};
@@ -73,6 +73,19 @@ impl Opening {
         ensures { result ≡ place_of (names_in self.now.texts) name.now }
     {
         self.texts.get_index_of(name)
+    }
+
+    /// Whether the text at this place has this name. It compares two names, and hashes none.
+    #[tactic(auto, using(crate::proofs::Named::decides_row, crate::proofs::Named::decides_no_row))]
+    pub(crate) fn has_at(&self, place: usize, name: &TextName) -> bool
+        ensures { Decides result (place_in self.now name.now ≡ Some place) }
+    {
+        // for the proof
+        let _ = self.len();
+        match self.row(place) {
+            Some((there, _)) => there == name,
+            None => false,
+        }
     }
 
     /// The text at this place, as it was given, with its name. `None` if the place is [`Opening::len`] or more.

@@ -73,6 +73,13 @@ impl Ready {
         })
     }
 
+    /// The place of the text that the statement was performed on.
+    pub fn place(&self) -> usize
+        ensures { result ≡ self.now.place }
+    {
+        self.proposal.place()
+    }
+
     /// The entry that the commit appends.
     pub fn entry(&self) -> &Entry
         ensures { result.now ≡ entry_of self.now }

@@ -1,6 +1,7 @@
 //! What a pattern assigns, refers to and seeks.
 
 use crate::ascii::text_of;
+use crate::edges::{Blocked, blocked_after};
 use sno_pattern::{Name, Pattern};
 use std::alloc::{AllocError, Global};
 
@@ -26,6 +27,8 @@ pub(crate) struct Facts {
     pub(crate) escape: Option<u8>,
     /// Whether an `ARBNO` in it repeats another `ARBNO`.
     pub(crate) repeats_rounds: bool,
+    /// The first of its parts that never matches after the one before it.
+    pub(crate) blocked: Option<Blocked>,
 }
 
 impl Facts {
@@ -48,6 +51,12 @@ impl Facts {
         }
     }
 
+    fn note_neighbours(&mut self, first: &Pattern, second: &Pattern) {
+        if self.blocked.is_none() {
+            self.blocked = blocked_after(first, second);
+        }
+    }
+
     fn gather(&mut self, pattern: &Pattern) -> Result<(), AllocError> {
         match pattern {
             Pattern::Lit(text) => self.note_characters(text.bytes()),
@@ -55,7 +64,12 @@ impl Facts {
                 self.note_set(set.members()),
             Pattern::At(name) => self.variables.push(*name)?,
             Pattern::Ref(number) => self.references = self.references | bit(*number),
-            Pattern::Seq(first, second) | Pattern::Alt(first, second) => {
+            Pattern::Seq(first, second) => {
+                self.note_neighbours(first, second);
+                self.gather(first)?;
+                self.gather(second)?;
+            }
+            Pattern::Alt(first, second) => {
                 self.gather(first)?;
                 self.gather(second)?;
             }
@@ -115,22 +129,31 @@ pub(crate) fn facts_of(alloc: Global, pattern: &Pattern) -> Result<Facts, AllocE
         range: None,
         escape: None,
         repeats_rounds: false,
+        blocked: None,
     };
     facts.gather(pattern)?;
     Ok(facts)
 }
 
-/// Whether characters have as a part of them one of the literals of which the pattern is a choice.
-pub(crate) fn has_what_is_sought(pattern: &Pattern, characters: &str) -> bool {
+/// Whether the pattern is a choice of literals, one of which is in these characters; at their start if it is anchored.
+pub(crate) fn has_what_is_sought(pattern: &Pattern, anchored: bool, characters: &str) -> bool {
     match pattern {
         Pattern::Lit(text) => {
             let sought = text_of(text.bytes());
-            !sought.is_empty() && characters.contains(sought)
+            let is_there = if anchored {
+                characters.starts_with(sought)
+            } else {
+                characters.contains(sought)
+            };
+            is_there && !sought.is_empty()
         }
         Pattern::Alt(first, second) => {
-            has_what_is_sought(first, characters) || has_what_is_sought(second, characters)
+            has_what_is_sought(first, anchored, characters)
+                || has_what_is_sought(second, anchored, characters)
         }
-        Pattern::Cond(part, _) | Pattern::Imm(part, _) => has_what_is_sought(part, characters),
+        Pattern::Cond(part, _) | Pattern::Imm(part, _) => {
+            has_what_is_sought(part, anchored, characters)
+        }
         _ => false,
     }
 }

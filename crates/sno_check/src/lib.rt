@@ -14,7 +14,7 @@
 //! | `vocabulary`, `definitions`, `texts`, `statements` | the faults of each part, found independently |
 //! | `cycles` | definitions that refer to one another in a cycle |
 //! | `expressions` | patterns and objects that can't be read |
-//! | `facts`, `reach`, `warnings` | what patterns say, and what is probably not meant |
+//! | `facts`, `edges`, `reach`, `warnings` | what patterns say, and what is probably not meant |
 //! | `lines`, `json_lines` | `lines_of` and `json_of`: a report in lines and as JSON |
 //! | `excerpts`, `advice`, `reading_advice`, `nearest` | the characters around a place, and what to write instead |
 #![tactic(auto)]
@@ -25,6 +25,7 @@ mod checking;
 mod collector;
 mod cycles;
 mod definitions;
+mod edges;
 mod excerpts;
 mod expressions;
 mod facts;

@@ -19,6 +19,7 @@ pub(crate) struct Row<'t> {
     pub(crate) text: Option<&'t str>,
     pub(crate) pattern: Option<&'t str>,
     pub(crate) object: Option<&'t str>,
+    pub(crate) anchored: bool,
     pub(crate) repeat: Option<&'t str>,
 }
 
@@ -126,16 +127,20 @@ fn optional_number_at<'t>(
     }
 }
 
-/// Refuses another kind than true and false.
-fn check_bool_at(
+/// Whether a member is true. It may be missing, and then it is false.
+fn is_true_at(
     findings: &mut Collector,
     place: Place,
     value: &Value<'_>,
     key: &str,
-) -> Result<(), AllocError> {
+) -> Result<bool, AllocError> {
     match value.get(key) {
-        None | Some(Value::Bool(_)) => Ok(()),
-        found => refuse_member(findings, place, key, "true or false", found),
+        None => Ok(false),
+        Some(Value::Bool(is_true)) => Ok(*is_true),
+        found => {
+            refuse_member(findings, place, key, "true or false", found)?;
+            Ok(false)
+        }
     }
 }
 
@@ -210,18 +215,20 @@ fn row_of<'t>(
             text: None,
             pattern: None,
             object: None,
+            anchored: false,
             repeat: None,
         });
     }
     let text = string_at(findings, place, value, "text")?;
     let pattern = string_at(findings, place, value, "pattern")?;
     let object = optional_string_at(findings, place, value, "object")?;
-    check_bool_at(findings, place, value, "anchored")?;
+    let anchored = is_true_at(findings, place, value, "anchored")?;
     let repeat = optional_number_at(findings, place, value, "repeat")?;
     Ok(Row {
         text,
         pattern,
         object,
+        anchored,
         repeat,
     })
 }

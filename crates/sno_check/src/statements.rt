@@ -131,6 +131,7 @@ fn check_object<'t>(
         range: _,
         escape: _,
         repeats_rounds: _,
+        blocked: _,
     } = facts;
     let reached = surroundings.reach.from(references);
     if !surroundings.reach.are_read(reached) {
@@ -161,7 +162,8 @@ fn check_statement<'t>(
     if let Some(object) = object {
         check_object(findings, surroundings, number, facts, &object)?;
         if repeats {
-            warn_of_growth(findings, Place::Statement(number), &pattern, &object)?;
+            let place = Place::Statement(number);
+            warn_of_growth(findings, place, &pattern, row.anchored, &object)?;
         }
     }
     Ok(references)

@@ -3,6 +3,7 @@
 use crate::Place;
 use crate::ascii::text_of;
 use crate::collector::Collector;
+use crate::edges::{Blocked, always_matches};
 use crate::expressions::Whose;
 use crate::facts::{Facts, escape_in, has_what_is_sought};
 use crate::nearest::nearest;
@@ -57,6 +58,30 @@ fn warn_of_rounds(
     findings.warn(whose.place(), message)
 }
 
+fn warn_of_blocked(
+    findings: &mut Collector,
+    whose: Whose,
+    blocked: Option<Blocked>,
+) -> Result<(), AllocError> {
+    let alloc = findings.alloc;
+    let message = match blocked {
+        None => return Ok(()),
+        Some(Blocked::BySpan(character)) => {
+            let character = char::from(character);
+            format!(in alloc;
+                "pattern: no match goes on with {character:?} after SPAN, which takes all characters of its set and gives none back"
+            )?
+        }
+        Some(Blocked::ByBreak(character)) => {
+            let character = char::from(character);
+            format!(in alloc;
+                "pattern: no match goes on with {character:?} after BREAK, which ends before a character of its set"
+            )?
+        }
+    };
+    findings.warn(whose.place(), message)
+}
+
 /// Warns of what is strange in a pattern itself.
 pub(crate) fn warn_of_facts(
     findings: &mut Collector,
@@ -65,7 +90,8 @@ pub(crate) fn warn_of_facts(
 ) -> Result<(), AllocError> {
     warn_of_range(findings, whose, facts.range)?;
     warn_of_escape(findings, whose, facts.escape)?;
-    warn_of_rounds(findings, whose, facts.repeats_rounds)
+    warn_of_rounds(findings, whose, facts.repeats_rounds)?;
+    warn_of_blocked(findings, whose, facts.blocked)
 }
 
 fn words_of<'n>(alloc: Global, names: &'n [Name]) -> Result<Vec<&'n str>, AllocError> {
@@ -141,10 +167,16 @@ pub(crate) fn warn_of_literals(
     warn_of_escape(findings, whose, escape)
 }
 
-fn finds_itself_again(pattern: &Pattern, object: &Object) -> bool {
-    for part in object.parts() {
+/// Whether the object has what the pattern seeks; in its first part if the match is anchored, since that stands in front.
+fn finds_itself_again(pattern: &Pattern, anchored: bool, object: &Object) -> bool {
+    let parts = object.parts();
+    let parts = match parts.get(..1) {
+        Some(front) if anchored => front,
+        _ => parts,
+    };
+    for part in parts {
         if let Part::Quoted(text) = part {
-            if has_what_is_sought(pattern, text_of(text.bytes())) {
+            if has_what_is_sought(pattern, anchored, text_of(text.bytes())) {
                 return true;
             }
         }
@@ -152,20 +184,22 @@ fn finds_itself_again(pattern: &Pattern, object: &Object) -> bool {
     false
 }
 
-/// Warns of a repeated statement whose object has what its pattern seeks.
+/// Warns of a repeated statement whose pattern matches every text, or whose object has what its pattern seeks.
 pub(crate) fn warn_of_growth(
     findings: &mut Collector,
     place: Place,
     pattern: &Pattern,
+    anchored: bool,
     object: &Object,
 ) -> Result<(), AllocError> {
-    if !finds_itself_again(pattern, object) {
+    let message = if always_matches(pattern, anchored) {
+        "repeat: the pattern matches every text, so there are as many rounds as it says"
+    } else if finds_itself_again(pattern, anchored, object) {
+        "repeat: the object has what the pattern seeks, so each round finds it again"
+    } else {
         return Ok(());
-    }
-    let message = String::from_str(
-        findings.alloc,
-        "repeat: the object has what the pattern seeks, so each round finds it again",
-    )?;
+    };
+    let message = String::from_str(findings.alloc, message)?;
     findings.warn(place, message)
 }
 

@@ -6,7 +6,7 @@ use mir.Syntax.{Sym}
 use denote.Struct.Field.{row_field}
 use denote.Struct.Tuple.{TupleAt, type_at, parts}
 use denote.Param.Send.{IsSend, IsSync, AllSync, sendable, view_send}
-use denote.Param.SendFields.{FieldsHave, as_row_send, as_row_sync, declared_send, declared_sync, variants_send}
+use denote.Param.SendFields.{FieldsHave, as_row_send, as_row_sync, declared_send, declared_sync}
 use Rattle.std.proofs.Crossing.{crosses, Arc-send, Arc-sync, Deque-send, send, sync, frees}
 use Rattle.std.proofs.option.Option.TheSendSync as option
 use Rattle.std.proofs.result.Result.TheSendSync as result
@@ -21,6 +21,9 @@ use Rattle.std.specs.contracts.option.Option as Option
 use Rattle.std.specs.contracts.result.Result as Result
 use Rattle.std.specs.contracts.sync.OnceLock as OnceLock
 use Rattle.std.specs.declared.sync.ledger.Ledger.{Ghosts}
+use Rattle.std.specs.contracts.sync.Arc as Arc
+use Rattle.sno_pattern.proofs.texts.Text.TheSendSync as text
+use Rattle.sno_pattern.specs.contracts.texts.Text as Text
 use Rattle.left_right.proofs.writer.Writer.TheSendSync as writer
 use Rattle.left_right.specs.contracts.writer.Writer as Writer
 use Rattle.sno_book.proofs.openings.Opening.TheSendSync as opening
@@ -42,8 +45,6 @@ use Rattle.sno_published.specs.contracts.operations.Operation as Operation
 use Rattle.sno_published.specs.contracts.operations.Operation.TheInside as OperationInside
 use Rattle.sno_published.specs.contracts.screens.Screen as Screen
 use Rattle.sno_published.specs.contracts.screens.Screen.TheInside as ScreenInside
-use Rattle.sno_published.specs.contracts.screens.Spent as Spent
-use Rattle.sno_published.specs.contracts.screens.Spent.TheInside as SpentInside
 use Rattle.sno_published.specs.contracts.tables.Table as Table
 use Rattle.sno_published.specs.contracts.tables.TableAbsorbOperation.TheImpl as absorbs
 use Rattle.sno_published.specs.contracts.viewers.Viewer as Viewer
@@ -53,7 +54,6 @@ use Rattle.sno_desk.specs.contracts.faults.SubmitFault as SubmitFault
 use Rattle.sno_desk.specs.contracts.locked.Locked as Locked
 use Rattle.sno_desk.specs.contracts.locked.Locked.TheInside as LockedInside
 use Rattle.sno_desk.specs.contracts.seats.Seat as Seat
-use Rattle.sno_desk.specs.contracts.shown.Shown as Shown
 
 -- a book, from its entries
 pub book_send : IsSend Entry.the_row → IsSend Book.the_row
@@ -87,11 +87,12 @@ seat_send L n g receipt = declared_send (Seat.the_type L n g) (search sendable, 
 
 -- ---- what is under the lock
 
-module _ (L : RattleType) (n : NamingGhosts L.Denot) (g : Ghosts L.Denot) (entry : IsSend Entry.the_row) where
+module _ (L : RattleType) (n : NamingGhosts L.Denot) (g : Ghosts L.Denot) where
   operation_send : IsSend (Operation.the_row L n g)
   operation_send =
       let slot = Arc-send (OnceLock.the_row (Completion.the_row L n g)) (once.the_send (Completion.the_row L n g) (completion.the_send L n g)) (once.the_sync (Completion.the_row L n g) (completion.the_send L n g) (completion.the_sync L n g)) in
-      view_send _ _ _ _ _ (declared_send (OperationInside.the_type L n g) (as_row_send Entry.the_field entry, (as_row_send Front.the_field front.the_send, (as_row_send Front.the_field front.the_send, (slot, tt)))))
+      let text = option.the_send (Arc.the_row Text.the_row Global.the_row ghosts) (Arc-send Text.the_row text.the_send text.the_sync) in
+      view_send _ _ _ _ _ (declared_send (OperationInside.the_type L n g) (text, (search sendable, (as_row_send Front.the_field front.the_send, (as_row_send Front.the_field front.the_send, (slot, tt))))))
 
   -- what one reader has seen
   abbrev SeenEntries : RattleType
@@ -103,21 +104,12 @@ module _ (L : RattleType) (n : NamingGhosts L.Denot) (g : Ghosts L.Denot) (entry
       (keeps.ghosts L n keeps.no_dict g keeps.no_dict) ghosts (table.the_send L n g) operation_send send (table.the_sync L n g) sync frees
 
   screen_send : IsSend (Screen.the_row L (absorbs.ghosts L n absorbs.no_dict g absorbs.no_dict) n g)
-  screen_send = view_send _ _ _ _ _ (declared_send (ScreenInside.the_type L (absorbs.ghosts L n absorbs.no_dict g absorbs.no_dict) n g) (writer_send, (as_row_send History.the_field history.the_send, (as_row_send History.the_field history.the_send, tt))))
-
-  spent_send : IsSend (Spent.the_row L (absorbs.ghosts L n absorbs.no_dict g absorbs.no_dict) n g)
-  spent_send = view_send _ _ _ _ _ (declared_send (SpentInside.the_type L (absorbs.ghosts L n absorbs.no_dict g absorbs.no_dict) n g) (writer_send, tt))
-
-  shown_send : IsSend (Shown.the_row L n g)
-  shown_send = variants_send (Shown.enum L n g) (
-    (as_row_send (Screen.the_field L (absorbs.ghosts L n absorbs.no_dict g absorbs.no_dict) n g) screen_send, tt),
-    ((as_row_send (Spent.the_field L (absorbs.ghosts L n absorbs.no_dict g absorbs.no_dict) n g) spent_send, tt), tt),
-  )
+  screen_send = view_send _ _ _ _ _ (declared_send (ScreenInside.the_type L (absorbs.ghosts L n absorbs.no_dict g absorbs.no_dict) n g) (writer_send, (as_row_send History.the_field history.the_send, (as_row_send History.the_field history.the_send, (search sendable, tt)))))
 
   locked_send : IsSend Book.the_row → IsSend (Locked.the_row L n g)
   locked_send book =
-      let shown = option.the_send (Shown.the_row L n g) shown_send in
-      view_send _ _ _ _ _ (declared_send (LockedInside.the_type L n g) (as_row_send Book.the_field book, (shown, (total.the_send L g, (share.the_send L g, tt)))))
+      let screen = as_row_send (Screen.the_field L (absorbs.ghosts L n absorbs.no_dict g absorbs.no_dict) n g) screen_send in
+      view_send _ _ _ _ _ (declared_send (LockedInside.the_type L n g) (as_row_send Book.the_field book, (screen, (total.the_send L g, (share.the_send L g, tt)))))
 
   pub desk_sync : IsSend Book.the_row → IsSync (Desk.the_row L n g)
   desk_sync book =

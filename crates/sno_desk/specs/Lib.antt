@@ -5,6 +5,5 @@ pub mod Faults
 pub mod Proposed
 pub mod Receipts
 pub mod Seen
-pub mod Shown
 pub mod Turns
 pub mod Worked

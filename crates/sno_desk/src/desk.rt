@@ -12,7 +12,6 @@ ghost use Rattle.sno_desk.specs.Seen.{IsTold, view_after};
 
 use crate::locked::Locked;
 use crate::openings::is_same;
-use crate::shown::Shown;
 use crate::submissions::Submission;
 use crate::{Blank, CloseFault, CommitFault, DeskFault, Gate, Seat, SinceFault, SubmitFault};
 use sno_book::{Book, Entry, Opening, Proposal, Receipt};
@@ -34,7 +33,7 @@ pub struct Desk<L: Naming> {
 fn seat_of<L: Naming>(screen: &Screen<L>, rest: &mut Share<L>) -> Result<Seat<L>, DeskFault>
     requires parts { 1 ≤ rest.old.parts }
     requires amount { rest.old.amount ≡ 0 }
-    ensures none { IfOk result (λ s. (s.accepted ≡ 0) × (s.viewer.seen ≡ screen.now)) }
+    ensures none { IfOk result (λ s. (s.accepted ≡ 0) × (s.viewer.seen ≡ screen.now.shown)) }
     ensures rest { IfOk result (λ _. (rest.new.parts + 1 ≡ rest.old.parts) × (rest.new.amount ≡ 0)) }
 {
     let Ok(viewer) = screen.viewer() else {
@@ -52,7 +51,7 @@ fn seats_of<L: Naming>(
 ) -> Result<Vec<Seat<L>>, DeskFault>
     requires parts { rest.old.parts ≡ seats }
     requires amount { rest.old.amount ≡ 0 }
-    requires first { screen.now ≡ [] }
+    requires first { screen.now.shown ≡ [] }
     ensures count { IfOk result (λ v. length v.items ≡ seats) }
     ensures none { IfOk result (λ v. All (λ s. (s.accepted ≡ 0) × (s.viewer.seen ≡ [])) v.items) }
     ensures rest { IfOk result (λ _. (rest.new.parts ≡ 0) × (rest.new.amount ≡ 0)) }
@@ -78,7 +77,7 @@ fn screen_of<L: Naming>(
     requires histories { (blank.history ≡ record { history = L.book; entries = [] }) × (blank.attempts.history ≡ L.tries) }
     requires few { (1 ≤ seats) × (seats ≤ 16) }
     requires opening { arc_value opening.now ≡ L.opening }
-    ensures screen { IfOk result (λ d. d.0 ≡ []) }
+    ensures screen { IfOk result (λ d. d.0.shown ≡ []) }
     ensures total { IfOk result (λ d. d.1.total ≡ 0) }
     ensures rest { IfOk result (λ d. (d.2.parts ≡ L.parts) × (d.2.amount ≡ 0)) }
 {
@@ -129,7 +128,7 @@ impl<L: Naming> Desk<L> {
         };
         let lock = Mutex::new(Locked {
             book,
-            shown: Some(Shown::Open(screen)),
+            screen,
             total,
             rest,
         });

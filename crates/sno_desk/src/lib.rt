@@ -80,7 +80,6 @@ mod locked;
 mod openings;
 mod reply_queues;
 mod seats;
-mod shown;
 mod submissions;
 mod workers;
 

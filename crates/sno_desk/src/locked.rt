@@ -1,5 +1,5 @@
 //! What is under a desk's lock.
-ghost use Rattle.std.specs.Prelude.{◌≡◌, ◌<◌, Decides, IfOk, IfErr, OnErr, None, drop, length, sum_by};
+ghost use Rattle.std.specs.Prelude.{◌≡◌, ◌≤◌, ◌<◌, Decides, IfOk, IfErr, OnErr, None, drop, length, sum_by, true};
 ghost use Rattle.std.specs.List.{All};
 ghost use mathlib.Core.List.{IsPrefix as Begins};
 ghost use Rattle.sno_book.specs.Books.{view_of};
@@ -8,15 +8,13 @@ ghost use Rattle.sno_book.specs.Origins.{IsPerformed};
 ghost use Rattle.sno_book.specs.Views.{IsPrefix, Kin};
 ghost use Rattle.sno_desk.specs.Commits.{IsCommitted, IsReturned};
 ghost use Rattle.sno_desk.specs.Seen.{view_after};
-ghost use Rattle.sno_desk.specs.Shown.{entries_of};
 ghost use Rattle.sno_desk.specs.Turns.{position};
 ghost use Rattle.sno_desk.specs.declared.faults.CommitFault.TheVariants.{Memory};
 
 use crate::seats::{are_within, gather};
-use crate::shown::Shown;
 use crate::{CommitFault, Seat, SinceFault};
 use sno_book::{Book, Entry, Proposal, Ready, Receipt, kin_agree, versions_count_entries};
-use sno_published::{Naming, Screen, Unpublished};
+use sno_published::{Naming, Screen};
 use std::alloc::Global;
 use std::marker::Model;
 use std::sync::Wait;
@@ -24,20 +22,18 @@ use std::sync::ledger::{self, Share};
 
 /// The book, what is shown of it, and the ledger's total, which is the number of the journal's entries. What is shown
 /// is the journal, whether the desk is stopped or not. So the lock is never released with an entry that no seat counts
-/// or no reader sees, nor with a count without its entry. Something is always shown, except while it is being published
-/// to. `rest` is what is left of the ledger's shares when each seat has its part: nothing.
+/// or no reader sees, nor with a count without its entry. `rest` is what is left of the ledger's shares when each seat
+/// has its part: nothing.
 pub(crate) struct Locked<L: Naming> {
     pub(crate) book: Book,
-    pub(crate) shown: Option<Shown<L>>,
+    pub(crate) screen: Screen<L>,
     pub(crate) total: ledger::Book<L>,
     pub(crate) rest: Share<L>,
 }
 
 impl<L: Naming> Model for Locked<L> {
-    ghost use Rattle.std.specs.Prelude.{◌≡◌, Some, length};
-    ghost use Rattle.std.specs.Option.{option_map};
+    ghost use Rattle.std.specs.Prelude.{◌≡◌, length};
     ghost use Rattle.sno_book.specs.Books.{Book, book_code};
-    ghost use Rattle.sno_desk.specs.Shown.{entries_of};
 
     ghost Value = { Book };
 
@@ -45,66 +41,54 @@ impl<L: Naming> Model for Locked<L> {
 
     ghost view = { λ s. s.book };
 
-    ghost invariant = { λ s. (s.book.opening ≡ L.opening) × (option_map entries_of s.shown ≡ Some s.book.journal) × (length s.book.journal ≡ s.total.total) × (s.rest.parts ≡ 0) × (s.rest.amount ≡ 0) };
-}
-
-/// Ends what is shown.
-fn end_shown<L: Naming, R: Wait>(rt: &R, shown: Option<Shown<L>>) {
-    if let Some(shown) = shown {
-        shown.end(rt);
-    }
+    ghost invariant = { λ s. (s.book.opening ≡ L.opening) × (s.screen.shown ≡ s.book.journal) × (length s.book.journal ≡ s.total.total) × (s.rest.parts ≡ 0) × (s.rest.amount ≡ 0) };
 }
 
 /// Publishes a proposal that was prepared. If that succeeds, accepts it and counts it, both for the seat and in the
-/// total. Also returns what is shown now.
+/// total.
 fn publish<L: Naming, R: Wait>(
     rt: &R,
     alloc: Global,
-    screen: Screen<L>,
+    screen: &mut Screen<L>,
     book: &mut Book,
     total: &mut ledger::Book<L>,
     seat: &mut Seat<L>,
     ready: Ready,
-) -> (Shown<L>, Result<Receipt, (CommitFault, Proposal)>)
+) -> Result<Receipt, (CommitFault, Proposal)>
+    requires open { screen.old.is_open ≡ true }
     requires opening { book.old.opening ≡ L.opening }
-    requires level { (screen ≡ book.old.journal) × (seat.old.viewer.seen ≡ book.old.journal) }
+    requires level { (screen.old.shown ≡ book.old.journal) × (seat.old.viewer.seen ≡ book.old.journal) }
     requires total { length book.old.journal ≡ total.old.total }
+    requires backed { seat.old.accepted ≤ total.old.total }
+    requires alone { L.parts ≡ 1 → seat.old.accepted ≡ total.old.total }
     requires kept { 0 < book.old.spare }
     requires free { refusal (view_of book.old) ready ≡ None }
     requires fits { Fits (view_of book.old) ready }
     requires performed { IsPerformed ready.origin ready.place ready.version ready.statement ready.outcome }
     requires kin { Kin ready.origin (view_of book.old) }
     ensures opening { book.new.opening ≡ L.opening }
-    ensures shown { entries_of result.0 ≡ book.new.journal }
+    ensures shown { screen.new.shown ≡ book.new.journal }
     ensures total { length book.new.journal ≡ total.new.total }
-    ensures committed { IfOk result.1 (λ r. IsCommitted L.opening L.parts (position seat.old.accepted seat.old.viewer.seen) (position seat.new.accepted seat.new.viewer.seen) ready r) }
+    ensures committed { IfOk result (λ r. IsCommitted L.opening L.parts (position seat.old.accepted seat.old.viewer.seen) (position seat.new.accepted seat.new.viewer.seen) ready r) }
     ensures begins { Begins seat.old.viewer.seen seat.new.viewer.seen }
-    ensures back { IfErr result.1 (λ r. (r.0 ≡ Memory) × (r.1 ≡ ready)) }
-    ensures same { OnErr result.1 (seat.new.accepted ≡ seat.old.accepted) }
-    ensures seen { OnErr result.1 (seat.new.viewer.seen ≡ seat.old.viewer.seen) }
+    ensures back { IfErr result (λ r. (r.0 ≡ Memory) × (r.1 ≡ ready)) }
+    ensures same { OnErr result (seat.new.accepted ≡ seat.old.accepted) }
+    ensures seen { OnErr result (seat.new.viewer.seen ≡ seat.old.viewer.seen) }
 {
     // for the proof
     kin_agree();
     versions_count_entries();
     let _ = book.journal();
     let _ = book.opening().room();
-    seat.audit(total);
-    let screen = match screen.publish(rt, alloc, ready.entry()) {
-        Ok(screen) => screen,
-        Err(unpublished) => {
-            let shown = match unpublished {
-                Unpublished::Memory(screen) => Shown::Open(screen),
-                Unpublished::Stopped(spent) => Shown::Stopped(spent),
-            };
-            return (shown, Err((CommitFault::Memory, ready.back())));
-        }
+    let Ok(()) = screen.publish(rt, alloc, ready.place(), ready.entry()) else {
+        return Err((CommitFault::Memory, ready.back()));
     };
     let receipt = book.finish(ready);
     // for the proof
     let _ = book.journal();
     seat.learn(screen.table());
     seat.count(total);
-    (Shown::Open(screen), Ok(receipt))
+    Ok(receipt)
 }
 
 /// Shares of all these entries.
@@ -132,11 +116,10 @@ impl<L: Naming> Locked<L> {
         ensures refused { IfErr result (λ r. IsReturned L.opening L.parts (position seat.old.accepted seat.old.viewer.seen) (position seat.new.accepted seat.new.viewer.seen) proposal r.0 r.1) }
         ensures begins { Begins seat.old.viewer.seen seat.new.viewer.seen }
     {
-        let Some(screen) = Shown::take_screen(rt, &mut self.shown) else {
+        if !self.screen.is_open() {
             return Err((CommitFault::Stopped, proposal));
-        };
-        if !seat.see_all(screen.table()) {
-            Shown::Open(screen).put(rt, &mut self.shown);
+        }
+        if !seat.see_all(self.screen.table()) {
             return Err((CommitFault::Stopped, proposal));
         }
         // for the proof
@@ -147,21 +130,18 @@ impl<L: Naming> Locked<L> {
         let ready = match self.book.prepare(proposal) {
             Ok(ready) => ready,
             Err((fault, proposal)) => {
-                Shown::Open(screen).put(rt, &mut self.shown);
                 return Err((CommitFault::from(fault), proposal));
             }
         };
-        let (shown, answer) = publish(
+        publish(
             rt,
             alloc,
-            screen,
+            &mut self.screen,
             &mut self.book,
             &mut self.total,
             seat,
             ready,
-        );
-        shown.put(rt, &mut self.shown);
-        answer
+        )
     }
 
     /// Shares of the journal's entries from this index on. The seat is told of all of them.
@@ -175,11 +155,8 @@ impl<L: Naming> Locked<L> {
         ensures begins { Begins seat.old.viewer.seen seat.new.viewer.seen }
         ensures same { seat.new.accepted ≡ seat.old.accepted }
     {
-        let Some(shown) = &self.shown else {
-            return Err(SinceFault::Stopped);
-        };
-        seat.learn(shown.table());
-        if !seat.is_within(shown.table()) {
+        seat.learn(self.screen.table());
+        if !seat.is_within(self.screen.table()) {
             return Err(SinceFault::Stopped);
         }
         share_all(alloc, self.book.journal().get(from..).unwrap_or(&[]))
@@ -189,10 +166,7 @@ impl<L: Naming> Locked<L> {
     pub(crate) fn has_all(&self, seats: &[Seat<L>]) -> bool
         ensures { Decides result (All (λ s. Begins s.viewer.seen self.now.journal) seats.now) }
     {
-        match &self.shown {
-            Some(shown) => are_within(seats, shown.table()),
-            None => false,
-        }
+        are_within(seats, self.screen.table())
     }
 
     /// The book, if these are all seats of the desk. Its journal has as many entries as they have accepted.
@@ -216,11 +190,11 @@ impl<L: Naming> Locked<L> {
     {
         let Locked {
             book,
-            shown,
+            screen,
             total,
             rest,
         } = self;
-        end_shown(rt, shown);
+        screen.end(rt);
         (book, total, rest)
     }
 }

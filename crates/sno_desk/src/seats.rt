@@ -181,20 +181,17 @@ impl<L: Naming> Seat<L> {
         Ok(proposal)
     }
 
-    /// Is told what a table shows, and sees all that is shown. Returns whether it has seen just what the table shows.
+    /// Sees what a table shows. Returns whether it has then seen just that, and no more.
     pub(crate) fn see_all(&mut self, table: &Table<L>) -> bool
         ensures begins { IsPrefix self.old.viewer.seen self.new.viewer.seen }
         ensures level { MatchBool result (self.new.viewer.seen ≡ table.now) (Unit {0}) }
         ensures accepted { self.new.accepted ≡ self.old.accepted }
     {
         self.learn(table);
-        match self.viewer.enter() {
-            Ok(()) => self.viewer.is_level(table),
-            Err(_) => false,
-        }
+        self.viewer.is_level(table)
     }
 
-    /// Is told what a table shows.
+    /// Sees what a table shows.
     pub(crate) fn learn(&mut self, table: &Table<L>)
         ensures begins { IsPrefix self.old.viewer.seen self.new.viewer.seen }
         ensures told { IsPrefix table.now self.new.viewer.seen }

@@ -5,3 +5,4 @@ pub mod Scripts
 pub mod Files
 pub mod Rules
 pub mod Batches
+pub mod Statuses

@@ -18,6 +18,7 @@
 //! | `faults` | `FileFault`: why a file stays as it was |
 //! | `files` | `plan_file`, `edit_file`, `edit_files` |
 //! | `batches` | files that are planned one after the other and then written together |
+//! | `tallies` | what became of files, counted, and the status to end with |
 //! | `scripts` | the lines that two texts share, and those that only one has |
 //! | `hunks` | a script as a unified diff |
 #![tactic(auto)]
@@ -30,8 +31,7 @@ mod folders;
 mod hunks;
 mod rules;
 mod scripts;
-#[cfg(test)]
-mod tests;
+mod tallies;
 
 pub use edits::{EditedText, RefusedStatement};
 pub use faults::{FileFault, Position};
@@ -43,3 +43,4 @@ pub use scripts::{DiffLine, Mark, script_of};
 pub use sno_document::{DocumentFault, Mode};
 pub use sno_pattern::Text;
 pub use sno_statement::{MAX_TRIALS, Statement, StatementFault};
+pub use tallies::{Purpose, Tally};

@@ -9,10 +9,15 @@ pub mod ReferenceLaws
 pub mod TakingLaws
 pub mod EndingLaws
 pub mod HeadLaws
+pub mod RunStartLaws
 pub mod BeginningLaws
 pub mod SeekingLaws
+pub mod RoundLaws
+pub mod ScanLaws
 pub mod StartLaws
 pub mod TableLaws
 pub mod SizeLaws
+pub mod WritingLaws
 pub mod CompileLaws
+pub mod DefinitionLaws
 pub mod LinkingLaws

@@ -11,3 +11,4 @@ pub mod Compiling
 pub mod History
 pub mod Endings
 pub mod Beginnings
+pub mod Scanning

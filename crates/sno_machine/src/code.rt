@@ -9,6 +9,7 @@ use crate::beginnings::Beginnings;
 use crate::compiling::nodes_of;
 use crate::faults::MatchFault;
 use crate::nodes::Compiled;
+use crate::run_starts::RunStart;
 use crate::starts::search;
 use sno_pattern::{Found, Pattern, Rules, Text, a_greater_depth_changes_no_outcome};
 use std::alloc::{AllocError, Global};
@@ -22,8 +23,8 @@ pub struct Code<'a> {
 
 impl<'a> Model for Code<'a> {
     ghost use Rattle.sno_pattern.specs.Tree.{tree_of};
-    ghost use Rattle.std.specs.Prelude.{◌≤◌};
-    ghost use Rattle.sno_machine.specs.Beginnings.{AreBeginnings, cost};
+    ghost use Rattle.std.specs.Prelude.{◌≤◌, IfSome};
+    ghost use Rattle.sno_machine.specs.Beginnings.{AreBeginnings, IsRunStart, cost};
     ghost use Rattle.sno_machine.specs.Code.{IsCompiled};
     ghost use Rattle.sno_machine.specs.Sources.{Source, source_code};
 
@@ -34,7 +35,8 @@ impl<'a> Model for Code<'a> {
     ghost view = { λ s. record { bodies = s.compiled.rules.now.bodies; pattern = tree_of s.compiled.pattern.now } };
 
     ghost invariant = { λ s. IsCompiled s.compiled.rules.now.bodies (tree_of s.compiled.pattern.now) s.compiled.nodes
-        × AreBeginnings s.compiled.rules.now.bodies (tree_of s.compiled.pattern.now) s.compiled.beginnings × (cost s.compiled.beginnings ≤ 64) };
+        × AreBeginnings s.compiled.rules.now.bodies (tree_of s.compiled.pattern.now) s.compiled.beginnings × (cost s.compiled.beginnings ≤ 64)
+        × IfSome s.compiled.run (IsRunStart s.compiled.rules.now.bodies (tree_of s.compiled.pattern.now)) };
 }
 
 /// Compiles the pattern with the definitions. Each reference of the pattern has to be to one of them (`Rules::covers`).
@@ -51,10 +53,12 @@ pub fn compile<'a>(
 {
     let nodes = nodes_of(alloc, rules, pattern)?;
     let beginnings = Beginnings::of(alloc, rules, pattern)?;
+    let run = RunStart::of(pattern);
     Ok(Code {
         compiled: Compiled {
             nodes,
             beginnings,
+            run,
             rules,
             pattern,
         },

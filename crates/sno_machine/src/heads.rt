@@ -98,8 +98,8 @@ impl<'a> Collector<'a> {
     }
 }
 
-// The part with which the pattern begins.
-fn first_part(pattern: &Pattern) -> &Pattern
+/// The part with which the pattern begins.
+pub fn first_part(pattern: &Pattern) -> &Pattern
     ensures { tree_of result.now ≡ first_part (tree_of pattern.now) }
 {
     match pattern {

@@ -30,6 +30,11 @@
 //!                  ^  └──> 'a' ──> P ┐
 //!                  └─────────────────┘
 //!
+//! ARBNO('a') 'b'   Repeat ──>                     the part takes exactly one character: after a round, Rounds goes over further ones up to
+//!                     └──> 'a' ──> Rounds ──>     the first cursor at which 'b' or RPOS matches, or the part fails
+//!                           ^         │
+//!                           └─────────┘
+//!
 //! ARBNO(BREAK('a'))  Repeat ──>                   the part is a primitive with at most one end that may take no character: one node does
 //!                  └──> Round ──>                 what Mark, the primitive, Moved and Repeat do, and is its own choice
 //!
@@ -39,6 +44,8 @@
 //!
 //! P . V            Mark ──> P ──> Later V ──>     what is past the mark is put after the pending assignments
 //! P $ V            Mark ──> P ──> Now V ──>       .. or is assigned at once
+//! SPAN('a') . V    MarkSingle ──> Later V ──>     a primitive with at most one end: the first node does what both do, and goes on past
+//!                                                the second; also with `$`
 //!
 //! *D               Call D ──>                     the nodes of D (`other` is the first), with a frame that says what comes after it
 //! *D               Jump D                         if nothing comes after it in the definition that refers to it: the nodes of D without
@@ -54,8 +61,9 @@
 //!
 //! The pattern itself ends in `Return` too: outside all frames, that is the success of the match. Nodes are written from the last to
 //! the first, so a successor has its number before it is named. Only a round has to come back to a node that was written before it:
-//! `Repeat` is written without a round, and gets the number of its round once that is written. A reference may be written before its
-//! definition. So once all nodes are written, each reference gets the number of the first node of its definition (`other`).
+//! `Repeat` is written without a round, and gets the number of its round once that is written. A reference is written before its
+//! definition, and only definitions that are referred to are written. So once all nodes are written, each reference gets the number
+//! of the first node of its definition (`other`).
 //!
 //! # The history
 //!
@@ -107,6 +115,10 @@
 //! match does nothing but one trial for each head. Such starts are passed over together: they are sought as bytes or in a
 //! [table](head_tables::HeadTable), and their trials are spent at once.
 //!
+//! If a match begins with `SPAN`, it ends its first part at one cursor from wherever in a run it begins. If the primitive that comes
+//! next fails there, each start in that run fails after two trials. So after a first start has failed, such runs are passed over as
+//! a whole ([`RunStart`](run_starts::RunStart)).
+//!
 //! # What a trial costs
 //!
 //! A trial of `SPAN`, `BREAK` or `BAL` may go over the whole text, and a text may be gone over from each of its cursors. So a match
@@ -131,14 +143,19 @@
 //! | `lookaheads` | the primitives that a branch tries itself |
 //! | `singles` | the primitives that have at most one end |
 //! | `other_leaves`, `leaves` | the other patterns without parts |
+//! | `parts` | parts of `.` and `$`, and primitives as such parts |
 //! | `rounds` | rounds of a repetition of a primitive |
+//! | `one_character` | the parts that take exactly one character |
+//! | `scanning` | how many rounds of such a part are gone through together |
 //! | `seeking` | `ARB` before a part with few heads |
 //! | `conditions` | the pending assignments of a success, in their order |
 //! | `running` | one step after the other, and one start after the other |
 //! | `heads` | the characters with which a match can begin |
 //! | `needles` | few heads, which are sought together |
 //! | `head_tables` | many heads, as a table of characters |
+//! | `unmarking` | the characters of a head in such a table |
 //! | `beginnings` | what a match can begin with |
+//! | `run_starts` | starts within a run at whose end the match fails |
 //! | `passing` | starts at which no match can begin are passed over |
 //! | `taking` | the parts that take a character wherever they end |
 //! | `subject` | the text of a match, beside what was learnt of it |
@@ -173,17 +190,22 @@ mod leaves;
 mod lookaheads;
 mod needles;
 mod nodes;
+mod one_character;
 mod other_leaves;
+mod parts;
 mod passing;
 mod progress;
 mod rounds;
+mod run_starts;
 mod running;
+mod scanning;
 mod seeking;
 mod singles;
 mod starts;
 mod stepping;
 mod subject;
 mod taking;
+mod unmarking;
 
 pub use code::{Code, compile};
 pub use faults::MatchFault;

@@ -1,10 +1,10 @@
 //! The outcome of a match: its starts in turn, until one of them ends it.
-ghost use Rattle.std.specs.Prelude.{◌≡◌, ◌<◌, ◌≤◌, [], length, IfOk, IfErr, IsTrue, MatchResult};
+ghost use Rattle.std.specs.Prelude.{◌≡◌, ◌<◌, ◌≤◌, [], length, IfOk, IfErr, IfSome, IsTrue, MatchResult};
 ghost use Rattle.std.specs.List.{flat_map};
 ghost use Rattle.sno_pattern.specs.Tree.{tree_of, refs_below};
 ghost use Rattle.sno_pattern.specs.Results.{enough_depth};
 ghost use Rattle.sno_pattern.specs.Outcome.{outcome, outcome_at, starts, tried_from, trials};
-ghost use Rattle.sno_machine.specs.Beginnings.{AreBeginnings, cost};
+ghost use Rattle.sno_machine.specs.Beginnings.{AreBeginnings, IsRunStart, cost};
 ghost use Rattle.sno_machine.specs.Code.{IsCompiled};
 ghost use Rattle.sno_machine.specs.Endings.{found_of, match_by, up_to, Overspent};
 ghost use Rattle.sno_machine.specs.declared.faults.MatchFault.TheVariants.{TooManyTrials};
@@ -28,6 +28,7 @@ pub fn search(
     requires compiled { IsCompiled code.now.rules.now.bodies (tree_of code.now.pattern.now) code.now.nodes }
     requires begin { AreBeginnings code.now.rules.now.bodies (tree_of code.now.pattern.now) code.now.beginnings }
     requires cheap { cost code.now.beginnings ≤ 64 }
+    requires run { IfSome code.now.run (IsRunStart code.now.rules.now.bodies (tree_of code.now.pattern.now)) }
     ensures found { IfOk result (λ found. found ≡ outcome text.now code.now.rules.now.bodies (tree_of code.now.pattern.now) anchored) }
     ensures within { IfOk result (λ _. trials text.now code.now.rules.now.bodies (tree_of code.now.pattern.now) anchored ≤ limit) }
     ensures refused { IfErr result (λ e. e ≡ TooManyTrials → limit < trials text.now code.now.rules.now.bodies (tree_of code.now.pattern.now) anchored) }
@@ -71,6 +72,7 @@ fn try_all<'a>(
     requires compiled { IsCompiled code.now.rules.now.bodies (tree_of code.now.pattern.now) code.now.nodes }
     requires begin { AreBeginnings code.now.rules.now.bodies (tree_of code.now.pattern.now) code.now.beginnings }
     requires cheap { cost code.now.beginnings ≤ 64 }
+    requires run { IfSome code.now.run (IsRunStart code.now.rules.now.bodies (tree_of code.now.pattern.now)) }
     requires short { length text.now ≤ 65536 }
     requires deep { length code.now.rules.now.bodies ≤ most }
     ensures found { IfOk result (λ hit. match_by progress.old (flat_map (tried_from text.now code.now.rules.now.bodies most (tree_of code.now.pattern.now)) (starts text.now anchored)) ≡ (progress.new, hit)) }
@@ -80,10 +82,13 @@ fn try_all<'a>(
     if anchored {
         // A single start is tried in any case.
         let any = Beginnings::Any;
-        let hit = try_starts(alloc, code, text, most, &any, last, progress)?;
+        let hit = try_starts(alloc, code, text, most, &any, None, last, progress)?;
         return Ok(hit);
     }
-    let hit = try_starts(alloc, code, text, most, &code.beginnings, last, progress)?;
+    let beginnings = &code.beginnings;
+    let hit = try_starts(
+        alloc, code, text, most, beginnings, code.run, last, progress,
+    )?;
     Ok(hit)
 }
 

@@ -1,4 +1,5 @@
 pub mod BalancedEnds
+pub mod Lanes
 pub mod MateLaws
 pub mod RunLaws
-mod Seeking
+pub mod Seeking

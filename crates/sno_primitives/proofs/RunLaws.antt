@@ -8,7 +8,7 @@ use Rattle.std.specs.List.{take_while}
 use Rattle.sno_primitives.specs.Runs.{goes_through, run_end}
 
 -- how many characters in a row pass
-abbrev count : (ℕ → Bool) → List ℕ → ℕ
+abbrev pub count : (ℕ → Bool) → List ℕ → ℕ
 count p l = length (take_while p l)
 
 count-cons : (p : ℕ → Bool) (x : ℕ) (l : List ℕ) (b : Bool) → p x ≡ b → count p (x ∷ l) ≡ cond b (suc (count p l)) 0
@@ -38,7 +38,7 @@ stops_by p n x l true is others h =
 stops_by p n x l false is others h = count-cons p x l false is ∙ sym (count-cons p x (take n l) false is)
 
 -- a run that stops within a first part
-count-stops : (p : ℕ → Bool) (n : ℕ) (l : List ℕ) → count p (take n l) < n → count p l ≡ count p (take n l)
+pub count-stops : (p : ℕ → Bool) (n : ℕ) (l : List ℕ) → count p (take n l) < n → count p l ≡ count p (take n l)
 count-stops p zero l h = absurd (omega arith)
 count-stops p (suc n) [] h = refl
 count-stops p (suc n) (x ∷ l) h = stops_by p n x l (p x) refl (count-stops p n l) h
@@ -53,7 +53,7 @@ goes_by p n x l true is others h =
 goes_by p n x l false is others h = let f = count-cons p x (take n l) false is in absurd (omega arith)
 
 -- a run that goes through a whole first part
-count-goes_on : (p : ℕ → Bool) (n : ℕ) (l : List ℕ) → count p (take n l) ≡ n → count p l ≡ n + count p (drop n l)
+pub count-goes_on : (p : ℕ → Bool) (n : ℕ) (l : List ℕ) → count p (take n l) ≡ n → count p l ≡ n + count p (drop n l)
 count-goes_on p zero l h = omega arith
 count-goes_on p (suc n) [] h = absurd (omega arith)
 count-goes_on p (suc n) (x ∷ l) h = goes_by p n x l (p x) refl (count-goes_on p n l) h

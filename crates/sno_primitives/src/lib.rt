@@ -7,6 +7,7 @@
 //! | [`first_in`] | the first character that is in a set |
 //! | [`near_run_end`], [`whole_run_end`] | where a run of characters of a set ends, or of the other characters |
 //! | [`RunEnds`] | where all such runs of a text end, by a table |
+//! | [`Rows`] | a set of ASCII characters, by which sixteen characters are looked up at once; how long a run is |
 //! | [`leaf_end`] | the one end of a primitive that has at most one, by its pattern |
 //! | [`first_balanced`] | the first end of `BAL`; from each end, the next one is the first |
 //! | [`walk_balanced`] | as [`first_balanced`], if the end is near |
@@ -23,6 +24,7 @@ mod laws;
 mod leaves;
 mod mates;
 mod primitives;
+mod rows;
 mod run_ends;
 mod runs;
 
@@ -33,6 +35,7 @@ pub use mates::Mates;
 pub use primitives::{
     any_end, len_end, literal_end, notany_end, pos_end, rpos_end, rtab_end, tab_end,
 };
+pub use rows::Rows;
 pub use run_ends::{RunEnds, near_run_end, whole_run_end};
 pub use runs::{break_end, first_in, span_end};
 pub use sno_pattern::{Class, Pattern};

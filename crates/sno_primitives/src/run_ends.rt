@@ -2,9 +2,11 @@
 ghost use Rattle.std.specs.Prelude.{◌≡◌, ◌+◌, ◌/◌, ◌≤◌, take, length, IfOk, IfNone, IfSome};
 ghost use Rattle.std.specs.List.{take_while};
 ghost use Rattle.sno_primitives.specs.Runs.{goes_through, run_end, AreRunEnds};
+ghost use Rattle.sno_primitives.specs.Rows.{goes_by_rows, AreRowsOf};
 ghost use Rattle.sno_primitives.specs.RunTables.{IsOfText};
 
-use crate::runs::{run_before, run_in};
+use crate::rows::Rows;
+use crate::runs::{NEAR, front, long_run, run_before, run_in};
 use sno_pattern::Class;
 use std::alloc::{AllocError, Global};
 
@@ -36,9 +38,13 @@ impl<'s> RunEnds<'s> {
         ensures set { IfOk result (λ runs. runs.set.now ≡ set.now) }
         ensures inside { IfOk result (λ runs. runs.inside ≡ inside) }
     {
+        let rows = Rows::of(set);
         let mut ends = vec![in alloc; 0; text.len() / BLOCK + 1]?;
         for block in (0..text.len() / BLOCK + 1).rev() {
-            let end = run_from(text, set, inside, ends.as_slice(), block * BLOCK);
+            let end = match block_end(text, set, inside, rows, block * BLOCK) {
+                Some(end) => end,
+                None => ends[block + 1] as usize,
+            };
             ends[block] = end as u32;
         }
         Ok(RunEnds { set, inside, ends })
@@ -68,6 +74,21 @@ fn run_from(text: &[u8], set: &Class, inside: bool, ends: &[u32], c: usize) -> u
     }
 }
 
+// Where the run from the first character of a block ends, if it ends within the block: by the rows of the set, if it has rows.
+fn block_end(text: &[u8], set: &Class, inside: bool, rows: Option<Rows>, c: usize) -> Option<usize>
+    requires within { c ≤ length text.now }
+    requires rows { IfSome rows (AreRowsOf set.now) }
+    ensures near { IfSome result (λ end. end ≡ run_end inside set.now text.now c) }
+    ensures far { IfNone result ((c + 64 ≤ length text.now) × (run_end inside set.now text.now c ≡ run_end inside set.now text.now (c + 64))) }
+{
+    let Some(rows) = rows else {
+        return near_run_end(text, set, inside, c, BLOCK);
+    };
+    let (_, rest) = text.split_at(c);
+    let run = rows.run(front(rest, BLOCK), inside);
+    if run < BLOCK { Some(c + run) } else { None }
+}
+
 /// Where the run from the cursor ends, if it has fewer characters than `most`; otherwise `None`. Such a run ends where the run
 /// from that many characters on ends.
 ///
@@ -91,20 +112,12 @@ pub fn whole_run_end(text: &[u8], set: &Class, inside: bool, c: usize) -> usize
     ensures exact { result ≡ run_end inside set.now text.now c }
     ensures within { result ≤ length text.now }
 {
-    let (_, rest) = text.split_at(c);
-    c + run_of(rest, set, inside)
-}
-
-// The first characters, at most this many.
-#[inline(always)]
-fn front(rest: &[u8], most: usize) -> &[u8]
-    ensures { result.now ≡ take most rest.now }
-{
-    if most < rest.len() {
-        let (first, _) = rest.split_at(most);
-        first
-    } else {
-        rest
+    match near_run_end(text, set, inside, c, NEAR) {
+        Some(end) => end,
+        None => {
+            let (_, rest) = text.split_at(c + NEAR);
+            c + NEAR + long_run(rest, set, inside)
+        }
     }
 }
 

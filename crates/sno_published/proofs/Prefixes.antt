@@ -1,6 +1,9 @@
 -- Beginnings of one list.
 use Rattle.std.proofs.Common.{◌≡◌, ◌≤◌, List, [], ◌∷◌, ◌++◌, length, refl, ap, sym, ◌∙◌, arith, append_assoc, length-append}
 use mathlib.Core.List.{IsPrefix}
+use Rattle.std.specs.List.{fold}
+use Rattle.sno_book.specs.Entries.{Entry}
+use Rattle.sno_published.specs.Changes.{Change}
 
 -- each list begins itself
 pub prefix_self : {A : Type 0} (xs : List A) → IsPrefix xs xs
@@ -28,3 +31,8 @@ prefix_whole (x ∷ xs) (y ∷ ys) p few = let rest = prefix_whole xs ys (p.0, c
 
 pub prefix_length : {A : Type 0} (xs ys : List A) → IsPrefix xs ys → length xs ≤ length ys
 prefix_length xs ys p = omega (arith, sym (ap length p.1) ∙ length-append xs p.0)
+
+-- what is shown begins what is shown after the changes of a log
+pub prefix_logged : (shown : List Entry) (changes : List Change) → IsPrefix shown (fold (λ entries change. entries ++ change.added) shown changes)
+prefix_logged shown [] = prefix_self shown
+prefix_logged shown (change ∷ changes) = prefix_trans shown (shown ++ change.added) _ (change.added, refl) (prefix_logged (shown ++ change.added) changes)

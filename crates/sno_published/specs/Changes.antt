@@ -3,14 +3,14 @@ use Rattle.std.specs.Prelude.{List, [], ◌∷◌, Option, Some, None, refl}
 use Rattle.std.specs.Coded.{Coded, code_by, coded×, coded_list}
 use Rattle.sno_book.specs.Entries.{Entry, entry_code}
 
--- the entries before it, and the entry that comes next
+-- the entries before it, and those that it adds: one entry
 pub record Change : Type 0 where
   pub before : List Entry
-  pub entry : Entry
+  pub added : List Entry
 
 -- a change is stored as the pair of its fields
 abbrev pub change_code : Coded Change
-change_code = code_by (List Entry × Entry) (coded× (coded_list entry_code) entry_code) (λ c. (c.before, c.entry)) (λ p. record { before = p.0; entry = p.1 }) (λ _. refl)
+change_code = code_by (List Entry × List Entry) (coded× (coded_list entry_code) (coded_list entry_code)) (λ c. (c.before, c.added)) (λ p. record { before = p.0; added = p.1 }) (λ _. refl)
 
 -- the last of these entries, or the one that came before them
 abbrev pub last_after : Option Entry → List Entry → Option Entry

@@ -1,5 +1,5 @@
 -- Snapshots of what is shown.
-use Rattle.std.specs.Prelude.{◌≡◌, ℕ, List, [], ◌∷◌, map, Option, Some, None}
+use Rattle.std.specs.Prelude.{ℕ, List, [], ◌∷◌, map, Option, Some, None}
 use Rattle.std.specs.Option.{option_map}
 use Rattle.sno_book.specs.Entries.{Entry}
 use Rattle.sno_book.specs.Openings.{Opening, place_in}

@@ -1,4 +1,4 @@
-//! Why a viewer sees nothing.
+//! Why a viewer sees nothing, and why an entry is not published.
 use thiserror::Error;
 
 /// Why a viewer sees nothing.
@@ -13,4 +13,16 @@ pub enum ViewFault {
     /// Out of memory.
     #[error("out of memory")]
     Memory,
+}
+
+/// Why an entry is not published. Readers see what they saw.
+#[derive(Clone, Copy, Debug, PartialEq, Eq, Error)]
+pub enum PublishFault {
+    /// Out of memory. The screen can be used as before.
+    #[error("out of memory")]
+    Memory,
+    /// The publish itself was refused. Or the history had gone on without the screen, or the slot was full; no legal run
+    /// meets these two. Nothing more can be published.
+    #[error("nothing more can be published")]
+    Stopped,
 }

@@ -25,9 +25,9 @@
 //! - **What is shown is legal and is a replay.** By its type the entries of a [`Table`] (`src/tables.rt`,
 //!   `specs/StoredTexts.antt`) are legal from the opening, and its texts and versions are what these entries leave.
 //!   [`Table::text`] and [`Viewer::text`] return exactly these.
-//! - **A publish is one step, and a refusal changes nothing.** [`Screen::publish`] (`src/screens.rt`): on `Ok` the
-//!   screen shows the entry after those that it showed. After each refusal it shows what it showed. After `Memory` it
-//!   can be used as before.
+//! - **A publish is one step, and a refusal changes nothing.** [`Screen::publish`] (`src/screens.rt`): on `Ok`
+//!   the entry is shown after those that were shown. After each refusal readers see what they saw. After `Memory` more
+//!   can be published, as before.
 //! - **A view never goes back.** By the rule over the two copies (`src/view_rule.rt`, `specs/ViewRule.antt`), what each
 //!   reader has seen begins what is shown. On `Ok` [`Viewer::enter`] and [`Viewer::text`] (`src/viewers.rt`,
 //!   `specs/Viewings.antt`) leave a view that is what is shown, and that begins with the old one. [`Viewer::learn`]
@@ -63,12 +63,12 @@ mod tables;
 mod view_rule;
 mod viewers;
 
-pub use faults::ViewFault;
+pub use faults::{PublishFault, ViewFault};
 pub use fronts::Front;
 pub use histories::History;
 pub use naming::Naming;
 pub use operations::{Completion, Operation};
-pub use screens::{Screen, Spent, Unpublished};
+pub use screens::Screen;
 pub use sno_book::{Entry, Opening};
 pub use sno_pattern::Text;
 pub use tables::Table;

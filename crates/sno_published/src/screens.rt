@@ -1,15 +1,17 @@
-//! Screens.
-ghost use Rattle.std.specs.Prelude.{◌≡◌, ◌<◌, ◌^◌, ◌++◌, ◌∷◌, [], Some, IfOk, IfErr, MatchResult, OnErr, length, drop};
+//! Screens: what readers see, and whether more can be published.
+ghost use Rattle.std.specs.Prelude.{◌≡◌, ◌<◌, ◌^◌, ◌++◌, ◌∷◌, [], Some, IfOk, IfErr, OnOk, MatchBool, MatchResult, length, drop, fold, true, if◌then◌else◌};
 ghost use Rattle.std.specs.Arc.{arc_value};
-ghost use Rattle.sno_book.specs.Journals.{HasStep, Legal, replay};
-ghost use Rattle.sno_book.specs.Openings.{start};
+ghost use Rattle.sno_book.specs.Journals.{HasStep, replay};
+ghost use Rattle.sno_book.specs.Openings.{place_in, start};
 ghost use Rattle.sno_published.specs.Changes.{last_of};
-ghost use Rattle.sno_published.specs.Screens.{shown_by};
+ghost use Rattle.sno_published.specs.Screens.{leaves_open};
 
 use crate::viewers::viewer_of;
 use crate::{
-    Completion, FullView, History, Naming, Operation, SeenEntries, Table, ViewRule, Viewer,
+    Completion, FullView, History, Naming, Operation, PublishFault, SeenEntries, Table, ViewRule,
+    Viewer,
 };
+use core::mem::replace_with;
 use left_right::Absorb;
 use left_right::writer::Writer;
 use sno_book::{Entry, Opening};
@@ -20,8 +22,9 @@ use std::sync::{Arc, OnceLock, Wait};
 /// How many attempts are counted.
 const MOST_ATTEMPTS: u64 = 1 << 61;
 
-/// What readers see, with the right to publish more. By its type all that is in its history is shown, and nothing waits
-/// to be shown. Contracts see the entries that are shown. It is not `Drop`: end it by [`Screen::end`].
+/// What readers see, and whether more can be published. It is published to in place, since a commit would otherwise move
+/// it some ten times. By its type, all that is in the history of an open screen is shown, and nothing waits to be shown.
+/// Contracts see the entries that are shown, and whether the screen is open. It is not `Drop`: end it by [`Screen::end`].
 pub struct Screen<L: Naming>
 where
     Table<L>: Absorb<Operation<L>, State = [Entry; 0]>,
@@ -29,124 +32,101 @@ where
     writer: Writer<Table<L>, Operation<L>, SeenEntries, ViewRule<L>>,
     history: History,
     attempts: History,
+    is_open: bool,
 }
 
 impl<L: Naming> Model for Screen<L>
 where
     Table<L>: Absorb<Operation<L>, State = [Entry; 0]>,
 {
-    ghost use Rattle.std.specs.Prelude.{◌≡◌, List, [], drop};
-    ghost use Rattle.std.specs.Coded.{coded_list};
-    ghost use Rattle.sno_book.specs.Entries.{Entry, entry_code};
+    ghost use Rattle.std.specs.Prelude.{◌≡◌, [], drop, true};
+    ghost use Rattle.sno_published.specs.Screens.{Screen, screen_code};
 
-    ghost Value = { List Entry };
+    ghost Value = { Screen };
 
-    ghost coded = { coded_list entry_code };
+    ghost coded = { screen_code };
 
-    ghost view = { λ s. s.writer.desk.shown.value };
+    ghost view = { λ s. record { shown = s.writer.desk.shown.value; is_open = s.is_open } };
 
-    ghost invariant = { λ s. (s.history ≡ record { history = L.book; entries = s.writer.desk.shown.value }) × (s.attempts.history ≡ L.tries) × (drop s.writer.behind s.writer.log.items ≡ []) };
+    ghost invariant = { λ s. (s.is_open ≡ true → s.history ≡ record { history = L.book; entries = s.writer.desk.shown.value }) × (s.attempts.history ≡ L.tries) × (s.is_open ≡ true → drop s.writer.behind s.writer.log.items ≡ []) };
 }
 
-/// What readers see when nothing more is published. Contracts see the entries that are shown. It is not `Drop`: end it
-/// by [`Spent::end`].
-pub struct Spent<L: Naming>
-where
-    Table<L>: Absorb<Operation<L>, State = [Entry; 0]>,
-{
-    writer: Writer<Table<L>, Operation<L>, SeenEntries, ViewRule<L>>,
-}
-
-impl<L: Naming> Model for Spent<L>
-where
-    Table<L>: Absorb<Operation<L>, State = [Entry; 0]>,
-{
-    ghost use Rattle.std.specs.Prelude.{List};
-    ghost use Rattle.std.specs.Coded.{coded_list};
-    ghost use Rattle.sno_book.specs.Entries.{Entry, entry_code};
-
-    ghost Value = { List Entry };
-
-    ghost coded = { coded_list entry_code };
-
-    ghost view = { λ s. s.writer.desk.shown.value };
-}
-
-/// Why an entry was not published. Readers see what they saw.
-pub enum Unpublished<L: Naming> {
-    /// Out of memory. The screen comes back, and can be used as before.
-    Memory(Screen<L>),
-    /// The publish itself was refused. Or the history had gone on without the screen, or the slot was full; no legal
-    /// run meets these two. Nothing more can be published.
-    Stopped(Spent<L>),
-}
-
-/// Puts an entry after those that are shown into the writer's log, as one more attempt. The operation has a slot for
-/// what is known later.
+/// Puts an entry, whose text is at this place, after those that are shown into the writer's log, as one more attempt.
+/// The operation has a slot for what is known later.
 fn append<L: Naming>(
     alloc: Global,
     writer: &mut Writer<Table<L>, Operation<L>, SeenEntries, ViewRule<L>>,
     history: &History,
     attempts: &mut History,
+    place: usize,
     entry: &Entry,
 ) -> Result<Arc<OnceLock<Completion<L>>>, AllocError>
     requires history { history.now.history ≡ L.book }
     requires attempts { attempts.old.history ≡ L.tries }
     requires step { HasStep (replay (start L.opening) history.now.entries) entry.now }
     requires room { length history.now.entries < L.opening.room }
+    requires place { place_in L.opening entry.now.statement.text ≡ Some place }
     ensures desk { writer.new.desk ≡ writer.old.desk }
     ensures attempts { attempts.new.history ≡ L.tries }
     ensures last { IfOk result (λ slot. last_of attempts.new.entries ≡ Some entry.now) }
-    ensures pending { MatchResult result (λ slot. drop writer.new.behind writer.new.log.items ≡ drop writer.old.behind writer.old.log.items ++ record { before = history.now.entries; entry = entry.now } ∷ [])
+    ensures pending { MatchResult result (λ slot. drop writer.new.behind writer.new.log.items ≡ drop writer.old.behind writer.old.log.items ++ record { before = history.now.entries; added = entry.now ∷ [] } ∷ [])
         (λ e. drop writer.new.behind writer.new.log.items ≡ drop writer.old.behind writer.old.log.items) }
 {
     if attempts.front().count() > MOST_ATTEMPTS || !attempts.add(entry) {
         return Err(AllocError);
     }
     let slot = Arc::new(alloc, OnceLock::new())?;
-    let operation = Operation::new(entry, history.front(), attempts.front(), &slot)?;
+    let operation = Operation::new(entry, place, history.front(), attempts.front(), &slot)?;
     match writer.append(operation) {
         Ok(()) => Ok(slot),
         Err(_) => Err(AllocError),
     }
 }
 
-/// Adds the entry that waits in the writer's log to the history, and shows it.
+/// Shows what waits in the writer's log.
+fn show_log<L: Naming, R: Wait>(
+    writer: Writer<Table<L>, Operation<L>, SeenEntries, ViewRule<L>>,
+    rt: &R,
+) -> (
+    Writer<Table<L>, Operation<L>, SeenEntries, ViewRule<L>>,
+    Result<(), AllocError>,
+)
+    ensures { MatchResult result.1 (λ _. (result.0.desk.shown.value ≡ fold (λ entries change. entries ++ change.added) writer.desk.shown.value (drop writer.behind writer.log.items)) × (drop result.0.behind result.0.log.items ≡ []))
+        (λ e. result.0.desk.shown.value ≡ writer.desk.shown.value) }
+{
+    writer.publish_as::<FullView, R>(rt)
+}
+
+/// Adds the entry that waits in the writer's log to the history, and shows it. Returns whether it did.
 fn show<L: Naming, R: Wait>(
     rt: &R,
-    writer: Writer<Table<L>, Operation<L>, SeenEntries, ViewRule<L>>,
-    mut history: History,
-    attempts: History,
+    writer: &mut Writer<Table<L>, Operation<L>, SeenEntries, ViewRule<L>>,
+    history: &mut History,
+    attempts: &History,
     slot: &OnceLock<Completion<L>>,
     entry: &Entry,
-) -> Result<Screen<L>, Spent<L>>
-    requires history { history ≡ record { history = L.book; entries = writer.desk.shown.value } }
-    requires attempts { attempts.history ≡ L.tries }
-    requires last { last_of attempts.entries ≡ Some entry.now }
-    requires pending { drop writer.behind writer.log.items ≡ record { before = writer.desk.shown.value; entry = entry.now } ∷ [] }
-    requires room { length writer.desk.shown.value < 1000000 }
-    ensures { MatchResult result (λ screen. screen ≡ writer.desk.shown.value ++ entry.now ∷ []) (λ spent. spent ≡ writer.desk.shown.value) }
+) -> bool
+    requires history { history.old ≡ record { history = L.book; entries = writer.old.desk.shown.value } }
+    requires attempts { attempts.now.history ≡ L.tries }
+    requires last { last_of attempts.now.entries ≡ Some entry.now }
+    requires pending { drop writer.old.behind writer.old.log.items ≡ record { before = writer.old.desk.shown.value; added = entry.now ∷ [] } ∷ [] }
+    requires room { length writer.old.desk.shown.value < 1000000 }
+    ensures shown { writer.new.desk.shown.value ≡ (if result then writer.old.desk.shown.value ++ entry.now ∷ [] else writer.old.desk.shown.value) }
+    ensures history { result ≡ true → history.new ≡ record { history = L.book; entries = writer.new.desk.shown.value } }
+    ensures pending { result ≡ true → drop writer.new.behind writer.new.log.items ≡ [] }
 {
     if !history.add(entry) {
-        return Err(Spent { writer });
+        return false;
     }
     let completion = Completion::new(history.front().again(), attempts.front().again());
     if slot.try_set(completion).is_err() {
-        return Err(Spent { writer });
+        return false;
     }
-    let (writer, published) = writer.publish_as::<FullView, R>(rt);
-    match published {
-        Ok(()) => Ok(Screen {
-            writer,
-            history,
-            attempts,
-        }),
-        Err(_) => Err(Spent { writer }),
-    }
+    replace_with(writer, rt, show_log).is_ok()
 }
 
 impl<L: Naming> Screen<L> {
-    /// Returns a screen that shows the texts of an opening before the first entry, with places for `readers` readers at
+    /// An open screen, which shows the texts of an opening before the first entry. It has places for `readers` readers at
     /// once, from 1 to 2^32 - 1. Requires the desk's opening, the desk's `history` without entries, and the desk's
     /// history of `attempts`.
     ///
@@ -162,7 +142,7 @@ impl<L: Naming> Screen<L> {
         requires opening { arc_value opening.now ≡ L.opening }
         requires history { history ≡ record { history = L.book; entries = [] } }
         requires attempts { attempts.history ≡ L.tries }
-        ensures { IfOk result (λ screen. screen ≡ []) }
+        ensures { IfOk result (λ screen. screen ≡ record { shown = []; is_open = true }) }
     {
         let first = Table::new(alloc, opening, history.front())?;
         let second = Table::new(alloc, opening, history.front())?;
@@ -171,59 +151,29 @@ impl<L: Naming> Screen<L> {
             writer,
             history,
             attempts,
+            is_open: true,
         })
     }
 
-    /// How many entries are shown.
-    pub fn count(&self) -> u64
-        ensures { result ≡ length self.now }
+    /// Whether more can be published.
+    pub fn is_open(&self) -> bool
+        ensures { result ≡ self.now.is_open }
     {
-        self.history.front().count()
+        self.is_open
     }
 
     /// The table that readers see.
     pub fn table(&self) -> &Table<L>
-        ensures { result.now ≡ self.now }
+        ensures { result.now ≡ self.now.shown }
     {
         self.writer.published()
     }
 
-    /// Publishes an entry after those that are shown, all at once. It waits for readers that still read what was shown
-    /// before the last entry. Requires that the entry has a step from the texts that are shown, and that fewer entries
-    /// are shown than 1,000,000 and than the opening has room for.
-    ///
-    /// Refused, in this order:
-    ///
-    /// - `Memory`, if the entry couldn't be shared or put into the log, or 2^61 attempts were made before; the screen
-    ///   comes back as it was;
-    /// - `Stopped`, if the publish itself was refused.
-    pub fn publish<R: Wait>(
-        self,
-        rt: &R,
-        alloc: Global,
-        entry: &Entry,
-    ) -> Result<Screen<L>, Unpublished<L>>
-        requires step { HasStep (replay (start L.opening) self) entry.now }
-        requires room { (length self < 1000000) × (length self < L.opening.room) }
-        ensures published { IfOk result (λ screen. screen ≡ self ++ entry.now ∷ []) }
-        ensures refused { IfErr result (λ refused. shown_by refused ≡ self) }
+    /// How many entries are shown.
+    pub fn count(&self) -> u64
+        ensures { result ≡ length self.now.shown }
     {
-        let Screen {
-            mut writer,
-            history,
-            mut attempts,
-        } = self;
-        match append(alloc, &mut writer, &history, &mut attempts, entry) {
-            Ok(slot) => match show(rt, writer, history, attempts, &slot, entry) {
-                Ok(screen) => Ok(screen),
-                Err(spent) => Err(Unpublished::Stopped(spent)),
-            },
-            Err(_) => Err(Unpublished::Memory(Screen {
-                writer,
-                history,
-                attempts,
-            })),
-        }
+        self.table().front().count()
     }
 
     /// Returns a viewer of this screen, which is told what is shown.
@@ -231,10 +181,62 @@ impl<L: Naming> Screen<L> {
     /// Refused only if each place for a reader is taken, or the opening or what is shown has as many owners as it may
     /// have.
     pub fn viewer(&self) -> Result<Viewer<L>, AllocError>
-        ensures { IfOk result (λ viewer. viewer ≡ record { shown = []; seen = self.now }) }
+        ensures { IfOk result (λ viewer. viewer ≡ record { shown = []; seen = self.now.shown }) }
     {
         let reader = self.writer.factory().reader()?;
-        viewer_of(reader, self.writer.published())
+        viewer_of(reader, self.table())
+    }
+
+    /// Publishes an entry after those that are shown, all at once. It waits for readers that still read what was shown
+    /// before the last entry. Requires
+    ///
+    /// - that the screen is open;
+    /// - the place of the entry's text;
+    /// - that the entry has a step from the texts that are shown;
+    /// - that fewer entries are shown than 1,000,000 and than the opening has room for.
+    ///
+    /// Refused, in this order, and then readers see what they saw:
+    ///
+    /// - `Memory`, if the entry couldn't be shared or put into the log, or 2^61 attempts were made before; the screen is
+    ///   as it was;
+    /// - `Stopped`, if the publish itself was refused. The screen is no longer open then.
+    pub fn publish<R: Wait>(
+        &mut self,
+        rt: &R,
+        alloc: Global,
+        place: usize,
+        entry: &Entry,
+    ) -> Result<(), PublishFault>
+        requires open { self.old.is_open ≡ true }
+        requires place { place_in L.opening entry.now.statement.text ≡ Some place }
+        requires step { HasStep (replay (start L.opening) self.old.shown) entry.now }
+        requires room { (length self.old.shown < 1000000) × (length self.old.shown < L.opening.room) }
+        ensures published { OnOk result (self.new ≡ record { shown = self.old.shown ++ entry.now ∷ []; is_open = true }) }
+        ensures refused { IfErr result (λ e. self.new ≡ record { shown = self.old.shown; is_open = leaves_open e }) }
+    {
+        let Ok(slot) = append(
+            alloc,
+            &mut self.writer,
+            &self.history,
+            &mut self.attempts,
+            place,
+            entry,
+        ) else {
+            return Err(PublishFault::Memory);
+        };
+        self.is_open = show(
+            rt,
+            &mut self.writer,
+            &mut self.history,
+            &self.attempts,
+            &slot,
+            entry,
+        );
+        if self.is_open {
+            Ok(())
+        } else {
+            Err(PublishFault::Stopped)
+        }
     }
 
     /// Waits for the readers and ends the screen. From now on its viewers get `Ended`.
@@ -243,22 +245,8 @@ impl<L: Naming> Screen<L> {
             writer,
             history: _history,
             attempts: _attempts,
+            is_open: _is_open,
         } = self;
-        writer.take(rt);
-    }
-}
-
-impl<L: Naming> Spent<L> {
-    /// The table that readers see.
-    pub fn table(&self) -> &Table<L>
-        ensures { result.now ≡ self.now }
-    {
-        self.writer.published()
-    }
-
-    /// Waits for the readers and ends what was shown. From now on the viewers get `Ended`.
-    pub fn end<R: Wait>(self, rt: &R) {
-        let Spent { writer } = self;
         writer.take(rt);
     }
 }

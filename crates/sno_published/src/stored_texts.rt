@@ -6,12 +6,12 @@ ghost use Rattle.sno_pattern.specs.NameList.{place_of};
 ghost use Rattle.sno_book.specs.States.{renew};
 ghost use Rattle.sno_book.specs.Entries.{Entry as Accepted};
 ghost use Rattle.sno_book.specs.Journals.{HasStep, replay};
-ghost use Rattle.sno_book.specs.Openings.{start};
+ghost use Rattle.sno_book.specs.Openings.{Opening as Start, place_in, start};
 ghost use Rattle.sno_book.specs.Entries.{after_of};
 ghost use Rattle.sno_book.specs.Starts.{first_contents};
 ghost use Rattle.sno_published.specs.StoredTexts.{IsReplay, contents, named};
 
-use sno_book::{Entry, Opening, Text};
+use sno_book::{Opening, Text};
 use std::alloc::{AllocError, Global};
 use std::sync::Arc;
 
@@ -45,16 +45,6 @@ pub(crate) fn first_texts(alloc: Global, opening: &Opening) -> Result<Vec<Stored
     Ok(stored)
 }
 
-/// The new text of an entry, shared, if it has one.
-fn text_of(entry: &Entry) -> Result<Option<Arc<Text>>, AllocError>
-    ensures { IfOk result (λ o. option_map arc_value o ≡ after_of entry.now.outcome) }
-{
-    match entry.outcome.after() {
-        Some(text) => Ok(Some(Arc::try_clone(text)?)),
-        None => Ok(None),
-    }
-}
-
 /// The text at a place. `None` past the last one.
 pub(crate) fn stored_at(stored: &[StoredText], place: usize) -> Option<&StoredText>
     ensures { option_map (λ s. s.now) result ≡ slice_get stored.now place }
@@ -84,23 +74,21 @@ fn put(stored: &mut Vec<StoredText>, place: usize, text: Arc<Text>) -> Result<()
     Ok(())
 }
 
-/// Puts an entry's new text, if it has one, in place of the text of its statement.
+/// Puts the new text of an entry, if it has one, in place of the text of its statement, which is at this place.
 pub(crate) fn renew(
     stored: &mut Vec<StoredText>,
-    opening: &Opening,
-    entry: &Entry,
+    place: usize,
+    text: Option<&Arc<Text>>,
 ) -> Result<(), AllocError>
-    requires { length stored.old.items ≡ length opening.now.texts }
-    ensures { MatchResult result (λ _. (entries : List Accepted) → IsReplay opening.now entries stored.old.items → HasStep (replay (start opening.now) entries) entry.now
-        → IsReplay opening.now (entries ++ entry.now ∷ []) stored.new.items) (λ _. stored.new.items ≡ stored.old.items) }
+    requires { place < length stored.old.items }
+    ensures { MatchResult result (λ _. (opening : Start) → (entries : List Accepted) → (entry : Accepted) → option_map (λ t. arc_value t.now) text.entry ≡ after_of entry.outcome
+        → place_in opening entry.statement.text ≡ Some place → IsReplay opening entries stored.old.items → HasStep (replay (start opening) entries) entry
+        → IsReplay opening (entries ++ entry ∷ []) stored.new.items) (λ _. stored.new.items ≡ stored.old.items) }
 {
-    match text_of(entry)? {
+    match text {
         None => Ok(()),
         Some(text) => {
-            let Some(place) = opening.place(entry.statement.text()) else {
-                return Err(AllocError);
-            };
-            put(stored, place, text)?;
+            put(stored, place, Arc::try_clone(text)?)?;
             Ok(())
         }
     }

@@ -1,9 +1,10 @@
 //! Tables.
-ghost use Rattle.std.specs.Prelude.{◌≡◌, ◌<◌, ◌≤◌, ◌++◌, ◌∷◌, [], length, IfOk, MatchResult};
+ghost use Rattle.std.specs.Prelude.{◌≡◌, ◌<◌, ◌≤◌, ◌++◌, ◌∷◌, [], Some, length, IfOk, MatchResult};
 ghost use Rattle.std.specs.Arc.{arc_value};
 ghost use Rattle.std.specs.Option.{option_map};
+ghost use Rattle.sno_book.specs.Entries.{Entry as Published, after_of};
 ghost use Rattle.sno_book.specs.Journals.{HasStep, Legal, replay};
-ghost use Rattle.sno_book.specs.Openings.{start};
+ghost use Rattle.sno_book.specs.Openings.{place_in, start};
 ghost use Rattle.sno_published.specs.Tables.{text_after, text_at};
 
 use crate::stored_texts::{StoredText, first_texts, renew, stored_at};
@@ -85,28 +86,33 @@ impl<L: Naming> Table<L> {
         }
     }
 
-    /// Takes in the next entry, with the front that has seen it.
-    fn take_in(&mut self, entry: &Entry, front: Front) -> Result<(), AllocError>
-        requires step { HasStep (replay (start L.opening) self.old) entry.now }
+    /// Takes in the next entry, by its new text, if it has one, and the place of that, with the front that has seen it.
+    fn take_in(
+        &mut self,
+        text: Option<&Arc<Text>>,
+        place: usize,
+        front: Front,
+    ) -> Result<(), AllocError>
+        requires next { (entry : Published) × (option_map (λ t. arc_value t.now) text ≡ after_of entry.outcome) × (place_in L.opening entry.statement.text ≡ Some place)
+            × HasStep (replay (start L.opening) self.old) entry × (front ≡ record { history = L.book; entries = self.old ++ entry ∷ [] }) }
         requires room { length self.old < L.opening.room }
-        requires front { front ≡ record { history = L.book; entries = self.old ++ entry.now ∷ [] } }
-        ensures { MatchResult result (λ _. self.new ≡ self.old ++ entry.now ∷ []) (λ _. self.new ≡ self.old) }
+        ensures { MatchResult result (λ _. self.new ≡ front.entries) (λ _. self.new ≡ self.old) }
     {
-        renew(&mut self.stored, &self.opening, entry)?;
+        renew(&mut self.stored, place, text)?;
         self.front = front;
         Ok(())
     }
 }
 
 impl<L: Naming> Absorb<Operation<L>> for Table<L> {
-    ghost use Rattle.std.specs.Prelude.{◌++◌, ◌∷◌, []};
+    ghost use Rattle.std.specs.Prelude.{◌++◌};
 
     // A clause reads an array as a list, of any length.
     type State = [Entry; 0];
 
     ghost state = { λ entries. entries };
 
-    ghost applied = { λ entries change. entries ++ change.entry ∷ [] };
+    ghost applied = { λ entries change. entries ++ change.added };
 
     fn absorb_first(
         &mut self,
@@ -122,7 +128,7 @@ impl<L: Naming> Absorb<Operation<L>> for Table<L> {
         }
         // for the proof
         self.front.learn(before);
-        self.take_in(operation.entry(), front)
+        self.take_in(operation.text(), operation.place(), front)
     }
 }
 

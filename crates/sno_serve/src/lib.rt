@@ -20,8 +20,6 @@ mod intake;
 mod outlet;
 mod replies;
 mod service;
-#[cfg(test)]
-mod tests;
 
 pub use answers::{Answered, answer};
 pub use asked::{Asked, Line, line_in};

@@ -5,7 +5,7 @@ use sno_desk::{
     CloseFault, CommitFault, DeskFault, LookFault, SinceFault, SnapshotFault, SubmitFault,
     WorkersFault,
 };
-use sno_published::ViewFault;
+use sno_published::{PublishFault, ViewFault};
 use std::alloc::Global;
 use std::fmt::Display;
 use std::process::Abort;
@@ -85,5 +85,8 @@ fn faults_of_viewers(rt: HostRuntime) -> Result<(), Fail> {
     let is_less = "the screen shows less than was told";
     check(&rt, alloc, &ViewFault::Ended, "the screen has ended")?;
     check(&rt, alloc, &ViewFault::Older, is_less)?;
-    check(&rt, alloc, &ViewFault::Memory, "out of memory")
+    check(&rt, alloc, &ViewFault::Memory, "out of memory")?;
+    check(&rt, alloc, &PublishFault::Memory, "out of memory")?;
+    let stopped = "nothing more can be published";
+    check(&rt, alloc, &PublishFault::Stopped, stopped)
 }

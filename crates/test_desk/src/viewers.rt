@@ -1,12 +1,12 @@
 //! What a viewer sees of a screen, before and after an entry and beside it.
-ghost use Rattle.std.specs.Prelude.{◌≡◌, [], IfOk, IfSome};
+ghost use Rattle.std.specs.Prelude.{◌≡◌, [], true, IfOk};
 ghost use Rattle.sno_book.specs.Books.{view_of};
 ghost use Rattle.sno_book.specs.Views.{IsPrefix};
 
 use crate::compare::check_eq;
 use crate::jobs::{book, statement};
 use sno_book::{Book, Entry, Proposal, Receipt, Statement, Text, propose};
-use sno_published::{History, Naming, Screen, Unpublished, ViewFault, Viewer};
+use sno_published::{History, Naming, Screen, ViewFault, Viewer};
 use std::alloc::Global;
 use std::marker::Brand;
 use std::process::Abort;
@@ -44,51 +44,32 @@ fn proposal(alloc: Global, book: &Book, job: &Arc<Statement>) -> Result<Proposal
     Ok(proposal)
 }
 
-/// The screen, where an entry was published on it; else it is ended.
-fn unended<L: Naming, R: Wait>(
-    rt: &R,
-    answer: Result<Screen<L>, Unpublished<L>>,
-) -> Option<Screen<L>>
-    ensures { IfSome result (λ s. answer ≡ Ok s) }
-{
-    match answer {
-        Ok(screen) => Some(screen),
-        Err(Unpublished::Memory(screen)) => {
-            screen.end(rt);
-            None
-        }
-        Err(Unpublished::Stopped(spent)) => {
-            spent.end(rt);
-            None
-        }
-    }
-}
-
-/// Commits the proposal to the book, and publishes the entry. Where something is refused the screen is ended.
+/// Commits the proposal to the book, and publishes the entry. Returns whether both were done.
 #[tactic(auto, using(sno_book::proofs::Kinship::is_kin))]
 fn follow<L: Naming, R: Wait>(
     rt: &R,
     alloc: Global,
-    screen: Screen<L>,
+    screen: &mut Screen<L>,
     book: &mut Book,
     proposal: Proposal,
-) -> Option<Screen<L>>
-    requires level { screen ≡ book.old.journal }
+) -> bool
+    requires open { screen.old.is_open ≡ true }
+    requires level { screen.old.shown ≡ book.old.journal }
     requires opening { book.old.opening ≡ L.opening }
     requires view { IsPrefix proposal.origin (view_of book.old) }
     ensures opening { book.new.opening ≡ L.opening }
-    ensures level { IfSome result (λ s. s ≡ book.new.journal) }
 {
     let room = u64::from(book.opening().room());
     if screen.count() > 9 || screen.count() >= room {
-        screen.end(rt);
-        return None;
+        return false;
     }
     let Ok(receipt) = book.commit(proposal) else {
-        screen.end(rt);
-        return None;
+        return false;
     };
-    unended(rt, screen.publish(rt, alloc, &receipt.entry))
+    let Some(place) = book.opening().place(receipt.entry.statement.text()) else {
+        return false;
+    };
+    screen.publish(rt, alloc, place, &receipt.entry).is_ok()
 }
 
 /// The receipt of the statement on a book of its own.
@@ -150,7 +131,7 @@ fn open<L: Naming, R: Wait>(
     requires history { (history.history ≡ L.book) × (history.entries ≡ []) }
     requires attempts { attempts.history ≡ L.tries }
     requires book { book.now.opening ≡ L.opening }
-    ensures { IfOk result (λ s. s.0 ≡ []) }
+    ensures { IfOk result (λ s. s.0 ≡ record { shown = []; is_open = true }) }
 {
     let screen = Screen::<L>::new(alloc, book.opening(), history, attempts, 2)?;
     match screen.viewer() {
@@ -160,18 +141,6 @@ fn open<L: Naming, R: Wait>(
             Err(fault.into())
         }
     }
-}
-
-/// What the viewer sees of a screen on which an entry was published, and after that has ended.
-fn look_to_the_end<L: Naming, R: Wait>(
-    rt: &R,
-    shown: Option<Screen<L>>,
-    viewer: &mut Viewer<L>,
-) -> Option<[bool; 4]> {
-    let screen = shown?;
-    let sights = look(viewer, &screen);
-    screen.end(rt);
-    Some(sights)
 }
 
 /// What one viewer sees before and after an entry is published, and after the screen has ended.
@@ -188,14 +157,15 @@ fn watch<L: Naming, R: Wait + Abort>(
     requires attempts { attempts.history ≡ L.tries }
     requires book { (book.old.opening ≡ L.opening) × (book.old.journal ≡ []) }
 {
-    let (screen, mut viewer) = open::<L, R>(rt, alloc, book, history, attempts)?;
+    let (mut screen, mut viewer) = open::<L, R>(rt, alloc, book, history, attempts)?;
     let was_first = is_text(viewer.text(0), b"x".as_slice(), 0);
-    let shown = follow(rt, alloc, screen, book, proposal);
-    let sights = look_to_the_end(rt, shown, &mut viewer);
+    let is_shown = follow(rt, alloc, &mut screen, book, proposal);
+    let sights = look(&mut viewer, &screen);
+    screen.end(rt);
     check_eq(
         rt,
-        &(was_first, sights),
-        &(true, Some([false, true, true, true])),
+        &(was_first, is_shown, sights),
+        &(true, true, [false, true, true, true]),
     );
     check_eq(rt, &viewer.seen(), &1);
     check_eq(rt, &viewer.enter(), &Err(ViewFault::Ended));
@@ -242,14 +212,6 @@ fn never_goes_back<L: Naming>(mut viewer: Viewer<L>, times: u32) -> bool {
     true
 }
 
-/// How many entries the screen shows, which is ended.
-fn count_at_the_end<L: Naming, R: Wait>(rt: &R, shown: Option<Screen<L>>) -> Option<u64> {
-    let screen = shown?;
-    let count = screen.count();
-    screen.end(rt);
-    Some(count)
-}
-
 /// A viewer reads in a thread of its own while an entry is published.
 fn watch_beside<L: Naming + Send + Sync + 'static, R: Threads + Wait + Abort>(
     rt: &R,
@@ -264,15 +226,16 @@ fn watch_beside<L: Naming + Send + Sync + 'static, R: Threads + Wait + Abort>(
     requires attempts { attempts.history ≡ L.tries }
     requires book { (book.old.opening ≡ L.opening) × (book.old.journal ≡ []) }
 {
-    let (screen, viewer) = open::<L, R>(rt, alloc, book, history, attempts)?;
+    let (mut screen, viewer) = open::<L, R>(rt, alloc, book, history, attempts)?;
     let Ok(reader) = thread::spawn(rt, move || never_goes_back(viewer, 1000)) else {
         screen.end(rt);
         return Err("no thread".into());
     };
-    let shown = follow(rt, alloc, screen, book, proposal);
+    let is_shown = follow(rt, alloc, &mut screen, book, proposal);
     let never = reader.join(rt);
-    let count = count_at_the_end(rt, shown);
-    check_eq(rt, &(never, count), &(true, Some(1)));
+    let count = screen.count();
+    screen.end(rt);
+    check_eq(rt, &(never, is_shown, count), &(true, true, 1));
     Ok(())
 }
 

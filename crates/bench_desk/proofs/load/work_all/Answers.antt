@@ -31,7 +31,7 @@ for_each_mut-requires-send-T g c κs within =
 pub for_each_mut-requires-sync-F : goal.for_each_mut-requires-sync-F
 for_each_mut-requires-sync-F g c κs within =
     let entry : IsSend Entry.the_row = record { owned = c.may_cross.ensures.sends.owned; leaving = λ k d w. tt } in
-    let desk = desk_sync (param 0 g.row.L) g.L.Naming g.L.Ledger entry (book_send entry) in
+    let desk = desk_sync (param 0 g.row.L) g.L.Naming g.L.Ledger (book_send entry) in
     let sent : IsSend Statement.the_row = record { owned = c.may_cross-2.ensures.sends.owned; leaving = λ k d w. tt } in
     let shared : IsSync Statement.the_row = record { shared = c.may_cross-2.ensures.shares.shared } in
     let job = Arc-sync Statement.the_row sent shared in

@@ -48,9 +48,8 @@ for_each_mut-requires-send-T g c κs within =
 
 pub for_each_mut-requires-sync-F : goal.for_each_mut-requires-sync-F
 for_each_mut-requires-sync-F g c κs within =
-    let entry : IsSend Entry.the_row = record { owned = c.may_cross.ensures.sends.owned; leaving = λ k d w. tt } in
     let book : IsSend Book.the_row = record { owned = c.may_cross-2.ensures.sends.owned; leaving = λ k d w. tt } in
-    let desk = desk_sync (param 0 g.row.L) g.L.Naming g.L.Ledger entry book in
+    let desk = desk_sync (param 0 g.row.L) g.L.Naming g.L.Ledger book in
     let closure = closure_sync [] (
     ShrRef (named 6) κs.1.1.1.1.1.1.0 (param 1 g.row.W)
     ∷ ShrRef (named 7) κs.1.1.1.1.1.1.1.0 (param 2 g.row.R)

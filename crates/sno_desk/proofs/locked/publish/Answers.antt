@@ -1,11 +1,13 @@
 -- One entry more. It is shown first.
-use Rattle.std.proofs.Common.{rules, ◌≡◌, ◌≤◌, ◌+◌, List, [], ◌∷◌, ◌++◌, length, ap, sym, subst, ◌∙◌, arith}
+use Rattle.std.proofs.Common.{rules, ◌≡◌, ◌≤◌, ◌+◌, ℕ, Some, List, [], ◌∷◌, ◌++◌, length, ap, sym, subst, ◌∙◌, arith}
 use mathlib.Core.List.{IsPrefix as Begins}
 use Rattle.sno_book.specs.Books.{view_of}
 use Rattle.sno_book.specs.Entries.{Entry}
 use Rattle.sno_book.specs.Journals.{Legal}
 use Rattle.sno_book.specs.Views.{View}
-use Rattle.sno_book.specs.Openings.{Opening, start}
+use Rattle.sno_book.specs.Openings.{Opening, place_in, start}
+use Rattle.sno_book.proofs.BookLaws.{free}
+use Rattle.sno_published.specs.Screens.{Screen}
 use Rattle.sno_published.specs.Viewings.{Viewing}
 use Rattle.sno_published.proofs.Prefixes.{prefix_self}
 use Rattle.sno_desk.proofs.Causes.{has_step, next_step, stands, told}
@@ -15,11 +17,10 @@ pub publish-requires-clause-step : goal.publish-requires-clause-step
 publish-requires-clause-step g c =
     let book = c.args.book.now in
     let step = has_step (view_of book) c.args.ready c.requires.free c.requires.performed c.requires.kin c.kin_agree.ensures in
-    next_step (view_of book) c.args.ready g.L.Naming.opening c.args.screen c.entry.result.now step c.requires.opening c.requires.level.0 c.entry.ensures
+    next_step (view_of book) c.args.ready g.L.Naming.opening c.args.screen.now.shown c.entry.result.now step c.requires.opening c.requires.level.0 c.entry.ensures
 
-pub returns-in-Err-clause-begins : goal.returns-in-Err-clause-begins
-returns-in-Err-clause-begins g c =
-    subst (λ (v : Viewing). Begins c.args.seat.now.viewer.seen v.seen) (sym c.audit.ensures.viewer) (prefix_self c.args.seat.now.viewer.seen)
+pub returns-in_default-clause-begins : goal.returns-in_default-clause-begins
+returns-in_default-clause-begins g c = prefix_self c.args.seat.now.viewer.seen
 
 pub returns-clause-committed : goal.returns-clause-committed
 returns-clause-committed g c =
@@ -32,7 +33,7 @@ returns-clause-committed g c =
     ap (λ (v : View). v.journal) accepted.appended ∙ ap (λ (e : Entry). book.journal ++ e ∷ []) (sym accepted.entry) in
     let legal : Legal (start g.L.Naming.opening) (book.journal ++ given.entry ∷ []) =
     subst (λ (l : List Entry). Legal (start g.L.Naming.opening) l) after (subst (λ (o : Opening). Legal (start o) c.finish-receipt.new.self.journal) opens c.journal-2.ensures.lawful.legal) in
-    let shown : c.table.result.now ≡ book.journal ++ given.entry ∷ [] = c.table.ensures ∙ c.in-Ok.ensures.published ∙ ap (λ (l : List Entry). l ++ c.entry.result.now ∷ []) c.requires.level.0
+    let shown : c.table.result.now ≡ book.journal ++ given.entry ∷ [] = c.table.ensures ∙ ap (λ (s : Screen). s.shown) c.in-Ok.ensures.published ∙ ap (λ (l : List Entry). l ++ c.entry.result.now ∷ []) c.requires.level.0
     ∙ ap (λ (e : Entry). book.journal ++ e ∷ []) (c.entry.ensures ∙ sym accepted.entry) in
     let begins : Begins (book.journal ++ given.entry ∷ []) c.count.new.self.viewer.seen =
     subst (λ (v : Viewing). Begins (book.journal ++ given.entry ∷ []) v.seen) (sym c.count.ensures.viewer) (subst (λ (l : List Entry). Begins l c.learn.new.self.viewer.seen) shown c.learn.ensures.told) in
@@ -42,8 +43,15 @@ returns-clause-committed g c =
     record {
       receipt = search rules;
       index = stands (view_of book) (view_of c.finish-receipt.new.self) c.args.ready given g.L.Ledger.parts c.args.seat.now.accepted c.args.total.now.total
-          accepted c.versions_count_entries.ensures c.audit.ensures.backed c.audit.ensures.alone c.requires.total c.requires.fits.room few;
+          accepted c.versions_count_entries.ensures c.requires.backed c.requires.alone c.requires.total c.requires.fits.room few;
       later = omega (arith, level, at_end);
       told = told (view_of book) (view_of c.finish-receipt.new.self) c.args.ready given g.L.Naming.opening c.count.new.self.viewer.seen accepted c.requires.opening legal begins;
       counted = counted;
     }
+
+pub publish-requires-clause-place : goal.publish-requires-clause-place
+publish-requires-clause-place g c =
+    let book = c.args.book.now in
+    let placed : place_in book.opening c.args.ready.statement.text ≡ Some c.args.ready.place = (free (view_of book) c.args.ready c.requires.free).placed in
+    let named : place_in g.L.Naming.opening c.args.ready.statement.text ≡ Some c.args.ready.place = subst (λ (o : Opening). place_in o c.args.ready.statement.text ≡ Some c.args.ready.place) c.requires.opening placed in
+    ap (λ (e : Entry). place_in g.L.Naming.opening e.statement.text) c.entry.ensures ∙ named ∙ ap (λ (k : ℕ). Some k) (sym c.place.ensures)

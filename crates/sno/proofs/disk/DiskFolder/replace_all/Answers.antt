@@ -5,4 +5,4 @@ use Rattle.sno.proofs.disk.DiskFolder.replace_all.Goals as goal
 
 pub returns-clause-replaced : goal.returns-clause-replaced
 returns-clause-replaced g c =
-    none_claimed _ _ _ _ (omega (arith, c.finish_all.ensures.len, ap length c.in_ok-results.ensures.items)) refl
+    none_claimed _ _ _ _ (omega (arith, c.in_ok-replace_files.ensures.len, ap length c.in_ok-results.ensures.items)) refl

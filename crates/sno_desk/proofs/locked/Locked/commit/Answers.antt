@@ -1,10 +1,9 @@
 -- What the book refuses, and what the publish returns.
-use Rattle.std.proofs.Common.{◌≡◌, ◌≤◌, rules, Some, length, ap, sym, subst, ◌∙◌, arith}
+use Rattle.std.proofs.Common.{◌≡◌, ◌≤◌, rules, length, ap, sym, subst, ◌∙◌, arith}
 use Rattle.sno_book.specs.Books.{view_of}
 use Rattle.sno_published.specs.Viewings.{Viewing}
 use Rattle.sno_published.proofs.Prefixes.{prefix_length}
 use Rattle.sno_desk.specs.declared.faults.CommitFault.{CommitFault}
-use Rattle.sno_desk.specs.declared.shown.Shown.TheVariants.{Open}
 use Rattle.sno_desk.specs.Receipts.{IsCause, NamesVersion}
 use Rattle.sno_desk.specs.Seen.{view_after}
 use Rattle.sno_desk.specs.Turns.{position}
@@ -15,10 +14,8 @@ pub returns-in-Err-clause-refused : goal.returns-in-Err-clause-refused
 returns-in-Err-clause-refused g c =
     let book = c.self.inside.book in
     let seen = c.audit.new.self.viewer.seen in
-    let held : c.self.inside.shown ≡ Some (Open c.in-Some.screen) = c.in-Some.ensures in
-    let both : Some c.in-Some.screen ≡ Some book.journal = rw held at c.self.invariant.1 in
-    let shown : c.in-Some.screen ≡ book.journal = cc in
-    let level : seen ≡ c.in-Some.screen = ap (λ (v : Viewing). v.seen) c.audit.ensures.viewer ∙ c.if-not-see_all.ensures.level ∙ c.table.ensures in
+    let shown : c.self.inside.screen.shown ≡ book.journal = c.self.invariant.1 in
+    let level : seen ≡ c.self.inside.screen.shown = ap (λ (v : Viewing). v.seen) c.audit.ensures.viewer ∙ c.if-not-see_all.ensures.level ∙ c.table.ensures in
     record {
       back = c.in-Err.ensures.refused.handed_back;
       cause = subst (λ (e : CommitFault). IsCause e (view_after g.L.Naming.opening seen) c.args.proposal) (sym c.from.ensures)
@@ -33,23 +30,21 @@ pub returns-clause-committed : goal.returns-clause-committed
 returns-clause-committed g c =
     let first = c.args.seat.now in
     let before = c.audit.new.self in
-    let after = c.publish-shown.new.seat in
+    let after = c.publish.new.seat in
     let begun : length first.viewer.seen ≤ length c.see_all.new.self.viewer.seen = prefix_length first.viewer.seen c.see_all.new.self.viewer.seen c.see_all.ensures.begins in
     let same : length before.viewer.seen ≡ length c.see_all.new.self.viewer.seen = ap (λ (v : Viewing). length v.seen) c.audit.ensures.viewer in
     committed_since g.L.Naming.opening g.L.Ledger.parts (position first.accepted first.viewer.seen) (position before.accepted before.viewer.seen) (position after.accepted after.viewer.seen)
-    c.args.proposal c.in-Ok.ready c.publish-shown.result.1 (c.audit.ensures.accepted ∙ c.see_all.ensures.accepted) (omega (arith, begun, same)) c.in-Ok.ensures.ready.holds
-    c.publish-shown.ensures.committed
+    c.args.proposal c.in-Ok.ready c.publish.result (c.audit.ensures.accepted ∙ c.see_all.ensures.accepted) (omega (arith, begun, same)) c.in-Ok.ensures.ready.holds
+    c.publish.ensures.committed
 
 pub returns-clause-refused : goal.returns-clause-refused
 returns-clause-refused g c =
     let first = c.args.seat.now in
     let book = c.self.inside.book in
     let before = c.audit.new.self in
-    let after = c.publish-shown.new.seat in
-    let held : c.self.inside.shown ≡ Some (Open c.in-Some.screen) = c.in-Some.ensures in
-    let both : Some c.in-Some.screen ≡ Some book.journal = rw held at c.self.invariant.1 in
-    let shown : c.in-Some.screen ≡ book.journal = cc in
-    let level : before.viewer.seen ≡ c.in-Some.screen = ap (λ (v : Viewing). v.seen) c.audit.ensures.viewer ∙ c.if-not-see_all.ensures.level ∙ c.table.ensures in
+    let after = c.publish.new.seat in
+    let shown : c.self.inside.screen.shown ≡ book.journal = c.self.invariant.1 in
+    let level : before.viewer.seen ≡ c.self.inside.screen.shown = ap (λ (v : Viewing). v.seen) c.audit.ensures.viewer ∙ c.if-not-see_all.ensures.level ∙ c.table.ensures in
     returned_since g.L.Naming.opening g.L.Ledger.parts (position first.accepted first.viewer.seen) (position before.accepted before.viewer.seen) (position after.accepted after.viewer.seen)
-    book c.args.proposal c.in-Ok.ready c.publish-shown.result.1 (c.audit.ensures.accepted ∙ c.see_all.ensures.accepted) c.self.invariant.0 (sym (level ∙ shown)) c.in-Ok.ensures.ready.free
-    c.in-Ok.ensures.ready.holds c.publish-shown.ensures.back c.publish-shown.ensures.same c.publish-shown.ensures.seen
+    book c.args.proposal c.in-Ok.ready c.publish.result (c.audit.ensures.accepted ∙ c.see_all.ensures.accepted) c.self.invariant.0 (sym (level ∙ shown)) c.in-Ok.ensures.ready.free
+    c.in-Ok.ensures.ready.holds c.publish.ensures.back c.publish.ensures.same c.publish.ensures.seen

@@ -1,0 +1,140 @@
+//! New files that have to be on the disk before they take a place, so that files are whole after a crash of the machine too.
+ghost use Rattle.std.specs.Prelude.{◌≡◌, ◌≤◌, ◌<◌, ◌+◌, length, vec_len, vec_capacity, OnOk};
+
+use crate::disk::{NewFile, discard, put_in_place, stage, write_fault};
+use sno_edit::{NewText, WriteFault};
+use std::alloc::{AllocError, Global};
+use std::fs::{OpenFile, OpenOptions};
+use std::io;
+use std::rt::Files;
+
+/// Waits until the bytes of a new file are on the disk.
+fn sync<R: Files>(rt: &R, file: &NewFile) -> io::Result<()> {
+    let file = OpenOptions::new().read(true).open(rt, file.path.as_str())?;
+    file.sync_all()
+}
+
+/// Puts a new file with these bytes in place of the one with this path, or of the one that it links to, once it is on the
+/// disk.
+pub(crate) fn replace_synced<R: Files>(
+    rt: &R,
+    alloc: Global,
+    path: &str,
+    bytes: &[u8],
+) -> io::Result<()> {
+    let file = stage(rt, alloc, path, bytes)?;
+    match sync(rt, &file) {
+        Ok(()) => put_in_place(rt, &file),
+        Err(e) => {
+            discard(rt, file.path.as_str());
+            Err(e)
+        }
+    }
+}
+
+/// Makes a new file for each of the files. If that fails for one, no new file of it is left.
+fn stage_all<R: Files>(
+    rt: &R,
+    alloc: Global,
+    files: &[NewText<'_>],
+    staged: &mut Vec<Option<NewFile>>,
+)
+    requires room { vec_len staged.now + length files.now ≤ vec_capacity staged.now }
+    ensures len { vec_len staged.new ≡ vec_len staged.old + length files.now }
+{
+    for file in files {
+        let new = stage(rt, alloc, file.path, file.text.bytes()).ok();
+        match staged.push(new) {
+            Ok(()) => {}
+            Err(_) => unreachable!(),
+        }
+    }
+}
+
+/// Whether there is a new file and its bytes are on the disk, after a wait. If not, no new file is left.
+fn is_on_disk<R: Files>(rt: &R, staged: &Option<NewFile>) -> bool {
+    let Some(file) = staged else {
+        return false;
+    };
+    let synced = sync(rt, file).is_ok();
+    if !synced {
+        discard(rt, file.path.as_str());
+    }
+    synced
+}
+
+/// Waits for each new file until it is on the disk. Since all are written, the first wait is for most of them.
+fn sync_all<R: Files>(rt: &R, staged: &[Option<NewFile>], on_disk: &mut Vec<bool>)
+    requires room { vec_len on_disk.now + length staged.now ≤ vec_capacity on_disk.now }
+    ensures len { vec_len on_disk.new ≡ vec_len on_disk.old + length staged.now }
+{
+    for file in staged {
+        match on_disk.push(is_on_disk(rt, file)) {
+            Ok(()) => {}
+            Err(_) => unreachable!(),
+        }
+    }
+}
+
+/// Puts a new file in its place if it is on the disk. If not, the file is replaced alone: after the others there may be
+/// room for it.
+fn finish<R: Files>(
+    rt: &R,
+    alloc: Global,
+    file: &NewText<'_>,
+    staged: &Option<NewFile>,
+    on_disk: bool,
+) -> Result<(), WriteFault> {
+    let replaced = match staged {
+        Some(new) if on_disk => put_in_place(rt, new),
+        _ => replace_synced(rt, alloc, file.path, file.text.bytes()),
+    };
+    match replaced {
+        Ok(()) => Ok(()),
+        Err(e) => Err(write_fault(e)),
+    }
+}
+
+/// Finishes each of the files, and adds its result.
+fn finish_all<R: Files>(
+    rt: &R,
+    alloc: Global,
+    files: &[NewText<'_>],
+    staged: &[Option<NewFile>],
+    on_disk: &[bool],
+    results: &mut Vec<Result<(), WriteFault>>,
+)
+    requires staged { length staged.now ≡ length files.now }
+    requires on_disk { length on_disk.now ≡ length files.now }
+    requires room { vec_len results.now + length files.now ≤ vec_capacity results.now }
+    ensures len { length results.new.items ≡ length results.old.items + length files.now }
+{
+    for i in 0..files.len() {
+        let result = finish(rt, alloc, &files[i], &staged[i], on_disk[i]);
+        match results.push(result) {
+            Ok(()) => {}
+            Err(_) => unreachable!(),
+        }
+    }
+}
+
+/// Replaces each of the files, and adds its result. New files are written, then each is waited for, then each takes its
+/// place: a wait after all writes can serve several of them.
+///
+/// Refused only if out of memory. Then no file is changed.
+pub(crate) fn replace_together<R: Files>(
+    rt: &R,
+    alloc: Global,
+    files: &[NewText<'_>],
+    results: &mut Vec<Result<(), WriteFault>>,
+) -> Result<(), AllocError>
+    requires room { vec_len results.now + length files.now ≤ vec_capacity results.now }
+    ensures len { OnOk result (length results.new.items ≡ length results.old.items + length files.now) }
+{
+    let mut staged = Vec::with_capacity(alloc, files.len())?;
+    let mut on_disk = Vec::with_capacity(alloc, files.len())?;
+    stage_all(rt, alloc, files, &mut staged);
+    sync_all(rt, &staged, &mut on_disk);
+    finish_all(rt, alloc, files, &staged, &on_disk, results);
+    Ok(())
+}

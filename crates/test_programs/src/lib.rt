@@ -1,0 +1,13 @@
+//! Rules on files and served documents, tested. The files are in memory, in a folder whose contents the definitions can
+//! name: so the clauses of `sno_edit` are about real contents here.
+#![tactic(auto)]
+
+#[cfg(test)]
+mod diffs;
+#[cfg(test)]
+mod edits;
+mod memory;
+#[cfg(test)]
+mod served;
+
+pub use memory::Memory;

@@ -1,0 +1,70 @@
+//! A document that is served: each kind of line with its reply.
+
+use sno_document::{Mode, read_document};
+use sno_serve::serve;
+use std::test::Fail;
+
+const DOCUMENT: &[u8] =
+    b"{\"texts\":[{\"name\":\"T\",\"text\":\"the cat\"}],\"statements\":[{\"text\":\"T\",\"pattern\":\"'the'\",\"object\":\"'a'\"}]}";
+
+/// Lines, each with its reply.
+static LINES: [(&'static str, &'static str); 8] = [
+    (
+        r#"{"id":1,"text":"T","pattern":"'cat'","object":"'dog'"}"#,
+        r#"{"after":"a dog","bindings":[],"end":5,"entry":1,"id":1,"matched":true,"start":2,"statement":2,"text":"T","version":1}"#,
+    ),
+    (
+        r#"{"id":"x","read":"T"}"#,
+        r#"{"id":"x","name":"T","text":"a dog","version":2}"#,
+    ),
+    (
+        r#"{"id":2,"text":"U","pattern":"'cat'"}"#,
+        r#"{"id":2,"reason":"no text"}"#,
+    ),
+    (
+        r#"{"id":3,"text":"T","pattern":"CAT"}"#,
+        r#"{"error":"pattern: unknown name at 0","id":3}"#,
+    ),
+    (r#"{"id":4"#, r#"{"error":"not JSON"}"#),
+    (r#"{"id":5,"since":2}"#, r#"{"entries":[],"id":5}"#),
+    (
+        r#"{"text":"T","pattern":"'cat'"}"#,
+        r#"{"bindings":[],"entry":2,"matched":false,"statement":4,"text":"T","version":2}"#,
+    ),
+    (r#"{"id":5,"read":"V"}"#, r#"{"id":5,"reason":"no text"}"#),
+];
+
+#[test]
+fn lines_are_answered(rt: HostRuntime) -> Result<(), Fail> {
+    let alloc = rt.alloc();
+    let mode = Mode {
+        anchor: false,
+        trials: 1_000_000,
+    };
+    let document = read_document(alloc, DOCUMENT, mode).ok().ok_or("document")?;
+    let mut input = Vec::new(alloc);
+    let mut wanted = Vec::new(alloc);
+    for (line, reply) in &LINES {
+        input.extend_from_slice(line.as_bytes())?;
+        input.push(b'\n')?;
+        wanted.extend_from_slice(reply.as_bytes())?;
+        wanted.push(b'\n')?;
+    }
+    let mut output = Vec::new(alloc);
+    let served = serve(
+        &rt,
+        alloc,
+        document,
+        mode,
+        1,
+        100,
+        input.as_slice(),
+        &mut output,
+    )
+    .ok()
+    .ok_or("served")?;
+    assert_eq!(rt; served.book.journal().len(), 3);
+    assert_eq!(rt; served.refused.len(), 1);
+    assert!(rt; output.as_slice() == wanted.as_slice());
+    Ok(())
+}
