@@ -101,11 +101,12 @@ class Memory(unittest.TestCase):
         self.assertEqual(run(limited, PACKAGE.parent, {VARIABLE: load().path}), LINES)
 
     def test_a_lack_of_memory_is_reported(self) -> None:
-        # The match of 65,536 characters keeps each assignment, which it may have to take back.
+        # The match does 262,148 assignments and keeps each of them until it ends.
         program = (
             "import resource, sno_rewrite\n"
             "def match():\n"
-            "    statement = sno_rewrite.Statement('T', \"ARBNO('a' $ V) 'b'\", anchored=True)\n"
+            "    pattern = ' | '.join(['ARB $ V FAIL'] * 4)\n"
+            "    statement = sno_rewrite.Statement('T', pattern, anchored=True)\n"
             "    return sno_rewrite.rewrite(texts={'T': 'a' * 65_536}, statements=[statement])\n"
             "assert len(match().entries) == 1\n"
             "used = int(open('/proc/self/statm').read().split()[0]) * resource.getpagesize()\n"
