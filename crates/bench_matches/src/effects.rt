@@ -3,7 +3,7 @@ ghost use Rattle.std.specs.Prelude.{◌≡◌, IfOk};
 ghost use Rattle.sno_statement.specs.Perform.{perform};
 ghost use Rattle.bench_matches.specs.Effects.{effect_of_performing, effect_of_matching};
 
-use sno_machine::{Code, MatchFault};
+use sno_machine::{Code, MatchFault, Workspace};
 use sno_pattern::Text;
 use sno_statement::{Outcome, Statement, StatementFault, perform};
 use std::alloc::{AllocError, Global};
@@ -50,17 +50,24 @@ pub fn effect_of_performing(
     }
 }
 
-/// What a match by the code does, anchored as the statement says and within its limit of trials. The code has to be that of the
-/// statement's pattern. Refused only if out of memory.
-pub fn effect_of_matching(
+/// What a match by the code does in a workspace, anchored as the statement says and within its limit of trials. The code has to
+/// be that of the statement's pattern. Refused only if out of memory.
+pub fn effect_of_matching<'a>(
     alloc: Global,
-    code: &Code<'_>,
+    code: &Code<'a>,
+    workspace: &mut Workspace<'a>,
     statement: &Statement,
     text: &Text,
 ) -> Result<Effect, AllocError>
     ensures { IfOk result (λ effect. effect ≡ effect_of_matching code.now statement.now.anchored statement.now.limit text.now) }
 {
-    match code.first(alloc, text, statement.anchored(), statement.limit()) {
+    match code.first_in(
+        alloc,
+        workspace,
+        text,
+        statement.anchored(),
+        statement.limit(),
+    ) {
         Ok(found) => Ok(match &found.end {
             Some(hit) => Effect::Matched {
                 start: hit.start,

@@ -3,7 +3,7 @@ ghost use Rattle.std.specs.Prelude.{◌≤◌};
 
 use crate::effects::{Effect, effect_of_matching, effect_of_performing};
 use crate::faults::Fault;
-use sno_machine::{Code, compile};
+use sno_machine::{Code, Workspace, compile};
 use sno_pattern::Text;
 use sno_statement::Statement;
 use std::alloc::Global;
@@ -50,12 +50,13 @@ fn read_clock<C: Clock>(clock: &C) -> Result<Instant, Fault> {
 }
 
 /// How long it takes to do the work `times` times. The first fault of the work ends it.
-fn run<C: Clock, F: Fn() -> Result<(), Fault>>(
+fn run<C: Clock, F: FnMut() -> Result<(), Fault>>(
     clock: &C,
     times: u32,
-    work: &F,
+    work: &mut F,
 ) -> Result<Duration, Fault>
-    requires { F.IsAlwaysCallable work.now }
+    requires { F.IsAlwaysCallable work.old }
+    ensures { F.IsAlwaysCallable work.new }
 {
     let start = read_clock(clock)?;
     for _ in 0..times {
@@ -65,17 +66,17 @@ fn run<C: Clock, F: Fn() -> Result<(), Fault>>(
 }
 
 /// How long the work takes once, by the quickest of the runs.
-fn least_time<C: Clock, F: Fn() -> Result<(), Fault>>(
+fn least_time<C: Clock, F: FnMut() -> Result<(), Fault>>(
     clock: &C,
     times: u32,
-    work: F,
+    mut work: F,
 ) -> Result<Tenths, Fault>
     requires callable { F.IsAlwaysCallable work }
     requires times { 1 ≤ times }
 {
     let mut least = Duration::MAX;
     for _ in 0..RUNS {
-        least = least.min(run(clock, times, &work)?);
+        least = least.min(run(clock, times, &mut work)?);
     }
     Ok(Tenths(least.as_nanos().saturating_mul(10) / u128::from(times)))
 }
@@ -94,14 +95,15 @@ fn compile_once(alloc: Global, statement: &Statement) -> Result<(), Fault> {
     Ok(())
 }
 
-fn match_once(
+fn match_once<'a>(
     alloc: Global,
-    code: &Code<'_>,
+    code: &Code<'a>,
+    workspace: &mut Workspace<'a>,
     statement: &Statement,
     text: &Text,
     expected: Effect,
 ) -> Result<(), Fault> {
-    let effect = effect_of_matching(alloc, code, statement, text)?;
+    let effect = effect_of_matching(alloc, code, workspace, statement, text)?;
     expect(effect, expected)
 }
 
@@ -116,7 +118,8 @@ fn perform_once(
 }
 
 /// How long it takes to compile the statement's pattern, to match it with the text, and to perform the statement on the text.
-/// Each is done `times` times in a run. If a statement is repeated, the match is that of its first round.
+/// Each is done `times` times in a run, and all matches use one workspace. If a statement is repeated, the match is that of its
+/// first round.
 ///
 /// The statement has to do what is expected, and that isn't a refusal. The matches have to do what the first of them did.
 ///
@@ -133,11 +136,12 @@ pub fn time<C: Clock>(
 {
     let code = compile(alloc, statement.rules(), statement.pattern())?;
     let compile = least_time(clock, times, || compile_once(alloc, statement))?;
-    let first = effect_of_matching(alloc, &code, statement, text)?;
+    let mut workspace = Workspace::new(alloc);
+    let first = effect_of_matching(alloc, &code, &mut workspace, statement, text)?;
     let matching = least_time(
         clock,
         times,
-        || match_once(alloc, &code, statement, text, first),
+        || match_once(alloc, &code, &mut workspace, statement, text, first),
     )?;
     let perform = least_time(
         clock,

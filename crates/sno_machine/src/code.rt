@@ -11,6 +11,7 @@ use crate::faults::MatchFault;
 use crate::nodes::Compiled;
 use crate::run_starts::RunStart;
 use crate::starts::search;
+use crate::workspace::Workspace;
 use sno_pattern::{Found, Pattern, Rules, Text, a_greater_depth_changes_no_outcome};
 use std::alloc::{AllocError, Global};
 use std::marker::Model;
@@ -97,7 +98,27 @@ impl<'a> Code<'a> {
         // and is refused for its trials only if it takes more.
         ensures refused { IfErr result (λ e. e ≡ TooManyTrials → limit < trials text.now self.now.bodies self.now.pattern anchored) }
     {
-        let found = search(alloc, &self.compiled, text, anchored, limit)?;
+        let mut workspace = Workspace::new(alloc);
+        let found = self.first_in(alloc, &mut workspace, text, anchored, limit)?;
+        Ok(found)
+    }
+
+    /// As [`Code::first`], by the memory of a workspace, which further matches may use again.
+    pub fn first_in(
+        &self,
+        alloc: Global,
+        workspace: &mut Workspace<'a>,
+        text: &Text,
+        anchored: bool,
+        limit: u32,
+    ) -> Result<Found, MatchFault>
+        ensures found { IfOk result (λ found. found ≡ outcome text.now self.now.bodies self.now.pattern anchored) }
+        ensures deep { IfOk result (λ found. (k : ℕ) → enough_depth text.now self.now.bodies ≤ k → found ≡ outcome_at text.now self.now.bodies k self.now.pattern anchored) }
+        ensures within { IfOk result (λ _. trials text.now self.now.bodies self.now.pattern anchored ≤ limit) }
+        ensures refused { IfErr result (λ e. e ≡ TooManyTrials → limit < trials text.now self.now.bodies self.now.pattern anchored) }
+    {
+        let history = &mut workspace.history;
+        let found = search(alloc, &self.compiled, history, text, anchored, limit)?;
         // for the proof
         self.compiled.rules.bodies();
         a_greater_depth_changes_no_outcome();

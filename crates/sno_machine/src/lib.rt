@@ -161,7 +161,8 @@
 //! | `subject` | the text of a match, beside what was learnt of it |
 //! | `learnt` | what was learnt of the text |
 //! | `starts` | the outcome of a match |
-//! | `code` | [`compile`] and [`Code::first`] |
+//! | `workspace` | memory that matches use one after the other |
+//! | `code` | [`compile`], [`Code::first`] and [`Code::first_in`] |
 //!
 //! It is proved in two halves. `specs/Plans.antt` says what a node does and what comes after it, its plan, and what is still to
 //! come by a plan. `specs/Code.antt` gives each node its plan, and `plan_of` lays a pattern out as one. The compiler has to
@@ -206,7 +207,9 @@ mod stepping;
 mod subject;
 mod taking;
 mod unmarking;
+mod workspace;
 
 pub use code::{Code, compile};
 pub use faults::MatchFault;
 pub use sno_pattern::{Assign, Assigns, Conds, Found, Hit, Name, Pattern, Rules, Text, What};
+pub use workspace::Workspace;

@@ -10,6 +10,7 @@ ghost use Rattle.sno_machine.specs.Endings.{found_of, match_by, up_to, Overspent
 ghost use Rattle.sno_machine.specs.declared.faults.MatchFault.TheVariants.{TooManyTrials};
 
 use crate::beginnings::Beginnings;
+use crate::entries::History;
 use crate::faults::MatchFault;
 use crate::nodes::Compiled;
 use crate::progress::Progress;
@@ -17,10 +18,11 @@ use crate::running::try_starts;
 use sno_pattern::{Assigns, Found, Hit, Rules, Text};
 use std::alloc::{AllocError, Global};
 
-/// The outcome of the match, at a depth of references that is counted here.
-pub fn search(
+/// The outcome of the match, at a depth of references that is counted here. What the history holds is dropped first.
+pub fn search<'a>(
     alloc: Global,
-    code: &Compiled,
+    code: &Compiled<'a>,
+    history: &mut History<'a>,
     text: &Text,
     anchored: bool,
     limit: u32,
@@ -35,7 +37,15 @@ pub fn search(
 {
     let most = depth(text, code.rules);
     let mut progress = Progress::new(alloc, limit);
-    let hit = try_all(alloc, code, text.bytes(), most, anchored, &mut progress)?;
+    let hit = try_all(
+        alloc,
+        code,
+        text.bytes(),
+        most,
+        anchored,
+        history,
+        &mut progress,
+    )?;
     let found = report(alloc, &progress, hit)?;
     Ok(found)
 }
@@ -67,6 +77,7 @@ fn try_all<'a>(
     text: &[u8],
     most: u32,
     anchored: bool,
+    history: &mut History<'a>,
     progress: &mut Progress<'a>,
 ) -> Result<Option<Hit>, MatchFault>
     requires compiled { IsCompiled code.now.rules.now.bodies (tree_of code.now.pattern.now) code.now.nodes }
@@ -82,12 +93,12 @@ fn try_all<'a>(
     if anchored {
         // A single start is tried in any case.
         let any = Beginnings::Any;
-        let hit = try_starts(alloc, code, text, most, &any, None, last, progress)?;
+        let hit = try_starts(alloc, code, text, most, &any, None, last, history, progress)?;
         return Ok(hit);
     }
     let beginnings = &code.beginnings;
     let hit = try_starts(
-        alloc, code, text, most, beginnings, code.run, last, progress,
+        alloc, code, text, most, beginnings, code.run, last, history, progress,
     )?;
     Ok(hit)
 }

@@ -12,7 +12,7 @@ use crate::last_assignments::{Last, LastAssignments};
 use crate::lengths::new_length;
 use crate::values::{part, replace, text_of};
 use crate::{Bindings, Datum, Outcome, Statement, StatementFault};
-use sno_machine::{Code, compile};
+use sno_machine::{Code, Workspace, compile};
 use sno_pattern::{Assign, Found, Hit, Name, Text, cursors_lie_within_the_text};
 use sno_read::{Object, Part};
 use std::alloc::{AllocError, Global};
@@ -139,9 +139,10 @@ fn finish(
 }
 
 /// Performs one round of a statement. The code is that of the statement's pattern.
-fn perform_once(
+fn perform_once<'a>(
     alloc: Global,
-    code: &Code<'_>,
+    code: &Code<'a>,
+    workspace: &mut Workspace<'a>,
     statement: &Statement,
     subject: &Text,
 ) -> Result<Outcome, StatementFault>
@@ -150,7 +151,8 @@ fn perform_once(
 {
     // for the proof
     cursors_lie_within_the_text();
-    let found = code.first(alloc, subject, statement.anchored(), statement.limit())?;
+    let anchored = statement.anchored();
+    let found = code.first_in(alloc, workspace, subject, anchored, statement.limit())?;
     finish(alloc, statement.object(), subject, &found)
 }
 
@@ -203,9 +205,10 @@ fn end_with(round: Outcome, matches: u32, last: (Bindings, Arc<Text>)) -> Outcom
 }
 
 /// Performs the rounds that follow a first one that matched, up to `times` in all. One text and its new text are held at a time.
-fn go_on(
+fn go_on<'a>(
     alloc: Global,
-    code: &Code<'_>,
+    code: &Code<'a>,
+    workspace: &mut Workspace<'a>,
     statement: &Statement,
     mut last: (Bindings, Arc<Text>),
     times: u32,
@@ -215,7 +218,7 @@ fn go_on(
     ensures { Gives result (rounds statement.now (times - 1) 1 last.0 (arc_value last.1)) }
 {
     for matches in 1..times {
-        match left_by(perform_once(alloc, code, statement, &last.1)?) {
+        match left_by(perform_once(alloc, code, workspace, statement, &last.1)?) {
             Ok(left) => last = left,
             Err(other) => return Ok(end_with(other, matches, last)),
         }
@@ -224,9 +227,10 @@ fn go_on(
 }
 
 /// Performs the rounds that follow the first one, up to `times` in all.
-fn follow(
+fn follow<'a>(
     alloc: Global,
-    code: &Code<'_>,
+    code: &Code<'a>,
+    workspace: &mut Workspace<'a>,
     statement: &Statement,
     first: Outcome,
     times: u32,
@@ -236,7 +240,7 @@ fn follow(
     ensures { Gives result (follow (Ok (outcome_seen first)) Failed (rounds statement.now (times - 1) 1)) }
 {
     match left_by(first) {
-        Ok(left) => go_on(alloc, code, statement, left, times),
+        Ok(left) => go_on(alloc, code, workspace, statement, left, times),
         Err(ended) => Ok(ended),
     }
 }
@@ -271,9 +275,10 @@ pub fn perform(
     ensures { Gives result (perform statement.now subject.now) }
 {
     let code = compile(alloc, statement.rules(), statement.pattern())?;
-    let first = perform_once(alloc, &code, statement, subject)?;
+    let mut workspace = Workspace::new(alloc);
+    let first = perform_once(alloc, &code, &mut workspace, statement, subject)?;
     match statement.repeat() {
         None => Ok(first),
-        Some(times) => follow(alloc, &code, statement, first, times),
+        Some(times) => follow(alloc, &code, &mut workspace, statement, first, times),
     }
 }

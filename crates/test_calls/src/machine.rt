@@ -1,6 +1,6 @@
 //! What is compiled matches many texts, references nest as deep as the longest text, and a match within the longest text is found by its limit.
 use crate::written::{check_eq, no_rules, pattern_of, rules_of, text_of};
-use sno_machine::{Code, Found, MatchFault, What, compile};
+use sno_machine::{Code, Found, MatchFault, What, Workspace, compile};
 use sno_pattern::{Rules, Text};
 use std::alloc::Global;
 use std::test::Fail;
@@ -59,6 +59,39 @@ fn one_code_matches_many_texts(rt: HostRuntime) -> Result<(), Fail> {
     let texts = texts_of(rt.alloc(), &["xa", "c", "b"])?;
     let found = extents(rt.alloc(), &no_rules(rt.alloc())?, "'a' | 'b'", &texts)?;
     let expected = [Some((1, 2)), None, Some((0, 1))];
+    check_eq(&rt, &found.as_slice(), &expected.as_slice());
+    Ok(())
+}
+
+// Where the first match on each of the texts begins and ends, by one workspace.
+fn extents_in_one_workspace(
+    alloc: Global,
+    code: &Code,
+    texts: &[Text],
+) -> Result<Vec<Option<Extent>>, Fail> {
+    let mut workspace = Workspace::new(alloc);
+    let mut extents = Vec::new(alloc);
+    for text in texts {
+        let found = code.first_in(alloc, &mut workspace, text, false, LIMIT)?;
+        extents.push(found.end.as_ref().map(|hit| (hit.start, hit.end)))?;
+    }
+    Ok(extents)
+}
+
+// The same of a pattern without definitions.
+fn extents_of(alloc: Global, pattern: &str, texts: &[Text]) -> Result<Vec<Option<Extent>>, Fail> {
+    let rules = no_rules(alloc)?;
+    let pattern = pattern_of(alloc, &rules, pattern)?;
+    let code = compile(alloc, &rules, &pattern)?;
+    extents_in_one_workspace(alloc, &code, texts)
+}
+
+// The first match leaves `'b'` at cursor 1 as a choice. The second one must not take it up.
+#[test]
+fn one_workspace_serves_many_matches(rt: HostRuntime) -> Result<(), Fail> {
+    let texts = texts_of(rt.alloc(), &["xac", "ybx", "xb"])?;
+    let found = extents_of(rt.alloc(), "'x' ('a' 'c' | 'b')", &texts)?;
+    let expected = [Some((0, 3)), None, Some((0, 2))];
     check_eq(&rt, &found.as_slice(), &expected.as_slice());
     Ok(())
 }

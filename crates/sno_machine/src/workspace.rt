@@ -1,0 +1,22 @@
+//! Memory that matches use one after the other.
+use crate::entries::History;
+use std::alloc::Global;
+
+/// Memory that matches use one after the other. A match needs room for what it may back up to; with a workspace it uses the room
+/// that earlier matches needed, and takes memory only if it needs more.
+///
+/// A workspace is for one match at a time. It may serve any codes, and changes no result. It keeps as much memory as the match
+/// that needed the most, until it is dropped.
+#[derive(Drop)]
+pub struct Workspace<'a> {
+    pub(crate) history: History<'a>,
+}
+
+impl<'a> Workspace<'a> {
+    /// A workspace without any memory yet.
+    pub fn new(alloc: Global) -> Workspace<'a> {
+        Workspace {
+            history: History::new(alloc),
+        }
+    }
+}
