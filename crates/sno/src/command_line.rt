@@ -1,10 +1,11 @@
 //! What the arguments ask for.
 
+use crate::arguments::{document, flag};
 use crate::edit_options::{EditOptions, edit_command, edit_options};
 use crate::serve_command::{ServeOptions, serve_command, serve_options};
 use crate::trace_command::{OUT_OF_RANGE, TraceOptions, trace_command, trace_options_in};
 use clap::error::ErrorKind;
-use clap::{Arg, ArgAction, ArgMatches, Command, Error};
+use clap::{ArgMatches, Command, Error};
 use std::alloc::{AllocError, Global};
 
 const ABOUT: &str = "Tools for documents of texts and statements";
@@ -18,8 +19,6 @@ const CHECK_USAGE: &str = "sno check [OPTIONS] [DOCUMENT]";
 const JSON_HELP: &str = "Writes the findings as JSON";
 
 const STRICT_HELP: &str = "Ends with status 1 for warnings too";
-
-const DOCUMENT_HELP: &str = "The file of the document; standard input if it is missing";
 
 const EXAMPLE: &str = "Example: sno check --strict document.json";
 
@@ -65,25 +64,14 @@ pub(crate) enum Stop {
     Memory,
 }
 
-fn flag<'a>(alloc: Global, name: &'a str, help: &'a str) -> Arg<'a> {
-    Arg::new(alloc, name)
-        .long(name)
-        .action(ArgAction::SetTrue)
-        .help(help)
-}
-
 fn check_command<'a>(alloc: Global) -> Result<Command<'a>, AllocError> {
-    let document = Arg::new(alloc, "document")
-        .value_name("DOCUMENT")
-        .action(ArgAction::Set)
-        .help(DOCUMENT_HELP);
     Command::new(alloc, "check")
         .about(CHECK_ABOUT)
         .override_usage(CHECK_USAGE)
         .after_help(EXAMPLE)
         .arg(flag(alloc, "json", JSON_HELP))?
         .arg(flag(alloc, "strict", STRICT_HELP))?
-        .arg(document)
+        .arg(document(alloc))
 }
 
 fn program<'a>(alloc: Global) -> Result<Command<'a>, AllocError> {

@@ -1,5 +1,6 @@
 //! What the arguments of `sno edit` ask for.
 
+use crate::arguments::{flag, number};
 use clap::{Arg, ArgAction, ArgMatches, Command};
 use sno_edit::Purpose;
 use std::alloc::{AllocError, Global};
@@ -43,13 +44,6 @@ pub(crate) struct EditOptions<'a> {
     pub(crate) rules: &'a str,
 }
 
-fn flag<'a>(alloc: Global, name: &'a str, help: &'a str) -> Arg<'a> {
-    Arg::new(alloc, name)
-        .long(name)
-        .action(ArgAction::SetTrue)
-        .help(help)
-}
-
 fn positional<'a>(alloc: Global, id: &'a str, name: &'a str, help: &'a str) -> Arg<'a> {
     Arg::new(alloc, id)
         .value_name(name)
@@ -59,13 +53,6 @@ fn positional<'a>(alloc: Global, id: &'a str, name: &'a str, help: &'a str) -> A
 
 /// The subcommand.
 pub(crate) fn edit_command<'a>(alloc: Global) -> Result<Command<'a>, AllocError> {
-    let trials = Arg::new(alloc, "trials")
-        .long("trials")
-        .value_name("N")
-        .value_parser(clap::value_parser!(u32))
-        .action(ArgAction::Set)
-        .default_value("1000000")
-        .help(TRIALS_HELP);
     let files = positional(alloc, "files", "FILE", FILES_HELP)
         .action(ArgAction::Append)
         .num_args(1..);
@@ -77,7 +64,7 @@ pub(crate) fn edit_command<'a>(alloc: Global) -> Result<Command<'a>, AllocError>
         .arg(flag(alloc, "check", CHECK_HELP))?
         .arg(flag(alloc, "sync", SYNC_HELP))?
         .arg(flag(alloc, "anchor", ANCHOR_HELP))?
-        .arg(trials)?
+        .arg(number(alloc, "trials", "1000000", TRIALS_HELP))?
         .arg(positional(alloc, "rules", "RULES", RULES_HELP).action(ArgAction::Set))?
         .arg(files)
 }

@@ -4,6 +4,7 @@
 //! | File | What it does |
 //! |---|---|
 //! | `command_line` | what the arguments ask for |
+//! | `arguments` | arguments that several subcommands have |
 //! | `faults` | why nothing was done, with the line and the status of each reason |
 //! | `streams` | bytes in and out |
 //! | `checks` | `sno check`: a document is checked by `sno_check`, and its report written |
@@ -14,6 +15,7 @@
 //! | `program` | from the arguments and the streams to the status |
 #![tactic(auto)]
 
+mod arguments;
 mod checks;
 mod command_line;
 mod disk;

@@ -2,7 +2,9 @@
 ghost use Rattle.std.specs.Prelude.{◌≡◌, ◌≤◌, true};
 ghost use Rattle.sno_statement.specs.Statement.{IsLimit};
 
+use crate::arguments::number;
 use clap::{Arg, ArgAction, ArgMatches, Command};
+use sno_statement::MAX_TRIALS;
 use std::alloc::{AllocError, Global};
 
 const ABOUT: &str =
@@ -30,9 +32,6 @@ const MAX_SEATS: u32 = 16;
 /// The most tries.
 const MAX_TRIES: u32 = 1_000;
 
-/// The most trials.
-const MAX_TRIALS: u32 = 1_000_000_000;
-
 /// What is written if a number is not in its range.
 pub(crate) const SERVE_OUT_OF_RANGE: &str =
     "error: '--seats' takes 1 to 16, '--tries' 1 to 1000, and '--trials' 1 to 1000000000\n\nFor more information, try '--help'.\n";
@@ -52,16 +51,6 @@ pub(crate) struct ServeOptions<'a> {
     pub(crate) document: &'a str,
 }
 
-fn numeric<'a>(alloc: Global, name: &'a str, default: &'a str, help: &'a str) -> Arg<'a> {
-    Arg::new(alloc, name)
-        .long(name)
-        .value_name("N")
-        .value_parser(clap::value_parser!(u32))
-        .action(ArgAction::Set)
-        .default_value(default)
-        .help(help)
-}
-
 pub(crate) fn serve_command<'a>(alloc: Global) -> Result<Command<'a>, AllocError> {
     let listing = Arg::new(alloc, "listing")
         .long("listing")
@@ -77,9 +66,9 @@ pub(crate) fn serve_command<'a>(alloc: Global) -> Result<Command<'a>, AllocError
         .about(ABOUT)
         .override_usage(USAGE)
         .after_help(EXAMPLE)
-        .arg(numeric(alloc, "seats", "1", SEATS_HELP))?
-        .arg(numeric(alloc, "tries", "100", TRIES_HELP))?
-        .arg(numeric(alloc, "trials", "1000000", TRIALS_HELP))?
+        .arg(number(alloc, "seats", "1", SEATS_HELP))?
+        .arg(number(alloc, "tries", "100", TRIES_HELP))?
+        .arg(number(alloc, "trials", "1000000", TRIALS_HELP))?
         .arg(listing)?
         .arg(document)
 }

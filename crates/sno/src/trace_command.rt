@@ -1,6 +1,7 @@
 //! The arguments of `sno trace`.
 
-use clap::{Arg, ArgAction, ArgMatches, Command};
+use crate::arguments::{document, flag, number};
+use clap::{ArgMatches, Command};
 use std::alloc::{AllocError, Global};
 
 const ABOUT: &str =
@@ -15,8 +16,6 @@ const STATEMENT_HELP: &str =
 const LINES_HELP: &str = "How many lines are shown, 1 to 10000";
 
 const HTML_HELP: &str = "Writes a page of HTML, stepped through by the arrow keys";
-
-const DOCUMENT_HELP: &str = "The file of the document; standard input if it is missing";
 
 const EXAMPLE: &str = "Example: sno trace --statement 2 document.json";
 
@@ -43,33 +42,15 @@ pub(crate) struct TraceOptions<'a> {
     pub(crate) document: Option<&'a str>,
 }
 
-fn numeric<'a>(alloc: Global, name: &'a str, default: &'a str, help: &'a str) -> Arg<'a> {
-    Arg::new(alloc, name)
-        .long(name)
-        .value_name("N")
-        .value_parser(clap::value_parser!(u32))
-        .action(ArgAction::Set)
-        .default_value(default)
-        .help(help)
-}
-
 pub(crate) fn trace_command<'a>(alloc: Global) -> Result<Command<'a>, AllocError> {
-    let document = Arg::new(alloc, "document")
-        .value_name("DOCUMENT")
-        .action(ArgAction::Set)
-        .help(DOCUMENT_HELP);
-    let html = Arg::new(alloc, "html")
-        .long("html")
-        .action(ArgAction::SetTrue)
-        .help(HTML_HELP);
     Command::new(alloc, "trace")
         .about(ABOUT)
         .override_usage(USAGE)
         .after_help(EXAMPLE)
-        .arg(numeric(alloc, "statement", "1", STATEMENT_HELP))?
-        .arg(numeric(alloc, "lines", "1000", LINES_HELP))?
-        .arg(html)?
-        .arg(document)
+        .arg(number(alloc, "statement", "1", STATEMENT_HELP))?
+        .arg(number(alloc, "lines", "1000", LINES_HELP))?
+        .arg(flag(alloc, "html", HTML_HELP))?
+        .arg(document(alloc))
 }
 
 /// The options that were found; `None` if a number is not in its range.

@@ -1,0 +1,33 @@
+//! Arguments that several subcommands have.
+
+use clap::{Arg, ArgAction};
+use std::alloc::Global;
+
+const DOCUMENT_HELP: &str = "The file of the document; standard input if it is missing";
+
+/// An option without a value.
+pub(crate) fn flag<'a>(alloc: Global, name: &'a str, help: &'a str) -> Arg<'a> {
+    Arg::new(alloc, name)
+        .long(name)
+        .action(ArgAction::SetTrue)
+        .help(help)
+}
+
+/// An option with a number, which is `usual` without the option.
+pub(crate) fn number<'a>(alloc: Global, name: &'a str, usual: &'a str, help: &'a str) -> Arg<'a> {
+    Arg::new(alloc, name)
+        .long(name)
+        .value_name("N")
+        .value_parser(clap::value_parser!(u32))
+        .action(ArgAction::Set)
+        .default_value(usual)
+        .help(help)
+}
+
+/// The file of a document, which is on standard input without the argument.
+pub(crate) fn document<'a>(alloc: Global) -> Arg<'a> {
+    Arg::new(alloc, "document")
+        .value_name("DOCUMENT")
+        .action(ArgAction::Set)
+        .help(DOCUMENT_HELP)
+}
