@@ -5,18 +5,15 @@ ghost use Rattle.sno_document.specs.Document.{IsDocument};
 ghost use Rattle.sno_check.specs.declared.checking.TheConstants.{USUAL};
 ghost use Rattle.sno_check.specs.Reports.{Tells};
 
-use crate::advice::advice_of;
-use crate::collector::Collector;
 use crate::definitions::check_definitions;
-use crate::json_places::json_mistake;
 use crate::members::check_members;
 use crate::reach::Reach;
 use crate::rows::{Rows, is_object, rows_of};
 use crate::statements::{Surroundings, check_statements};
 use crate::texts::check_texts;
-use crate::{Mistake, Place, Report};
 use json::{Scratch, Value};
 use sno_document::{DocumentFault, MAX_DOCUMENT, Mode, read_document};
+use sno_findings::{Collector, Mistake, Place, Report, advice_of, json_mistake};
 use std::alloc::{AllocError, Global};
 
 /// How `sno_rewrite` performs statements without any option. No fault depends on it.

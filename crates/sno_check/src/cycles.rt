@@ -2,11 +2,10 @@
 //!
 //! They are found by `Rules::admit`, which takes names and patterns. Both are still needed after it, so they are made again.
 
-use crate::advice::advice_of;
-use crate::collector::Collector;
 use crate::rows::Pair;
 use crate::vocabulary::Vocabulary;
 use sno_document::DocumentFault;
+use sno_findings::{Collector, advice_of};
 use sno_pattern::{Name, Names, NamesFault, Pattern, Rules, RulesFault};
 use sno_read::{ReadFault, read_pattern};
 use std::alloc::{AllocError, Global};

@@ -1,12 +1,11 @@
 //! The definitions of a document.
 
-use crate::advice::advice_of;
-use crate::collector::Collector;
 use crate::cycles::check_cycles;
-use crate::expressions::{Whose, pattern_in};
+use crate::expressions::pattern_in;
 use crate::rows::Pair;
 use crate::vocabulary::{Vocabulary, checked_rows, vocabulary_of};
 use sno_document::DocumentFault;
+use sno_findings::{Collector, Whose, advice_of};
 use sno_pattern::{MAX_DEFINITIONS, Pattern};
 use std::alloc::AllocError;
 

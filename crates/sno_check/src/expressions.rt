@@ -1,58 +1,10 @@
 //! Reading patterns and objects, with what to write instead of one that can't be read.
 
-use crate::Place;
-use crate::ascii::text_of;
-use crate::collector::Collector;
-use crate::excerpts::{around, shown};
-use crate::nearest::nearest;
-use crate::reading_advice::{place_of, reading_advice};
 use crate::vocabulary::{RESERVED, Vocabulary};
-use sno_document::DocumentFault;
+use sno_findings::{Collector, Whose, around, nearest, place_of, reading_advice, shown, text_of};
 use sno_pattern::{Pattern, is_name_char};
 use sno_read::{Object, ReadFault, read_object, read_pattern};
 use std::alloc::{AllocError, Global};
-
-/// Which expression of the document is read. Numbers count from 1.
-#[derive(Clone, Copy, Debug, PartialEq, Eq)]
-pub(crate) enum Whose {
-    /// The pattern of a definition.
-    Definition(usize),
-    /// The pattern of a statement.
-    Pattern(usize),
-    /// The object of a statement.
-    Object(usize),
-}
-
-impl Whose {
-    fn fault(self, fault: ReadFault) -> DocumentFault {
-        match self {
-            Whose::Definition(number) => DocumentFault::PatternRead(number, fault),
-            Whose::Pattern(number) => DocumentFault::StatementPattern(number, fault),
-            Whose::Object(number) => DocumentFault::StatementObject(number, fault),
-        }
-    }
-
-    fn is_object(self) -> bool {
-        matches!(self, Whose::Object(_))
-    }
-
-    /// The part of the document that the expression is in.
-    pub(crate) fn place(self) -> Place {
-        match self {
-            Whose::Definition(number) => Place::Pattern(number),
-            Whose::Pattern(number) | Whose::Object(number) => Place::Statement(number),
-        }
-    }
-
-    /// What the expression is called in a message.
-    pub(crate) fn called(self) -> &'static str {
-        if self.is_object() {
-            "object"
-        } else {
-            "pattern"
-        }
-    }
-}
 
 /// The word that begins after `place` characters.
 fn word_at(written: &str, place: usize) -> &str {

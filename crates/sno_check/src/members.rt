@@ -1,10 +1,7 @@
 //! Members that no object of a kind has, and members that are written twice.
 
-use crate::Place;
-use crate::collector::Collector;
-use crate::excerpts::shown;
-use crate::nearest::nearest;
 use json::Value;
+use sno_findings::{Collector, Place, nearest, shown};
 use std::alloc::AllocError;
 
 /// A kind of object of a document.

@@ -1,9 +1,6 @@
 //! Which definitions a pattern reaches, and what these assign.
 
-use crate::collector::Collector;
-use crate::expressions::Whose;
-use crate::facts::{Facts, bit, facts_of};
-use crate::warnings::warn_of_facts;
+use sno_findings::{Collector, Facts, Whose, bit, facts_of, warn_of_facts};
 use sno_pattern::{Name, Pattern};
 use std::alloc::{AllocError, Global};
 

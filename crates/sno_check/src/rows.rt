@@ -1,9 +1,8 @@
 //! A document as it is written, as far as its shape allows.
 
-use crate::Place;
-use crate::collector::Collector;
 use json::Value;
 use sno_document::DocumentFault;
+use sno_findings::{Collector, Place};
 use std::alloc::AllocError;
 
 /// A definition or a text. A member that is missing or of another kind is `None`.

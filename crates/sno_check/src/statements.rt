@@ -1,18 +1,15 @@
 //! The statements of a document.
 
-use crate::Place;
-use crate::advice::advice_of;
-use crate::collector::Collector;
 use crate::definitions::Definitions;
-use crate::expressions::{Whose, object_in, pattern_in};
-use crate::facts::{Facts, facts_of};
+use crate::expressions::{object_in, pattern_in};
 use crate::reach::{Reach, has};
 use crate::rows::{Row, Rows};
 use crate::texts::{is_name, refuse_name};
-use crate::warnings::{
-    warn_of_facts, warn_of_growth, warn_of_literals, warn_of_missing_text, warn_of_variables,
-};
 use sno_document::DocumentFault;
+use sno_findings::{
+    Collector, Facts, Place, Whose, advice_of, facts_of, warn_of_facts, warn_of_growth,
+    warn_of_literals, warn_of_missing_text, warn_of_variables,
+};
 use sno_pattern::Pattern;
 use sno_read::Object;
 use std::alloc::AllocError;

@@ -1,11 +1,8 @@
 //! The texts of a document.
 
-use crate::Place;
-use crate::advice::advice_of;
-use crate::collector::Collector;
-use crate::excerpts::{around, position_of};
 use crate::rows::Pair;
 use sno_document::DocumentFault;
+use sno_findings::{Collector, Place, advice_of, around, position_of};
 use sno_pattern::{MAX_TEXT, NameFault, TextName};
 use std::alloc::{AllocError, Global};
 

@@ -1,11 +1,8 @@
 //! The names of the definitions, as far as they can be used.
 
-use crate::advice::advice_of;
-use crate::ascii::text_of;
-use crate::collector::Collector;
-use crate::excerpts::around;
 use crate::rows::Pair;
 use sno_document::DocumentFault;
+use sno_findings::{Collector, advice_of, around, text_of};
 use sno_pattern::{MAX_DEFINITIONS, Name, Names, NamesFault, is_letter, is_name_char};
 use std::alloc::{AllocError, Global};
 

@@ -6,7 +6,7 @@ use sno_pattern::{Name, Pattern};
 use std::alloc::{AllocError, Global};
 
 /// The bit of a definition in a set of definitions, of which there are at most 64.
-pub(crate) fn bit(number: usize) -> u64 {
+pub fn bit(number: usize) -> u64 {
     if number < 64 {
         1u64 << (number as u32)
     } else {
@@ -16,19 +16,19 @@ pub(crate) fn bit(number: usize) -> u64 {
 
 /// What a pattern says, without what the definitions say to which it refers.
 #[derive(Drop)]
-pub(crate) struct Facts {
+pub struct Facts {
     /// The variables that it assigns.
-    pub(crate) variables: Vec<Name>,
+    pub variables: Vec<Name>,
     /// The definitions to which it refers, a bit for each.
-    pub(crate) references: u64,
+    pub references: u64,
     /// The first of its sets that looks like a range.
-    pub(crate) range: Option<(u8, u8)>,
+    pub range: Option<(u8, u8)>,
     /// The letter after the first backslash of its literals and sets that looks like an escape.
-    pub(crate) escape: Option<u8>,
+    pub escape: Option<u8>,
     /// Whether an `ARBNO` in it repeats another `ARBNO`.
-    pub(crate) repeats_rounds: bool,
+    pub repeats_rounds: bool,
     /// The first of its parts that never matches after the one before it.
-    pub(crate) blocked: Option<Blocked>,
+    pub blocked: Option<Blocked>,
 }
 
 impl Facts {
@@ -121,8 +121,8 @@ fn range_in(members: &[u8]) -> Option<(u8, u8)> {
     None
 }
 
-/// What the pattern says.
-pub(crate) fn facts_of(alloc: Global, pattern: &Pattern) -> Result<Facts, AllocError> {
+/// What the pattern says. Refused only if memory runs out.
+pub fn facts_of(alloc: Global, pattern: &Pattern) -> Result<Facts, AllocError> {
     let mut facts = Facts {
         variables: Vec::new(alloc),
         references: 0,

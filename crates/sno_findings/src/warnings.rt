@@ -1,12 +1,11 @@
 //! Warnings of what patterns and objects probably don't mean.
 
-use crate::Place;
 use crate::ascii::text_of;
 use crate::collector::Collector;
 use crate::edges::{Blocked, always_matches};
-use crate::expressions::Whose;
 use crate::facts::{Facts, escape_in, has_what_is_sought};
-use crate::nearest::nearest;
+use crate::spelling::nearest;
+use crate::{Place, Whose};
 use sno_pattern::{Name, Pattern};
 use sno_read::{Object, Part};
 use std::alloc::{AllocError, Global};
@@ -82,8 +81,8 @@ fn warn_of_blocked(
     findings.warn(whose.place(), message)
 }
 
-/// Warns of what is strange in a pattern itself.
-pub(crate) fn warn_of_facts(
+/// Warns of what is strange in a pattern itself. Refused only if memory runs out.
+pub fn warn_of_facts(
     findings: &mut Collector,
     whose: Whose,
     facts: &Facts,
@@ -131,8 +130,8 @@ fn warn_of_variable(
     findings.warn(place, message)
 }
 
-/// Warns of each variable of the object that is not assigned, once.
-pub(crate) fn warn_of_variables(
+/// Warns of each variable of the object that is not assigned, once. Refused only if memory runs out.
+pub fn warn_of_variables(
     findings: &mut Collector,
     place: Place,
     assigned: &[Name],
@@ -150,8 +149,8 @@ pub(crate) fn warn_of_variables(
     Ok(())
 }
 
-/// Warns of what looks like an escape in a literal of the object.
-pub(crate) fn warn_of_literals(
+/// Warns of what looks like an escape in a literal of the object. Refused only if memory runs out.
+pub fn warn_of_literals(
     findings: &mut Collector,
     whose: Whose,
     object: &Object,
@@ -185,7 +184,9 @@ fn finds_itself_again(pattern: &Pattern, anchored: bool, object: &Object) -> boo
 }
 
 /// Warns of a repeated statement whose pattern matches every text, or whose object has what its pattern seeks.
-pub(crate) fn warn_of_growth(
+///
+/// Refused only if memory runs out.
+pub fn warn_of_growth(
     findings: &mut Collector,
     place: Place,
     pattern: &Pattern,
@@ -203,8 +204,8 @@ pub(crate) fn warn_of_growth(
     findings.warn(place, message)
 }
 
-/// Warns of a statement whose text the document doesn't have. The names are sorted.
-pub(crate) fn warn_of_missing_text<'t>(
+/// Warns of a statement whose text the document doesn't have. The names are sorted. Refused only if memory runs out.
+pub fn warn_of_missing_text<'t>(
     findings: &mut Collector,
     place: Place,
     names: &[&'t str],

@@ -15,8 +15,8 @@ fn edits(alloc: Global, word: &str, name: &str) -> Result<usize, AllocError> {
 }
 
 /// The first of the names that are nearest to the word, if it is near enough to be meant: at most one edit for each three
-/// bytes of the word.
-pub(crate) fn nearest<'n>(
+/// bytes of the word. Refused only if memory runs out.
+pub fn nearest<'n>(
     alloc: Global,
     word: &str,
     names: &[&'n str],

@@ -11,17 +11,17 @@ const AFTER: usize = 40;
 
 /// A place in a text of several lines.
 #[derive(Clone, Copy)]
-pub(crate) struct Position {
+pub struct Position {
     /// The line, from 1.
-    pub(crate) line: usize,
+    pub line: usize,
     /// The character of the line, from 1.
-    pub(crate) column: usize,
+    pub column: usize,
     /// How many bytes come before the line.
-    pub(crate) start: usize,
+    pub start: usize,
 }
 
 /// The position of the character that has `place` bytes before it.
-pub(crate) fn position_of(text: &str, place: usize) -> Position {
+pub fn position_of(text: &str, place: usize) -> Position {
     let mut found = Position {
         line: 1,
         column: 1,
@@ -51,8 +51,8 @@ fn printable(character: char) -> char {
 }
 
 /// The characters around the place that has `place` bytes before it: none of the first `start` bytes, and none from the
-/// next line end on.
-pub(crate) fn around(
+/// next line end on. Refused only if memory runs out.
+pub fn around(
     alloc: Global,
     text: &str,
     start: usize,
@@ -76,8 +76,8 @@ pub(crate) fn around(
     Ok(Excerpt { shown, column })
 }
 
-/// A word of the document as messages show it: at most 60 bytes of it, in one line.
-pub(crate) fn shown(alloc: Global, word: &str) -> Result<String, AllocError> {
+/// A word of the document as messages show it: at most 60 bytes of it, in one line. Refused only if memory runs out.
+pub fn shown(alloc: Global, word: &str) -> Result<String, AllocError> {
     let mut shown = String::new(alloc);
     for (at, character) in word.char_indices() {
         if at >= BEFORE {

@@ -4,7 +4,7 @@ use sno_pattern::is_name_char;
 use sno_read::ReadFault;
 
 /// How many characters come before the point of a fault.
-pub(crate) fn place_of(fault: &ReadFault) -> usize {
+pub fn place_of(fault: &ReadFault) -> usize {
     match fault {
         ReadFault::Empty(place)
         | ReadFault::OpenQuote(place)
@@ -101,7 +101,7 @@ fn byte_before(bytes: &[u8], place: usize) -> Option<u8> {
 }
 
 /// What to write instead of what has this fault in the expression `written`.
-pub(crate) fn reading_advice(is_object: bool, fault: &ReadFault, written: &str) -> &'static str {
+pub fn reading_advice(is_object: bool, fault: &ReadFault, written: &str) -> &'static str {
     let bytes = written.as_bytes();
     match fault {
         ReadFault::Empty(_) => "a pattern is wanted; the null string is written ''",

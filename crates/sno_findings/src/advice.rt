@@ -3,7 +3,7 @@
 use sno_document::DocumentFault;
 
 /// What to write instead of what has this fault.
-pub(crate) fn advice_of(fault: &DocumentFault) -> &'static str {
+pub fn advice_of(fault: &DocumentFault) -> &'static str {
     match fault {
         DocumentFault::DocumentTooLong =>
             "make several documents of it, each with a part of the texts",

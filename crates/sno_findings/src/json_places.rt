@@ -165,8 +165,8 @@ fn mistake_at(alloc: Global, text: &str, trouble: Trouble) -> Result<Mistake, Al
     })
 }
 
-/// Where bytes stop being JSON in UTF-8, if they do.
-pub(crate) fn json_mistake(alloc: Global, bytes: &[u8]) -> Result<Option<Mistake>, AllocError> {
+/// Where bytes stop being JSON in UTF-8, if they do. Refused only if memory runs out.
+pub fn json_mistake(alloc: Global, bytes: &[u8]) -> Result<Option<Mistake>, AllocError> {
     match str::from_utf8(bytes) {
         Ok(text) => match trouble_in(alloc, text)? {
             Some(trouble) => Ok(Some(mistake_at(alloc, text, trouble)?)),

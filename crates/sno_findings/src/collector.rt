@@ -9,14 +9,18 @@ const MANY: usize = 1_000;
 
 /// Findings, as they are collected.
 #[derive(Drop)]
-pub(crate) struct Collector {
-    pub(crate) alloc: Global,
-    pub(crate) errors: Vec<Mistake>,
-    pub(crate) warnings: Vec<Warning>,
+pub struct Collector {
+    /// Where the findings are kept.
+    pub alloc: Global,
+    /// Why the bytes are not a document, as far as was found.
+    pub errors: Vec<Mistake>,
+    /// What is probably not meant, as far as was found.
+    pub warnings: Vec<Warning>,
 }
 
 impl Collector {
-    pub(crate) fn new(alloc: Global) -> Collector {
+    /// No findings.
+    pub fn new(alloc: Global) -> Collector {
         Collector {
             alloc,
             errors: Vec::new(alloc),
@@ -24,11 +28,13 @@ impl Collector {
         }
     }
 
-    pub(crate) fn has_many(&self) -> bool {
+    /// Whether there are so many findings that no nearest names are to be sought for more.
+    pub fn has_many(&self) -> bool {
         self.errors.len() >= MANY || self.warnings.len() >= MANY
     }
 
-    pub(crate) fn refuse(
+    /// Adds an error. Refused only if memory runs out.
+    pub fn refuse(
         &mut self,
         fault: DocumentFault,
         excerpt: Option<Excerpt>,
@@ -42,17 +48,14 @@ impl Collector {
         Ok(())
     }
 
-    /// A fault without an excerpt.
-    pub(crate) fn refuse_plainly(
-        &mut self,
-        fault: DocumentFault,
-        advice: &str,
-    ) -> Result<(), AllocError> {
+    /// Adds an error without an excerpt. Refused only if memory runs out.
+    pub fn refuse_plainly(&mut self, fault: DocumentFault, advice: &str) -> Result<(), AllocError> {
         let advice = String::from_str(self.alloc, advice)?;
         self.refuse(fault, None, advice)
     }
 
-    pub(crate) fn warn(&mut self, place: Place, message: String) -> Result<(), AllocError> {
+    /// Adds a warning. Refused only if memory runs out.
+    pub fn warn(&mut self, place: Place, message: String) -> Result<(), AllocError> {
         self.warnings.push(Warning { place, message })?;
         Ok(())
     }

@@ -4,7 +4,7 @@ use sno_pattern::{Class, Pattern};
 
 /// What can't come after a part that takes as many characters as it can: this character, as the first one.
 #[derive(Clone, Copy, Debug, PartialEq, Eq)]
-pub(crate) enum Blocked {
+pub enum Blocked {
     /// It is in the set of the `SPAN` before it.
     BySpan(u8),
     /// It is not in the set of the `BREAK` before it.
