@@ -13,13 +13,11 @@ use Rattle.std.proofs.result.Result.TheSendSync as result
 use Rattle.std.proofs.sync.ledger.Book.TheSendSync as total
 use Rattle.std.proofs.sync.ledger.Share.TheSendSync as share
 use Rattle.std.proofs.sync.Mutex.TheSendSync as mutex
-use Rattle.std.proofs.sync.OnceLock.TheSendSync as once
 use Rattle.std.specs.contracts.alloc.Global as Global
 use Rattle.std.specs.contracts.collections.VecDeque as VecDeque
 use Rattle.std.specs.contracts.impls.GlobalAllocator.TheImpl.{ghosts}
 use Rattle.std.specs.contracts.option.Option as Option
 use Rattle.std.specs.contracts.result.Result as Result
-use Rattle.std.specs.contracts.sync.OnceLock as OnceLock
 use Rattle.std.specs.declared.sync.ledger.Ledger.{Ghosts}
 use Rattle.std.specs.contracts.sync.Arc as Arc
 use Rattle.sno_pattern.proofs.texts.Text.TheSendSync as text
@@ -33,14 +31,12 @@ use Rattle.sno_book.specs.contracts.entries.Receipt as Receipt
 use Rattle.sno_book.specs.contracts.openings.Opening as Opening
 use Rattle.sno_published.proofs.fronts.Front.TheSendSync as front
 use Rattle.sno_published.proofs.histories.History.TheSendSync as history
-use Rattle.sno_published.proofs.operations.Completion.TheSendSync as completion
 use Rattle.sno_published.proofs.tables.Table.TheSendSync as table
 use Rattle.sno_published.proofs.viewers.Viewer.TheSendSync as viewer
 use Rattle.sno_published.specs.contracts.fronts.Front as Front
 use Rattle.sno_published.specs.contracts.histories.History as History
 use Rattle.sno_published.specs.contracts.view_rule.ViewRule as ViewRule
 use Rattle.sno_published.specs.contracts.view_rule.ViewRuleProtocolTableSeenEntries.TheImpl as keeps
-use Rattle.sno_published.specs.contracts.operations.Completion as Completion
 use Rattle.sno_published.specs.contracts.operations.Operation as Operation
 use Rattle.sno_published.specs.contracts.operations.Operation.TheInside as OperationInside
 use Rattle.sno_published.specs.contracts.screens.Screen as Screen
@@ -88,11 +84,14 @@ seat_send L n g receipt = declared_send (Seat.the_type L n g) (search sendable, 
 -- ---- what is under the lock
 
 module _ (L : RattleType) (n : NamingGhosts L.Denot) (g : Ghosts L.Denot) where
+  shared_history_send : IsSend (Arc.the_row History.the_row Global.the_row ghosts)
+  shared_history_send = Arc-send History.the_row history.the_send history.the_sync
+
   operation_send : IsSend (Operation.the_row L n g)
   operation_send =
-      let slot = Arc-send (OnceLock.the_row (Completion.the_row L n g)) (once.the_send (Completion.the_row L n g) (completion.the_send L n g)) (once.the_sync (Completion.the_row L n g) (completion.the_send L n g) (completion.the_sync L n g)) in
       let text = option.the_send (Arc.the_row Text.the_row Global.the_row ghosts) (Arc-send Text.the_row text.the_send text.the_sync) in
-      view_send _ _ _ _ _ (declared_send (OperationInside.the_type L n g) (text, (search sendable, (as_row_send Front.the_field front.the_send, (as_row_send Front.the_field front.the_send, (slot, tt))))))
+      view_send _ _ _ _ _ (declared_send (OperationInside.the_type L n g)
+      (text, (search sendable, (as_row_send Front.the_field front.the_send, (as_row_send Front.the_field front.the_send, (shared_history_send, (search sendable, (search sendable, tt))))))))
 
   -- what one reader has seen
   abbrev SeenEntries : RattleType
@@ -104,7 +103,7 @@ module _ (L : RattleType) (n : NamingGhosts L.Denot) (g : Ghosts L.Denot) where
       (keeps.ghosts L n keeps.no_dict g keeps.no_dict) ghosts (table.the_send L n g) operation_send send (table.the_sync L n g) sync frees
 
   screen_send : IsSend (Screen.the_row L (absorbs.ghosts L n absorbs.no_dict g absorbs.no_dict) n g)
-  screen_send = view_send _ _ _ _ _ (declared_send (ScreenInside.the_type L (absorbs.ghosts L n absorbs.no_dict g absorbs.no_dict) n g) (writer_send, (as_row_send History.the_field history.the_send, (as_row_send History.the_field history.the_send, (search sendable, tt)))))
+  screen_send = view_send _ _ _ _ _ (declared_send (ScreenInside.the_type L (absorbs.ghosts L n absorbs.no_dict g absorbs.no_dict) n g) (writer_send, (shared_history_send, (as_row_send History.the_field history.the_send, (search sendable, tt)))))
 
   locked_send : IsSend Book.the_row → IsSend (Locked.the_row L n g)
   locked_send book =

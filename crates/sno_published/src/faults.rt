@@ -21,8 +21,8 @@ pub enum PublishFault {
     /// Out of memory. The screen can be used as before.
     #[error("out of memory")]
     Memory,
-    /// The publish itself was refused. Or the history had gone on without the screen, or the slot was full; no legal run
-    /// meets these two. Nothing more can be published.
+    /// The publish itself was refused. Or the history had gone on without the screen, which no legal run meets. Nothing
+    /// more can be published.
     #[error("nothing more can be published")]
     Stopped,
 }

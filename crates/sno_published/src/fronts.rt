@@ -3,10 +3,11 @@ ghost use Rattle.std.specs.Prelude.{◌≡◌, ◌<◌, ◌^◌, ◌++◌, ◌�
 ghost use Rattle.sno_published.specs.Histories.{AreOfOneLine, GoesOn};
 ghost use Rattle.sno_published.specs.HistoryRule.{length_of};
 
-use crate::rule::{Addition, CountRule, NoGain};
-use logbook::{Offer, Seen, Word};
+use crate::rule::{Addition, CountRule, Length, NoGain};
+use logbook::{Offer, Seen};
 use sno_book::Entry;
 use std::marker::Model;
+use std::snapshot::Snapshot;
 
 /// A beginning of a history, as it was seen. It keeps only the number of entries. Contracts see which history it is of,
 /// and the entries.
@@ -59,16 +60,16 @@ impl Front {
 
     /// Adds an entry after all that was seen, through the history's word, and returns whether it did. It didn't if the
     /// history has gone on.
-    pub(crate) fn grow(&mut self, word: &Word<Entry, u64, CountRule>, entry: &Entry) -> bool
+    pub(crate) fn grow(&mut self, word: &Length, entry: &Snapshot<Entry>) -> bool
         requires history { word.now ≡ length_of self.old.history }
         requires room { length self.old.entries < 2 ^ 62 }
         ensures history { self.new.history ≡ self.old.history }
-        ensures entries { MatchBool result (self.new.entries ≡ self.old.entries ++ entry.now ∷ []) (GoesOn self.old.entries self.new.entries) }
+        ensures entries { MatchBool result (self.new.entries ≡ self.old.entries ++ entry.now.value ∷ []) (GoesOn self.old.entries self.new.entries) }
     {
         let count = self.count;
         let mut offer: Offer<Entry, u64, CountRule, NoGain> = self
             .seen
-            .plain::<NoGain, Entry, Addition>(entry);
+            .plain::<NoGain, Snapshot<Entry>, Addition>(entry);
         let mut pen = self.seen.no_pen();
         let found = word.compare_exchange::<Addition, NoGain>(
             count,

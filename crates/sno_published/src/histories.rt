@@ -1,18 +1,20 @@
 //! Histories.
 ghost use Rattle.std.specs.Prelude.{◌≡◌, ◌<◌, ◌^◌, ◌++◌, ◌∷◌, [], length, MatchBool};
 ghost use Rattle.sno_published.specs.Histories.{GoesOn};
+ghost use Rattle.sno_published.specs.HistoryRule.{length_of};
 
 use crate::Front;
-use crate::rule::CountRule;
+use crate::rule::Length;
 use logbook::{Seen, Start, Word};
 use sno_book::Entry;
 use std::marker::Model;
+use std::snapshot::Snapshot;
 
 /// A list of entries that only grows, with the front that has seen the whole of it. The program keeps only the number
 /// of entries. A caller that has a [`Front`] knows what they are. Contracts see which history it is, and its entries.
 #[derive(Drop)]
 pub struct History {
-    length: Word<Entry, u64, CountRule>,
+    length: Length,
     front: Front,
 }
 
@@ -59,6 +61,13 @@ impl History {
         ensures history { self.new.history ≡ self.old.history }
         ensures entries { MatchBool result (self.new.entries ≡ self.old.entries ++ entry.now ∷ []) (GoesOn self.old.entries self.new.entries) }
     {
-        self.front.grow(&self.length, entry)
+        self.front.grow(&self.length, &Snapshot::of(entry))
+    }
+
+    /// The number of entries, by which whoever has a front of the history adds to it.
+    pub(crate) fn length(&self) -> &Length
+        ensures { result.now ≡ length_of self.now.history }
+    {
+        &self.length
     }
 }

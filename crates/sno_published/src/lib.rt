@@ -11,12 +11,12 @@
 //! There are two copies of the table (the crate `left_right`). Readers see one; the writer changes the other one and
 //! then exchanges them. A [`History`] (the crate `logbook`) keeps that what is seen only grows. It is a list of entries
 //! that exists in proofs alone: the program keeps its length. A [`Front`] is a beginning of a history that was seen. Of
-//! two fronts of one history the shorter begins the longer. The table, each viewer and the screen have a front.
+//! two fronts of one history the shorter begins the longer. Each copy of the table and each viewer has a front.
 //!
 //! An entry goes into the writer's log before it goes into the history. The log may need memory, and a refusal must
-//! change nothing. So an [`Operation`] in the log doesn't know the front with its entry yet. It has a slot, into which
-//! this front is put later, and a front of a second history, that of the attempts. What is put into the slot
-//! ([`Completion`]) has the same attempt with it, and so belongs to the same entry.
+//! change nothing. So an [`Operation`] in the log has no front with its entry yet. The copy that takes it in first adds
+//! the entry to the history, and keeps the front. The other copy takes the front from there. That it belongs to the same
+//! entry is known by a second history, that of the attempts: both have the front that ends in this attempt.
 //!
 //! By its type, `L` ([`Naming`]), all that belongs to one desk agrees on both histories and on the opening.
 //!
@@ -67,7 +67,7 @@ pub use faults::{PublishFault, ViewFault};
 pub use fronts::Front;
 pub use histories::History;
 pub use naming::Naming;
-pub use operations::{Completion, Operation};
+pub use operations::Operation;
 pub use screens::Screen;
 pub use sno_book::{Entry, Opening};
 pub use sno_pattern::Text;

@@ -1,5 +1,5 @@
 //! Operations on a table.
-ghost use Rattle.std.specs.Prelude.{◌≡◌, ◌<◌, ◌++◌, ◌∷◌, [], ℕ, Some, IfSome, IfOk, length};
+ghost use Rattle.std.specs.Prelude.{◌≡◌, ◌<◌, ◌^◌, ◌++◌, ◌∷◌, [], Some, IfSome, IfOk, length};
 ghost use Rattle.std.specs.Arc.{arc_value};
 ghost use Rattle.std.specs.Option.{option_map};
 ghost use Rattle.sno_book.specs.Entries.{Entry as Published, after_of};
@@ -7,85 +7,32 @@ ghost use Rattle.sno_book.specs.Journals.{HasStep, replay};
 ghost use Rattle.sno_book.specs.Openings.{place_in, start};
 ghost use Rattle.sno_published.specs.Changes.{last_of};
 
-use crate::{Front, Naming};
+use crate::{Front, History, Naming};
 use sno_book::{Entry, Text};
 use std::alloc::AllocError;
 use std::marker::{Model, PhantomData};
-use std::sync::{Arc, OnceLock};
-
-/// What completes an operation once it is in the log: the history with its entry, and the attempt that ended in the
-/// same entry.
-#[derive(Drop)]
-pub struct Completion<L: Naming> {
-    front: Front,
-    tried: Front,
-    of: PhantomData<L>,
-}
-
-impl<L: Naming> Model for Completion<L> {
-    ghost use Rattle.std.specs.Prelude.{◌≡◌};
-    ghost use Rattle.std.specs.Coded.{coded×};
-    ghost use Rattle.sno_published.specs.Histories.{Beginning, beginning_code};
-    ghost use Rattle.sno_published.specs.Changes.{last_of};
-
-    ghost Value = { Beginning × Beginning };
-
-    ghost coded = { coded× beginning_code beginning_code };
-
-    ghost view = { λ s. (s.front, s.tried) };
-
-    ghost invariant = { λ s. (s.front.history ≡ L.book) × (s.tried.history ≡ L.tries) × (last_of s.front.entries ≡ last_of s.tried.entries) };
-}
-
-impl<L: Naming> Completion<L> {
-    /// The history with an entry, and the attempt with the same entry.
-    pub(crate) fn new(front: Front, tried: Front) -> Completion<L>
-        requires histories { (front.history ≡ L.book) × (tried.history ≡ L.tries) }
-        requires entry { last_of front.entries ≡ last_of tried.entries }
-    {
-        Completion {
-            front,
-            tried,
-            of: PhantomData,
-        }
-    }
-
-    /// The history with the entry of this attempt after these entries, if that is the one that is known.
-    fn front_after(&self, before: &Front, tried: &Front) -> Option<Front>
-        requires { (before.now.history ≡ L.book) × (tried.now.history ≡ L.tries) }
-        ensures history { IfSome result (λ front. front.history ≡ L.book) }
-        ensures entries { IfSome result (λ front. (entry : Published) → last_of tried.now.entries ≡ Some entry → front.entries ≡ before.now.entries ++ entry ∷ []) }
-    {
-        if self.tried.count() != tried.count() || self.front.count() <= before.count() {
-            return None;
-        }
-        if self.front.count() - before.count() != 1 {
-            return None;
-        }
-        // for the proof
-        self.tried.learn(tried);
-        before.learn(&self.front);
-        Some(self.front.again())
-    }
-}
+use std::snapshot::Snapshot;
+use std::sync::Arc;
 
 /// An entry that is to be published, by what a table takes in of it: its new text, if it has one, and the place of that.
-/// It has also the entries after which it is published. By its type the entry has a step from the texts that these leave,
-/// and there is room for it.
+/// It has also the entries after which it is published, and the attempt that ends in it. By its type the entry has a step
+/// from the texts that these entries leave, and there is room for it.
 #[derive(Drop)]
 pub struct Operation<L: Naming> {
     text: Option<Arc<Text>>,
     place: usize,
     before: Front,
     tried: Front,
-    slot: Arc<OnceLock<Completion<L>>>,
+    history: Arc<History>,
+    entry: Snapshot<Entry>,
+    of: PhantomData<L>,
 }
 
 impl<L: Naming> Model for Operation<L> {
-    ghost use Rattle.std.specs.Prelude.{◌≡◌, ◌<◌, Some, length, option_to_list};
+    ghost use Rattle.std.specs.Prelude.{◌≡◌, ◌<◌, ◌^◌, [], ◌∷◌, Some, length};
     ghost use Rattle.std.specs.Arc.{arc_value};
     ghost use Rattle.std.specs.Option.{option_map};
-    ghost use Rattle.sno_book.specs.Entries.{Entry, after_of};
+    ghost use Rattle.sno_book.specs.Entries.{after_of};
     ghost use Rattle.sno_book.specs.Journals.{HasStep, replay};
     ghost use Rattle.sno_book.specs.Openings.{place_in, start};
     ghost use Rattle.sno_published.specs.Changes.{Change, change_code, last_of};
@@ -94,9 +41,11 @@ impl<L: Naming> Model for Operation<L> {
 
     ghost coded = { change_code };
 
-    ghost view = { λ s. record { before = s.before.entries; added = option_to_list (last_of s.tried.entries) } };
+    ghost view = { λ s. record { before = s.before.entries; added = s.entry.value ∷ [] } };
 
-    ghost invariant = { λ s. (s.before.history ≡ L.book) × (s.tried.history ≡ L.tries) × (length s.before.entries < L.opening.room) × ((entry : Entry) × (last_of s.tried.entries ≡ Some entry) × HasStep (replay (start L.opening) s.before.entries) entry × (place_in L.opening entry.statement.text ≡ Some s.place) × (option_map arc_value s.text ≡ after_of entry.outcome)) };
+    ghost invariant = { λ s. (s.before.history ≡ L.book) × (s.tried.history ≡ L.tries) × ((arc_value s.history).history ≡ L.book) × (last_of s.tried.entries ≡ Some s.entry.value)
+        × (length s.before.entries < 2 ^ 62) × (length s.before.entries < L.opening.room) × HasStep (replay (start L.opening) s.before.entries) s.entry.value
+        × (place_in L.opening s.entry.value.statement.text ≡ Some s.place) × (option_map arc_value s.text ≡ after_of s.entry.value.outcome) };
 }
 
 /// A share of the entry's new text, if it has one.
@@ -110,19 +59,19 @@ fn text_of(entry: &Entry) -> Result<Option<Arc<Text>>, AllocError>
 }
 
 impl<L: Naming> Operation<L> {
-    /// The operation that publishes this entry, whose text is at this place, after these. It is by this attempt, and
-    /// has this slot for what is known later.
+    /// The operation that publishes this entry, whose text is at this place, after these. It is by this attempt, and adds
+    /// the entry to this history.
     pub(crate) fn new(
         entry: &Entry,
         place: usize,
         before: &Front,
         tried: &Front,
-        slot: &Arc<OnceLock<Completion<L>>>,
+        history: &Arc<History>,
     ) -> Result<Operation<L>, AllocError>
-        requires histories { (before.now.history ≡ L.book) × (tried.now.history ≡ L.tries) }
+        requires histories { (before.now.history ≡ L.book) × (tried.now.history ≡ L.tries) × ((arc_value history.now).history ≡ L.book) }
         requires entry { last_of tried.now.entries ≡ Some entry.now }
         requires step { HasStep (replay (start L.opening) before.now.entries) entry.now }
-        requires room { length before.now.entries < L.opening.room }
+        requires room { (length before.now.entries < 2 ^ 62) × (length before.now.entries < L.opening.room) }
         requires place { place_in L.opening entry.now.statement.text ≡ Some place }
         ensures { IfOk result (λ operation. operation ≡ record { before = before.now.entries; added = entry.now ∷ [] }) }
     {
@@ -131,7 +80,9 @@ impl<L: Naming> Operation<L> {
             place,
             before: before.again(),
             tried: tried.again(),
-            slot: Arc::try_clone(slot)?,
+            history: Arc::try_clone(history)?,
+            entry: Snapshot::of(entry),
+            of: PhantomData,
         })
     }
 
@@ -158,11 +109,40 @@ impl<L: Naming> Operation<L> {
         &self.before
     }
 
-    /// The history with the entry, if it is known yet.
-    pub(crate) fn after(&self) -> Option<Front>
+    /// The attempt that ends in the entry.
+    pub(crate) fn tried(&self) -> &Front
+        ensures history { result.now.history ≡ L.tries }
+        ensures last { (entry : Published) → self.now.added ≡ entry ∷ [] → last_of result.now.entries ≡ Some entry }
+    {
+        &self.tried
+    }
+
+    /// Adds the entry to the history, and returns the history with it. `None` if the history has gone on.
+    pub(crate) fn add(&self) -> Option<Front>
         ensures { IfSome result (λ front. front ≡ record { history = L.book; entries = self.now.before ++ self.now.added }) }
     {
-        let completion = self.slot.get()?;
-        completion.front_after(&self.before, &self.tried)
+        let mut front = self.before.again();
+        if !front.grow(self.history.length(), &self.entry) {
+            return None;
+        }
+        Some(front)
+    }
+
+    /// The history with the entry, if it is this one. It ends in the same entry as this attempt.
+    pub(crate) fn added_in(&self, front: &Front, tried: &Front) -> Option<Front>
+        requires histories { (front.now.history ≡ L.book) × (tried.now.history ≡ L.tries) }
+        requires last { last_of front.now.entries ≡ last_of tried.now.entries }
+        ensures { IfSome result (λ after. after ≡ record { history = L.book; entries = self.now.before ++ self.now.added }) }
+    {
+        if tried.count() != self.tried.count() || front.count() <= self.before.count() {
+            return None;
+        }
+        if front.count() - self.before.count() != 1 {
+            return None;
+        }
+        // for the proof
+        tried.learn(&self.tried);
+        self.before.learn(front);
+        Some(front.again())
     }
 }

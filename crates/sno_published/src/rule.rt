@@ -1,6 +1,7 @@
 //! The rule of a history, and the step that adds an entry.
-use logbook::{Gain, Plain, Play, Rule};
+use logbook::{Gain, Plain, Play, Rule, Word};
 use sno_book::Entry;
+use std::snapshot::Snapshot;
 
 /// The history's word is the number of its entries.
 pub struct CountRule;
@@ -23,6 +24,9 @@ impl Rule<Entry, u64> for CountRule {
     ghost moves = { λ ask before after answer. Unit {0} };
 }
 
+/// The number of a history's entries.
+pub(crate) type Length = Word<Entry, u64, CountRule>;
+
 /// Nothing is kept with a history, so nothing is gained.
 pub struct NoGain;
 
@@ -42,10 +46,10 @@ impl Play<Entry, u64> for Addition {
 }
 
 /// The step takes the entry.
-impl Plain<Entry, Entry, u64> for Addition {
+impl Plain<Snapshot<Entry>, Entry, u64> for Addition {
     ghost use Rattle.std.specs.Prelude.{None};
 
-    ghost ask = { λ entry. entry };
+    ghost ask = { λ entry. entry.value };
 
     ghost state = { λ entry. None };
 }

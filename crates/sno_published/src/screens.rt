@@ -3,13 +3,11 @@ ghost use Rattle.std.specs.Prelude.{◌≡◌, ◌<◌, ◌^◌, ◌++◌, ◌�
 ghost use Rattle.std.specs.Arc.{arc_value};
 ghost use Rattle.sno_book.specs.Journals.{HasStep, replay};
 ghost use Rattle.sno_book.specs.Openings.{place_in, start};
-ghost use Rattle.sno_published.specs.Changes.{last_of};
 ghost use Rattle.sno_published.specs.Screens.{leaves_open};
 
 use crate::viewers::viewer_of;
 use crate::{
-    Completion, FullView, History, Naming, Operation, PublishFault, SeenEntries, Table, ViewRule,
-    Viewer,
+    FullView, History, Naming, Operation, PublishFault, SeenEntries, Table, ViewRule, Viewer,
 };
 use core::mem::replace_with;
 use left_right::Absorb;
@@ -17,20 +15,21 @@ use left_right::writer::Writer;
 use sno_book::{Entry, Opening};
 use std::alloc::{AllocError, Global};
 use std::marker::Model;
-use std::sync::{Arc, OnceLock, Wait};
+use std::sync::{Arc, Wait};
 
 /// How many attempts are counted.
 const MOST_ATTEMPTS: u64 = 1 << 61;
 
 /// What readers see, and whether more can be published. It is published to in place, since a commit would otherwise move
-/// it some ten times. By its type, all that is in the history of an open screen is shown, and nothing waits to be shown.
+/// it some ten times. By its type, what is shown begins the desk's history, and nothing waits to be shown in an open
+/// screen.
 /// Contracts see the entries that are shown, and whether the screen is open. It is not `Drop`: end it by [`Screen::end`].
 pub struct Screen<L: Naming>
 where
     Table<L>: Absorb<Operation<L>, State = [Entry; 0]>,
 {
     writer: Writer<Table<L>, Operation<L>, SeenEntries, ViewRule<L>>,
-    history: History,
+    history: Arc<History>,
     attempts: History,
     is_open: bool,
 }
@@ -40,6 +39,7 @@ where
     Table<L>: Absorb<Operation<L>, State = [Entry; 0]>,
 {
     ghost use Rattle.std.specs.Prelude.{◌≡◌, [], drop, true};
+    ghost use Rattle.std.specs.Arc.{arc_value};
     ghost use Rattle.sno_published.specs.Screens.{Screen, screen_code};
 
     ghost Value = { Screen };
@@ -48,37 +48,34 @@ where
 
     ghost view = { λ s. record { shown = s.writer.desk.shown.value; is_open = s.is_open } };
 
-    ghost invariant = { λ s. (s.is_open ≡ true → s.history ≡ record { history = L.book; entries = s.writer.desk.shown.value }) × (s.attempts.history ≡ L.tries) × (s.is_open ≡ true → drop s.writer.behind s.writer.log.items ≡ []) };
+    ghost invariant = { λ s. ((arc_value s.history).history ≡ L.book) × (s.attempts.history ≡ L.tries) × (s.is_open ≡ true → drop s.writer.behind s.writer.log.items ≡ []) };
 }
 
 /// Puts an entry, whose text is at this place, after those that are shown into the writer's log, as one more attempt.
-/// The operation has a slot for what is known later.
 fn append<L: Naming>(
-    alloc: Global,
     writer: &mut Writer<Table<L>, Operation<L>, SeenEntries, ViewRule<L>>,
-    history: &History,
+    history: &Arc<History>,
     attempts: &mut History,
     place: usize,
     entry: &Entry,
-) -> Result<Arc<OnceLock<Completion<L>>>, AllocError>
-    requires history { history.now.history ≡ L.book }
+) -> Result<(), AllocError>
+    requires history { (arc_value history.now).history ≡ L.book }
     requires attempts { attempts.old.history ≡ L.tries }
-    requires step { HasStep (replay (start L.opening) history.now.entries) entry.now }
-    requires room { length history.now.entries < L.opening.room }
+    requires step { HasStep (replay (start L.opening) writer.old.desk.shown.value) entry.now }
+    requires room { (length writer.old.desk.shown.value < 1000000) × (length writer.old.desk.shown.value < L.opening.room) }
     requires place { place_in L.opening entry.now.statement.text ≡ Some place }
     ensures desk { writer.new.desk ≡ writer.old.desk }
     ensures attempts { attempts.new.history ≡ L.tries }
-    ensures last { IfOk result (λ slot. last_of attempts.new.entries ≡ Some entry.now) }
-    ensures pending { MatchResult result (λ slot. drop writer.new.behind writer.new.log.items ≡ drop writer.old.behind writer.old.log.items ++ record { before = history.now.entries; added = entry.now ∷ [] } ∷ [])
+    ensures pending { MatchResult result (λ _. drop writer.new.behind writer.new.log.items ≡ drop writer.old.behind writer.old.log.items ++ record { before = writer.old.desk.shown.value; added = entry.now ∷ [] } ∷ [])
         (λ e. drop writer.new.behind writer.new.log.items ≡ drop writer.old.behind writer.old.log.items) }
 {
     if attempts.front().count() > MOST_ATTEMPTS || !attempts.add(entry) {
         return Err(AllocError);
     }
-    let slot = Arc::new(alloc, OnceLock::new())?;
-    let operation = Operation::new(entry, place, history.front(), attempts.front(), &slot)?;
+    let before = writer.published().front();
+    let operation = Operation::new(entry, place, before, attempts.front(), history)?;
     match writer.append(operation) {
-        Ok(()) => Ok(slot),
+        Ok(()) => Ok(()),
         Err(_) => Err(AllocError),
     }
 }
@@ -97,31 +94,18 @@ fn show_log<L: Naming, R: Wait>(
     writer.publish_as::<FullView, R>(rt)
 }
 
-/// Adds the entry that waits in the writer's log to the history, and shows it. Returns whether it did.
+/// Shows the entry that waits in the writer's log. Returns whether it did.
 fn show<L: Naming, R: Wait>(
     rt: &R,
     writer: &mut Writer<Table<L>, Operation<L>, SeenEntries, ViewRule<L>>,
-    history: &mut History,
-    attempts: &History,
-    slot: &OnceLock<Completion<L>>,
     entry: &Entry,
 ) -> bool
-    requires history { history.old ≡ record { history = L.book; entries = writer.old.desk.shown.value } }
-    requires attempts { attempts.now.history ≡ L.tries }
-    requires last { last_of attempts.now.entries ≡ Some entry.now }
     requires pending { drop writer.old.behind writer.old.log.items ≡ record { before = writer.old.desk.shown.value; added = entry.now ∷ [] } ∷ [] }
-    requires room { length writer.old.desk.shown.value < 1000000 }
     ensures shown { writer.new.desk.shown.value ≡ (if result then writer.old.desk.shown.value ++ entry.now ∷ [] else writer.old.desk.shown.value) }
-    ensures history { result ≡ true → history.new ≡ record { history = L.book; entries = writer.new.desk.shown.value } }
     ensures pending { result ≡ true → drop writer.new.behind writer.new.log.items ≡ [] }
 {
-    if !history.add(entry) {
-        return false;
-    }
-    let completion = Completion::new(history.front().again(), attempts.front().again());
-    if slot.try_set(completion).is_err() {
-        return false;
-    }
+    // for the proof
+    let _ = entry;
     replace_with(writer, rt, show_log).is_ok()
 }
 
@@ -146,6 +130,7 @@ impl<L: Naming> Screen<L> {
     {
         let first = Table::new(alloc, opening, history.front())?;
         let second = Table::new(alloc, opening, history.front())?;
+        let history = Arc::new(alloc, history)?;
         let writer = Writer::new(alloc, first, second, readers)?;
         Ok(Screen {
             writer,
@@ -188,7 +173,7 @@ impl<L: Naming> Screen<L> {
     }
 
     /// Publishes an entry after those that are shown, all at once. It waits for readers that still read what was shown
-    /// before the last entry. Requires
+    /// before the last entry. It takes memory only for the writer's log, by the log's own allocator. Requires
     ///
     /// - that the screen is open;
     /// - the place of the entry's text;
@@ -203,7 +188,7 @@ impl<L: Naming> Screen<L> {
     pub fn publish<R: Wait>(
         &mut self,
         rt: &R,
-        alloc: Global,
+        _alloc: Global,
         place: usize,
         entry: &Entry,
     ) -> Result<(), PublishFault>
@@ -214,8 +199,7 @@ impl<L: Naming> Screen<L> {
         ensures published { OnOk result (self.new ≡ record { shown = self.old.shown ++ entry.now ∷ []; is_open = true }) }
         ensures refused { IfErr result (λ e. self.new ≡ record { shown = self.old.shown; is_open = leaves_open e }) }
     {
-        let Ok(slot) = append(
-            alloc,
+        let Ok(()) = append(
             &mut self.writer,
             &self.history,
             &mut self.attempts,
@@ -224,14 +208,7 @@ impl<L: Naming> Screen<L> {
         ) else {
             return Err(PublishFault::Memory);
         };
-        self.is_open = show(
-            rt,
-            &mut self.writer,
-            &mut self.history,
-            &self.attempts,
-            &slot,
-            entry,
-        );
+        self.is_open = show(rt, &mut self.writer, entry);
         if self.is_open {
             Ok(())
         } else {

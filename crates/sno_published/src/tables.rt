@@ -1,10 +1,11 @@
 //! Tables.
-ghost use Rattle.std.specs.Prelude.{◌≡◌, ◌<◌, ◌≤◌, ◌++◌, ◌∷◌, [], Some, length, IfOk, MatchResult};
+ghost use Rattle.std.specs.Prelude.{◌≡◌, ◌<◌, ◌≤◌, ◌++◌, ◌∷◌, [], Some, length, IfOk, IfSome, MatchResult};
 ghost use Rattle.std.specs.Arc.{arc_value};
 ghost use Rattle.std.specs.Option.{option_map};
 ghost use Rattle.sno_book.specs.Entries.{Entry as Published, after_of};
 ghost use Rattle.sno_book.specs.Journals.{HasStep, Legal, replay};
 ghost use Rattle.sno_book.specs.Openings.{place_in, start};
+ghost use Rattle.sno_published.specs.Changes.{last_of};
 ghost use Rattle.sno_published.specs.Tables.{text_after, text_at};
 
 use crate::stored_texts::{StoredText, first_texts, renew, stored_at};
@@ -17,20 +18,22 @@ use std::sync::Arc;
 
 /// The texts after some entries, with their versions. By its type the entries are a beginning of the desk's history.
 /// They are legal from the desk's opening, which has room for them, and the texts and versions are what they leave.
-/// Contracts see the entries.
+/// Contracts see the entries. The table keeps also the attempt that ended in the last of them.
 #[derive(Drop)]
 pub struct Table<L: Naming> {
     opening: Arc<Opening>,
     stored: Vec<StoredText>,
     front: Front,
+    tried: Option<Front>,
     of: PhantomData<L>,
 }
 
 impl<L: Naming> Model for Table<L> {
-    ghost use Rattle.std.specs.Prelude.{◌≡◌, ◌≤◌, List, length};
+    ghost use Rattle.std.specs.Prelude.{◌≡◌, ◌≤◌, IfSome, List, length};
     ghost use Rattle.std.specs.Coded.{coded_list};
     ghost use Rattle.std.specs.Arc.{arc_value};
     ghost use Rattle.sno_book.specs.Entries.{Entry, entry_code};
+    ghost use Rattle.sno_published.specs.Changes.{last_of};
     ghost use Rattle.sno_published.specs.StoredTexts.{IsReplay};
 
     ghost Value = { List Entry };
@@ -39,7 +42,8 @@ impl<L: Naming> Model for Table<L> {
 
     ghost view = { λ s. s.front.entries };
 
-    ghost invariant = { λ s. (arc_value s.opening ≡ L.opening) × (s.front.history ≡ L.book) × IsReplay L.opening s.front.entries s.stored.items × (length s.front.entries ≤ L.opening.room) };
+    ghost invariant = { λ s. (arc_value s.opening ≡ L.opening) × (s.front.history ≡ L.book) × IsReplay L.opening s.front.entries s.stored.items × (length s.front.entries ≤ L.opening.room)
+        × IfSome s.tried (λ tried. (tried.history ≡ L.tries) × (last_of s.front.entries ≡ last_of tried.entries)) };
 }
 
 impl<L: Naming> Table<L> {
@@ -56,6 +60,7 @@ impl<L: Naming> Table<L> {
             opening: Arc::try_clone(opening)?,
             stored: first_texts(alloc, opening)?,
             front: front.again(),
+            tried: None,
             of: PhantomData,
         })
     }
@@ -86,21 +91,54 @@ impl<L: Naming> Table<L> {
         }
     }
 
-    /// Takes in the next entry, by its new text, if it has one, and the place of that, with the front that has seen it.
+    /// Takes in the next entry, by its new text, if it has one, and the place of that, with the front that has seen it and
+    /// the attempt that ended in it.
     fn take_in(
         &mut self,
         text: Option<&Arc<Text>>,
         place: usize,
         front: Front,
+        tried: Front,
     ) -> Result<(), AllocError>
         requires next { (entry : Published) × (option_map (λ t. arc_value t.now) text ≡ after_of entry.outcome) × (place_in L.opening entry.statement.text ≡ Some place)
             × HasStep (replay (start L.opening) self.old) entry × (front ≡ record { history = L.book; entries = self.old ++ entry ∷ [] }) }
+        requires tried { (tried.history ≡ L.tries) × (last_of front.entries ≡ last_of tried.entries) }
         requires room { length self.old < L.opening.room }
         ensures { MatchResult result (λ _. self.new ≡ front.entries) (λ _. self.new ≡ self.old) }
     {
         renew(&mut self.stored, place, text)?;
         self.front = front;
+        self.tried = Some(tried);
         Ok(())
+    }
+
+    /// The history with the entry of an operation, if this table took it in last.
+    fn front_with(&self, operation: &Operation<L>) -> Option<Front>
+        ensures { IfSome result (λ front. front ≡ record { history = L.book; entries = operation.now.before ++ operation.now.added }) }
+    {
+        match &self.tried {
+            Some(tried) => operation.added_in(&self.front, tried),
+            None => None,
+        }
+    }
+
+    /// Takes in an operation, if it comes after the table's entries, with the history that has its entry.
+    fn absorb(&mut self, operation: &Operation<L>, front: Front) -> Result<(), AllocError>
+        requires { front ≡ record { history = L.book; entries = operation.now.before ++ operation.now.added } }
+        ensures { MatchResult result (λ _. self.new ≡ self.old ++ operation.now.added) (λ _. self.new ≡ self.old) }
+    {
+        let before = operation.before();
+        if self.front.count() != before.count() {
+            return Err(AllocError);
+        }
+        // for the proof
+        self.front.learn(before);
+        self.take_in(
+            operation.text(),
+            operation.place(),
+            front,
+            operation.tried().again(),
+        )
     }
 }
 
@@ -114,21 +152,31 @@ impl<L: Naming> Absorb<Operation<L>> for Table<L> {
 
     ghost applied = { λ entries change. entries ++ change.added };
 
+    // The first copy adds the entry to the history.
     fn absorb_first(
         &mut self,
         operation: &Operation<L>,
         _other: &Table<L>,
     ) -> Result<(), AllocError> {
-        let Some(front) = operation.after() else {
-            return Err(AllocError);
-        };
-        let before = operation.before();
-        if self.front.count() != before.count() {
-            return Err(AllocError);
+        match operation.add() {
+            Some(front) => self.absorb(operation, front),
+            None => Err(AllocError),
         }
-        // for the proof
-        self.front.learn(before);
-        self.take_in(operation.text(), operation.place(), front)
+    }
+
+    // The second one finds it in the first.
+    fn absorb_second(
+        &mut self,
+        operation: Operation<L>,
+        other: &Table<L>,
+    ) -> Result<(), Operation<L>> {
+        let Some(front) = other.front_with(&operation) else {
+            return Err(operation);
+        };
+        match self.absorb(&operation, front) {
+            Ok(()) => Ok(()),
+            Err(_) => Err(operation),
+        }
     }
 }
 

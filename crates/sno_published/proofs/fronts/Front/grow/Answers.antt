@@ -13,5 +13,5 @@ compare_exchange-found-requires c =
       book,
       pen.0 ∙ book,
       offer.0,
-      rw (ap (λ w. w.key) word, pen.1, offer.1, offer.3) (adds_moves c.self.inside.seen.log c.args.entry.now c.self.inside.count (sym c.self.invariant)),
+      rw (ap (λ w. w.key) word, pen.1, offer.1, offer.3) (adds_moves c.self.inside.seen.log c.args.entry.now.value c.self.inside.count (sym c.self.invariant)),
     )

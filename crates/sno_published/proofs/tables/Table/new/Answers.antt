@@ -13,4 +13,5 @@ invariant_of-result g c =
       ap (λ f. f.history) front,
       rw (ap (λ f. f.entries) front) (first g.L.Naming.opening c.in_ok-first_texts.field-0.items texts),
       rw (ap (λ f. f.entries) front) (omega arith),
+      tt,
     )

@@ -20,4 +20,5 @@ invariant_of-self-2 g c =
       ap (λ f. f.history) next.4,
       subst (λ (es : List Entry). IsReplay opening es c.renew.new.stored.items) (sym (ap (λ f. f.entries) next.4)) is,
       omega (arith, ap (λ f. length f.entries) next.4, more, c.requires.room),
+      c.requires.tried,
     )
