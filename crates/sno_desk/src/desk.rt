@@ -191,7 +191,7 @@ impl<L: Naming> Desk<L> {
         ensures same { OnErr result (seat.new.accepted ≡ seat.old.accepted) }
     {
         let mut guard = self.lock.lock(rt);
-        let answer = guard.commit(rt, self.alloc, seat, proposal);
+        let answer = guard.commit(rt, seat, proposal);
         MutexGuard::unlock(guard);
         answer
     }

@@ -48,7 +48,6 @@ impl<L: Naming> Model for Locked<L> {
 /// total.
 fn publish<L: Naming, R: Wait>(
     rt: &R,
-    alloc: Global,
     screen: &mut Screen<L>,
     book: &mut Book,
     total: &mut ledger::Book<L>,
@@ -80,7 +79,7 @@ fn publish<L: Naming, R: Wait>(
     versions_count_entries();
     let _ = book.journal();
     let _ = book.opening().room();
-    let Ok(()) = screen.publish(rt, alloc, ready.place(), ready.entry()) else {
+    let Ok(()) = screen.publish(rt, ready.place(), ready.entry()) else {
         return Err((CommitFault::Memory, ready.back()));
     };
     let receipt = book.finish(ready);
@@ -107,7 +106,6 @@ impl<L: Naming> Locked<L> {
     pub(crate) fn commit<R: Wait>(
         &mut self,
         rt: &R,
-        alloc: Global,
         seat: &mut Seat<L>,
         proposal: Proposal,
     ) -> Result<Receipt, (CommitFault, Proposal)>
@@ -135,7 +133,6 @@ impl<L: Naming> Locked<L> {
         };
         publish(
             rt,
-            alloc,
             &mut self.screen,
             &mut self.book,
             &mut self.total,

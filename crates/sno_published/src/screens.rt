@@ -188,7 +188,6 @@ impl<L: Naming> Screen<L> {
     pub fn publish<R: Wait>(
         &mut self,
         rt: &R,
-        _alloc: Global,
         place: usize,
         entry: &Entry,
     ) -> Result<(), PublishFault>

@@ -48,7 +48,6 @@ fn proposal(alloc: Global, book: &Book, job: &Arc<Statement>) -> Result<Proposal
 #[tactic(auto, using(sno_book::proofs::Kinship::is_kin))]
 fn follow<L: Naming, R: Wait>(
     rt: &R,
-    alloc: Global,
     screen: &mut Screen<L>,
     book: &mut Book,
     proposal: Proposal,
@@ -69,7 +68,7 @@ fn follow<L: Naming, R: Wait>(
     let Some(place) = book.opening().place(receipt.entry.statement.text()) else {
         return false;
     };
-    screen.publish(rt, alloc, place, &receipt.entry).is_ok()
+    screen.publish(rt, place, &receipt.entry).is_ok()
 }
 
 /// The receipt of the statement on a book of its own.
@@ -159,7 +158,7 @@ fn watch<L: Naming, R: Wait + Abort>(
 {
     let (mut screen, mut viewer) = open::<L, R>(rt, alloc, book, history, attempts)?;
     let was_first = is_text(viewer.text(0), b"x".as_slice(), 0);
-    let is_shown = follow(rt, alloc, &mut screen, book, proposal);
+    let is_shown = follow(rt, &mut screen, book, proposal);
     let sights = look(&mut viewer, &screen);
     screen.end(rt);
     check_eq(
@@ -231,7 +230,7 @@ fn watch_beside<L: Naming + Send + Sync + 'static, R: Threads + Wait + Abort>(
         screen.end(rt);
         return Err("no thread".into());
     };
-    let is_shown = follow(rt, alloc, &mut screen, book, proposal);
+    let is_shown = follow(rt, &mut screen, book, proposal);
     let never = reader.join(rt);
     let count = screen.count();
     screen.end(rt);
