@@ -1,7 +1,7 @@
 //! What two texts share, line by line.
-ghost use Rattle.std.specs.Prelude.{◌≡◌, ◌≤◌, ◌<◌, ◌+◌, ◌++◌, length, take, IfOk, IfSome, OnOk};
+ghost use Rattle.std.specs.Prelude.{◌≡◌, ◌≤◌, ◌<◌, ◌+◌, ◌++◌, ◌∷◌, drop, length, position, take, IfOk, IfSome, OnOk};
 ghost use Rattle.sno_pattern.specs.Identifiers.{same};
-ghost use Rattle.sno_edit.specs.Scripts.{joined, new_part, new_text, old_part, old_text};
+ghost use Rattle.sno_edit.specs.Scripts.{is_line_feed, lines_in, new_lines, new_part, new_text, old_lines, old_part, old_text, seen};
 
 use std::alloc::{AllocError, Global};
 
@@ -28,13 +28,27 @@ pub struct DiffLine<'t> {
     pub text: &'t [u8],
 }
 
+fn is_line_feed(character: &u8) -> bool
+    ensures { result ≡ is_line_feed character.now }
+{
+    *character == b'\n'
+}
+
+/// The place of the first line feed.
+fn line_feed(text: &[u8]) -> Option<usize>
+    ensures { result ≡ position is_line_feed text.now }
+{
+    text.iter().position(|character| is_line_feed(character))
+}
+
 /// Where the first line of a text that isn't empty ends.
 fn line_end(text: &[u8]) -> usize
     requires { 0 < length text.now }
     ensures some { 0 < result }
     ensures within { result ≤ length text.now }
+    ensures first { lines_in text.now ≡ take result text.now ∷ lines_in (drop result text.now) }
 {
-    match text.iter().position(|c| *c == b'\n') {
+    match line_feed(text) {
         Some(place) => place + 1,
         None => text.len(),
     }
@@ -42,7 +56,7 @@ fn line_end(text: &[u8]) -> usize
 
 /// The lines of a text, each with its line feed; the last may have none.
 fn lines_of<'t>(alloc: Global, text: &'t [u8]) -> Result<Vec<&'t [u8]>, AllocError>
-    ensures { IfOk result (λ lines. joined lines.items ≡ text.now) }
+    ensures { IfOk result (λ lines. seen lines.items ≡ lines_in text.now) }
 {
     let mut lines = Vec::new(alloc);
     let mut rest = text;
@@ -65,7 +79,7 @@ fn is_same(line: &[u8], other: &[u8]) -> bool
 fn shared(old: &[&[u8]], new: &[&[u8]]) -> usize
     ensures old { result ≤ length old.now }
     ensures new { result ≤ length new.now }
-    ensures same { joined (take result old.now) ≡ joined (take result new.now) }
+    ensures same { seen (take result old.now) ≡ seen (take result new.now) }
 {
     let most = old.len().min(new.len());
     for place in 0..most {
@@ -106,8 +120,8 @@ fn difference(old: &[&[u8]], new: &[&[u8]]) -> (usize, usize)
 
 /// Adds lines to a script, with one mark.
 fn add<'t>(script: &mut Vec<DiffLine<'t>>, mark: Mark, lines: &[&'t [u8]]) -> Result<(), AllocError>
-    ensures old { OnOk result (old_text script.new.items ≡ old_text script.old.items ++ old_part mark (joined lines.now)) }
-    ensures new { OnOk result (new_text script.new.items ≡ new_text script.old.items ++ new_part mark (joined lines.now)) }
+    ensures old { OnOk result (old_lines script.new.items ≡ old_lines script.old.items ++ old_part mark (seen lines.now)) }
+    ensures new { OnOk result (new_lines script.new.items ≡ new_lines script.old.items ++ new_part mark (seen lines.now)) }
 {
     for line in lines {
         script.push(DiffLine { mark, text: *line })?;
@@ -122,8 +136,8 @@ fn step<'l, 't>(
     new: &'l [&'t [u8]],
 ) -> Result<(&'l [&'t [u8]], &'l [&'t [u8]]), AllocError>
     requires { 0 < length old.now + length new.now }
-    ensures old { IfOk result (λ rest. old_text script.new.items ++ joined rest.0.now ≡ old_text script.old.items ++ joined old.now) }
-    ensures new { IfOk result (λ rest. new_text script.new.items ++ joined rest.1.now ≡ new_text script.old.items ++ joined new.now) }
+    ensures old { IfOk result (λ rest. old_lines script.new.items ++ seen rest.0.now ≡ old_lines script.old.items ++ seen old.now) }
+    ensures new { IfOk result (λ rest. new_lines script.new.items ++ seen rest.1.now ≡ new_lines script.old.items ++ seen new.now) }
     ensures fewer { IfOk result (λ rest. length rest.0.now + length rest.1.now < length old.now + length new.now) }
 {
     let shared = shared(old, new);
@@ -151,6 +165,9 @@ pub fn script_of<'t>(
     old: &'t [u8],
     new: &'t [u8],
 ) -> Result<Vec<DiffLine<'t>>, AllocError>
+    ensures old_lines { IfOk result (λ script. old_lines script.items ≡ lines_in old.now) }
+    ensures new_lines { IfOk result (λ script. new_lines script.items ≡ lines_in new.now) }
+    // So it has both texts.
     ensures old { IfOk result (λ script. old_text script.items ≡ old.now) }
     ensures new { IfOk result (λ script. new_text script.items ≡ new.now) }
 {
