@@ -55,8 +55,7 @@ fn run<C: Clock, F: FnMut() -> Result<(), Fault>>(
     times: u32,
     work: &mut F,
 ) -> Result<Duration, Fault>
-    requires { F.IsAlwaysCallable work.old }
-    ensures { F.IsAlwaysCallable work.new }
+    requires { (f : _) → F.pre f }
 {
     let start = read_clock(clock)?;
     for _ in 0..times {
@@ -71,7 +70,7 @@ fn least_time<C: Clock, F: FnMut() -> Result<(), Fault>>(
     times: u32,
     mut work: F,
 ) -> Result<Tenths, Fault>
-    requires callable { F.IsAlwaysCallable work }
+    requires callable { (f : _) → F.pre f }
     requires times { 1 ≤ times }
 {
     let mut least = Duration::MAX;
