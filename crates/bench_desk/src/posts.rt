@@ -83,9 +83,9 @@ impl<L: Naming> Post<L> {
 
     /// Reads one text in place, as many times as there are versions. No version may be lower than the one that was seen
     /// before.
-    fn read_in_place(&mut self, name: &TextName, versions: &mut [u64]) -> Result<(), Fault> {
+    fn read_in_place(&mut self, place: usize, versions: &mut [u64]) -> Result<(), Fault> {
         for version in versions.iter_mut() {
-            let found = self.seat.read(name, |_text, version| version)?;
+            let found = self.seat.read_at(place, |_text, version| version)?;
             if found < *version {
                 return Err(Fault::WentDown);
             }
@@ -95,34 +95,36 @@ impl<L: Naming> Post<L> {
         Ok(())
     }
 
-    /// Looks at texts once, in this way.
-    fn look_once(
-        &mut self,
+    /// The place of the one text that a reader reads; `None` if it takes snapshots of all. A name is looked up once.
+    fn place_to_read(
+        &self,
         names: &[TextName],
         look: Look,
         reader: usize,
-        versions: &mut [u64],
-    ) -> Result<(), Fault> {
-        let place = match look {
-            Look::Snapshots | Look::Eager => return self.look(names, versions),
+    ) -> Result<Option<usize>, Fault> {
+        let number = match look {
+            Look::Snapshots | Look::Eager => return Ok(None),
             Look::One => 0,
             Look::Own => reader % TEXTS,
         };
-        match names.get(place) {
-            Some(name) => self.read_in_place(name, versions),
-            None => Err(Fault::NoLoad),
-        }
+        let name = names.get(number).ok_or(Fault::NoLoad)?;
+        let place = self.seat.place(name).ok_or(Fault::NoLoad)?;
+        Ok(Some(place))
     }
 
     /// Looks at texts while writers are at work.
     fn read(&mut self, shared: &Shared, reader: usize) -> Result<(), Fault> {
         let mut versions = [0u64; TEXTS];
         let look = shared.load.look;
+        let place = self.place_to_read(&shared.names, look, reader)?;
         for _ in 0..u64::MAX {
             if shared.writers.load(Ordering::SeqCst) == 0 {
                 break;
             }
-            self.look_once(&shared.names, look, reader, &mut versions)?;
+            match place {
+                Some(place) => self.read_in_place(place, &mut versions)?,
+                None => self.look(&shared.names, &mut versions)?,
+            }
             if matches!(look, Look::Snapshots) {
                 thread::yield_now();
             }

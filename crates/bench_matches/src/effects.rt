@@ -1,9 +1,9 @@
 //! What a statement does on a text.
 ghost use Rattle.std.specs.Prelude.{◌≡◌, IfOk};
 ghost use Rattle.sno_statement.specs.Perform.{perform};
-ghost use Rattle.bench_matches.specs.Effects.{effect_of_performing, effect_of_matching};
+ghost use Rattle.bench_matches.specs.Effects.{effect_of_hit, effect_of_matching, effect_of_performing};
 
-use sno_machine::{Code, MatchFault, Workspace};
+use sno_machine::{Code, Found, MatchFault, Workspace};
 use sno_pattern::Text;
 use sno_statement::{Outcome, Statement, StatementFault, perform};
 use std::alloc::{AllocError, Global};
@@ -50,6 +50,19 @@ pub fn effect_of_performing(
     }
 }
 
+// The effect of a match that ended so.
+fn effect_of_hit(found: &Found) -> Effect
+    ensures { result ≡ effect_of_hit found.now.end }
+{
+    match &found.end {
+        Some(hit) => Effect::Matched {
+            start: hit.start,
+            end: hit.end,
+        },
+        None => Effect::Failed,
+    }
+}
+
 /// What a match by the code does in a workspace, anchored as the statement says and within its limit of trials. The code has to
 /// be that of the statement's pattern. Refused only if out of memory.
 pub fn effect_of_matching<'a>(
@@ -68,13 +81,11 @@ pub fn effect_of_matching<'a>(
         statement.anchored(),
         statement.limit(),
     ) {
-        Ok(found) => Ok(match &found.end {
-            Some(hit) => Effect::Matched {
-                start: hit.start,
-                end: hit.end,
-            },
-            None => Effect::Failed,
-        }),
+        Ok(found) => {
+            let effect = effect_of_hit(&found);
+            workspace.give_back(found);
+            Ok(effect)
+        }
         Err(MatchFault::Memory) => Err(AllocError),
         Err(MatchFault::TooManyTrials) => Ok(Effect::Refused(StatementFault::TooManyTrials)),
     }

@@ -1,12 +1,15 @@
 -- What a seat returns, from what its viewer sees.
-use Rattle.std.proofs.Common.{◌≡◌, ◌≢◌, ℕ, List, [], ◌∷◌, map, Some, None, refl}
+use Rattle.std.proofs.Common.{◌≡◌, ◌≢◌, ◌<◌, ℕ, List, [], ◌∷◌, length, map, Some, None, refl, ap, sym, ◌∙◌, arith}
+use Rattle.std.proofs.lemmas.List.{length-map}
+use Rattle.std.proofs.lemmas.Option.{slice_get-get_or}
 use Rattle.std.specs.Option.{option_map}
 use Rattle.std.specs.Prelude.{Option}
 use Rattle.std.specs.Fn.{Once}
 use denote.Ref.{Bor}
 use Rattle.sno_book.specs.States.{VersionedText}
 use Rattle.sno_book.specs.Entries.{Entry}
-use Rattle.sno_book.specs.Openings.{Opening, place_in}
+use Rattle.sno_book.specs.Journals.{replay}
+use Rattle.sno_book.specs.Openings.{Opening, place_in, start}
 use Rattle.sno_book.specs.Snapshots.{Snapshot}
 use Rattle.sno_published.specs.Snapshots.{if_all, snapshot_at, snapshot_of, snapshots_of}
 use Rattle.sno_published.specs.Tables.{text_after}
@@ -14,11 +17,21 @@ use Rattle.sno_published.specs.Viewings.{GivesLent, IsCause, Viewing}
 use Rattle.sno_published.specs.declared.faults.ViewFault.{ViewFault}
 use Rattle.sno_published.specs.declared.faults.ViewFault.TheVariants.{Ended, Older, Memory}
 use Rattle.sno_desk.specs.Seen.{places_of}
-use Rattle.sno_book.proofs.Standing.{standing}
+use Rattle.sno_book.proofs.Standing.{names_kept, standing}
 
 -- at the place of a name there is a text after any entries
 pub stays_there : (opening : Opening) (entries : List Entry) (name : List ℕ) (place : ℕ) → place_in opening name ≡ Some place → text_after opening entries place ≢ None
 stays_there opening entries name place at none = let stood = standing opening entries name place at in absurd (cc (stood.there, none))
+
+-- at each place of the opening there is a text after any entries
+pub held_there : (opening : Opening) (entries : List Entry) (place : ℕ) → place < length opening.texts → text_after opening entries place ≢ None
+held_there opening entries place within none =
+    let state = replay (start opening) entries in
+    let names = names_kept (record { opening = opening; journal = entries }) in
+    let many : length state ≡ length opening.texts =
+    sym (length-map state (λ t. t.name)) ∙ ap length names ∙ length-map opening.texts (λ t. t.0) in
+    let at = slice_get-get_or state place (record { name = []; text = []; version = 0 }) (omega (arith, many, within)) in
+    absurd (cc (at, none))
 
 -- a look that was refused has shown nothing more
 pub sees_no_more : (fault : ViewFault) (before after : Viewing) → fault ≢ Memory → IsCause fault before after → after.seen ≡ before.seen

@@ -1,5 +1,5 @@
 -- What a seat sees of its desk.
-use Rattle.std.specs.Prelude.{◌≡◌, ◌≢◌, ℕ, List, [], ◌∷◌, ◌++◌, length, map, Option, Some, None, Result, Ok, Err}
+use Rattle.std.specs.Prelude.{◌≡◌, ◌≢◌, ℕ, List, [], ◌∷◌, ◌++◌, ◌<◌, ◌≤◌, length, map, Option, Some, None, Result, Ok, Err}
 use mathlib.Core.List.{IsPrefix as Begins}
 use denote.Ref.{Bor}
 use Rattle.std.specs.Fn.{Once}
@@ -50,6 +50,17 @@ pub record IsRead {F T : Type 0} (calls : Once F (Bor (List ℕ) × (ℕ × Unit
   pub held : VersionedText
   pub there : text_after opening seen place ≡ Some held
   pub lent : IsLent calls f opening place held r
+
+-- the same for the text at this place
+pub record IsReadAt {F T : Type 0} (calls : Once F (Bor (List ℕ) × (ℕ × Unit {0})) T) (f : F) (opening : Opening) (seen : List Entry) (place : ℕ) (r : T) : Type 0 where
+  pub held : VersionedText
+  pub there : text_after opening seen place ≡ Some held
+  pub lent : IsLent calls f opening place held r
+
+-- `NoText` exactly if the opening has no text at that place
+abbrev pub IsPlaceCause : LookFault → Opening → ℕ → Type 0
+IsPlaceCause look.NoText opening place = length opening.texts ≤ place
+IsPlaceCause look.Stopped opening place = place < length opening.texts
 
 -- `NoText` exactly if the opening has no text of that name
 abbrev pub IsLookCause : LookFault → Opening → List ℕ → Type 0

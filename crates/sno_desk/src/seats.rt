@@ -3,10 +3,11 @@ ghost use Rattle.std.specs.Prelude.{◌≡◌, ◌≢◌, ◌+◌, ◌<◌, ◌�
 ghost use Rattle.std.specs.Arc.{arc_value};
 ghost use Rattle.std.specs.List.{All};
 ghost use mathlib.Core.List.{IsPrefix};
+ghost use Rattle.sno_book.specs.Openings.{place_in};
 ghost use Rattle.sno_book.specs.Views.{IsPrefix as BeginsView};
 ghost use Rattle.sno_published.specs.Snapshots.{snapshots_of};
 ghost use Rattle.sno_desk.specs.Proposed.{GivesProposed};
-ghost use Rattle.sno_desk.specs.Seen.{GivesSeen, IsCauseForAll, IsLookCause, IsRead, IsViewAfter, places_of, view_after};
+ghost use Rattle.sno_desk.specs.Seen.{GivesSeen, IsCauseForAll, IsLookCause, IsPlaceCause, IsRead, IsReadAt, IsViewAfter, places_of, view_after};
 ghost use Rattle.sno_desk.specs.declared.faults.LookFault.TheVariants.{Stopped};
 
 use crate::{LookFault, SnapshotFault, SubmitFault};
@@ -65,6 +66,14 @@ impl<L: Naming> Seat<L> {
         }
     }
 
+    /// The place of the text of this name, from 0; `None` if the opening has no such text. It is the same as long as the
+    /// desk is open, so a reader of one text can ask for it once, and then read by [`Seat::read_at`].
+    pub fn place(&self, name: &TextName) -> Option<usize>
+        ensures { result ≡ place_in L.opening name.now }
+    {
+        self.viewer.opening().place(name)
+    }
+
     /// Sees what is shown, and lends the text of this name, with its version, to a function. It takes no lock, no share
     /// and no memory, and waits for nobody. While the function runs, no entry can be published, so it should be short.
     ///
@@ -85,9 +94,34 @@ impl<L: Naming> Seat<L> {
         ensures begins { IsPrefix self.old.viewer.seen self.new.viewer.seen }
         ensures same { self.new.accepted ≡ self.old.accepted }
     {
-        let Some(place) = self.viewer.opening().place(name) else {
+        let Some(place) = self.place(name) else {
             return Err(LookFault::NoText);
         };
+        self.read_at(place, read)
+    }
+
+    /// As [`Seat::read`], by the text's place: no name is looked up.
+    ///
+    /// Refused, in this order, and then the function isn't called and nothing more is seen:
+    ///
+    /// - `NoText`, exactly if the opening has no text at that place;
+    /// - `Stopped`.
+    pub fn read_at<T, F: FnOnce(&Text, u64) -> T>(
+        &mut self,
+        place: usize,
+        read: F,
+    ) -> Result<T, LookFault>
+        requires { F.IsAlwaysCallable read }
+        ensures read { IfOk result (λ r. IsReadAt F.FnOnce read L.opening self.new.viewer.seen place r) }
+        ensures shown { OnOk result (self.new.viewer.seen ≡ self.new.viewer.shown) }
+        ensures no_text { IfErr result (λ e. IsPlaceCause e L.opening place) }
+        ensures refused { OnErr result (self.new.viewer.seen ≡ self.old.viewer.seen) }
+        ensures begins { IsPrefix self.old.viewer.seen self.new.viewer.seen }
+        ensures same { self.new.accepted ≡ self.old.accepted }
+    {
+        if place >= self.viewer.opening().len() {
+            return Err(LookFault::NoText);
+        }
         let Ok(found) = self.viewer.read(place, read) else {
             return Err(LookFault::Stopped);
         };

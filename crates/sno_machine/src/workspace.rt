@@ -1,9 +1,10 @@
 //! Memory that matches use one after the other.
 use crate::entries::History;
+use sno_pattern::Found;
 use std::alloc::Global;
 
-/// Memory that matches use one after the other. A match needs room for what it may back up to; with a workspace it uses the room
-/// that earlier matches needed, and takes memory only if it needs more.
+/// Memory that matches use one after the other. A match needs room for what it may back up to, and its result for its
+/// conditional assignments. With a workspace it uses the room that earlier matches needed, and takes memory only if it needs more.
 ///
 /// A workspace is for one match at a time. It may serve any codes, and changes no result. It keeps as much memory as the match
 /// that needed the most, until it is dropped.
@@ -17,6 +18,14 @@ impl<'a> Workspace<'a> {
     pub fn new(alloc: Global) -> Workspace<'a> {
         Workspace {
             history: History::new(alloc),
+        }
+    }
+
+    /// Takes the memory of a result back, for the conditional assignments of a later match.
+    pub fn give_back(&mut self, found: Found) {
+        let Found { end, .. } = found;
+        if let Some(hit) = end {
+            self.history.spare = hit.conds.into_parts();
         }
     }
 }

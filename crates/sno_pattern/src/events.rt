@@ -81,6 +81,13 @@ impl Conds {
     {
         &self.parts
     }
+
+    /// The list of which they were made, so that its memory can be used again.
+    pub fn into_parts(self) -> Vec<(Name, usize, usize)>
+        ensures { result.items ≡ self }
+    {
+        self.parts
+    }
 }
 
 /// One event of a match.

@@ -64,6 +64,18 @@ impl Rows {
     pub fn run(&self, text: &[u8], inside: bool) -> usize
         ensures { result ≡ length (take_while (goes_by_rows inside self.now) text.now) }
     {
+        if inside {
+            self.long_run(text, true)
+        } else {
+            self.long_run(text, false)
+        }
+    }
+
+    // As `run`. Its two calls become two loops, which don't ask at each look whether the run is inside.
+    #[inline(always)]
+    fn long_run(&self, text: &[u8], inside: bool) -> usize
+        ensures { result ≡ length (take_while (goes_by_rows inside self.now) text.now) }
+    {
         let mut passed = 0;
         while text.len() - passed >= LANES {
             let stops = self.stops(u8x16::from_slice(&text[passed..]), inside);

@@ -153,7 +153,9 @@ fn perform_once<'a>(
     cursors_lie_within_the_text();
     let anchored = statement.anchored();
     let found = code.first_in(alloc, workspace, subject, anchored, statement.limit())?;
-    finish(alloc, statement.object(), subject, &found)
+    let outcome = finish(alloc, statement.object(), subject, &found);
+    workspace.give_back(found);
+    outcome
 }
 
 /// What a round that matched leaves to the next one: its bindings and its new text. Any other outcome is returned as the error.

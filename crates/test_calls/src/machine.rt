@@ -74,6 +74,7 @@ fn extents_in_one_workspace(
     for text in texts {
         let found = code.first_in(alloc, &mut workspace, text, false, LIMIT)?;
         extents.push(found.end.as_ref().map(|hit| (hit.start, hit.end)))?;
+        workspace.give_back(found);
     }
     Ok(extents)
 }

@@ -2,7 +2,7 @@
 use Rattle.std.proofs.Common.{◌≡◌, ◌+◌, ◌-◌, ◌≤◌, length, drop}
 use Rattle.std.specs.List.{take_while}
 use Rattle.sno_primitives.specs.Rows.{goes_by_rows}
-use Rattle.sno_primitives.proofs.rows.Rows.run.Given as goal
+use Rattle.sno_primitives.proofs.rows.Rows.long_run.Given as goal
 
 abbrev pub invariant-loop-passed : goal.invariant-loop-passed
 invariant-loop-passed l = record {

@@ -2,7 +2,7 @@
 use Rattle.std.proofs.Common.{arith}
 use Rattle.sno_primitives.specs.Rows.{goes_by_rows}
 use Rattle.sno_primitives.proofs.Lanes.{through, stopped_at}
-use Rattle.sno_primitives.proofs.rows.Rows.run.Goals as goal
+use Rattle.sno_primitives.proofs.rows.Rows.long_run.Goals as goal
 
 pub returns-then-stops-ne0 : goal.returns-then-stops-ne0
 returns-then-stops-ne0 c =
