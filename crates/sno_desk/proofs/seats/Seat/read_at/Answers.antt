@@ -1,5 +1,5 @@
 -- There is a text at each place of the opening.
-use Rattle.std.proofs.Common.{◌<◌, ap, length, arith}
+use Rattle.std.proofs.Common.{◌<◌, ◌∙◌, ap, length, arith}
 use Rattle.sno_book.specs.Openings.{Opening}
 use Rattle.sno_desk.proofs.Viewings.{held_there, lent_none}
 use Rattle.sno_desk.proofs.seats.Seat.read_at.Goals as goal
