@@ -52,15 +52,6 @@ impl<'s, 'a> Subject<'s, 'a> {
         self.text
     }
 
-    /// What was learnt of them. A call that isn't inlined takes the two apart: by a reference to a subject it would have to lie in
-    /// memory, written at each step.
-    #[inline(always)]
-    pub fn learnt(&self) -> &Learnt<'s, 'a>
-        ensures { result.now ≡ self.now }
-    {
-        self.learnt
-    }
-
     /// How many characters there are.
     #[inline(always)]
     pub fn len(&self) -> usize
