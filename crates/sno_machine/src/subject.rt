@@ -43,6 +43,18 @@ impl<'s, 'a> Subject<'s, 'a> {
         Subject { text, learnt }
     }
 
+    /// The same once more. A call that isn't inlined gets this one by reference, so that the first one stays in registers.
+    #[inline(always)]
+    pub fn again(&self) -> Subject<'s, 'a>
+        ensures value { result ≡ self.now }
+        ensures short { length self.now ≤ 65536 }
+    {
+        Subject {
+            text: self.text,
+            learnt: self.learnt,
+        }
+    }
+
     /// The characters.
     #[inline(always)]
     pub fn bytes(&self) -> &[u8]
