@@ -162,6 +162,7 @@
 //! | `passing` | starts at which no match can begin are passed over |
 //! | `taking` | the parts that take a character wherever they end |
 //! | `subject` | the text of a match, beside what was learnt of it |
+//! | `known` | where the runs of some sets end, and where `BAL` first ends |
 //! | `learnt` | what was learnt of the text |
 //! | `starts` | the outcome of a match |
 //! | `workspace` | memory that matches use one after the other |
@@ -189,6 +190,7 @@ mod faults;
 mod head_tables;
 mod heads;
 mod history;
+mod known;
 mod learnt;
 mod leaves;
 mod lookaheads;
