@@ -8,7 +8,7 @@ ghost use Rattle.sno_statement.specs.Statement.{IsLimit};
 ghost use Rattle.sno_document.specs.Reads.{IsReady};
 ghost use Rattle.std.specs.Thread.{IsSend, IsSync};
 ghost use Rattle.sno_desk.specs.Worked.{HasWorkedAt};
-ghost use Rattle.sno_serve.specs.declared.faults.ServeFault.TheVariants.{Desk, Memory};
+ghost use Rattle.sno_serve.specs.declared.faults.ServeFault.TheVariants.{Desk as Failed, Memory};
 
 use crate::answers::refusal_in;
 use crate::intake::{Intake, Next};
@@ -228,7 +228,7 @@ pub fn serve<I: Read + Send + Drop, W: Write + Send + Drop, R: Threads + Wait + 
     ensures lawful { IfOk result (λ s. IsLawful (view_of s.book)) }
     ensures worked { IfOk result (λ s. HasWorkedAt (λ before after. Begins before.seen after.seen) seats s.book.journal) }
     ensures rising { IfOk result (λ s. IsNonDecreasingBy (λ r. r.number) s.refused.items) }
-    ensures refused { IfErr result (λ e. (e ≡ Memory) ⊎ (e ≡ Desk)) }
+    ensures refused { IfErr result (λ e. (e ≡ Memory) ⊎ (e ≡ Failed)) }
 {
     let Document {
         rules,
