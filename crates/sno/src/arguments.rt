@@ -1,4 +1,5 @@
 //! Arguments that several subcommands have.
+ghost use Rattle.std.specs.Prelude.{◌≡◌, ◌≤◌, true};
 
 use clap::{Arg, ArgAction};
 use std::alloc::Global;
@@ -22,6 +23,13 @@ pub(crate) fn number<'a>(alloc: Global, name: &'a str, usual: &'a str, help: &'a
         .action(ArgAction::Set)
         .default_value(usual)
         .help(help)
+}
+
+/// Whether a number is 1 to `most`.
+pub(crate) fn is_up_to(most: u32, number: u32) -> bool
+    ensures { result ≡ true → (1 ≤ number) × (number ≤ most) }
+{
+    1 <= number && number <= most
 }
 
 /// The file of a document, which is on standard input without the argument.

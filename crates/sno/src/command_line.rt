@@ -1,9 +1,9 @@
 //! What the arguments ask for.
 
 use crate::arguments::{document, flag};
-use crate::edit_options::{EditOptions, edit_command, edit_options};
-use crate::serve_command::{ServeOptions, serve_command, serve_options};
-use crate::trace_command::{OUT_OF_RANGE, TraceOptions, trace_command, trace_options_in};
+use crate::edit_options::{EDIT_OUT_OF_RANGE, EditOptions, edit_command, edit_options};
+use crate::serve_command::{SERVE_OUT_OF_RANGE, ServeOptions, serve_command, serve_options};
+use crate::trace_command::{TRACE_OUT_OF_RANGE, TraceOptions, trace_command, trace_options};
 use clap::error::ErrorKind;
 use clap::{ArgMatches, Command, Error};
 use std::alloc::{AllocError, Global};
@@ -119,19 +119,22 @@ fn request_in<'a>(alloc: Global, matches: &ArgMatches<'a>) -> Result<Request<'a>
         let Ok(paths) = Vec::from_slice(alloc, found.get_strs("files").unwrap_or(&[])) else {
             return Err(Stop::Memory);
         };
-        return Ok(Request::Edit {
-            options: edit_options(found),
-            paths,
-        });
+        return match edit_options(found) {
+            Some(options) => Ok(Request::Edit { options, paths }),
+            None => Err(out_of_range(alloc, EDIT_OUT_OF_RANGE)),
+        };
     }
     if let Some(found) = matches.subcommand_matches("trace") {
-        return match trace_options_in(found) {
+        return match trace_options(found) {
             Some(options) => Ok(Request::Trace(options)),
-            None => Err(usage_of_trace(alloc)),
+            None => Err(out_of_range(alloc, TRACE_OUT_OF_RANGE)),
         };
     }
     if let Some(found) = matches.subcommand_matches("serve") {
-        return Ok(Request::Serve(serve_options(found)));
+        return match serve_options(found) {
+            Some(options) => Ok(Request::Serve(options)),
+            None => Err(out_of_range(alloc, SERVE_OUT_OF_RANGE)),
+        };
     }
     match matches.subcommand_matches("check") {
         Some(found) => Ok(Request::Check(options_in(found))),
@@ -139,9 +142,9 @@ fn request_in<'a>(alloc: Global, matches: &ArgMatches<'a>) -> Result<Request<'a>
     }
 }
 
-/// What is wrong with numbers that are out of range.
-fn usage_of_trace(alloc: Global) -> Stop {
-    match format!(in alloc; "{OUT_OF_RANGE}") {
+/// The refusal of a number that is not in its range, with this text.
+fn out_of_range(alloc: Global, text: &str) -> Stop {
+    match String::from_str(alloc, text) {
         Ok(text) => Stop::Usage(text),
         Err(_) => Stop::Memory,
     }

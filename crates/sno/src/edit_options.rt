@@ -1,8 +1,9 @@
 //! What the arguments of `sno edit` ask for.
+ghost use Rattle.sno_statement.specs.Statement.{IsLimit};
 
-use crate::arguments::{flag, number};
+use crate::arguments::{flag, is_up_to, number};
 use clap::{Arg, ArgAction, ArgMatches, Command};
-use sno_edit::Purpose;
+use sno_edit::{MAX_TRIALS, Purpose};
 use std::alloc::{AllocError, Global};
 
 const ABOUT: &str =
@@ -29,7 +30,11 @@ const FILES_HELP: &str = "The files, each a text by itself";
 
 const EXAMPLE: &str = "Example: sno edit --diff rules.json src/*.c";
 
-/// How `sno edit` is to be done.
+/// What is written if a number is not in its range.
+pub(crate) const EDIT_OUT_OF_RANGE: &str =
+    "error: '--trials' takes 1 to 1000000000\n\nFor more information, try '--help'.\n";
+
+/// How `sno edit` is to be done. By its type its number is in its range.
 #[derive(Clone, Copy, Debug, PartialEq, Eq)]
 pub(crate) struct EditOptions<'a> {
     /// What is done with the texts.
@@ -38,10 +43,11 @@ pub(crate) struct EditOptions<'a> {
     pub(crate) sync: bool,
     /// Whether statements that don't say it are anchored.
     pub(crate) anchor: bool,
-    /// How many trials a match may take, as it was written.
+    /// How many trials a match may take.
     pub(crate) trials: u32,
     /// The file of the rules; `-` is standard input.
     pub(crate) rules: &'a str,
+    ghost limit: { IsLimit trials },
 }
 
 fn positional<'a>(alloc: Global, id: &'a str, name: &'a str, help: &'a str) -> Arg<'a> {
@@ -69,8 +75,12 @@ pub(crate) fn edit_command<'a>(alloc: Global) -> Result<Command<'a>, AllocError>
         .arg(files)
 }
 
-/// The options that were found.
-pub(crate) fn edit_options<'a>(matches: &ArgMatches<'a>) -> EditOptions<'a> {
+/// The options that were found; `None` if a number is not in its range.
+pub(crate) fn edit_options<'a>(matches: &ArgMatches<'a>) -> Option<EditOptions<'a>> {
+    let trials = matches.get_one::<u32>("trials").unwrap_or(0);
+    if !is_up_to(MAX_TRIALS, trials) {
+        return None;
+    }
     let purpose = if matches.get_flag("diff") {
         Purpose::Diff
     } else if matches.get_flag("check") {
@@ -78,11 +88,11 @@ pub(crate) fn edit_options<'a>(matches: &ArgMatches<'a>) -> EditOptions<'a> {
     } else {
         Purpose::Write
     };
-    EditOptions {
+    Some(EditOptions {
         purpose,
         sync: matches.get_flag("sync"),
         anchor: matches.get_flag("anchor"),
-        trials: matches.get_one::<u32>("trials").unwrap_or(1_000_000),
+        trials,
         rules: matches.get_str("rules").unwrap_or("-"),
-    }
+    })
 }

@@ -1,5 +1,4 @@
 //! `sno edit`.
-ghost use Rattle.sno_statement.specs.Statement.{IsLimit};
 
 use crate::disk::{Disk, different_files};
 use crate::edit_options::EditOptions;
@@ -182,9 +181,7 @@ pub(crate) fn run_edit<R: Files, I: Read, W: Write, E: Write>(
     input: &mut I,
     output: &mut W,
     errors: &mut E,
-) -> Result<u8, ProgramFault>
-    requires { IsLimit options.now.trials }
-{
+) -> Result<u8, ProgramFault> {
     let bytes = rules_bytes(rt, alloc, input, options.rules)?;
     let mode = Mode {
         anchor: options.anchor,

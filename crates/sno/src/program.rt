@@ -4,11 +4,9 @@ use crate::checks::run_check;
 use crate::command_line::{Request, Stop, asked_for};
 use crate::edits::run_edit;
 use crate::faults::{FAILED, MISUSED, ProgramFault};
-use crate::serve_command::SERVE_OUT_OF_RANGE;
 use crate::serves::run_serve;
 use crate::streams::write_all;
 use crate::traces::run_trace;
-use sno_edit::MAX_TRIALS;
 use std::alloc::{AllocError, Global};
 use std::env::{Args, FillError};
 use std::io;
@@ -18,9 +16,6 @@ use std::sync::Wait;
 use std::thread::Threads;
 
 const NOT_TEXT: &[u8] = b"error: an argument is not UTF-8\n\nFor more information, try '--help'.\n";
-
-const PAST_LIMITS: &[u8] =
-    b"error: '--trials' takes 1 to 1000000000\n\nFor more information, try '--help'.\n";
 
 /// Whether the variable of the environment is there and isn't empty.
 fn is_set<R: Env>(rt: &R, name: &str) -> bool {
@@ -92,21 +87,11 @@ fn run_request<
     match request {
         Request::Check(options) => run_check(rt, alloc, options, input, output),
         Request::Edit { options, paths } => {
-            if options.trials == 0 || options.trials > MAX_TRIALS {
-                let _printed = write_all(errors, PAST_LIMITS);
-                return Ok(MISUSED);
-            }
             let coloured = output.is_terminal() && !is_set(rt, "NO_COLOR");
             run_edit(rt, alloc, options, paths, coloured, input, output, errors)
         }
         Request::Trace(options) => run_trace(rt, alloc, options, input, output, errors),
-        Request::Serve(options) => {
-            if !options.are_in_range() {
-                let _printed = write_all(errors, SERVE_OUT_OF_RANGE.as_bytes());
-                return Ok(MISUSED);
-            }
-            run_serve(rt, alloc, options, input, output, errors)
-        }
+        Request::Serve(options) => run_serve(rt, alloc, options, input, output, errors),
     }
 }
 

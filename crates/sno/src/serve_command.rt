@@ -1,8 +1,8 @@
 //! The arguments of `sno serve`.
-ghost use Rattle.std.specs.Prelude.{◌≡◌, ◌≤◌, true};
+ghost use Rattle.std.specs.Prelude.{◌≤◌};
 ghost use Rattle.sno_statement.specs.Statement.{IsLimit};
 
-use crate::arguments::number;
+use crate::arguments::{is_up_to, number};
 use clap::{Arg, ArgAction, ArgMatches, Command};
 use sno_statement::MAX_TRIALS;
 use std::alloc::{AllocError, Global};
@@ -36,7 +36,7 @@ const MAX_TRIES: u32 = 1_000;
 pub(crate) const SERVE_OUT_OF_RANGE: &str =
     "error: '--seats' takes 1 to 16, '--tries' 1 to 1000, and '--trials' 1 to 1000000000\n\nFor more information, try '--help'.\n";
 
-/// How `sno serve` is to be done.
+/// How `sno serve` is to be done. By its type each number is in its range.
 #[derive(Clone, Copy, Debug, PartialEq, Eq)]
 pub(crate) struct ServeOptions<'a> {
     /// How many threads take lines.
@@ -49,6 +49,9 @@ pub(crate) struct ServeOptions<'a> {
     pub(crate) listing: Option<&'a str>,
     /// The file of the document.
     pub(crate) document: &'a str,
+    ghost few: { (1 ≤ seats) × (seats ≤ 16) },
+    ghost lawful: { (1 ≤ tries) × (tries ≤ 1000) },
+    ghost limit: { IsLimit trials },
 }
 
 pub(crate) fn serve_command<'a>(alloc: Global) -> Result<Command<'a>, AllocError> {
@@ -73,29 +76,19 @@ pub(crate) fn serve_command<'a>(alloc: Global) -> Result<Command<'a>, AllocError
         .arg(document)
 }
 
-/// The options that were found.
-pub(crate) fn serve_options<'a>(matches: &ArgMatches<'a>) -> ServeOptions<'a> {
-    ServeOptions {
-        seats: matches.get_one::<u32>("seats").unwrap_or(0),
-        tries: matches.get_one::<u32>("tries").unwrap_or(0),
-        trials: matches.get_one::<u32>("trials").unwrap_or(0),
+/// The options that were found; `None` if a number is not in its range.
+pub(crate) fn serve_options<'a>(matches: &ArgMatches<'a>) -> Option<ServeOptions<'a>> {
+    let seats = matches.get_one::<u32>("seats").unwrap_or(0);
+    let tries = matches.get_one::<u32>("tries").unwrap_or(0);
+    let trials = matches.get_one::<u32>("trials").unwrap_or(0);
+    if !is_up_to(MAX_SEATS, seats) || !is_up_to(MAX_TRIES, tries) || !is_up_to(MAX_TRIALS, trials) {
+        return None;
+    }
+    Some(ServeOptions {
+        seats,
+        tries,
+        trials,
         listing: matches.get_str("listing"),
         document: matches.get_str("document").unwrap_or(""),
-    }
-}
-
-impl ServeOptions<'_> {
-    /// Whether each number is in its range.
-    pub(crate) fn are_in_range(&self) -> bool
-        ensures seats { result ≡ true → (1 ≤ self.now.seats) × (self.now.seats ≤ 16) }
-        ensures tries { result ≡ true → (1 ≤ self.now.tries) × (self.now.tries ≤ 1000) }
-        ensures trials { result ≡ true → IsLimit self.now.trials }
-    {
-        self.seats >= 1
-            && self.seats <= MAX_SEATS
-            && self.tries >= 1
-            && self.tries <= MAX_TRIES
-            && self.trials >= 1
-            && self.trials <= MAX_TRIALS
-    }
+    })
 }

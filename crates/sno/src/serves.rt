@@ -1,6 +1,4 @@
 //! `sno serve`.
-ghost use Rattle.std.specs.Prelude.{◌≤◌};
-ghost use Rattle.sno_statement.specs.Statement.{IsLimit};
 
 use crate::checks::document_bytes;
 use crate::faults::ProgramFault;
@@ -63,11 +61,7 @@ pub(crate) fn run_serve<
     mut input: I,
     output: W,
     errors: &mut E,
-) -> Result<u8, ProgramFault>
-    requires seats { (1 ≤ options.now.seats) × (options.now.seats ≤ 16) }
-    requires tries { (1 ≤ options.now.tries) × (options.now.tries ≤ 1000) }
-    requires trials { IsLimit options.now.trials }
-{
+) -> Result<u8, ProgramFault> {
     let bytes = document_bytes(rt, alloc, &mut input, Some(options.document))?;
     let mode = Mode {
         anchor: false,

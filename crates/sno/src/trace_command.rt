@@ -1,6 +1,6 @@
 //! The arguments of `sno trace`.
 
-use crate::arguments::{document, flag, number};
+use crate::arguments::{document, flag, is_up_to, number};
 use clap::{ArgMatches, Command};
 use std::alloc::{AllocError, Global};
 
@@ -26,7 +26,7 @@ const MAX_LINES: u32 = 10_000;
 const USUAL_LINES: u32 = 1_000;
 
 /// What is written if a number is not in its range.
-pub(crate) const OUT_OF_RANGE: &str =
+pub(crate) const TRACE_OUT_OF_RANGE: &str =
     "error: '--statement' takes a number from 1, and '--lines' takes 1 to 10000\n\nFor more information, try '--help'.\n";
 
 /// How `sno trace` is to be done.
@@ -54,10 +54,10 @@ pub(crate) fn trace_command<'a>(alloc: Global) -> Result<Command<'a>, AllocError
 }
 
 /// The options that were found; `None` if a number is not in its range.
-pub(crate) fn trace_options_in<'a>(matches: &ArgMatches<'a>) -> Option<TraceOptions<'a>> {
+pub(crate) fn trace_options<'a>(matches: &ArgMatches<'a>) -> Option<TraceOptions<'a>> {
     let statement = matches.get_one::<u32>("statement").unwrap_or(1);
     let lines = matches.get_one::<u32>("lines").unwrap_or(USUAL_LINES);
-    if statement == 0 || lines == 0 || lines > MAX_LINES {
+    if statement == 0 || !is_up_to(MAX_LINES, lines) {
         return None;
     }
     Some(TraceOptions {

@@ -11,7 +11,7 @@ use Rattle.sno_book.specs.Views.{View, state_of}
 use Rattle.sno_book.specs.Books.{Book, view_of}
 use Rattle.sno_book.proofs.Places.{StandsAt, stands_at}
 
-abbrev names_of : State → List (List ℕ)
+abbrev pub names_of : State → List (List ℕ)
 names_of state = map (λ t. t.name) state
 
 renewed_if : (b : Bool) (text : List ℕ) (here : VersionedText) (state rest : State) → names_of rest ≡ names_of state
@@ -54,7 +54,7 @@ standing opening entries name k h =
     stood name k (replay (start opening) entries) (subst (λ (l : List (List ℕ)). StandsAt name l k) (sym names) (stands_at name k (names_in opening.texts) h))
 
 -- the names of a book's texts are those of its opening
-names_kept : (v : View) → names_of (state_of v) ≡ names_in v.opening.texts
+pub names_kept : (v : View) → names_of (state_of v) ≡ names_in v.opening.texts
 names_kept v = replayed_names (start v.opening) v.journal ∙ started_names v.opening.texts v.opening.room
 
 found_at : (name : List ℕ) (k : ℕ) (state : State) → StandsAt name (names_of state) k → find name state ≡ slice_get state k

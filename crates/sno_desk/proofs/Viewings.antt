@@ -1,5 +1,5 @@
 -- What a seat returns, from what its viewer sees.
-use Rattle.std.proofs.Common.{◌≡◌, ◌≢◌, ◌<◌, ℕ, List, [], ◌∷◌, length, map, Some, None, refl, ap, sym, ◌∙◌, arith}
+use Rattle.std.proofs.Common.{◌≡◌, ◌≢◌, ◌<◌, ℕ, List, [], ◌∷◌, length, map, Some, None, Result, Ok, Err, IfErr, refl, ap, sym, ◌∙◌, arith}
 use Rattle.std.proofs.lemmas.List.{length-map}
 use Rattle.std.proofs.lemmas.Option.{slice_get-get_or}
 use Rattle.std.specs.Option.{option_map}
@@ -9,14 +9,17 @@ use denote.Ref.{Bor}
 use Rattle.sno_book.specs.States.{VersionedText}
 use Rattle.sno_book.specs.Entries.{Entry}
 use Rattle.sno_book.specs.Journals.{replay}
-use Rattle.sno_book.specs.Openings.{Opening, place_in, start}
+use Rattle.sno_book.specs.Openings.{Opening, names_in, place_in, start}
 use Rattle.sno_book.specs.Snapshots.{Snapshot}
 use Rattle.sno_published.specs.Snapshots.{if_all, snapshot_at, snapshot_of, snapshots_of}
 use Rattle.sno_published.specs.Tables.{text_after}
 use Rattle.sno_published.specs.Viewings.{GivesLent, IsCause, Viewing}
 use Rattle.sno_published.specs.declared.faults.ViewFault.{ViewFault}
 use Rattle.sno_published.specs.declared.faults.ViewFault.TheVariants.{Ended, Older, Memory}
-use Rattle.sno_desk.specs.Seen.{places_of}
+use Rattle.sno_desk.specs.Seen.{IsLookCause, IsPlaceCause, places_of}
+use Rattle.sno_desk.specs.declared.faults.LookFault.{LookFault}
+use Rattle.sno_desk.specs.declared.faults.LookFault.TheVariants as look
+use Rattle.sno_book.proofs.Places.{stands_at, stands_inside}
 use Rattle.sno_book.proofs.Standing.{names_kept, standing}
 
 -- at the place of a name there is a text after any entries
@@ -32,6 +35,20 @@ held_there opening entries place within none =
     sym (length-map state (λ t. t.name)) ∙ ap length names ∙ length-map opening.texts (λ t. t.0) in
     let at = slice_get-get_or state place (record { name = []; text = []; version = 0 }) (omega (arith, many, within)) in
     absurd (cc (at, none))
+
+-- what is said of each fault follows from what is known of it
+pub if_err_so : {T E : Type 0} (r : Result T E) (P Q : E → Type 0) → ((e : E) → P e → Q e) → IfErr r P → IfErr r Q
+if_err_so (Ok v) P Q so h = h
+if_err_so (Err e) P Q so h = so e h
+
+-- at the place of a name `NoText` never comes
+pub look_cause : (fault : LookFault) (opening : Opening) (name : List ℕ) (place : ℕ) → place_in opening name ≡ Some place → IsPlaceCause fault opening place
+    → IsLookCause fault opening name
+look_cause look.NoText opening name place at past =
+    let names = names_in opening.texts in
+    let within = stands_inside name place names (stands_at name place names at) in
+    absurd (omega (arith, within, past, length-map opening.texts (λ t. t.0)))
+look_cause look.Stopped opening name place at within = λ none. absurd (cc (at, none))
 
 -- a look that was refused has shown nothing more
 pub sees_no_more : (fault : ViewFault) (before after : Viewing) → fault ≢ Memory → IsCause fault before after → after.seen ≡ before.seen

@@ -13,6 +13,7 @@ pub mod RunStartLaws
 pub mod BeginningLaws
 pub mod SeekingLaws
 pub mod RoundLaws
+pub mod PairLaws
 pub mod ScanLaws
 pub mod StartLaws
 pub mod TableLaws

@@ -12,3 +12,4 @@ pub mod History
 pub mod Endings
 pub mod Beginnings
 pub mod Scanning
+pub mod Pairs

@@ -30,9 +30,9 @@
 //!                  ^  └──> 'a' ──> P ┐
 //!                  └─────────────────┘
 //!
-//! ARBNO('a') 'b'   Repeat ──>                     the part takes exactly one character: after a round, Rounds goes over further ones up to
-//!                     └──> 'a' ──> Rounds ──>     the first cursor at which 'b' or RPOS matches, or the part fails
-//!                           ^         │
+//! ARBNO('a') 'b'   Repeat ──>                     the part takes exactly one character, or is two primitives: after a
+//!                     └──> 'a' ──> Rounds ──>     round, Rounds goes over further ones up to the first cursor at which
+//!                           ^         │           'b' or RPOS matches, or the part fails
 //!                           └─────────┘
 //!
 //! ARBNO(BREAK('a'))  Repeat ──>                   the part is a primitive with at most one end that may take no character: one node does
@@ -146,7 +146,10 @@
 //! | `parts` | parts of `.` and `$`, and primitives as such parts |
 //! | `rounds` | rounds of a repetition of a primitive |
 //! | `one_character` | the parts that take exactly one character |
-//! | `scanning` | how many rounds of such a part are gone through together |
+//! | `scanning` | how many rounds of such a part are passed |
+//! | `pairs` | the parts that are two primitives with at most one end each |
+//! | `pair_rounds` | the rounds of such a part that are passed |
+//! | `together` | the rounds that are gone through together |
 //! | `seeking` | `ARB` before a part with few heads |
 //! | `conditions` | the pending assignments of a success, in their order |
 //! | `running` | one step after the other, and one start after the other |
@@ -159,6 +162,7 @@
 //! | `passing` | starts at which no match can begin are passed over |
 //! | `taking` | the parts that take a character wherever they end |
 //! | `subject` | the text of a match, beside what was learnt of it |
+//! | `known` | where the runs of some sets end, and where `BAL` first ends |
 //! | `learnt` | what was learnt of the text |
 //! | `starts` | the outcome of a match |
 //! | `workspace` | memory that matches use one after the other |
@@ -186,6 +190,7 @@ mod faults;
 mod head_tables;
 mod heads;
 mod history;
+mod known;
 mod learnt;
 mod leaves;
 mod lookaheads;
@@ -193,6 +198,8 @@ mod needles;
 mod nodes;
 mod one_character;
 mod other_leaves;
+mod pair_rounds;
+mod pairs;
 mod parts;
 mod passing;
 mod progress;
@@ -206,6 +213,7 @@ mod starts;
 mod stepping;
 mod subject;
 mod taking;
+mod together;
 mod unmarking;
 mod workspace;
 

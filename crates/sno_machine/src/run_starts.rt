@@ -37,7 +37,7 @@ impl<'a> RunStart<'a> {
 
     /// Where the run from the cursor ends, if the primitive fails there. Then the match fails from each cursor of the run, each at
     /// the cost of two trials.
-    pub fn end_in_vain(&self, text: &Subject<'_, 'a>, c: usize) -> Option<usize>
+    pub fn end_in_vain(&self, text: &Subject<'_, '_, 'a>, c: usize) -> Option<usize>
         requires { c ≤ length text.now }
         ensures { IfSome result (λ e. (c < e) × (e ≤ length text.now) × EndsInVain text.now self.now c e) }
     {

@@ -17,12 +17,12 @@ const NEAR_BALANCE: usize = 32;
 /// The text that a match goes through, beside what was learnt of it. A step reads the text itself, which stays in registers,
 /// and asks what was learnt only if it has gone far.
 #[derive(Drop)]
-pub struct Subject<'s, 'a> {
+pub struct Subject<'s, 't, 'a> {
     text: &'s [u8],
-    learnt: &'s Learnt<'s, 'a>,
+    learnt: &'s Learnt<'t, 'a>,
 }
 
-impl<'s, 'a> Model for Subject<'s, 'a> {
+impl<'s, 't, 'a> Model for Subject<'s, 't, 'a> {
     ghost use Rattle.std.specs.Prelude.{ℕ, ◌≡◌, ◌≤◌, List, length};
 
     ghost Value = { List ℕ };
@@ -32,15 +32,27 @@ impl<'s, 'a> Model for Subject<'s, 'a> {
     ghost invariant = { λ s. (length s.text.now ≤ 65536) × (s.learnt.now ≡ s.text.now) };
 }
 
-impl<'s, 'a> Subject<'s, 'a> {
+impl<'s, 't, 'a> Subject<'s, 't, 'a> {
     /// The text, of which this was learnt.
     #[inline(always)]
-    pub fn of(text: &'s [u8], learnt: &'s Learnt<'s, 'a>) -> Subject<'s, 'a>
+    pub fn of(text: &'s [u8], learnt: &'s Learnt<'t, 'a>) -> Subject<'s, 't, 'a>
         requires short { length text.now ≤ 65536 }
         requires same { learnt.now ≡ text.now }
         ensures { result ≡ text.now }
     {
         Subject { text, learnt }
+    }
+
+    /// The same once more. A call that isn't inlined gets this one by reference, so that the first one stays in registers.
+    #[inline(always)]
+    pub fn again(&self) -> Subject<'s, 't, 'a>
+        ensures value { result ≡ self.now }
+        ensures short { length self.now ≤ 65536 }
+    {
+        Subject {
+            text: self.text,
+            learnt: self.learnt,
+        }
     }
 
     /// The characters.

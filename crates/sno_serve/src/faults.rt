@@ -1,4 +1,6 @@
 //! Why a service ended early.
+ghost use Rattle.std.specs.Prelude.{◌≡◌};
+ghost use Rattle.sno_serve.specs.declared.faults.ServeFault.TheVariants.{Memory};
 
 use std::alloc::{AllocError, AllocFailed};
 use thiserror::Error;
@@ -21,12 +23,16 @@ pub enum ServeFault {
 }
 
 impl From<AllocError> for ServeFault {
+    ghost from_gives = { λ _ e. e ≡ Memory };
+
     fn from(_refused: AllocError) -> ServeFault {
         ServeFault::Memory
     }
 }
 
 impl<T: Drop> From<AllocFailed<T>> for ServeFault {
+    ghost from_gives = { λ _ e. e ≡ Memory };
+
     fn from(_refused: AllocFailed<T>) -> ServeFault {
         ServeFault::Memory
     }

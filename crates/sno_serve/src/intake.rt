@@ -1,5 +1,6 @@
 //! Lines of a reader.
-ghost use Rattle.std.specs.Prelude.{◌<◌, length, IfSome};
+ghost use Rattle.std.specs.Prelude.{◌≡◌, ◌<◌, length, IfErr, IfSome};
+ghost use Rattle.sno_serve.specs.declared.faults.ServeFault.TheVariants.{Memory};
 
 use crate::ServeFault;
 use std::alloc::Global;
@@ -81,7 +82,9 @@ fn add_piece<B: BufRead>(reader: &mut B, draft: &mut Draft) -> Result<bool, Serv
 }
 
 impl<I: Read + Drop> Intake<I> {
-    pub(crate) fn new(alloc: Global, reader: I) -> Result<Intake<I>, ServeFault> {
+    pub(crate) fn new(alloc: Global, reader: I) -> Result<Intake<I>, ServeFault>
+        ensures { IfErr result (λ e. e ≡ Memory) }
+    {
         match BufReader::with_capacity(alloc, CAPACITY, reader) {
             Ok(reader) => Ok(Intake {
                 reader,

@@ -1,5 +1,6 @@
 //! Seats that take lines until there are no more.
-ghost use Rattle.std.specs.Prelude.{◌≡◌, ◌≤◌, [], IfOk};
+ghost use Rattle.std.specs.Prelude.{◌≡◌, ◌≤◌, ◌⊎◌, [], IfErr, IfOk};
+ghost use Rattle.std.specs.List.Sorted.{IsNonDecreasingBy};
 ghost use mathlib.Core.List.{IsPrefix as Begins};
 ghost use Rattle.sno_book.specs.Books.{view_of};
 ghost use Rattle.sno_book.specs.Views.{IsLawful};
@@ -7,6 +8,7 @@ ghost use Rattle.sno_statement.specs.Statement.{IsLimit};
 ghost use Rattle.sno_document.specs.Reads.{IsReady};
 ghost use Rattle.std.specs.Thread.{IsSend, IsSync};
 ghost use Rattle.sno_desk.specs.Worked.{HasWorkedAt};
+ghost use Rattle.sno_serve.specs.declared.faults.ServeFault.TheVariants.{Desk as Failed, Memory};
 
 use crate::answers::refusal_in;
 use crate::intake::{Intake, Next};
@@ -204,7 +206,7 @@ fn may_cross<T: Send + Sync>()
 /// that of the one read before it, counted on from the document's.
 ///
 /// On `Ok` the book has the document's opening, and its journal is legal. It begins with what each seat has seen, and has as
-/// many entries as the seats have accepted. If a reply could not be written, a line not be read, or memory ran out, the service
+/// many entries as the seats have accepted. The refused statements come by rising number. If a reply could not be written, a line not be read, or memory ran out, the service
 /// ended there, and `fault` says so.
 ///
 /// Refused: `Memory`; `Desk` if there is no place for the seats, or the desk could not be closed, which no legal run meets.
@@ -225,6 +227,8 @@ pub fn serve<I: Read + Send + Drop, W: Write + Send + Drop, R: Threads + Wait + 
     ensures opening { IfOk result (λ s. s.book.opening ≡ document.book.opening) }
     ensures lawful { IfOk result (λ s. IsLawful (view_of s.book)) }
     ensures worked { IfOk result (λ s. HasWorkedAt (λ before after. Begins before.seen after.seen) seats s.book.journal) }
+    ensures rising { IfOk result (λ s. IsNonDecreasingBy (λ r. r.number) s.refused.items) }
+    ensures refused { IfErr result (λ e. (e ≡ Memory) ⊎ (e ≡ Failed)) }
 {
     let Document {
         rules,

@@ -121,25 +121,47 @@ fn ended_by_b(alloc: Global) -> Result<Text, Fail> {
     Ok(Text::new(text)?)
 }
 
-// The first `'b'` on the text, within 65,536 and within 65,535 trials.
+// The first match on the text, within each of two limits.
 fn limited(
     alloc: Global,
-    rules: &Rules,
+    pattern: &str,
     text: &Text,
+    limits: (u32, u32),
 ) -> Result<[Result<Option<Extent>, MatchFault>; 2], Fail> {
-    let pattern = pattern_of(alloc, rules, "'b'")?;
-    let code = compile(alloc, rules, &pattern)?;
+    let rules = no_rules(alloc)?;
+    let pattern = pattern_of(alloc, &rules, pattern)?;
+    let code = compile(alloc, &rules, &pattern)?;
     Ok([
-        extent(alloc, &code, text, 65_536),
-        extent(alloc, &code, text, 65_535),
+        extent(alloc, &code, text, limits.0),
+        extent(alloc, &code, text, limits.1),
     ])
 }
 
 #[test]
 fn each_start_that_is_passed_over_costs_a_trial(rt: HostRuntime) -> Result<(), Fail> {
     let text = ended_by_b(rt.alloc())?;
-    let found = limited(rt.alloc(), &no_rules(rt.alloc())?, &text)?;
+    let found = limited(rt.alloc(), "'b'", &text, (65_536, 65_535))?;
     let expected = [Ok(Some((65_535, 65_536))), Err(MatchFault::TooManyTrials)];
+    check_eq(&rt, &found.as_slice(), &expected.as_slice());
+    Ok(())
+}
+
+// Each of the three rounds takes three trials, one of them for `RPOS(0)` before it. The last trial is for `RPOS(0)` after them.
+#[test]
+fn each_round_that_is_passed_costs_its_trials(rt: HostRuntime) -> Result<(), Fail> {
+    let text = text_of(rt.alloc(), "ab,a,b,")?;
+    let found = limited(rt.alloc(), "ARBNO(SPAN('ab') ',') RPOS(0)", &text, (10, 9))?;
+    let expected = [Ok(Some((0, 7))), Err(MatchFault::TooManyTrials)];
+    check_eq(&rt, &found.as_slice(), &expected.as_slice());
+    Ok(())
+}
+
+// The second round finds no `,`. The starts take 6, 6, 2, 3 and 1 trials.
+#[test]
+fn a_round_without_an_end_costs_its_trials(rt: HostRuntime) -> Result<(), Fail> {
+    let text = text_of(rt.alloc(), "ab,a")?;
+    let found = limited(rt.alloc(), "ARBNO(SPAN('ab') ',') RPOS(0)", &text, (18, 17))?;
+    let expected = [Ok(Some((4, 4))), Err(MatchFault::TooManyTrials)];
     check_eq(&rt, &found.as_slice(), &expected.as_slice());
     Ok(())
 }

@@ -1,5 +1,7 @@
 -- Threads may share the service: its statements, and what is behind its locks.
 use denote.Exit.{yes}
+use Rattle.std.proofs.lemmas.List.Sorted.{IsNonDecreasingBy-from_sort_by_key}
+use Rattle.std.proofs.Common.{rules}
 use denote.Param.{param}
 use denote.Param.Send.{IsSend, IsSync, param_sync, arg_sync, sendable}
 use denote.Param.SendFields.{declared_send, declared_sync}
@@ -33,3 +35,6 @@ at_desk-requires-sync-W g c κs within =
     let outlet : IsSend (Outlet.the_row (param 1 g.row.W)) = search (sendable, crosses) depth 40 fits 100000 in
     param_sync 0 (Lts.arg-17-0 g.row.I g.row.W g.row.R g.I.laws g.W.laws g.R.laws g.I.Read g.I.Read-dict g.W.Write g.W.Write-dict g.R.Threads g.R.Threads-dict g.R.Wait g.R.Wait-dict g.I.Destruct-dict g.W.Destruct-dict κs)
     (arg_sync _ yes _ (declared_sync (Service.the_type (param 0 g.row.I) (param 1 g.row.W) g.I.Read g.W.Write) (rules, (statements, (mode, (tries, (numbers, (mutex.the_sync _ intake, (mutex.the_sync _ outlet, tt)))))))))
+
+pub returns-clause-rising : goal.returns-clause-rising
+returns-clause-rising g c = IsNonDecreasingBy-from_sort_by_key (λ r. r.number) _ c.in_ok-sort_by_key.ensures.sorted (λ a r q k. search rules)

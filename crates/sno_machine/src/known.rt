@@ -1,0 +1,147 @@
+//! What was learnt of a text.
+ghost use Rattle.std.specs.Prelude.{◌≡◌, ◌≤◌, true, length, IfSome};
+ghost use Rattle.sno_primitives.specs.MateTables.{AreOfText};
+ghost use Rattle.sno_primitives.specs.RunTables.{IsOfText};
+
+use sno_pattern::Class;
+use sno_primitives::{Mates, RunEnds};
+use std::alloc::Global;
+use std::marker::Model;
+
+// The most sets of which runs are remembered: they take 8 MB at most.
+const MOST_RUNS: usize = 2_048;
+
+// How many members of a set its number is made of.
+const FIRST_MEMBERS: usize = 16;
+
+// How many numbers tell where to look for the runs of a set.
+const HINTS: usize = 1_024;
+
+/// What was learnt of a text: where the runs of some sets end, and where `BAL` first ends.
+#[derive(Drop)]
+pub struct Known<'t, 'a> {
+    text: &'t [u8],
+    runs: Vec<RunEnds<'a>>,
+    // By a number that is made of a set: where its runs may be. Sets with one number share a hint.
+    hints: Vec<u32>,
+    mates: Option<Mates>,
+}
+
+impl<'t, 'a> Model for Known<'t, 'a> {
+    ghost use Rattle.std.specs.Prelude.{ℕ, ◌≤◌, List, length, All, IfSome};
+    ghost use Rattle.sno_primitives.specs.RunTables.{IsOfText};
+    ghost use Rattle.sno_primitives.specs.MateTables.{AreOfText};
+
+    ghost Value = { List ℕ };
+
+    ghost view = { λ s. s.text.now };
+
+    ghost invariant = { λ s. (length s.text.now ≤ 65536) × All (IsOfText s.text.now) s.runs.items × IfSome s.mates (AreOfText s.text.now) };
+}
+
+impl<'t, 'a> Known<'t, 'a> {
+    /// Nothing is known yet of the text.
+    pub fn nothing_of(alloc: Global, text: &'t [u8]) -> Known<'t, 'a>
+        requires { length text.now ≤ 65536 }
+        ensures { result ≡ text.now }
+    {
+        Known {
+            text,
+            runs: Vec::new(alloc),
+            hints: Vec::new(alloc),
+            mates: None,
+        }
+    }
+
+    /// Learns where the runs of the set end. If there is no memory for it, nothing is learnt.
+    pub fn learn_runs(&mut self, alloc: Global, set: &'a Class, inside: bool)
+        ensures { self.new ≡ self.old }
+    {
+        if let Ok(runs) = RunEnds::of(alloc, self.text, set, inside) {
+            self.keep(alloc, runs);
+        }
+    }
+
+    /// Learns where `BAL` first ends. If there is no memory for it, nothing is learnt.
+    pub fn learn_mates(&mut self, alloc: Global)
+        ensures { self.new ≡ self.old }
+    {
+        if let Ok(mates) = Mates::of(alloc, self.text) {
+            self.mates = Some(mates);
+        }
+    }
+
+    // Keeps the runs, if there is room for them.
+    fn keep(&mut self, alloc: Global, runs: RunEnds<'a>)
+        requires { IsOfText self.old runs }
+        ensures { self.new ≡ self.old }
+    {
+        if self.runs.len() >= MOST_RUNS {
+            return;
+        }
+        let number = number_of(runs.set, runs.inside);
+        point(alloc, &mut self.hints, number, self.runs.len() as u32);
+        let _ = self.runs.push(runs);
+    }
+
+    /// Of how many sets runs are known.
+    pub fn count(&self) -> usize {
+        self.runs.len()
+    }
+
+    /// The runs of the set, if they are known: first where the hint says.
+    pub fn runs(&self, set: &Class, inside: bool) -> Option<&RunEnds<'a>>
+        ensures { IfSome result (λ runs. IsOfText self.now runs.now × (runs.now.set.now ≡ set.now) × (runs.now.inside ≡ inside)) }
+    {
+        if let Some(hint) = self.hints.get(number_of(set, inside)) {
+            if let Some(runs) = self.runs.get(*hint as usize) {
+                if are_runs_of(runs, set, inside) {
+                    return Some(runs);
+                }
+            }
+        }
+        for runs in &self.runs {
+            if are_runs_of(runs, set, inside) {
+                return Some(runs);
+            }
+        }
+        None
+    }
+
+    /// Where `BAL` first ends, if it is known.
+    pub fn mates(&self) -> Option<&Mates>
+        ensures { IfSome result (λ mates. AreOfText self.now mates.now) }
+    {
+        self.mates.as_ref()
+    }
+}
+
+// Whether the runs are those of the set.
+fn are_runs_of(runs: &RunEnds, set: &Class, inside: bool) -> bool
+    ensures { result ≡ true → (runs.now.set.now ≡ set.now) × (runs.now.inside ≡ inside) }
+{
+    runs.inside == inside && runs.set.members() == set.members()
+}
+
+// A number below `HINTS` that is made of the set.
+fn number_of(set: &Class, inside: bool) -> usize {
+    let members = set.members();
+    let mut number = members.len().wrapping_mul(2).wrapping_add(inside as usize);
+    for member in members.iter().take(FIRST_MEMBERS) {
+        number = number.wrapping_mul(31).wrapping_add(*member as usize);
+    }
+    number % HINTS
+}
+
+// Makes the hint with this number name this place, if there is memory for the hints.
+fn point(alloc: Global, hints: &mut Vec<u32>, number: usize, place: u32) {
+    if hints.is_empty() {
+        match vec![in alloc; 0; HINTS] {
+            Ok(made) => *hints = made,
+            Err(_) => return,
+        }
+    }
+    if let Some(hint) = hints.get_mut(number) {
+        *hint = place;
+    }
+}
