@@ -94,7 +94,7 @@ fn shared(old: &[&[u8]], new: &[&[u8]]) -> usize
 fn agreement(old: &[&[u8]], new: &[&[u8]], total: usize) -> Option<usize>
     ensures { IfSome result (λ removed. (removed ≤ total) × (removed ≤ length old.now) × (total ≤ removed + length new.now)) }
 {
-    for removed in 0..total {
+    for removed in 0..=total {
         let added = total - removed;
         if removed < old.len() && added < new.len() && old[removed] == new[added] {
             return Some(removed);
