@@ -11,6 +11,7 @@
 //! | `faults` | `DocumentFault`, with the line of each |
 //! | `trees`, `members`, `document_rows` | the JSON tree of the bytes; its members; the rows of the document as it is written |
 //! | `definitions`, `texts`, `statements`, `documents` | the checks, in the order of the document |
+//! | `last_patterns` | one pattern for statements in a row that are written alike |
 //! | `rules` | statements that are read for texts from elsewhere |
 //! | `single` | one statement by itself |
 //! | `rounds` | how often a statement is to be repeated |
@@ -24,6 +25,7 @@ mod definitions;
 mod document_rows;
 mod documents;
 mod faults;
+mod last_patterns;
 mod laws;
 mod members;
 mod modes;

@@ -6,6 +6,7 @@ ghost use Rattle.sno_document.specs.Faults.{Gives};
 ghost use Rattle.sno_document.specs.Single.{statement_in};
 
 use crate::document_rows::statement_row;
+use crate::last_patterns::LastPattern;
 use crate::statements::statement;
 use crate::trees::value_in;
 use crate::{DocumentFault, Mode};
@@ -34,6 +35,7 @@ pub fn read_statement(
     let value = value_in(alloc, bytes, &mut scratch)?;
     let row = statement_row(&value)?;
     drop(value);
-    let statement = statement(alloc, rules, mode, number as usize, &row)?;
+    let mut last = LastPattern::none();
+    let statement = statement(alloc, rules, mode, number as usize, &row, &mut last)?;
     Ok(statement)
 }

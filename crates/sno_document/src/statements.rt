@@ -2,20 +2,19 @@
 ghost use Rattle.std.specs.Prelude.{◌≡◌, ◌≤◌, ◌<◌, ◌^◌, ◌+◌, [], map, length, IfOk, IfSome, IsTrue};
 ghost use Rattle.std.specs.Option.{option_copied, option_map};
 ghost use Rattle.std.specs.Arc.{arc_value};
-ghost use Rattle.sno_pattern.specs.Tree.{tree_of, refs_below};
-ghost use Rattle.sno_read.specs.Reading.{pattern_of};
 ghost use Rattle.sno_statement.specs.Statement.{IsLimit, IsRepeat};
 ghost use Rattle.sno_document.specs.Faults.{Gives};
+ghost use Rattle.sno_document.specs.LastPatterns.{IsOfNames};
 ghost use Rattle.sno_document.specs.DocumentRows.{statement_seen};
-ghost use Rattle.sno_document.specs.Document.{reading, object_row, text_name_row, task_row, statements_from, statements_of, usual_row, repeat_row};
+ghost use Rattle.sno_document.specs.Document.{object_row, text_name_row, task_row, statements_from, statements_of, usual_row, repeat_row};
 ghost use Rattle.sno_document.specs.Trees.{number_seen};
-ghost use Rattle.sno_document.specs.declared.faults.DocumentFault.TheVariants.{StatementPattern};
 
 use crate::document_rows::StatementRow;
+use crate::last_patterns::LastPattern;
 use crate::rounds::rounds_in;
 use crate::{DocumentFault, Mode};
-use sno_pattern::{NameFault, Names, Pattern, Rules, TextName};
-use sno_read::{Object, ReadFault, read_object, read_pattern};
+use sno_pattern::{NameFault, Names, Rules, TextName};
+use sno_read::{Object, ReadFault, read_object};
 use sno_statement::Statement;
 use std::alloc::Global;
 use std::sync::Arc;
@@ -38,24 +37,6 @@ fn object(
         Ok(object) => Ok(Some(object)),
         Err(ReadFault::Memory) => Err(DocumentFault::Memory),
         Err(fault) => Err(DocumentFault::StatementObject(number, fault)),
-    }
-}
-
-/// The pattern of statement number `number`. Its references are to definitions.
-#[tactic(auto, using(crate::proofs::References::spelled_covered))]
-fn pattern(
-    alloc: Global,
-    names: &Names,
-    number: usize,
-    text: &str,
-) -> Result<Pattern, DocumentFault>
-    ensures read { Gives tree_of result (reading (λ e. StatementPattern number e) (pattern_of names.now (length names.now) text.now)) }
-    ensures covered { IfOk result (λ p. IsTrue (refs_below (length names.now) (tree_of p))) }
-{
-    match read_pattern(alloc, names, names.len(), text.as_bytes()) {
-        Ok(pattern) => Ok(pattern),
-        Err(ReadFault::Memory) => Err(DocumentFault::Memory),
-        Err(fault) => Err(DocumentFault::StatementPattern(number, fault)),
     }
 }
 
@@ -90,38 +71,44 @@ fn repeat(
 
 /// Statement number `number`, performed once, with the usual limit of trials.
 #[tactic(auto, unfolding(crate::specs::Document::usual_row))]
-fn usual_statement(
+fn usual_statement<'t>(
     alloc: Global,
     rules: &Arc<Rules>,
     anchor: bool,
     number: usize,
-    row: &StatementRow<'_>,
+    row: &StatementRow<'t>,
+    last: &mut LastPattern<'t>,
 ) -> Result<Statement, DocumentFault>
-    requires { number < 2 ^ 32 }
-    ensures { Gives (λ s. s) result (usual_row (arc_value rules.now) anchor number (statement_seen row.now)) }
+    requires number { number < 2 ^ 32 }
+    requires last { IsOfNames (arc_value rules.now).names last.old }
+    ensures row { Gives (λ s. s) result (usual_row (arc_value rules.now) anchor number (statement_seen row.now)) }
+    ensures last { IsOfNames (arc_value rules.now).names last.new }
 {
     let name = text_name(alloc, number, row.text)?;
-    let pattern = pattern(alloc, rules.names(), number, row.pattern)?;
+    let pattern = last.pattern(alloc, rules.names(), number, row.pattern)?;
     let object = object(alloc, rules.names(), number, row.object)?;
     let rules = Arc::try_clone(rules)?;
     let anchored = row.anchored.unwrap_or(anchor);
-    Ok(Statement::new(number as u32, rules, pattern, object, name, anchored))
+    Ok(Statement::sharing(number as u32, rules, pattern, object, name, anchored))
 }
 
 /// Statement number `number`, by the mode, and repeated if it says so.
 #[tactic(auto, unfolding(crate::specs::Document::task_row))]
-pub(crate) fn statement(
+pub(crate) fn statement<'t>(
     alloc: Global,
     rules: &Arc<Rules>,
     mode: Mode,
     number: usize,
-    row: &StatementRow<'_>,
+    row: &StatementRow<'t>,
+    last: &mut LastPattern<'t>,
 ) -> Result<Statement, DocumentFault>
     requires number { number < 2 ^ 32 }
     requires limit { IsLimit mode.trials }
-    ensures { Gives (λ s. s) result (task_row (arc_value rules.now) mode number (statement_seen row.now)) }
+    requires last { IsOfNames (arc_value rules.now).names last.old }
+    ensures row { Gives (λ s. s) result (task_row (arc_value rules.now) mode number (statement_seen row.now)) }
+    ensures last { IsOfNames (arc_value rules.now).names last.new }
 {
-    let usual = usual_statement(alloc, rules, mode.anchor, number, row)?;
+    let usual = usual_statement(alloc, rules, mode.anchor, number, row, last)?;
     let repeat = repeat(number, usual.object(), row.repeat)?;
     let limited = usual.limited(mode.trials);
     match repeat {
@@ -145,9 +132,10 @@ pub(crate) fn statements(
     if rows.len() > MAX_STATEMENTS {
         return Err(DocumentFault::TooManyStatements);
     }
+    let mut last = LastPattern::none();
     let mut statements = Vec::new(alloc);
     for (place, row) in rows.iter().enumerate() {
-        let statement = statement(alloc, rules, mode, place + 1, row)?;
+        let statement = statement(alloc, rules, mode, place + 1, row, &mut last)?;
         statements.push(Arc::new(alloc, statement)?)?;
     }
     Ok(statements)

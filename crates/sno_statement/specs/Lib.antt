@@ -1,4 +1,5 @@
 pub mod Statement
+pub mod StatementPatterns
 pub mod Bindings
 pub mod LastAssignments
 pub mod Value

@@ -37,6 +37,7 @@
 //!
 //! - `src/statements.rt`: [`Statement`], by value the record `Statement` of `specs/Statement.antt`. Each method that reads returns what
 //!   `new` was given. The type ensures that the definitions cover the pattern.
+//! - `src/statement_patterns.rt`: the pattern of a statement, its own or one that statements share.
 //! - `src/performing.rt`: [`perform`], with the bindings and the rounds.
 //! - `src/last_assignments.rt`: the last assignment of each variable, for a match that assigns often.
 //! - `src/lengths.rt`: how many characters the new text has, counted before any is copied.
@@ -58,6 +59,7 @@ mod last_assignments;
 mod lengths;
 mod outcomes;
 mod performing;
+mod statement_patterns;
 mod statements;
 mod values;
 

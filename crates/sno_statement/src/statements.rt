@@ -4,7 +4,9 @@ ghost use Rattle.std.specs.Option.{option_map};
 ghost use Rattle.std.specs.Arc.{arc_value};
 ghost use Rattle.sno_pattern.specs.Tree.{tree_of, refs_below};
 ghost use Rattle.sno_statement.specs.Statement.{IsLimit, IsRepeat, with_limit, with_repeat};
+ghost use Rattle.sno_statement.specs.StatementPatterns.{tree_in};
 
+use crate::statement_patterns::StatementPattern;
 use sno_pattern::{Pattern, Rules, TextName};
 use sno_read::Object;
 use std::marker::Model;
@@ -25,7 +27,7 @@ pub const MAX_ROUNDS: u32 = 1_000;
 pub struct Statement {
     number: u32,
     rules: Arc<Rules>,
-    pattern: Pattern,
+    pattern: StatementPattern,
     object: Option<Object>,
     text: TextName,
     anchored: bool,
@@ -38,6 +40,7 @@ impl Model for Statement {
     ghost use Rattle.std.specs.Arc.{arc_value};
     ghost use Rattle.sno_pattern.specs.Tree.{tree_of, refs_below};
     ghost use Rattle.sno_statement.specs.Statement.{Statement, statement_code, IsLimit, IsRepeat};
+    ghost use Rattle.sno_statement.specs.StatementPatterns.{tree_in};
 
     ghost Value = { Statement };
 
@@ -46,7 +49,7 @@ impl Model for Statement {
     ghost view = { λ s. record {
       number = s.number;
       rules = arc_value s.rules;
-      pattern = tree_of s.pattern;
+      pattern = tree_in s.pattern;
       object = s.object;
       text = s.text;
       anchored = s.anchored;
@@ -54,7 +57,7 @@ impl Model for Statement {
       repeat = s.repeat;
     } };
 
-    ghost invariant = { λ s. IsTrue (refs_below (length (arc_value s.rules).bodies) (tree_of s.pattern)) × IsLimit s.limit × IfSome s.repeat (λ r. IsRepeat s.object r) };
+    ghost invariant = { λ s. IsTrue (refs_below (length (arc_value s.rules).bodies) (tree_in s.pattern)) × IsLimit s.limit × IfSome s.repeat (λ r. IsRepeat s.object r) };
 }
 
 impl Statement {
@@ -79,6 +82,55 @@ impl Statement {
           number = number;
           rules = arc_value rules;
           pattern = tree_of pattern;
+          object = object;
+          text = text;
+          anchored = anchored;
+          limit = USUAL_TRIALS;
+          repeat = None;
+        } }
+    {
+        let pattern = StatementPattern::Own(pattern);
+        Statement::made(number, rules, pattern, object, text, anchored)
+    }
+
+    /// As [`Statement::new`], with a pattern that other statements share. It takes no memory and is never refused.
+    pub fn sharing(
+        number: u32,
+        rules: Arc<Rules>,
+        pattern: Arc<Pattern>,
+        object: Option<Object>,
+        text: TextName,
+        anchored: bool,
+    ) -> Statement
+        requires { IsTrue (refs_below (length (arc_value rules).bodies) (tree_of (arc_value pattern))) }
+        ensures { result ≡ record {
+          number = number;
+          rules = arc_value rules;
+          pattern = tree_of (arc_value pattern);
+          object = object;
+          text = text;
+          anchored = anchored;
+          limit = USUAL_TRIALS;
+          repeat = None;
+        } }
+    {
+        let pattern = StatementPattern::Shared(pattern);
+        Statement::made(number, rules, pattern, object, text, anchored)
+    }
+
+    fn made(
+        number: u32,
+        rules: Arc<Rules>,
+        pattern: StatementPattern,
+        object: Option<Object>,
+        text: TextName,
+        anchored: bool,
+    ) -> Statement
+        requires { IsTrue (refs_below (length (arc_value rules).bodies) (tree_in pattern)) }
+        ensures { result ≡ record {
+          number = number;
+          rules = arc_value rules;
+          pattern = tree_in pattern;
           object = object;
           text = text;
           anchored = anchored;
@@ -138,7 +190,7 @@ impl Statement {
     pub fn pattern(&self) -> &Pattern
         ensures { tree_of result.now ≡ self.now.pattern }
     {
-        &self.pattern
+        self.pattern.as_pattern()
     }
 
     /// The object, if the statement replaces; `None` if it only matches.
