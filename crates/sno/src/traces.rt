@@ -6,7 +6,9 @@ use crate::streams::write_all;
 use crate::trace_command::TraceOptions;
 use sno_book::{Book, CommitFault, Snapshot, SnapshotFault, fresh_is_kin, propose};
 use sno_document::{Document, DocumentFault, Mode, read_document};
-use sno_statement::{Outcome, Statement, StatementFault, USUAL_TRIALS};
+use sno_machine::{MatchFault, compile};
+use sno_pattern::Text;
+use sno_statement::{Statement, StatementFault, USUAL_TRIALS};
 use sno_trace::{MatchTrace, Noted, TraceFault, lines_of, page_of, trace};
 use std::alloc::{AllocError, Global};
 use std::io::{Read, Write};
@@ -59,17 +61,13 @@ fn advance_all(
     Ok(())
 }
 
-/// Whether the match of the statement succeeds; of a repeated one, the first match. Without it, it fails or is refused.
-fn succeeds(
-    alloc: Global,
-    statement: &Arc<Statement>,
-    snapshot: Snapshot,
-) -> Result<bool, AllocError> {
-    match propose(alloc, Arc::try_clone(statement)?, snapshot) {
-        Ok(proposal) => Ok(!matches!(proposal.outcome(), Outcome::Failed { .. })),
-        Err(StatementFault::Memory) => Err(AllocError),
-        Err(StatementFault::TextTooLong) => Ok(true),
-        Err(StatementFault::TooManyTrials) => Ok(false),
+/// Whether the match of the statement succeeds; of a repeated one, the first match. A match that takes too many trials doesn't.
+fn succeeds(alloc: Global, statement: &Statement, text: &Text) -> Result<bool, AllocError> {
+    let code = compile(alloc, statement.rules(), statement.pattern())?;
+    match code.first(alloc, text, statement.anchored(), statement.limit()) {
+        Ok(found) => Ok(found.end.is_some()),
+        Err(MatchFault::TooManyTrials) => Ok(false),
+        Err(MatchFault::Memory) => Err(AllocError),
     }
 }
 
@@ -121,7 +119,7 @@ fn show(
     };
     let matched = match outcome_in(&found, is_refused) {
         Some(matched) => matched,
-        None => succeeds(alloc, statement, snapshot)?,
+        None => succeeds(alloc, statement, &snapshot.text)?,
     };
     Ok(TraceLines {
         lines,
