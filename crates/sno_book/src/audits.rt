@@ -19,10 +19,7 @@ fn same_entry(one: &Entry, other: &Entry) -> bool
 fn agrees(journal: &[Entry], receipt: &Receipt) -> bool
     ensures { Decides result (Agrees journal.now receipt.now) }
 {
-    match journal.get(receipt.index) {
-        Some(entry) => same_entry(entry, &receipt.entry),
-        None => false,
-    }
+    matches!(journal.get(receipt.index), Some(entry) if same_entry(entry, &receipt.entry))
 }
 
 impl Book {

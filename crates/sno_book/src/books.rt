@@ -10,7 +10,7 @@ ghost use Rattle.sno_book.specs.Commits.{GivesSnapshot, IsAccepted, IsRefused, I
 ghost use Rattle.sno_book.specs.declared.openings.TheConstants.{MAX_ENTRIES};
 
 use crate::ready::Ready;
-use crate::start::{Start, start_of};
+use crate::start::start_of;
 use crate::versioned_texts::{VersionedText, put, text_at};
 use crate::{
     BookFault, CommitFault, Entry, Opening, Origin, Proposal, Receipt, Snapshot, SnapshotFault,
@@ -61,13 +61,10 @@ impl Book {
         requires { room ≤ MAX_ENTRIES }
         ensures { OpensBook result texts.items room }
     {
-        let Start {
-            opening,
-            versioned_texts,
-        } = start_of(alloc, texts, room)?;
+        let start = start_of(alloc, texts, room)?;
         Ok(Book {
-            opening: Arc::new(alloc, opening)?,
-            versioned_texts,
+            opening: Arc::new(alloc, start.opening)?,
+            versioned_texts: start.versioned_texts,
             journal: Vec::new(alloc),
         })
     }
@@ -136,14 +133,12 @@ impl Book {
         let Some((place, versioned)) = self.versioned_text(name) else {
             return Err(SnapshotFault::NoText);
         };
-        match Arc::try_clone(&versioned.text) {
-            Ok(text) => {
-                // for the proof
-                let _ = self.journal();
-                Ok(Snapshot::new(Origin::of(self), place, versioned.version, text))
-            }
-            Err(_) => Err(SnapshotFault::Memory),
-        }
+        let Ok(text) = Arc::try_clone(&versioned.text) else {
+            return Err(SnapshotFault::Memory);
+        };
+        // for the proof
+        let _ = self.journal();
+        Ok(Snapshot::new(Origin::of(self), place, versioned.version, text))
     }
 
     /// Why the current text at the proposal's place is not the one that the proposal is for, or why nothing more is
@@ -258,9 +253,7 @@ impl Book {
         ensures refused { IfErr result (λ r. IsRefused (view_of self.old) (view_of self.new) proposal r.1 r.0) }
         ensures same { OnErr result (self.new ≡ self.old) }
     {
-        match self.prepare(proposal) {
-            Ok(ready) => Ok(self.finish(ready)),
-            Err(refused) => Err(refused),
-        }
+        let ready = self.prepare(proposal)?;
+        Ok(self.finish(ready))
     }
 }

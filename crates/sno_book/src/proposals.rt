@@ -1,5 +1,5 @@
 //! Proposals: statements performed on snapshots.
-ghost use Rattle.std.specs.Prelude.{◌≡◌, Ok, IfOk};
+ghost use Rattle.std.specs.Prelude.{◌≡◌, Ok};
 ghost use Rattle.std.specs.Arc.{arc_value};
 ghost use Rattle.sno_statement.specs.Perform.{perform, outcome_seen};
 ghost use Rattle.sno_book.specs.Origins.{IsPerformed};
@@ -8,7 +8,7 @@ ghost use Rattle.sno_book.specs.Proposals.{GivesProposal, entry_of};
 use crate::{Entry, Origin, Receipt, Snapshot};
 use sno_pattern::Text;
 use sno_statement::{Outcome, Statement, StatementFault, perform};
-use std::alloc::{AllocError, Global};
+use std::alloc::Global;
 use std::marker::Model;
 use std::sync::Arc;
 
@@ -72,13 +72,6 @@ impl Proposal {
         &self.entry.outcome
     }
 
-    /// The entry that the proposal makes, which shares its statement and its outcome.
-    pub(crate) fn entry(&self) -> Result<Entry, AllocError>
-        ensures { IfOk result (λ e. e ≡ entry_of self.now) }
-    {
-        self.entry.share()
-    }
-
     /// The receipt of an entry at this index, with the text that the statement was performed on.
     pub(crate) fn receipt(self, index: usize, text: Arc<Text>) -> Receipt
         requires { perform self.statement (arc_value text) ≡ Ok self.outcome }
@@ -109,14 +102,12 @@ pub fn propose(
     ensures { GivesProposal result (arc_value statement) snapshot }
 {
     let outcome = perform(alloc, &statement, &snapshot.text)?;
-    let outcome = Arc::new(alloc, outcome)?;
-    let entry = Entry {
-        statement,
-        version: snapshot.version,
-        outcome,
-    };
     Ok(Proposal {
-        entry,
+        entry: Entry {
+            statement,
+            version: snapshot.version,
+            outcome: Arc::new(alloc, outcome)?,
+        },
         place: snapshot.place,
         origin: snapshot.origin,
     })

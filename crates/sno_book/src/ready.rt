@@ -56,7 +56,7 @@ impl Ready {
         ensures ready { IfOk result (λ ready. ready ≡ proposal) }
         ensures back { IfErr result (λ p. p ≡ proposal) }
     {
-        let Ok(entry) = proposal.entry() else {
+        let Ok(entry) = proposal.entry.share() else {
             return Err(proposal);
         };
         let Ok(after) = after(proposal.outcome()) else {

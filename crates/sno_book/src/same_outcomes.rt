@@ -4,33 +4,17 @@ ghost use Rattle.std.specs.Option.{option_eq, option_map};
 ghost use Rattle.std.specs.Arc.{arc_value};
 ghost use Rattle.sno_pattern.specs.Identifiers.{same};
 ghost use Rattle.sno_statement.specs.Perform.{outcome_seen};
-ghost use Rattle.sno_book.specs.SameEntries.{same_datum, same_binding, same_bound, same_outcome};
+ghost use Rattle.sno_book.specs.SameEntries.{same_binding, same_bound, same_outcome};
 
 use sno_pattern::{Name, Text};
 use sno_statement::{Bindings, Datum, Outcome};
 use std::sync::Arc;
 
-fn same_datum(one: &Datum, other: &Datum) -> bool
-    ensures { result ≡ same_datum one.now other.now }
-{
-    match (one, other) {
-        (Datum::Str(s), Datum::Str(t)) => s == t,
-        (Datum::Int(m), Datum::Int(n)) => m == n,
-        _ => false,
-    }
-}
-
 /// Whether two bindings are the same, or both are missing.
 fn same_binding(one: Option<(&Name, &Datum)>, other: Option<(&Name, &Datum)>) -> bool
     ensures { result ≡ option_eq same_binding (option_map (λ b. (b.0.now, b.1.now)) one.entry) (option_map (λ b. (b.0.now, b.1.now)) other.entry) }
 {
-    match (one, other) {
-        (Some((name, datum)), Some((other_name, other_datum))) => {
-            name == other_name && same_datum(datum, other_datum)
-        }
-        (None, None) => true,
-        _ => false,
-    }
+    one == other
 }
 
 #[tactic(auto, using(crate::proofs::Pairs::apart, crate::proofs::Pairs::past_place, crate::proofs::Pairs::stop_place, crate::proofs::Pairs::no_place))]
@@ -52,11 +36,7 @@ fn same_bindings(one: &Bindings, other: &Bindings) -> bool
 fn same_after(one: &Option<Arc<Text>>, other: &Option<Arc<Text>>) -> bool
     ensures { result ≡ option_eq same (option_map arc_value one.now) (option_map arc_value other.now) }
 {
-    match (one, other) {
-        (Some(text), Some(other_text)) => text.bytes() == other_text.bytes(),
-        (None, None) => true,
-        _ => false,
-    }
+    one == other
 }
 
 /// Whether two outcomes are the same. Compared are the cursors, the bindings and the new text; or the failure with its

@@ -12,21 +12,11 @@ use crate::same_patterns::same_pattern;
 use sno_pattern::{Names, Pattern, Rules};
 use sno_statement::{Object, Part, Statement};
 
-fn same_part(one: &Part, other: &Part) -> bool
-    ensures { result ≡ same_part one.now other.now }
-{
-    match (one, other) {
-        (Part::Quoted(text), Part::Quoted(other_text)) => text == other_text,
-        (Part::Var(name), Part::Var(other_name)) => name == other_name,
-        _ => false,
-    }
-}
-
 /// Whether the parts at one place are the same, as far as both lists reach.
 fn same_part_pairs(one: &[Part], other: &[Part]) -> bool
     ensures { result ≡ list_all (λ p. same_part p.0 p.1) (zip one.now other.now) }
 {
-    one.iter().zip(other).all(|(a, b)| same_part(a, b))
+    one.iter().zip(other).all(|(a, b)| a == b)
 }
 
 #[tactic(auto, using(crate::proofs::Pairs::apart))]
@@ -50,11 +40,7 @@ fn same_object(one: Option<&Object>, other: Option<&Object>) -> bool
 fn same_name(one: &Names, other: &Names, place: usize) -> bool
     ensures { result ≡ option_eq same (slice_get one.now place) (slice_get other.now place) }
 {
-    match (one.get(place), other.get(place)) {
-        (Some(name), Some(other_name)) => name == other_name,
-        (None, None) => true,
-        _ => false,
-    }
+    one.get(place) == other.get(place)
 }
 
 #[tactic(auto, using(crate::proofs::Pairs::apart, crate::proofs::Pairs::past_place, crate::proofs::Pairs::stop_place, crate::proofs::Pairs::no_place))]

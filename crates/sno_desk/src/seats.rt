@@ -147,7 +147,7 @@ impl<L: Naming> Seat<L> {
         ensures cause { IfErr result (λ e. IsViewAfter e self.old.viewer self.new.viewer) }
         ensures same { self.new.accepted ≡ self.old.accepted }
     {
-        let Some(place) = self.viewer.opening().place(name) else {
+        let Some(place) = self.place(name) else {
             return Err(SnapshotFault::NoText);
         };
         let Some((text, version)) = self.viewer.text(place)? else {

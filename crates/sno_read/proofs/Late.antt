@@ -2,7 +2,7 @@
 use Rattle.std.proofs.Common.{◌≡◌, ℕ, suc, true, List, [], length, nat_eq, Result, Ok, Err, ap, ◌∙◌, arith}
 use Rattle.sno_read.specs.declared.faults.ReadFault.{ReadFault}
 use Rattle.sno_read.specs.declared.faults.ReadFault.TheVariants as fault
-use Rattle.sno_read.specs.Gives.{◌>>=◌, OnOutOfMemory}
+use Rattle.sno_read.specs.Gives.{◌>>=◌, Answers, OnOutOfMemory}
 use Rattle.sno_read.specs.Characters.{skip}
 use Rattle.sno_read.specs.Reading.{Env, short_ascii}
 use Rattle.sno_read.specs.Objects.{parts_of, object_of}
@@ -21,6 +21,11 @@ fault_is_found X holds reading (fault.TooDeep i) h g = tt
 fault_is_found X holds reading (fault.TooLong i) h g = tt
 fault_is_found X holds reading (fault.ReservedTarget i) h g = tt
 fault_is_found X holds reading (fault.NonAscii i) h g = tt
+
+-- a text with a fault spells nothing
+pub fault_spells_nothing : (X : Type 0) {Y : Type 0} (view : X → Y) (y : Y) (reading : Result Y ReadFault) (e : ReadFault) → reading ≡ Ok y → reading ≡ Err e → Answers view (Err e) (Ok y)
+fault_spells_nothing X view y (Ok x) e h g = cc
+fault_spells_nothing X view y (Err d) e h g = cc
 
 -- blanks alone are the object of no parts
 pub blank_object : (names : List (List ℕ)) (text t : List ℕ) → short_ascii text ≡ Ok t → nat_eq (length (skip t)) 0 ≡ true → object_of names text ≡ Ok []

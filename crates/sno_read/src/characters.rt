@@ -79,10 +79,7 @@ pub fn begins_with(text: &[u8], character: u8) -> bool
     ensures value { result ≡ begins (λ c. nat_eq c character) text.now }
     ensures some { result ≡ true → 0 < length text.now }
 {
-    match text.first() {
-        None => false,
-        Some(c) => *c == character,
-    }
+    matches!(text.first(), Some(c) if *c == character)
 }
 
 /// The quote that the text begins with, if there is one.
@@ -90,30 +87,21 @@ pub fn quote_of(text: &[u8]) -> Option<u8>
     ensures value { result ≡ quote_of text.now }
     ensures some { OnSome result (0 < length text.now) }
 {
-    match text.first() {
-        None => None,
-        Some(c) => { if is_quote(*c) { Some(*c) } else { None } }
-    }
+    text.first().copied().filter(|c| is_quote(*c))
 }
 
 /// Whether the text begins with a letter.
 pub fn begins_letter(text: &[u8]) -> bool
     ensures { result ≡ begins is_letter text.now }
 {
-    match text.first() {
-        None => false,
-        Some(c) => is_letter(*c),
-    }
+    matches!(text.first(), Some(c) if is_letter(*c))
 }
 
 /// Whether the text begins with a blank.
 pub fn begins_blank(text: &[u8]) -> bool
     ensures { result ≡ begins is_blank text.now }
 {
-    match text.first() {
-        None => false,
-        Some(c) => is_blank(*c),
-    }
+    matches!(text.first(), Some(c) if is_blank(*c))
 }
 
 /// The value of the digits, if there is one and it is at most 65,536.
@@ -123,13 +111,6 @@ pub fn value_of(digits: &[u8]) -> Option<u32>
     if digits.is_empty() {
         return None;
     }
-    number_of(digits)
-}
-
-// The value of the digits, if it is at most 65,536.
-fn number_of(digits: &[u8]) -> Option<u32>
-    ensures { result ≡ number_from 0 digits.now }
-{
     let mut value = 0;
     for digit in digits {
         value = value * 10 + u32::from(digit.saturating_sub(b'0'));
@@ -147,22 +128,12 @@ pub fn start_of(text: &[u8]) -> Start
     ensures some { result ≢ Other → 0 < length text.now }
 {
     match text.first() {
-        None => Start::Other,
-        Some(c) => {
-            if is_quote(*c) {
-                Start::Quote
-            } else if *c == b'@' {
-                Start::At
-            } else if *c == b'*' {
-                Start::Star
-            } else if *c == b'(' {
-                Start::Open
-            } else if is_letter(*c) {
-                Start::Letter
-            } else {
-                Start::Other
-            }
-        }
+        Some(c) if is_quote(*c) => Start::Quote,
+        Some(b'@') => Start::At,
+        Some(b'*') => Start::Star,
+        Some(b'(') => Start::Open,
+        Some(c) if is_letter(*c) => Start::Letter,
+        _ => Start::Other,
     }
 }
 

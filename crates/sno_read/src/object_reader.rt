@@ -51,13 +51,9 @@ impl<'a> Reader<'a> {
         let mut parts = Vec::new(self.alloc);
         let mut rest = start;
         while !rest.characters.is_empty() {
-            match self.part(rest) {
-                Ok((part, rest_after)) => {
-                    parts.push(part)?;
-                    rest = self.gap(rest_after)?;
-                }
-                Err(stop) => return Err(stop),
-            }
+            let (part, rest_after) = self.part(rest)?;
+            parts.push(part)?;
+            rest = self.gap(rest_after)?;
         }
         Ok(parts)
     }

@@ -1,6 +1,6 @@
 //! The reader of patterns: a method for each rule of the grammar.
 ghost use Rattle.std.specs.Prelude.{◌≡◌, ℕ, ◌<◌, ◌≤◌, length, IfOk, Ok};
-ghost use Rattle.sno_pattern.specs.Tree.{tree_of, Seq, Alt, Cond, Imm};
+ghost use Rattle.sno_pattern.specs.Tree.{tree_of, Cond, Imm};
 ghost use Rattle.sno_read.specs.Characters.{skip};
 ghost use Rattle.sno_read.specs.Gives.{Gives, ◌>>=◌ as ◌and_then◌};
 ghost use Rattle.sno_read.specs.Reading.{place, sign_at, cursor_at, reference_at, plain_of, number_call_at, set_call_at, group_at, repetition_at, from_name_at, quotation_at, element_at, targets_at, item_at, items_at, parts_at, concatenation_at, inside};
@@ -60,24 +60,6 @@ impl<'a> Reader<'a> {
         let (members, rest) = self.set(rest)?;
         let rest = self.close_parenthesis(rest)?;
         Ok((call.pattern(members), rest))
-    }
-
-    // One pattern and then another.
-    fn seq(&self, first: Pattern, second: Pattern) -> Result<Pattern, Stop>
-        ensures { Gives tree_of result (Ok (Seq (tree_of first) (tree_of second))) }
-    {
-        let first = Box::new(self.alloc, first)?;
-        let second = Box::new(self.alloc, second)?;
-        Ok(Pattern::Seq(first, second))
-    }
-
-    // One pattern or else another.
-    fn alt(&self, first: Pattern, second: Pattern) -> Result<Pattern, Stop>
-        ensures { Gives tree_of result (Ok (Alt (tree_of first) (tree_of second))) }
-    {
-        let first = Box::new(self.alloc, first)?;
-        let second = Box::new(self.alloc, second)?;
-        Ok(Pattern::Alt(first, second))
     }
 
     // A part that is assigned: at once after a dollar sign, and later after a period.
@@ -155,14 +137,8 @@ impl<'a> Reader<'a> {
         ensures { Gives (λ number. number) result (plain_of (env_of self.now) (UnknownName (place (env_of self.now) rest.entry.characters.now)) name.now) }
     {
         match self.names.place(name) {
-            Some(number) => {
-                if number < self.earlier {
-                    Ok(number)
-                } else {
-                    Err(Stop::Fault(ReadFault::UnknownName(self.place(rest))))
-                }
-            }
-            None => Err(Stop::Fault(ReadFault::UnknownName(self.place(rest)))),
+            Some(number) if number < self.earlier => Ok(number),
+            _ => Err(Stop::Fault(ReadFault::UnknownName(self.place(rest)))),
         }
     }
 
@@ -251,8 +227,9 @@ impl<'a> Reader<'a> {
         match characters::what_follows(rest.characters) {
             Following::Item => {
                 let (others, rest) = self.concatenation(room, rest.after_blanks())?;
-                let joined = self.seq(pattern, others)?;
-                Ok((joined, rest))
+                let first = Box::new(self.alloc, pattern)?;
+                let second = Box::new(self.alloc, others)?;
+                Ok((Pattern::Seq(first, second), rest))
             }
             Following::Nothing | Following::Dot | Following::Dollar | Following::Bar => Ok((
                 pattern, rest,
@@ -281,8 +258,9 @@ impl<'a> Reader<'a> {
         match characters::what_follows(rest.characters) {
             Following::Bar => {
                 let (others, rest) = self.otherwise(room, rest)?;
-                let joined = self.alt(pattern, others)?;
-                Ok((joined, rest))
+                let first = Box::new(self.alloc, pattern)?;
+                let second = Box::new(self.alloc, others)?;
+                Ok((Pattern::Alt(first, second), rest))
             }
             Following::Nothing | Following::Dot | Following::Dollar | Following::Item => Ok((
                 pattern, rest,

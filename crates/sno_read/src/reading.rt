@@ -80,16 +80,13 @@ fn pattern(alloc: Global, names: &Names, earlier: usize, text: &[u8]) -> Result<
     ensures late { OnMemory result (AsksForMemory text.now) }
 {
     let piece = check(text)?;
-    let total = text.len();
-    let pattern = whole(
-        &Reader {
-            alloc,
-            names,
-            earlier,
-            total,
-        },
-        piece,
-    )?;
+    let reader = Reader {
+        alloc,
+        names,
+        earlier,
+        total: text.len(),
+    };
+    let pattern = whole(&reader, piece)?;
     Ok(pattern)
 }
 
@@ -99,12 +96,11 @@ fn object(alloc: Global, names: &Names, text: &[u8]) -> Result<Object, Stop>
     ensures late { OnMemory result (AsksForMemory text.now) }
 {
     let piece = check(text)?;
-    let total = text.len();
     let reader = Reader {
         alloc,
         names,
         earlier: 0,
-        total,
+        total: text.len(),
     };
     let start = piece.after_blanks();
     // Blanks alone take no memory.
@@ -113,33 +109,6 @@ fn object(alloc: Global, names: &Names, text: &[u8]) -> Result<Object, Stop>
     }
     let parts = reader.parts(start)?;
     Ok(Object::of(parts))
-}
-
-fn pattern_answer(
-    alloc: Global,
-    names: &Names,
-    earlier: usize,
-    text: &[u8],
-) -> Result<Pattern, ReadFault>
-    ensures exact { Answers tree_of result (pattern_of names.now earlier text.now) }
-    ensures late { OnOutOfMemory result (AsksForMemory text.now) }
-{
-    match pattern(alloc, names, earlier, text) {
-        Ok(pattern) => Ok(pattern),
-        Err(Stop::Memory) => Err(ReadFault::Memory),
-        Err(Stop::Fault(fault)) => Err(fault),
-    }
-}
-
-fn object_answer(alloc: Global, names: &Names, text: &[u8]) -> Result<Object, ReadFault>
-    ensures exact { Answers (λ object. object) result (object_of names.now text.now) }
-    ensures late { OnOutOfMemory result (AsksForMemory text.now) }
-{
-    match object(alloc, names, text) {
-        Ok(object) => Ok(object),
-        Err(Stop::Memory) => Err(ReadFault::Memory),
-        Err(Stop::Fault(fault)) => Err(fault),
-    }
 }
 
 /// The pattern that the text spells. A plain name may name the first `earlier` definitions (at most all of `names`), and
@@ -170,7 +139,11 @@ pub fn read_pattern(
     // What is spelled so is read.
     ensures only { (t : Tree) → Spells names.now earlier text.now t → Answers tree_of result (Ok t) }
 {
-    pattern_answer(alloc, names, earlier, text)
+    match pattern(alloc, names, earlier, text) {
+        Ok(pattern) => Ok(pattern),
+        Err(Stop::Memory) => Err(ReadFault::Memory),
+        Err(Stop::Fault(fault)) => Err(fault),
+    }
 }
 
 /// The object that the text spells; a text of blanks alone is the object of no parts.
@@ -193,5 +166,9 @@ pub fn read_object(alloc: Global, names: &Names, text: &[u8]) -> Result<Object, 
     // What is spelled so is read.
     ensures only { (parts : List Part) → SpellsObject names.now text.now parts → Answers (λ object. object) result (Ok parts) }
 {
-    object_answer(alloc, names, text)
+    match object(alloc, names, text) {
+        Ok(object) => Ok(object),
+        Err(Stop::Memory) => Err(ReadFault::Memory),
+        Err(Stop::Fault(fault)) => Err(fault),
+    }
 }

@@ -12,8 +12,8 @@ pub concatenation-returns-in_err-others-in-Item-clause-read : goal.concatenation
 concatenation-returns-in_err-others-in-Item-clause-read t c = λ n h. rw (items_step (env_of c.args.self.now) (item_at (env_of c.args.self.now) c.args.room (inside (env_of c.args.self.now) c.args.room)) n c.args.rest.characters.now _ h)
     (let i = c.in_err-others-in-Item.ensures.read (n - 1) (omega (arith, c.in_ok-pattern.ensures.shorter, c.after_blanks.ensures.size)) in search rules)
 
-pub concatenation-returns-in_ok-joined-in-Item-clause-read : goal.concatenation-returns-in_ok-joined-in-Item-clause-read
-concatenation-returns-in_ok-joined-in-Item-clause-read t c = λ n h. rw (items_step (env_of c.args.self.now) (item_at (env_of c.args.self.now) c.args.room (inside (env_of c.args.self.now) c.args.room)) n c.args.rest.characters.now _ h)
+pub concatenation-returns-in_ok-second-in-Item-clause-read : goal.concatenation-returns-in_ok-second-in-Item-clause-read
+concatenation-returns-in_ok-second-in-Item-clause-read t c = λ n h. rw (items_step (env_of c.args.self.now) (item_at (env_of c.args.self.now) c.args.room (inside (env_of c.args.self.now) c.args.room)) n c.args.rest.characters.now _ h)
     (let i = c.in_ok-others-in-Item.ensures.read (n - 1) (omega (arith, c.in_ok-pattern.ensures.shorter, c.after_blanks.ensures.size)) in search rules)
 
 pub concatenation-returns-in-Nothing : goal.concatenation-returns-in-Nothing
@@ -31,9 +31,9 @@ alternation-returns-in_err-others-in-Bar-clause-read t c = λ n h. rw (parts_ste
     let i = c.in_err-others-in-Bar.ensures.read (n - 1) (omega (arith, c.in_ok-pattern.ensures.shorter)) in
     search (rules, bar_stops))
 
-pub alternation-returns-in_ok-joined-in-Bar-clause-read : goal.alternation-returns-in_ok-joined-in-Bar-clause-read
+pub alternation-returns-in_ok-second-in-Bar-clause-read : goal.alternation-returns-in_ok-second-in-Bar-clause-read
 unfolding concatenation_at
-alternation-returns-in_ok-joined-in-Bar-clause-read t c = λ n h. rw (parts_step (env_of c.args.self.now) (concatenation_at (env_of c.args.self.now) c.args.room (inside (env_of c.args.self.now) c.args.room)) n c.args.rest.characters.now _ h)
+alternation-returns-in_ok-second-in-Bar-clause-read t c = λ n h. rw (parts_step (env_of c.args.self.now) (concatenation_at (env_of c.args.self.now) c.args.room (inside (env_of c.args.self.now) c.args.room)) n c.args.rest.characters.now _ h)
     (let p = c.in_ok-pattern.ensures.read (suc (length c.args.rest.characters.now)) (omega arith) in
     let i = c.in_ok-others-in-Bar.ensures.read (n - 1) (omega (arith, c.in_ok-pattern.ensures.shorter)) in
     search (rules, bar_found))
