@@ -30,6 +30,16 @@
 //! - **Laws**: [`versions_only_rise`], [`versions_only_rise_in_place`], [`kin_agree`], [`versions_count_entries`],
 //!   [`fresh_is_free`], [`fresh_is_kin`] (`specs/Laws.antt`).
 //!
+//! What each file has:
+//!
+//! - `src/books.rt`: [`Book`] and its calls. `src/start.rt`: how it begins. `src/audits.rt`: the audit.
+//! - `src/openings.rt`: [`Opening`], the texts and the room that a book was given.
+//! - `src/origins.rt`: [`Origin`], a view that is kept without bytes.
+//! - `src/snapshots.rt`, `src/proposals.rt`, `src/entries.rt`: [`Snapshot`], [`Proposal`], [`Entry`] and [`Receipt`].
+//! - `src/ready.rt`: [`Ready`], what a commit needs, made before it changes anything. `src/versioned_texts.rt`: the texts at their places.
+//! - `src/same_patterns.rt`, `src/same_statements.rt`, `src/same_outcomes.rt`: equality by value.
+//! - `src/faults.rt`: the refusals. `src/laws.rt`: the laws.
+//!
 //! # What is not promised
 //!
 //! That there is enough memory. A commit costs a look-up of one name and a push. Neither the number of texts nor the
