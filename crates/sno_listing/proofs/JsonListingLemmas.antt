@@ -1,12 +1,11 @@
 -- What is listed as JSON is ASCII and has no float.
-use Rattle.std.proofs.Common.{◌≡◌, ℕ, suc, ◌+◌, ◌<◌, Bool, true, false, ◌||◌, List, [], ◌∷◌, ◌++◌, length, get_or, drop, map, Some, None, slice_get, IsTrue, refl, sym, ap, ◌∙◌, arith, add-one, drop-cons, append_assoc}
+use Rattle.std.proofs.Common.{◌≡◌, ℕ, ◌+◌, Bool, true, false, ◌||◌, List, [], ◌∷◌, ◌++◌, drop, map, Some, None, slice_get, IsTrue, refl, sym, ap, ◌∙◌, arith, append_assoc}
 use Rattle.std.specs.List.{list_all}
 use Rattle.std.specs.Char.{is_ascii, is_ascii_graphic}
 use Rattle.std.specs.Str.{IsAscii, IsUtf8}
 use Rattle.std.proofs.lemmas.Bool.{and_from, and_parts, ltb-true}
 use Rattle.std.proofs.lemmas.Bool.Decides.{nat_tests}
 use Rattle.std.proofs.lemmas.List.{map-append}
-use Rattle.std.proofs.lemmas.Option.{slice_get-get_or, slice_get_within}
 use Rattle.std.proofs.lemmas.Str.{IsUtf8-from_ascii}
 use Rattle.std.proofs.lemmas.Str.Ascii.{IsAscii-nil, IsAscii-cons}
 use Rattle.serde_json.specs.Data.{Data}
@@ -15,7 +14,6 @@ use Rattle.serde_json.specs.declared.value.Value.{Value}
 use Rattle.serde_json.specs.Written.{has_float, items_have_float}
 use Rattle.sno_pattern.specs.Identifiers.{is_letter, is_name_char, is_name}
 use Rattle.sno_pattern.specs.TextNames.{is_text_name}
-use Rattle.sno_statement.specs.Bindings.{Bindings}
 use Rattle.sno_statement.specs.Perform.{Outcome, Matched, Failed, Repeated}
 use Rattle.sno_statement.specs.declared.binding.Datum.{Datum}
 use Rattle.sno_statement.specs.declared.binding.Datum.TheVariants.{Str, Int}
@@ -23,6 +21,7 @@ use Rattle.sno_book.specs.States.{VersionedText}
 use Rattle.sno_book.specs.Entries.{Entry}
 use Rattle.sno_listing.specs.History.{History}
 use Rattle.sno_listing.specs.declared.refusals.Refusal.{Refusal}
+use Rattle.sno_listing.proofs.ListingLemmas.{row_next}
 use Rattle.sno_listing.specs.JsonListing.{text_data, value_data, binding_data, subject_members, matched_members, failed_members, repeated_members, done_members, entries_data, refused_data, json_listing_data}
 
 neither : (a b : Bool) → a ≡ false → b ≡ false → (a || b) ≡ false
@@ -101,22 +100,13 @@ no_float h =
     neither _ _ (entries_float 0 h.journal)
     (neither _ _ (items_float refused_data refused_float h.refused) (neither _ false (items_float text_data text_float h.state) refl))
 
--- the values from a place on are the value at that place and those after it
-binding_data_next : (bound : Bindings) (i : ℕ) (b : List ℕ × Datum) → slice_get bound i ≡ Some b
-    → map binding_data (drop i bound) ≡ binding_data b ∷ map binding_data (drop (i + 1) bound)
-binding_data_next bound i b is =
-    let inside : i < length bound = slice_get_within bound i b is in
-    let there : get_or bound i b ≡ b = (let e = slice_get-get_or bound i b inside in cc) in
-    let bs : drop i bound ≡ b ∷ drop (i + 1) bound = rw (add-one) (drop-cons bound i b inside ∙ ap (λ (x : List ℕ × Datum). x ∷ drop (suc i) bound) there) in
-    ap (map binding_data) bs
-
 -- one more value is added
-pub binding_step : (values new : List Value) (v : Value) (all : List Data) (bound : Bindings) (i : ℕ) (b : List ℕ × Datum) → slice_get bound i ≡ Some b
-    → new ≡ values ++ v ∷ [] → view v ≡ binding_data b → map view values ++ map binding_data (drop i bound) ≡ all
-    → map view new ++ map binding_data (drop (i + 1) bound) ≡ all
-binding_step values new v all bound i b is pushed seen so_far =
-    ap (λ (l : List Value). map view l ++ map binding_data (drop (i + 1) bound)) pushed
-    ∙ ap (λ (l : List Data). l ++ map binding_data (drop (i + 1) bound)) (map-append view values (v ∷ []))
-    ∙ append_assoc (map view values) (view v ∷ []) (map binding_data (drop (i + 1) bound))
-    ∙ ap (λ (d : Data). map view values ++ (d ∷ map binding_data (drop (i + 1) bound))) seen
-    ∙ ap (λ (l : List Data). map view values ++ l) (sym (binding_data_next bound i b is)) ∙ so_far
+pub value_step : {A : Type 0} (shown : A → Data) (values new : List Value) (v : Value) (all : List Data) (rows : List A) (i : ℕ) (row : A) → slice_get rows i ≡ Some row
+    → new ≡ values ++ v ∷ [] → view v ≡ shown row → map view values ++ map shown (drop i rows) ≡ all
+    → map view new ++ map shown (drop (i + 1) rows) ≡ all
+value_step shown values new v all rows i row is pushed seen so_far =
+    ap (λ (l : List Value). map view l ++ map shown (drop (i + 1) rows)) pushed
+    ∙ ap (λ (l : List Data). l ++ map shown (drop (i + 1) rows)) (map-append view values (v ∷ []))
+    ∙ append_assoc (map view values) (view v ∷ []) (map shown (drop (i + 1) rows))
+    ∙ ap (λ (d : Data). map view values ++ (d ∷ map shown (drop (i + 1) rows))) seen
+    ∙ ap (λ (l : List Data). map view values ++ l) (sym (ap (map shown) (row_next rows i row is))) ∙ so_far

@@ -1,3 +1,2 @@
-pub mod VersionedTextLemmas
 pub mod ListingLemmas
 pub mod JsonListingLemmas

@@ -12,9 +12,7 @@ use Rattle.std.proofs.lemmas.List.Folds.{list_all-append}
 use Rattle.std.proofs.lemmas.Str.Ascii.{All-from_ascii}
 use Rattle.sno_listing.specs.Listing.{tries_words}
 use Rattle.std.proofs.lemmas.Option.{slice_get-get_or, slice_get_within}
-use Rattle.sno_listing.specs.Listing.{binding_line, escaped_text, is_plain}
-use Rattle.sno_statement.specs.Bindings.{Bindings}
-use Rattle.sno_statement.specs.declared.binding.Datum.{Datum}
+use Rattle.sno_listing.specs.Listing.{escaped_text, is_plain}
 
 put_plain : (b : Bool) (c : ℕ) (escaped xs : List ℕ) → b ≡ true → cond b (c ∷ []) escaped ++ xs ≡ c ∷ xs
 put_plain true c escaped xs h = refl
@@ -37,27 +35,25 @@ front_step out new rest front back all n put is left plain so_far =
     ∙ ap (λ (l : List ℕ). out ++ (l ++ escaped_text back)) is ∙ ap (λ (l : List ℕ). out ++ (take n rest ++ escaped_text l)) left
     ∙ ap (λ (l : List ℕ). out ++ l) (plain_front rest n plain) ∙ so_far
 
--- a binding that is there
-pub binding_next : (bound : Bindings) (i : ℕ) (b : List ℕ × Datum) → slice_get bound i ≡ Some b
-    → flat_map binding_line (drop i bound) ≡ binding_line b ++ flat_map binding_line (drop (i + 1) bound)
-binding_next bound i b is =
-    let inside : i < length bound = slice_get_within bound i b is in
-    let there : get_or bound i b ≡ b = (let e = slice_get-get_or bound i b inside in cc) in
-    let bs : drop i bound ≡ b ∷ drop (i + 1) bound = rw (add-one) (drop-cons bound i b inside ∙ ap (λ (x : List ℕ × Datum). x ∷ drop (suc i) bound) there) in
-    ap (flat_map binding_line) bs
+-- the rows from a place on are the row at that place and those after it
+pub row_next : {A : Type 0} (rows : List A) (i : ℕ) (row : A) → slice_get rows i ≡ Some row → drop i rows ≡ row ∷ drop (i + 1) rows
+row_next {A} rows i row is =
+    let inside : i < length rows = slice_get_within rows i row is in
+    let there : get_or rows i row ≡ row = (let e = slice_get-get_or rows i row inside in cc) in
+    rw (add-one) (drop-cons rows i row inside ∙ ap (λ (x : A). x ∷ drop (suc i) rows) there)
 
--- there is a binding at each place before the end
-pub binding_there : (bound : Bindings) (i : ℕ) → i < length bound → slice_get bound i ≡ None → ⊥
-binding_there [] i inside h = omega arith
-binding_there (b ∷ bound) zero inside h = cc
-binding_there (b ∷ bound) (suc i) inside h = binding_there bound i (omega arith) h
+-- there is a row at each place before the end
+pub row_there : {A : Type 0} (rows : List A) (i : ℕ) → i < length rows → slice_get rows i ≡ None → ⊥
+row_there [] i inside h = omega (arith, inside)
+row_there (row ∷ rows) zero inside h = cc
+row_there (row ∷ rows) (suc i) inside h = row_there rows i (omega (arith, inside)) h
 
--- one more binding is put
-pub binding_step : (out new all : List ℕ) (bound : Bindings) (i : ℕ) (b : List ℕ × Datum) → slice_get bound i ≡ Some b → new ≡ out ++ binding_line b
-    → out ++ flat_map binding_line (drop i bound) ≡ all → new ++ flat_map binding_line (drop (i + 1) bound) ≡ all
-binding_step out new all bound i b is put so_far =
-    ap (λ (l : List ℕ). l ++ flat_map binding_line (drop (i + 1) bound)) put ∙ append_assoc out (binding_line b) (flat_map binding_line (drop (i + 1) bound))
-    ∙ ap (λ (l : List ℕ). out ++ l) (sym (binding_next bound i b is)) ∙ so_far
+-- one more row is put
+pub row_step : {A : Type 0} (line : A → List ℕ) (out new all : List ℕ) (rows : List A) (i : ℕ) (row : A) → slice_get rows i ≡ Some row → new ≡ out ++ line row
+    → out ++ flat_map line (drop i rows) ≡ all → new ++ flat_map line (drop (i + 1) rows) ≡ all
+row_step line out new all rows i row is put so_far =
+    ap (λ (l : List ℕ). l ++ flat_map line (drop (i + 1) rows)) put ∙ append_assoc out (line row) (flat_map line (drop (i + 1) rows))
+    ∙ ap (λ (l : List ℕ). out ++ l) (sym (ap (flat_map line) (row_next rows i row is))) ∙ so_far
 
 joined_ascii : (xs ys : List ℕ) → list_all is_ascii xs ≡ true → list_all is_ascii ys ≡ true → list_all is_ascii (xs ++ ys) ≡ true
 joined_ascii xs ys h g = list_all-append is_ascii xs ys ∙ and_from (list_all is_ascii xs) (list_all is_ascii ys) h g

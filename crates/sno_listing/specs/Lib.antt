@@ -1,4 +1,3 @@
-pub mod VersionedTexts
 pub mod History
 pub mod Listing
 pub mod JsonListing

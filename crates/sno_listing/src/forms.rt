@@ -7,7 +7,6 @@ ghost use Rattle.sno_listing.specs.Forms.{listing_by};
 use crate::Refusal;
 use crate::json_listing::json_listing;
 use crate::listing::listing;
-use crate::versioned_texts::versioned_texts;
 use sno_book::Book;
 use std::alloc::{AllocError, Global};
 
@@ -21,11 +20,9 @@ pub fn listing_of(
 ) -> Result<Vec<u8>, AllocError>
     ensures { IfOk result (λ v. v.items ≡ listing_by json (history_of (view_of book.now) refused.now)) }
 {
-    let texts = versioned_texts(alloc, book)?;
-    let journal = book.journal();
     if json {
-        json_listing(alloc, &texts, journal, refused)
+        json_listing(alloc, book, refused)
     } else {
-        listing(alloc, &texts, journal, refused)
+        listing(alloc, book, refused)
     }
 }

@@ -9,14 +9,15 @@ ghost use Rattle.serde_json.specs.View.{view, members_view};
 ghost use Rattle.serde_json.specs.Written.{compact_text};
 ghost use Rattle.sno_statement.specs.Perform.{outcome_seen};
 ghost use Rattle.sno_listing.specs.Listing.{reason_words};
-ghost use Rattle.sno_listing.specs.VersionedTexts.{text_seen};
+ghost use Rattle.sno_book.specs.Views.{state_of};
+ghost use Rattle.sno_book.specs.Books.{view_of};
+ghost use Rattle.sno_listing.specs.History.{history_of};
 ghost use Rattle.sno_listing.specs.JsonListing.{array_of, text_members, text_data, value_data, binding_data, bindings_data, subject_members, matched_members, failed_members, repeated_members, done_members, entry_data, entries_data, refused_data, json_listing_data, json_listing};
 
 use crate::listing::put_reason;
-use crate::versioned_texts::VersionedText;
 use crate::{Reason, Refusal};
 use serde_json::{Map, Value, json, put};
-use sno_book::Entry;
+use sno_book::{Book, Entry};
 use sno_pattern::{Name, Text, TextName};
 use sno_statement::{Bindings, Datum, Outcome};
 use std::alloc::{AllocError, Global};
@@ -31,13 +32,6 @@ fn ascii_value(alloc: Global, characters: &[u8]) -> Result<Value, AllocError>
         Ok(text) => Value::try_from_str(alloc, text),
         Err(_) => unreachable!(),
     }
-}
-
-#[tactic(auto, using(crate::proofs::JsonListingLemmas::name_ascii))]
-fn name_value(alloc: Global, name: &Name) -> Result<Value, AllocError>
-    ensures { IfOk result (λ v. view v ≡ string name.now) }
-{
-    ascii_value(alloc, name.bytes())
 }
 
 #[tactic(auto, using(crate::proofs::JsonListingLemmas::text_name_ascii))]
@@ -66,13 +60,6 @@ pub fn text_members(
     Ok(members)
 }
 
-#[tactic(auto, unfolding(crate::specs::JsonListing::text_data))]
-fn text_value(alloc: Global, text: &VersionedText<'_>) -> Result<Value, AllocError>
-    ensures { IfOk result (λ v. view v ≡ text_data (text_seen text.now)) }
-{
-    Ok(Value::Object(text_members(alloc, text.name, text.text, text.version)?))
-}
-
 fn datum_value(alloc: Global, datum: &Datum) -> Result<Value, AllocError>
     ensures { IfOk result (λ v. view v ≡ value_data datum.now) }
 {
@@ -82,16 +69,16 @@ fn datum_value(alloc: Global, datum: &Datum) -> Result<Value, AllocError>
     }
 }
 
-#[tactic(auto, unfolding(crate::specs::JsonListing::binding_data))]
+#[tactic(auto, using(crate::proofs::JsonListingLemmas::name_ascii), unfolding(crate::specs::JsonListing::binding_data))]
 fn binding_value(alloc: Global, name: &Name, datum: &Datum) -> Result<Value, AllocError>
     ensures { IfOk result (λ v. view v ≡ binding_data (name.now, datum.now)) }
 {
-    let name = name_value(alloc, name)?;
+    let name = ascii_value(alloc, name.bytes())?;
     let datum = datum_value(alloc, datum)?;
     json!(in alloc; [name, datum])
 }
 
-#[tactic(auto, using(crate::proofs::ListingLemmas::binding_there))]
+#[tactic(auto, using(crate::proofs::ListingLemmas::row_there))]
 fn binding_values(alloc: Global, bindings: &Bindings) -> Result<Vec<Value>, AllocError>
     ensures { IfOk result (λ v. map view v.items ≡ map binding_data bindings.now) }
 {
@@ -228,12 +215,6 @@ pub fn done_members(
     }
 }
 
-fn entry_value(alloc: Global, index: usize, entry: &Entry) -> Result<Value, AllocError>
-    ensures { IfOk result (λ v. view v ≡ entry_data index entry.now) }
-{
-    Ok(Value::Object(done_members(alloc, index, entry)?))
-}
-
 /// Returns the objects that the JSON listing has for entries, the first of which is at the index `first`. Refused only if
 /// memory runs out.
 pub fn entry_values(
@@ -246,7 +227,8 @@ pub fn entry_values(
 {
     let mut values = Vec::with_capacity(alloc, journal.len())?;
     for (index, entry) in journal.iter().enumerate() {
-        values.push(entry_value(alloc, first + index, entry)?)?;
+        let members = done_members(alloc, first + index, entry)?;
+        values.push(Value::Object(members))?;
     }
     Ok(values)
 }
@@ -278,28 +260,30 @@ fn refusal_values(alloc: Global, refused: &[Refusal]) -> Result<Vec<Value>, Allo
     Ok(values)
 }
 
-fn text_values(alloc: Global, texts: &[VersionedText<'_>]) -> Result<Vec<Value>, AllocError>
-    ensures { IfOk result (λ v. map view v.items ≡ map text_data (map text_seen texts.now)) }
+#[tactic(auto, using(crate::proofs::ListingLemmas::row_there))]
+fn text_values(alloc: Global, book: &Book) -> Result<Vec<Value>, AllocError>
+    ensures { IfOk result (λ v. map view v.items ≡ map text_data (state_of (view_of book.now))) }
 {
-    let mut values = Vec::with_capacity(alloc, texts.len())?;
-    for text in texts {
-        values.push(text_value(alloc, text)?)?;
+    let mut values = Vec::with_capacity(alloc, book.len())?;
+    for place in 0..book.len() {
+        match book.text(place) {
+            Some((name, text, version)) => {
+                let members = text_members(alloc, name, text, version)?;
+                values.push(Value::Object(members))?;
+            }
+            None => unreachable!(),
+        }
     }
     Ok(values)
 }
 
 #[tactic(auto, unfolding(crate::specs::JsonListing::json_listing_data))]
-fn listing_value(
-    alloc: Global,
-    texts: &[VersionedText<'_>],
-    journal: &[Entry],
-    refused: &[Refusal],
-) -> Result<Value, AllocError>
-    ensures { IfOk result (λ v. view v ≡ json_listing_data (record { state = map text_seen texts.now; journal = journal.now; refused = refused.now })) }
+fn listing_value(alloc: Global, book: &Book, refused: &[Refusal]) -> Result<Value, AllocError>
+    ensures { IfOk result (λ v. view v ≡ json_listing_data (history_of (view_of book.now) refused.now)) }
 {
-    let entries = Value::Array(entry_values(alloc, 0, journal)?);
+    let entries = Value::Array(entry_values(alloc, 0, book.journal())?);
     let refused = Value::Array(refusal_values(alloc, refused)?);
-    let texts = Value::Array(text_values(alloc, texts)?);
+    let texts = Value::Array(text_values(alloc, book)?);
     json!(in alloc; {"entries": entries, "refused": refused, "texts": texts})
 }
 
@@ -308,13 +292,12 @@ fn listing_value(
 #[tactic(auto, using(crate::proofs::JsonListingLemmas::no_float))]
 pub(crate) fn json_listing(
     alloc: Global,
-    texts: &[VersionedText<'_>],
-    journal: &[Entry],
+    book: &Book,
     refused: &[Refusal],
 ) -> Result<Vec<u8>, AllocError>
-    ensures { IfOk result (λ v. v.items ≡ json_listing (record { state = map text_seen texts.now; journal = journal.now; refused = refused.now })) }
+    ensures { IfOk result (λ v. v.items ≡ json_listing (history_of (view_of book.now) refused.now)) }
 {
-    let value = listing_value(alloc, texts, journal, refused)?;
+    let value = listing_value(alloc, book, refused)?;
     let mut line = value.to_vec(alloc)?;
     line.push(b'\n')?;
     Ok(line)

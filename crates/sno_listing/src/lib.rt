@@ -2,22 +2,12 @@
 //!
 //! [`listing_of`] writes either, by `listing` of `specs/Listing.antt` and `json_listing` of `specs/JsonListing.antt`.
 //! Parts of the JSON: [`done_members`], [`text_members`], [`entry_values`], [`reason_value`].
-//!
-//! | File | What it does |
-//! |---|---|
-//! | `refusals` | `Refusal`, with its `Reason` |
-//! | `versioned_texts` | the texts of a book with their names and versions, in their order |
-//! | `listing`, `json_listing` | the lines, and the same as JSON |
-//! | `forms` | either of them for a book |
-//!
-//! `Book` is that of `sno_book`.
 #![tactic(auto)]
 
 mod forms;
 mod json_listing;
 mod listing;
 mod refusals;
-mod versioned_texts;
 
 pub use forms::listing_of;
 pub use json_listing::{done_members, entry_values, reason_value, text_members};

@@ -6,14 +6,15 @@ ghost use Rattle.std.specs.Char.{is_ascii};
 ghost use Rattle.std.specs.List.{flat_map, list_all};
 ghost use Rattle.std.specs.Fmt.{decimal};
 ghost use Rattle.sno_statement.specs.Perform.{outcome_seen};
-ghost use Rattle.sno_listing.specs.VersionedTexts.{text_seen};
+ghost use Rattle.sno_book.specs.Views.{state_of};
+ghost use Rattle.sno_book.specs.Books.{view_of};
+ghost use Rattle.sno_listing.specs.History.{history_of};
 ghost use Rattle.sno_listing.specs.Listing.{hex_digit, is_plain, escaped_character, escaped_text, text_line, value_words, binding_line, after_line, done_lines, entry_label, entry_subject, entry_lines, entries_from, tries_words, reason_words, refused_line, count_line, listing};
 
-use crate::versioned_texts::VersionedText;
 use crate::{Reason, Refusal};
 use itoa::Buffer;
-use sno_book::Entry;
-use sno_pattern::{Name, Text};
+use sno_book::{Book, Entry};
+use sno_pattern::{Name, Text, TextName};
 use sno_statement::{Bindings, Datum, Outcome};
 use std::alloc::{AllocError, Global};
 use std::sync::Arc;
@@ -54,15 +55,8 @@ fn put_character(out: &mut Vec<u8>, character: u8) -> Result<(), AllocError>
     if is_plain(character) {
         put(out, &[character])
     } else {
-        put(
-            out,
-            &[
-                b'\\',
-                b'x',
-                hex_digit(character / 16),
-                hex_digit(character % 16),
-            ],
-        )
+        put(out, b"\\x")?;
+        put(out, &[hex_digit(character / 16), hex_digit(character % 16)])
     }
 }
 
@@ -84,13 +78,11 @@ fn put_first<'c>(out: &mut Vec<u8>, characters: &'c [u8]) -> Result<&'c [u8], Al
     ensures put { IfOk result (λ rest. out.new.items ++ escaped_text rest.now ≡ out.old.items ++ escaped_text characters.now) }
     ensures shorter { IfOk result (λ rest. length rest.now ≤ length characters.now - 1) }
 {
-    match characters.split_first() {
-        None => Ok(characters),
-        Some((first, rest)) => {
-            put_character(out, *first)?;
-            Ok(rest)
-        }
-    }
+    let Some((first, rest)) = characters.split_first() else {
+        return Ok(characters);
+    };
+    put_character(out, *first)?;
+    Ok(rest)
 }
 
 /// Puts the characters. Those that are printed as themselves are put a run at a time.
@@ -115,14 +107,19 @@ fn put_count(out: &mut Vec<u8>, word: &str, count: usize) -> Result<(), AllocErr
 }
 
 #[tactic(auto, unfolding(crate::specs::Listing::text_line))]
-fn put_text(out: &mut Vec<u8>, text: &VersionedText<'_>) -> Result<(), AllocError>
-    ensures { OnOk result (out.new.items ≡ out.old.items ++ text_line (text_seen text.now)) }
+fn put_text(
+    out: &mut Vec<u8>,
+    name: &TextName,
+    text: &Arc<Text>,
+    version: u64,
+) -> Result<(), AllocError>
+    ensures { OnOk result (out.new.items ≡ out.old.items ++ text_line (record { name = name.now; text = arc_value text.now; version = version })) }
 {
-    put_escaped(out, text.name.bytes())?;
+    put_escaped(out, name.bytes())?;
     put(out, b" ")?;
-    put_number(out, text.version)?;
+    put_number(out, version)?;
     put(out, b" |")?;
-    put_escaped(out, text.text.bytes())?;
+    put_escaped(out, text.bytes())?;
     put(out, b"|\n")
 }
 
@@ -196,7 +193,7 @@ pub(crate) fn put_reason(out: &mut Vec<u8>, reason: Reason) -> Result<(), AllocE
     }
 }
 
-#[tactic(auto, using(crate::proofs::ListingLemmas::binding_there))]
+#[tactic(auto, using(crate::proofs::ListingLemmas::row_there))]
 fn put_bindings(out: &mut Vec<u8>, bindings: &Bindings) -> Result<(), AllocError>
     ensures { OnOk result (out.new.items ≡ out.old.items ++ flat_map binding_line bindings.now) }
 {
@@ -305,11 +302,15 @@ fn put_refusals(out: &mut Vec<u8>, refused: &[Refusal]) -> Result<(), AllocError
     Ok(())
 }
 
-fn put_texts(out: &mut Vec<u8>, texts: &[VersionedText<'_>]) -> Result<(), AllocError>
-    ensures { OnOk result (out.new.items ≡ out.old.items ++ flat_map text_line (map text_seen texts.now)) }
+#[tactic(auto, using(crate::proofs::ListingLemmas::row_there))]
+fn put_texts(out: &mut Vec<u8>, book: &Book) -> Result<(), AllocError>
+    ensures { OnOk result (out.new.items ≡ out.old.items ++ flat_map text_line (state_of (view_of book.now))) }
 {
-    for text in texts {
-        put_text(out, text)?;
+    for place in 0..book.len() {
+        match book.text(place) {
+            Some((name, text, version)) => put_text(out, name, text, version)?,
+            None => unreachable!(),
+        }
     }
     Ok(())
 }
@@ -318,17 +319,16 @@ fn put_texts(out: &mut Vec<u8>, texts: &[VersionedText<'_>]) -> Result<(), Alloc
 #[tactic(auto, unfolding(crate::specs::Listing::listing))]
 pub(crate) fn listing(
     alloc: Global,
-    texts: &[VersionedText<'_>],
-    journal: &[Entry],
+    book: &Book,
     refused: &[Refusal],
 ) -> Result<Vec<u8>, AllocError>
-    ensures { IfOk result (λ v. v.items ≡ listing (record { state = map text_seen texts.now; journal = journal.now; refused = refused.now })) }
+    ensures { IfOk result (λ v. v.items ≡ listing (history_of (view_of book.now) refused.now)) }
 {
     let mut out = Vec::new(alloc);
-    put_count(&mut out, "texts ", texts.len())?;
-    put_texts(&mut out, texts)?;
-    put_count(&mut out, "entries ", journal.len())?;
-    put_entries(&mut out, journal)?;
+    put_count(&mut out, "texts ", book.len())?;
+    put_texts(&mut out, book)?;
+    put_count(&mut out, "entries ", book.journal().len())?;
+    put_entries(&mut out, book.journal())?;
     put_count(&mut out, "refused ", refused.len())?;
     put_refusals(&mut out, refused)?;
     Ok(out)

@@ -1,9 +1,10 @@
 -- The values so far, with those that are left.
 use Rattle.std.proofs.Common.{◌≡◌, ◌++◌, drop, map}
 use Rattle.serde_json.specs.View.{view}
-use Rattle.sno_listing.specs.VersionedTexts.{text_seen}
+use Rattle.sno_book.specs.Views.{state_of}
+use Rattle.sno_book.specs.Books.{view_of}
 use Rattle.sno_listing.specs.JsonListing.{text_data}
 use Rattle.sno_listing.proofs.json_listing.text_values.Given as goal
 
-abbrev pub invariant-loop-text : goal.invariant-loop-text
-invariant-loop-text l = map view l.values.items ++ map text_data (map text_seen (drop l.text-index l.texts)) ≡ map text_data (map text_seen l.texts)
+abbrev pub invariant-loop-place : goal.invariant-loop-place
+invariant-loop-place l = map view l.values.items ++ map text_data (drop l.place (state_of (view_of l.book))) ≡ map text_data (state_of (view_of l.book))
