@@ -15,13 +15,11 @@ fn note(owners: &mut [Option<usize>], index: usize, place: usize) -> Result<(), 
     ensures noted { OnOk result (owners.new ≡ set owners.old index (Some place)) }
     ensures fault { IfErr result (λ e. e ≡ Audit) }
 {
-    match owners.get(index) {
-        Some(None) => {
-            owners[index] = Some(place);
-            Ok(())
-        }
-        _ => Err(RunFault::Audit),
-    }
+    let Some(None) = owners.get(index) else {
+        return Err(RunFault::Audit);
+    };
+    owners[index] = Some(place);
+    Ok(())
 }
 
 /// Returns, for each of the journal's entries, the place of the statement whose reply is its receipt.

@@ -38,12 +38,9 @@ fn words_after_name(alloc: Global, words: Args) -> Result<Vec<String>, AllocErro
 fn fault_of_words(alloc: Global, error: &io::Error) -> OptionsFault
     ensures { IsWordsFault (error_kind error.now) result }
 {
-    match error.kind() {
-        ErrorKind::OutOfMemory => OptionsFault::Memory,
-        _ => match String::from_str(alloc, NOT_TEXT) {
-            Ok(text) => OptionsFault::Usage(text),
-            Err(_) => OptionsFault::Memory,
-        },
+    match (error.kind(), String::from_str(alloc, NOT_TEXT)) {
+        (ErrorKind::OutOfMemory, _) | (_, Err(_)) => OptionsFault::Memory,
+        (_, Ok(text)) => OptionsFault::Usage(text),
     }
 }
 
@@ -52,13 +49,11 @@ fn options_after_name(alloc: Global, words: io::Result<Args>) -> Result<Options,
     ensures answer { MatchResult words (λ all. IsAnswer (map string_bytes (drop 1 (into_iter_items all))) result) (λ e. IsErrAnd result (IsWordsFault (error_kind e))) }
     ensures limits { IfOk result (λ o. AreInLimits o) }
 {
-    match words {
-        Ok(words) => match words_after_name(alloc, words) {
-            Ok(words) => options_of(alloc, &words),
-            Err(_) => Err(OptionsFault::Memory),
-        },
-        Err(error) => Err(fault_of_words(alloc, &error)),
-    }
+    let words = words.map_err(|error| fault_of_words(alloc, &error))?;
+    let Ok(words) = words_after_name(alloc, words) else {
+        return Err(OptionsFault::Memory);
+    };
+    options_of(alloc, &words)
 }
 
 /// Writes the line of a fault to `errors`, and returns its status. If the line can't be printed, the status is the
@@ -84,26 +79,6 @@ fn explain<W: Write, E: Write>(fault: &OptionsFault, writer: &mut W, errors: &mu
             USAGE_STATUS
         }
         OptionsFault::Memory => report(&RunFault::Memory, errors),
-    }
-}
-
-/// Runs, writes the line of a fault to `errors`, and returns the status.
-fn run_and_report<T: Threads + Wait + Sync, R: Read, W: Write, E: Write>(
-    rt: &T,
-    alloc: Global,
-    reader: &mut R,
-    writer: &mut W,
-    errors: &mut E,
-    options: &Options,
-) -> u8
-    requires { AreInLimits options.now }
-    ensures ran { (outcome : Result ℕ RunFault) × (result ≡ status_by outcome) × IfOk outcome (λ _. errors.new ≡ errors.old)
-        × RunsTo options.now (R.remaining reader.old) writer.old writer.new (W.contents writer.old) (W.contents writer.new) outcome }
-    ensures taken { TakesAtMost 16777217 (R.remaining reader.old) (R.remaining reader.new) }
-{
-    match run(rt, alloc, reader, writer, options) {
-        Ok(status) => status,
-        Err(fault) => report(&fault, errors),
     }
 }
 
@@ -136,8 +111,12 @@ pub fn run_program<T: Threads + Wait + Sync, R: Read, W: Write, E: Write>(
         × EndsBy writer.old writer.new (W.contents writer.old) (W.contents writer.new) errors.old errors.new (E.contents errors.old) (E.contents errors.new) fault result) }
     ensures taken { TakesAtMost 16777217 (R.remaining reader.old) (R.remaining reader.new) }
 {
-    match options_after_name(alloc, words) {
-        Ok(options) => run_and_report(rt, alloc, reader, writer, errors, &options),
-        Err(fault) => explain(&fault, writer, errors),
+    let options = match options_after_name(alloc, words) {
+        Ok(options) => options,
+        Err(fault) => return explain(&fault, writer, errors),
+    };
+    match run(rt, alloc, reader, writer, &options) {
+        Ok(status) => status,
+        Err(fault) => report(&fault, errors),
     }
 }

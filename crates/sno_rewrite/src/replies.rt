@@ -69,30 +69,22 @@ fn refusals_of(
     Ok(refused)
 }
 
-fn is_short(reply: &Reply) -> bool
-    ensures { result ≡ is_short reply.now }
-{
-    matches!(reply, Err(SubmitFault::Memory))
-}
-
 /// Whether memory ran out for one of the statements.
 pub(crate) fn is_any_short(replies: &[Reply]) -> bool
     ensures { result ≡ list_any is_short replies.now }
 {
-    replies.iter().any(|reply| is_short(reply))
-}
-
-fn is_stopped(reply: &Reply) -> bool
-    ensures { result ≡ is_stopped reply.now }
-{
-    matches!(reply, Err(SubmitFault::Stopped))
+    replies
+        .iter()
+        .any(|reply| matches!(reply, Err(SubmitFault::Memory)))
 }
 
 /// Whether nothing more was shown to the seat of one of the statements.
 fn is_any_stopped(replies: &[Reply]) -> bool
     ensures { result ≡ list_any is_stopped replies.now }
 {
-    replies.iter().any(|reply| is_stopped(reply))
+    replies
+        .iter()
+        .any(|reply| matches!(reply, Err(SubmitFault::Stopped)))
 }
 
 /// Returns the book that the statements left, with those that were refused. Each entry of its journal must belong to

@@ -24,13 +24,11 @@ fn read_piece<R: Read>(reader: &mut R, bytes: &mut Vec<u8>, room: usize) -> Resu
 {
     let mut piece = [0; PIECE];
     let room = room.min(PIECE);
-    match reader.read(&mut piece[..room]) {
-        Ok(count) => {
-            bytes.extend_from_slice(&piece[..count])?;
-            Ok(count)
-        }
-        Err(_) => Err(RunFault::Read),
-    }
+    let Ok(count) = reader.read(&mut piece[..room]) else {
+        return Err(RunFault::Read);
+    };
+    bytes.extend_from_slice(&piece[..count])?;
+    Ok(count)
 }
 
 /// Returns all bytes of the reader. Refused: `Read` if a read fails, even if it was only interrupted; `DocumentTooLong`
