@@ -4,6 +4,20 @@
 //! between a reader and a writer. `IsDocument` of `sno_document` says what bytes represent, or which fault of them is
 //! the first. What the statements do is said by `serial` of `specs/Serial.antt`, and with workers by `IsShared` of
 //! `specs/Shared.antt`. The lines and the JSON are those of `listing_by` of `sno_listing`.
+//!
+//! | File | What it does |
+//! |---|---|
+//! | `options`, `command_line` | `Options`; `options_of` the command-line arguments |
+//! | `faults` | `RunFault`, with the line of each, and `status_of` |
+//! | `serial` | the statements performed in order on a book, each by snapshot, proposal and commit |
+//! | `owners`, `replies` | the replies of workers: to which entries they belong, and which refusals they become |
+//! | `shared` | the statements performed by workers at a desk |
+//! | `streams`, `runs` | bytes in and out; `Report`, `run_serial`, `run_shared` and `run` |
+//! | `program` | `run_program`, from the arguments and the streams of the program to its status |
+//! | `laws` | what follows from the definitions |
+//!
+//! `Mode` and `DocumentFault` are those of `sno_document`, `Reason` and `Refusal` those of `sno_listing`, `Name` that of
+//! `sno_pattern` and `ReadFault` that of `sno_read`.
 #![tactic(auto)]
 
 mod command_line;
