@@ -2,6 +2,12 @@
 //!
 //! [`listing_of`] writes either, by `listing` of `specs/Listing.antt` and `json_listing` of `specs/JsonListing.antt`.
 //! Parts of the JSON: [`done_members`], [`text_members`], [`entry_values`], [`reason_value`].
+//!
+//! | File | What it does |
+//! |---|---|
+//! | `refusals` | `Refusal`, with its `Reason` |
+//! | `listing`, `json_listing` | the lines, and the same as JSON |
+//! | `forms` | either of them for a book |
 #![tactic(auto)]
 
 mod forms;
