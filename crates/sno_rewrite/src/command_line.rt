@@ -1,6 +1,6 @@
 //! The options of the program, from its command-line arguments.
 ghost use Rattle.std.specs.Prelude.{◌≡◌, [], map, false, Some, IfOk, string_bytes};
-ghost use Rattle.clap.specs.Words.{app_of, FailsBy, found_of, kind_of, rows_of, rule_of, with_rule};
+ghost use Rattle.clap.specs.Words.{app_of, FailsBy, found_of, kind_of, rows_of, rule_of};
 ghost use Rattle.sno_rewrite.specs.CommandLine.{are_lawful, bare_program, faults, flag, flag_in, IsAnswer, IsChecked, is_up_to, number_in, numeric, numeric_or, option_rows, options_in, plain_options, program, shared_program, Tells};
 ghost use Rattle.sno_rewrite.specs.Runs.{AreInLimits};
 
@@ -88,21 +88,13 @@ fn bare_program<'a>(alloc: Global) -> Command<'a>
         .after_help(EXAMPLE)
 }
 
-fn with_option<'a>(program: Command<'a>, option: Arg<'a>) -> Result<Command<'a>, AllocError>
-    requires { option.global ≡ false }
-    ensures { IfOk result (λ c. app_of c ≡ with_rule (app_of program.entry) (rule_of option.entry)) }
-{
-    program.arg(option)
-}
-
 #[tactic(auto, unfolding(crate::specs::CommandLine::shared_program))]
 fn shared_program<'a>(alloc: Global) -> Result<Command<'a>, AllocError>
     ensures { IfOk result (λ c. app_of c ≡ shared_program) }
 {
     let workers = numeric(alloc, "workers", WORKERS_HELP);
     let tries = numeric_or(alloc, "100", "tries", TRIES_HELP);
-    let program = with_option(bare_program(alloc), workers)?;
-    with_option(program, tries)
+    bare_program(alloc).arg(workers)?.arg(tries)
 }
 
 #[tactic(auto, unfolding(crate::specs::CommandLine::program))]
@@ -112,9 +104,7 @@ fn program<'a>(alloc: Global) -> Result<Command<'a>, AllocError>
     let anchor = flag(alloc, "anchor", ANCHOR_HELP);
     let json = flag(alloc, "json", JSON_HELP);
     let trials = numeric_or(alloc, "1000000", "trials", TRIALS_HELP);
-    let program = with_option(shared_program(alloc)?, anchor)?;
-    let program = with_option(program, json)?;
-    with_option(program, trials)
+    shared_program(alloc)?.arg(anchor)?.arg(json)?.arg(trials)
 }
 
 fn matches<'a>(alloc: Global, words: &'a [String]) -> Result<ArgMatches<'a>, Error>
@@ -158,10 +148,9 @@ fn is_up_to(most: u32, number: u32) -> bool
 fn are_lawful(options: &Options) -> bool
     ensures { result ≡ are_lawful options.now }
 {
-    let workers = match options.workers {
-        Some(workers) => is_up_to(MAX_WORKERS, workers),
-        None => true,
-    };
+    let workers = options
+        .workers
+        .is_none_or(|workers| is_up_to(MAX_WORKERS, workers));
     workers && is_up_to(MAX_TRIES, options.tries) && is_up_to(MAX_TRIALS, options.trials)
 }
 
