@@ -50,7 +50,7 @@ pub(crate) struct ServeOptions<'a> {
     /// The file of the document.
     pub(crate) document: &'a str,
     ghost few: { (1 ≤ seats) × (seats ≤ 16) },
-    ghost lawful: { (1 ≤ tries) × (tries ≤ 1000) },
+    ghost valid: { (1 ≤ tries) × (tries ≤ 1000) },
     ghost limit: { IsLimit trials },
 }
 

@@ -37,7 +37,7 @@ struct Service<I: Read, W: Write> {
     intake: Mutex<Intake<I>>,
     outlet: Mutex<Outlet<W>>,
     ghost limit: { IsLimit mode.trials },
-    ghost lawful: { (1 ≤ tries) × (tries ≤ 1000) },
+    ghost valid: { (1 ≤ tries) × (tries ≤ 1000) },
 }
 
 /// What a service leaves.
