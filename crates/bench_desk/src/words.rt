@@ -44,7 +44,7 @@ pub struct Load {
 #[derive(Clone, Copy)]
 pub struct Times {
     pub number: u32,
-    ghost lawful: { (1 ≤ number) × (number ≤ 100000) },
+    ghost valid: { (1 ≤ number) × (number ≤ 100000) },
 }
 
 /// What the arguments ask for.

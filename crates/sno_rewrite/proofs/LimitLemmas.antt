@@ -3,7 +3,7 @@ use Rattle.std.proofs.Common.{◌≡◌, ℕ, ◌≤◌, true, Option, Some, Non
 use Rattle.std.specs.Prelude.{nat_le, ◌&&◌}
 use Rattle.std.specs.Option.{option_map_or}
 use Rattle.std.proofs.lemmas.Bool.{and_parts, leb-true}
-use Rattle.sno_rewrite.specs.CommandLine.{are_lawful, is_up_to}
+use Rattle.sno_rewrite.specs.CommandLine.{are_valid, is_up_to}
 use Rattle.sno_rewrite.specs.Runs.{AreInLimits}
 use Rattle.sno_rewrite.specs.declared.options.Options.{Options}
 use Rattle.sno_rewrite.specs.declared.options.TheConstants.{MAX_TRIALS, MAX_TRIES, MAX_WORKERS}
@@ -16,7 +16,7 @@ workers_up_to None h = tt
 workers_up_to (Some n) h = up_to MAX_WORKERS n h
 
 -- options that pass the test are within their limits
-pub in_limits : (options : Options) → are_lawful options ≡ true → AreInLimits options
+pub in_limits : (options : Options) → are_valid options ≡ true → AreInLimits options
 in_limits options h =
     let p = and_parts (option_map_or (is_up_to MAX_WORKERS) options.workers true) (is_up_to MAX_TRIES options.tries && is_up_to MAX_TRIALS options.trials) h in
     let q = and_parts (is_up_to MAX_TRIES options.tries) (is_up_to MAX_TRIALS options.trials) p.1 in

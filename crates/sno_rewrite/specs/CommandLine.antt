@@ -70,8 +70,8 @@ abbrev pub is_up_to : ℕ → ℕ → Bool
 is_up_to most n = nat_le 1 n && nat_le n most
 
 -- workers are 1 to 16, if there are any; tries are 1 to 1,000, and trials 1 to 1,000,000,000
-abbrev pub are_lawful : Options → Bool
-are_lawful options = option_map_or (is_up_to MAX_WORKERS) options.workers true && (is_up_to MAX_TRIES options.tries && is_up_to MAX_TRIALS options.trials)
+abbrev pub are_valid : Options → Bool
+are_valid options = option_map_or (is_up_to MAX_WORKERS) options.workers true && (is_up_to MAX_TRIES options.tries && is_up_to MAX_TRIALS options.trials)
 
 -- what is wrong with the arguments, or what they ask for, as `clap` reads them; empty if they are read
 unfoldable pub faults : List Text → Kinds
@@ -89,12 +89,12 @@ IsAsked kind = (kind ≡ DisplayHelp) ⊎ (kind ≡ DisplayVersion)
 -- number is past its limits.
 pub data AreRefused (words : List Text) : Type 0 where
   unread : (kind : ErrorKind) → IsAmong kind (faults words) → kind ≢ DisplayHelp → kind ≢ DisplayVersion → AreRefused words
-  unlawful : faults words ≡ [] → are_lawful (options_in (option_rows words)) ≡ false → AreRefused words
+  past_limits : faults words ≡ [] → are_valid (options_in (option_rows words)) ≡ false → AreRefused words
 
 -- What is returned for arguments: the options that they give; help or the version, if they ask for it; the usage, if
 -- they are refused; or out of memory.
 abbrev pub IsAnswer : List Text → Result Options OptionsFault → Type 0
-IsAnswer words (Ok o) = (faults words ≡ []) × (o ≡ options_in (option_rows words)) × (are_lawful o ≡ true)
+IsAnswer words (Ok o) = (faults words ≡ []) × (o ≡ options_in (option_rows words)) × (are_valid o ≡ true)
 IsAnswer words (Err (Help text)) = IsAmong DisplayHelp (faults words) ⊎ IsAmong DisplayVersion (faults words)
 IsAnswer words (Err (Usage text)) = AreRefused words
 IsAnswer words (Err Memory) = Unit {0}
@@ -107,9 +107,9 @@ Tells kind Memory = Unit {0}
 
 -- options within their limits are returned as they are, and others are refused
 abbrev pub IsChecked : Options → Result Options OptionsFault → Type 0
-IsChecked options (Ok o) = (o ≡ options) × (are_lawful options ≡ true)
+IsChecked options (Ok o) = (o ≡ options) × (are_valid options ≡ true)
 IsChecked options (Err (Help text)) = ⊥
-IsChecked options (Err (Usage text)) = are_lawful options ≡ false
+IsChecked options (Err (Usage text)) = are_valid options ≡ false
 IsChecked options (Err Memory) = Unit {0}
 
 -- the options without any argument

@@ -1,7 +1,7 @@
 //! The options of the program, from its command-line arguments.
 ghost use Rattle.std.specs.Prelude.{◌≡◌, [], map, false, Some, IfOk, string_bytes};
 ghost use Rattle.clap.specs.Words.{app_of, FailsBy, found_of, kind_of, rows_of, rule_of};
-ghost use Rattle.sno_rewrite.specs.CommandLine.{are_lawful, bare_program, faults, flag, flag_in, IsAnswer, IsChecked, is_up_to, number_in, numeric, numeric_or, option_rows, options_in, plain_options, program, shared_program, Tells};
+ghost use Rattle.sno_rewrite.specs.CommandLine.{are_valid, bare_program, faults, flag, flag_in, IsAnswer, IsChecked, is_up_to, number_in, numeric, numeric_or, option_rows, options_in, plain_options, program, shared_program, Tells};
 ghost use Rattle.sno_rewrite.specs.Runs.{AreInLimits};
 
 use crate::Options;
@@ -145,8 +145,8 @@ fn is_up_to(most: u32, number: u32) -> bool
     1 <= number && number <= most
 }
 
-fn are_lawful(options: &Options) -> bool
-    ensures { result ≡ are_lawful options.now }
+fn are_valid(options: &Options) -> bool
+    ensures { result ≡ are_valid options.now }
 {
     let workers = options
         .workers
@@ -174,7 +174,7 @@ fn check_limits(alloc: Global, options: Options) -> Result<Options, OptionsFault
     ensures checked { IsChecked options result }
     ensures limits { IfOk result (λ o. AreInLimits o) }
 {
-    if are_lawful(&options) {
+    if are_valid(&options) {
         return Ok(options);
     }
     match String::from_str(alloc, PAST_LIMITS) {

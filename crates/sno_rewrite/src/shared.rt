@@ -66,7 +66,7 @@ fn work<L: Naming + Send + Sync, R: Threads + Wait + Sync>(
     requires all { length seats.items ≡ L.parts }
     requires few { (1 ≤ length seats.items) × (length seats.items ≤ MAX_WORKERS) }
     requires none { All (λ s. (s.accepted ≡ 0) × (s.viewer.seen ≡ [])) seats.items }
-    requires lawful { (1 ≤ tries) × (tries ≤ MAX_TRIES) }
+    requires tries { (1 ≤ tries) × (tries ≤ MAX_TRIES) }
     ensures opening { IfOk result (λ r. r.0.opening ≡ arc_value desk.opening) }
     ensures lawful { IfOk result (λ r. IsLawful (view_of r.0)) }
     ensures answers { IfOk result (λ r. AllAnswer (Answers (λ _ _. ⊥) tries r.0.opening) (map arc_value statements.now) r.1.items) }
@@ -105,7 +105,7 @@ fn perform_at_desk<L: Naming + Send + Sync, R: Threads + Wait + Sync>(
     requires opening { document.book.opening ≡ L.opening }
     requires one_each { blank.ledger.parts ≡ workers }
     requires few { (1 ≤ workers) × (workers ≤ MAX_WORKERS) }
-    requires lawful { (1 ≤ tries) × (tries ≤ MAX_TRIES) }
+    requires tries { (1 ≤ tries) × (tries ≤ MAX_TRIES) }
     requires ready { IsReady document }
     ensures shared { IfOk result (λ p. IsShared workers tries (document_seen document) (history_seen p)) }
     ensures fault { IfErr result IsOwn }
@@ -136,7 +136,7 @@ pub(crate) fn perform_shared<R: Threads + Wait + Sync>(
     tries: u32,
 ) -> Result<BookWithRefusals, RunFault>
     requires few { (1 ≤ workers) × (workers ≤ MAX_WORKERS) }
-    requires lawful { (1 ≤ tries) × (tries ≤ MAX_TRIES) }
+    requires tries { (1 ≤ tries) × (tries ≤ MAX_TRIES) }
     requires ready { IsReady document }
     ensures shared { IfOk result (λ p. IsShared workers tries (document_seen document) (history_seen p)) }
     ensures fault { IfErr result IsOwn }

@@ -78,8 +78,8 @@ fn check<R: Threads + Wait + Abort + AllocGlobal + Sync>(
     requires { IfSome workers (λ n. (1 ≤ n) × (n ≤ 16)) }
 {
     let Limited(document, trials, listing, status) = *row;
-    let lawful = 1 <= trials && trials <= 1_000_000_000;
-    assert!(rt; lawful);
+    let valid = 1 <= trials && trials <= 1_000_000_000;
+    assert!(rt; valid);
     let options = options_of(trials, workers);
     check_written(rt, document, &options, listing, status)
 }
