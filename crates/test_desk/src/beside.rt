@@ -1,6 +1,7 @@
 //! A seat that goes on reading in one thread while a submit on the same text stands at its gate in another.
 ghost use Rattle.std.specs.Prelude.{◌≡◌, []};
 ghost use Rattle.std.specs.Thread.{IsSend};
+ghost use Rattle.sno_book.specs.contracts.entries.Entry as EntryType;
 
 use crate::compare::check_eq;
 use crate::day::{check_entry, check_text};
@@ -120,6 +121,13 @@ fn may_cross<T: Send>()
     ensures sends { IsSend T.row }
 {}
 
+/// That an entry may go to another thread. It is found out where little else is known.
+fn entries_may_cross()
+    ensures sends { IsSend EntryType.the_row }
+{
+    may_cross::<Entry>();
+}
+
 /// The first seat submits the job while the second reads its text.
 fn use_seats<L: Naming + Send + Sync, R: Threads + Wait + Clock + Abort + Sync>(
     rt: &R,
@@ -129,7 +137,7 @@ fn use_seats<L: Naming + Send + Sync, R: Threads + Wait + Clock + Abort + Sync>(
     job: Arc<Statement>,
     name: &TextName,
 ) {
-    may_cross::<Entry>();
+    entries_may_cross();
     assert!(rt; seats.len() == 2);
     let (first, second) = seats.split_at_mut(1);
     let seen = submit_beside(rt, alloc, desk, &mut first[0], job, &mut second[0], name);
