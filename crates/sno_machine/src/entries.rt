@@ -50,12 +50,12 @@ pub enum Entry<'a> {
 }
 
 /// What can still be taken back: entries, the oldest first. It takes memory only if there are more of them than ever before.
-/// Beside them is the memory of an earlier result, for the assignments of the next one.
+/// Beside them are the assignments that were gathered for a result, or the memory of an earlier one's.
 #[derive(Drop)]
 pub struct History<'a> {
     pub entries: Vec<Entry<'a>>,
     pub room: u32,
-    pub spare: Vec<(Name, usize, usize)>,
+    pub gathered: Vec<(Name, usize, usize)>,
     ghost few: { vec_len entries ≤ room },
     ghost roomy: { room ≤ vec_capacity entries },
     ghost fits: { room < 2 ^ 32 },

@@ -17,7 +17,7 @@ impl<'a> History<'a> {
         History {
             entries: Vec::new(alloc),
             room: 0,
-            spare: Vec::new(alloc),
+            gathered: Vec::new(alloc),
         }
     }
 

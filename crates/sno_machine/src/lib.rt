@@ -22,6 +22,9 @@
 //! 'a' P | Q        Fork 'a' ──> P ──>             the branch itself tries a literal of one character: `next` is the node after the
 //!                    └────────> Q ──┘             literal. Repeat and Further do so too, also with RPOS
 //!
+//! 'a' *D P | Q     Fork 'a' ──> Call D ──> P ──>  if Call is that node, the branch goes through it in the same step
+//!                    └───────────────────> Q ──┘
+//!
 //! ARBNO(P)         Repeat ──────────────────>     no round; the choice is a round, which comes back
 //!                  ^  └──> Mark ──> P ──> Moved
 //!                  └──────────────────────┘       Moved backs up if the round took no character
@@ -151,7 +154,7 @@
 //! | `pair_rounds` | the rounds of such a part that are passed |
 //! | `together` | the rounds that are gone through together |
 //! | `seeking` | `ARB` before a part with few heads |
-//! | `conditions` | the pending assignments of a success, in their order |
+//! | `conditions` | the pending assignments of a success are gathered, in their order |
 //! | `running` | one step after the other, and one start after the other |
 //! | `heads` | the characters with which a match can begin |
 //! | `needles` | few heads, which are sought together |

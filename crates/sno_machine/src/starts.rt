@@ -9,7 +9,6 @@ ghost use Rattle.sno_machine.specs.Code.{IsCompiled};
 ghost use Rattle.sno_machine.specs.Endings.{found_of, match_by, up_to, Overspent};
 ghost use Rattle.sno_machine.specs.declared.faults.MatchFault.TheVariants.{TooManyTrials};
 
-use crate::beginnings::Beginnings;
 use crate::entries::History;
 use crate::faults::MatchFault;
 use crate::nodes::Compiled;
@@ -90,16 +89,8 @@ fn try_all<'a>(
     ensures refused { IfErr result (Overspent progress.old (flat_map (tried_from text.now code.now.rules.now.bodies most (tree_of code.now.pattern.now)) (starts text.now anchored))) }
 {
     let last = last_start(text, anchored);
-    if anchored {
-        // A single start is tried in any case.
-        let any = Beginnings::Any;
-        let hit = try_starts(alloc, code, text, most, &any, None, last, history, progress)?;
-        return Ok(hit);
-    }
-    let beginnings = &code.beginnings;
-    let hit = try_starts(
-        alloc, code, text, most, beginnings, code.run, last, history, progress,
-    )?;
+    // A single start is tried in any case.
+    let hit = try_starts(alloc, code, text, most, anchored, last, history, progress)?;
     Ok(hit)
 }
 

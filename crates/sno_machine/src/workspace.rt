@@ -25,7 +25,7 @@ impl<'a> Workspace<'a> {
     pub fn give_back(&mut self, found: Found) {
         let Found { end, .. } = found;
         if let Some(hit) = end {
-            self.history.spare = hit.conds.into_parts();
+            self.history.gathered = hit.conds.into_parts();
         }
     }
 }
