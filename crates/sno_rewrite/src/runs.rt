@@ -15,7 +15,7 @@ ghost use Rattle.sno_rewrite.specs.Histories.{history_seen};
 ghost use Rattle.sno_rewrite.specs.Streams.{RefusesLonger, TakesAtMost};
 ghost use Rattle.std.specs.Io.KnownBytes.{IsAtEnd};
 
-use crate::serial::perform_serial;
+use crate::serial::{BookWithRefusals, perform_serial};
 use crate::shared::perform_shared;
 use crate::streams::{read_all, write_all};
 use crate::{Options, RunFault};
@@ -23,6 +23,7 @@ use sno_document::read_document;
 use sno_listing::listing_of;
 use std::alloc::Global;
 use std::io::{Read, Write};
+use std::mem;
 use std::sync::Wait;
 use std::thread::Threads;
 
@@ -33,6 +34,24 @@ pub struct Report {
     pub bytes: Vec<u8>,
     /// How many statements were refused.
     pub refused: usize,
+}
+
+/// What comes after a run.
+#[derive(Clone, Copy)]
+enum After {
+    /// Its caller goes on, so the run frees what it held.
+    Caller,
+    /// The process ends, which frees all memory at once. To free each text, statement and entry first would be the fifth part of
+    /// a run's work, to no end.
+    End,
+}
+
+/// Frees what a run held, if the process goes on.
+fn release(performed: BookWithRefusals, after: After) {
+    match after {
+        After::Caller => drop(performed),
+        After::End => mem::forget(performed),
+    }
 }
 
 /// Performs the statements of a document in order on its texts, and lists what they did, as JSON if `json` is true.
@@ -51,7 +70,7 @@ pub fn run_serial(alloc: Global, bytes: &[u8], options: &Options) -> Result<Repo
     ensures fault { IfErr result (λ e. e ≢ Memory → IsFirstFault (mode_of options.now) bytes.now e) }
 {
     let document = read_document(alloc, bytes, options.mode())?;
-    serial_report(alloc, document, options.json)
+    serial_report(alloc, document, options.json, After::Caller)
 }
 
 /// The report of a document, performed in order.
@@ -59,6 +78,7 @@ fn serial_report(
     alloc: Global,
     document: sno_document::Document,
     json: bool,
+    after: After,
 ) -> Result<Report, RunFault>
     requires { IsReady document }
     ensures found { (mode : Mode) (bytes : List ℕ) → IsDocument mode bytes (Ok (document_seen document))
@@ -68,6 +88,7 @@ fn serial_report(
     let performed = perform_serial(alloc, document)?;
     let bytes = listing_of(alloc, &performed.book, &performed.refused, json)?;
     let refused = performed.refused.len();
+    release(performed, after);
     Ok(Report { bytes, refused })
 }
 
@@ -78,6 +99,7 @@ fn shared_report<T: Threads + Wait + Sync>(
     document: sno_document::Document,
     workers: u32,
     options: &Options,
+    after: After,
 ) -> Result<Report, RunFault>
     requires ready { IsReady document }
     requires workers { (1 ≤ workers) × (workers ≤ MAX_WORKERS) }
@@ -89,6 +111,7 @@ fn shared_report<T: Threads + Wait + Sync>(
     let performed = perform_shared(rt, alloc, document, workers, options.tries)?;
     let bytes = listing_of(alloc, &performed.book, &performed.refused, options.json)?;
     let refused = performed.refused.len();
+    release(performed, after);
     Ok(Report { bytes, refused })
 }
 
@@ -127,10 +150,11 @@ pub fn run_shared<T: Threads + Wait + Sync>(
 {
     let workers = options.workers.unwrap_or(1);
     let document = read_document(alloc, bytes, options.mode())?;
-    shared_report(rt, alloc, document, workers, options)
+    shared_report(rt, alloc, document, workers, options, After::Caller)
 }
 
-/// The report of the bytes, with workers or without. The bytes are dropped once they are read.
+/// The report of the bytes, with workers or without. The bytes are dropped once they are read. What the run held is left to the
+/// end of the process.
 #[tactic(auto, using(crate::proofs::RunLemmas::read_fails_by, crate::proofs::RunLemmas::own_fails_by, crate::proofs::RunLemmas::memory_fails_by))]
 fn report_by<T: Threads + Wait + Sync>(
     rt: &T,
@@ -145,14 +169,17 @@ fn report_by<T: Threads + Wait + Sync>(
     let document = read_document(alloc, &bytes, options.mode())?;
     drop(bytes);
     match options.workers {
-        None => serial_report(alloc, document, options.json),
-        Some(workers) => shared_report(rt, alloc, document, workers, options),
+        None => serial_report(alloc, document, options.json, After::End),
+        Some(workers) => shared_report(rt, alloc, document, workers, options, After::End),
     }
 }
 
 /// Reads a document to its end, performs its statements, in order or by workers if there are any, and writes the
 /// listing and nothing else. It returns the status of a run that did so: 0 if no statement was refused, otherwise 1.
 /// Requires options within the limits that `run_shared` has.
+///
+/// It is for a program that ends then: after a listing, the memory of the texts, the statements and the journal isn't given
+/// back before the process ends. A caller that goes on calls `run_serial` or `run_shared`.
 ///
 /// Refused:
 ///
