@@ -5,12 +5,12 @@ ghost use Rattle.sno_pattern.specs.Results.{enough_depth};
 ghost use Rattle.sno_pattern.specs.Outcome.{outcome, outcome_at, trials};
 ghost use Rattle.sno_machine.specs.declared.faults.MatchFault.TheVariants.{TooManyTrials};
 
-use crate::beginnings::Beginnings;
-use crate::compiling::nodes_of;
+use crate::compiling::builder::nodes_of;
+use crate::compiling::nodes::Compiled;
 use crate::faults::MatchFault;
-use crate::nodes::Compiled;
-use crate::run_starts::RunStart;
-use crate::starts::search;
+use crate::run::search::search;
+use crate::starts::beginnings::Beginnings;
+use crate::starts::run_starts::RunStart;
 use crate::workspace::Workspace;
 use sno_pattern::{Found, Pattern, Rules, Text, a_greater_depth_changes_no_outcome};
 use std::alloc::{AllocError, Global};

@@ -70,7 +70,7 @@
 //!
 //! # The history
 //!
-//! What can still be taken back is in one list of entries, the history. A [`Place`](entries::Place) of a match has
+//! What can still be taken back is in one list of entries, the history. A [`Place`](run::entries::Place) of a match has
 //!
 //! - the next node;
 //! - the cursor;
@@ -113,63 +113,63 @@
 //! # Starts that are passed over
 //!
 //! A match that floats is tried at each cursor. Most patterns begin with a leaf that needs a certain character, as a literal, `ANY`
-//! or `SPAN`. So [`compile`] works out what a match can begin with ([`Beginnings`](beginnings::Beginnings)). The leaves with which it can
+//! or `SPAN`. So [`compile`] works out what a match can begin with ([`Beginnings`](starts::beginnings::Beginnings)). The leaves with which it can
 //! begin are its heads, one for each alternative; a reference has the heads of its definition. At a cursor at which no head can begin, the
 //! match does nothing but one trial for each head. Such starts are passed over together: they are sought as bytes or in a
-//! [table](head_tables::HeadTable), and their trials are spent at once.
+//! [table](starts::head_tables::HeadTable), and their trials are spent at once.
 //!
 //! If a match begins with `SPAN`, it ends its first part at one cursor from wherever in a run it begins. If the primitive that comes
 //! next fails there, each start in that run fails after two trials. So after a first start has failed, such runs are passed over as
-//! a whole ([`RunStart`](run_starts::RunStart)).
+//! a whole ([`RunStart`](starts::run_starts::RunStart)).
 //!
 //! # What a trial costs
 //!
 //! A trial of `SPAN`, `BREAK` or `BAL` may go over the whole text, and a text may be gone over from each of its cursors. So a match
-//! learns of its text ([`Learnt`](learnt::Learnt)). A walk that goes over more than some characters is counted. Once such walks
+//! learns of its text ([`Learnt`](run::learnt::Learnt)). A walk that goes over more than some characters is counted. Once such walks
 //! have gone over more characters than the text has, one pass finds all ends at once: those of the runs of that set, or those of
 //! `BAL`. From then on a trial of it looks at no more than some hundred characters. What was learnt changes no result. No
 //! clause says how long a trial takes.
 //!
 //! No character is gone over twice unless something failed in between. So the match looks whether there is something to be learnt
-//! only when it backs up, or when a `BREAK` that was tried ahead fails ([`Step::Instead`](stepping::Step::Instead)). A step has
-//! the text beside what was learnt of it, the [`Subject`](subject::Subject), and reads the text itself.
+//! only when it backs up, or when a `BREAK` that was tried ahead fails ([`Step::Instead`](run::stepping::Step::Instead)). A step has
+//! the text beside what was learnt of it, the [`Subject`](run::subject::Subject), and reads the text itself.
 //!
 //! | File | What it holds |
 //! |---|---|
-//! | `nodes` | nodes and their operations |
-//! | `compiling` | a pattern is compiled |
-//! | `entries` | places, entries, the history |
-//! | `history` | how entries are added to the history, and taken up |
-//! | `progress` | what was done so far: immediate assignments and trials |
-//! | `stepping` | one step: what a node does |
-//! | `branching` | going on at one node, with another one left as a choice |
-//! | `lookaheads` | the primitives that a branch tries itself |
-//! | `singles` | the primitives that have at most one end |
-//! | `other_leaves`, `leaves` | the other patterns without parts |
-//! | `parts` | parts of `.` and `$`, and primitives as such parts |
-//! | `rounds` | rounds of a repetition of a primitive |
-//! | `one_character` | the parts that take exactly one character |
-//! | `scanning` | how many rounds of such a part are passed |
-//! | `pairs` | the parts that are two primitives with at most one end each |
-//! | `pair_rounds` | the rounds of such a part that are passed |
-//! | `together` | the rounds that are gone through together |
-//! | `seeking` | `ARB` before a part with few heads |
-//! | `conditions` | the pending assignments of a success are gathered, in their order |
-//! | `running` | one step after the other, and one start after the other |
-//! | `heads` | the characters with which a match can begin |
-//! | `needles` | few heads, which are sought together |
-//! | `head_tables` | many heads, as a table of characters |
-//! | `unmarking` | the characters of a head in such a table |
-//! | `beginnings` | what a match can begin with |
-//! | `run_starts` | starts within a run at whose end the match fails |
-//! | `passing` | starts at which no match can begin are passed over |
-//! | `taking` | the parts that take a character wherever they end |
-//! | `subject` | the text of a match, beside what was learnt of it |
-//! | `known` | where the runs of some sets end, and where `BAL` first ends |
-//! | `learnt` | what was learnt of the text |
-//! | `starts` | the outcome of a match |
 //! | `workspace` | memory that matches use one after the other |
 //! | `code` | [`compile`], [`Code::first`] and [`Code::first_in`] |
+//! | `compiling/nodes` | nodes and their operations |
+//! | `compiling/builder` | a pattern is compiled |
+//! | `compiling/lookaheads` | the primitives that a branch tries itself |
+//! | `compiling/taking` | the parts that take a character wherever they end |
+//! | `run/entries` | places, entries, the history |
+//! | `run/history` | how entries are added to the history, and taken up |
+//! | `run/progress` | what was done so far: immediate assignments and trials |
+//! | `run/stepping` | one step: what a node does |
+//! | `run/branching` | going on at one node, with another one left as a choice |
+//! | `run/singles` | the primitives that have at most one end |
+//! | `compiling/other_leaves`, `run/leaves` | the other patterns without parts |
+//! | `run/parts` | parts of `.` and `$`, and primitives as such parts |
+//! | `run/rounds` | rounds of a repetition of a primitive |
+//! | `run/one_character` | the parts that take exactly one character |
+//! | `run/scanning` | how many rounds of such a part are passed |
+//! | `run/pairs` | the parts that are two primitives with at most one end each |
+//! | `run/pair_rounds` | the rounds of such a part that are passed |
+//! | `run/together` | the rounds that are gone through together |
+//! | `run/seeking` | `ARB` before a part with few heads |
+//! | `run/conditions` | the pending assignments of a success are gathered, in their order |
+//! | `run/running` | one step after the other, and one start after the other |
+//! | `run/subject` | the text of a match, beside what was learnt of it |
+//! | `run/known` | where the runs of some sets end, and where `BAL` first ends |
+//! | `run/learnt` | what was learnt of the text |
+//! | `run/search` | the outcome of a match |
+//! | `starts/heads` | the characters with which a match can begin |
+//! | `starts/needles` | few heads, which are sought together |
+//! | `starts/head_tables` | many heads, as a table of characters |
+//! | `starts/unmarking` | the characters of a head in such a table |
+//! | `starts/beginnings` | what a match can begin with |
+//! | `starts/run_starts` | starts within a run at whose end the match fails |
+//! | `starts/passing` | starts at which no match can begin are passed over |
 //!
 //! It is proved in two halves. `specs/Plans.antt` says what a node does and what comes after it, its plan, and what is still to
 //! come by a plan. `specs/Code.antt` gives each node its plan, and `plan_of` lays a pattern out as one. The compiler has to
@@ -183,41 +183,11 @@
 //! part always takes a character (`proofs/TakingLaws.antt`).
 #![tactic(auto)]
 
-mod beginnings;
-mod branching;
 mod code;
 mod compiling;
-mod conditions;
-mod entries;
 mod faults;
-mod head_tables;
-mod heads;
-mod history;
-mod known;
-mod learnt;
-mod leaves;
-mod lookaheads;
-mod needles;
-mod nodes;
-mod one_character;
-mod other_leaves;
-mod pair_rounds;
-mod pairs;
-mod parts;
-mod passing;
-mod progress;
-mod rounds;
-mod run_starts;
-mod running;
-mod scanning;
-mod seeking;
-mod singles;
+mod run;
 mod starts;
-mod stepping;
-mod subject;
-mod taking;
-mod together;
-mod unmarking;
 mod workspace;
 
 pub use code::{Code, compile};

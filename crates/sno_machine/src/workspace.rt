@@ -1,5 +1,5 @@
 //! Memory that matches use one after the other.
-use crate::entries::History;
+use crate::run::entries::History;
 use sno_pattern::Found;
 use std::alloc::Global;
 
