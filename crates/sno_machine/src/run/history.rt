@@ -46,7 +46,7 @@ impl<'a> History<'a> {
         Ok(())
     }
 
-    /// Makes room for 8 entries at first, since most matches need few; then for eight times as many, and past `MANY` for twice as many.
+    /// Makes room for 16 entries at first, since most matches need few; then for eight times as many, and past `MANY` for twice as many.
     #[cold]
     #[inline(never)]
     fn grow(&mut self) -> Result<(), MatchFault>
@@ -59,7 +59,7 @@ impl<'a> History<'a> {
         } else {
             self.room.saturating_mul(2)
         };
-        let room = more.max(8);
+        let room = more.max(16);
         if self.entries.len() == room as usize {
             return Err(MatchFault::Memory);
         }
