@@ -61,6 +61,10 @@ fn read_all<R: Read + Drop>(alloc: Global, reader: R) -> Result<Vec<u8>, Fault> 
 }
 
 /// The document on a reader. Whether its statements are to be timed sets their limit of trials.
+///
+/// As a call of its own it moves what is linked after it, so that the matcher's loop begins where it is quicker
+/// (`bench/README.md`, "Beside PCRE2").
+#[inline(never)]
 fn document<R: Read + Drop>(alloc: Global, reader: R, timed: bool) -> Result<Document, Fault> {
     let bytes = read_all(alloc, reader)?;
     let trials = if timed { MOST_TRIALS } else { USUAL_TRIALS };
