@@ -8,7 +8,7 @@ use Rattle.sno_pattern.specs.Events.{CondList, cut, put_before, spread, go_on, a
 use Rattle.sno_pattern.specs.Results.{ends, further_ends, rounds, results_of, of_body, definition_results, results}
 use Rattle.sno_pattern.specs.Laws.{AllEnds, Within}
 use Rattle.sno_pattern.specs.CursorLaws.{CursorLies, CursorsLie, SetsLie}
-use Rattle.sno_pattern.specs.Outcome.{Tried, starts, tried_from, cut_scan, scan, found_in, outcome_at}
+use Rattle.sno_pattern.specs.Outcome.{Tried, starts, starts_from, tried_from, cut_scan, scan, scan_from, found_in, outcome_at, outcome_at_from}
 use Rattle.sno_pattern.specs.declared.events.Assign.{Assign}
 use Rattle.sno_pattern.specs.declared.events.Event.{Event}
 use Rattle.sno_pattern.specs.declared.events.Event.TheVariants.{Try, Set, End, Halt}
@@ -177,6 +177,10 @@ module _ (t : List ℕ) where
   starts_below true = (omega arith, tt)
   starts_below false = range_below (length t + 1) 0 (omega arith)
 
+  starts_from_below : (anchored : Bool) (c : ℕ) → c ≤ length t → AllBelow (starts_from t anchored c)
+  starts_from_below true c inside = (inside, tt)
+  starts_from_below false c inside = range_below (length t + 1 - c) c (omega arith)
+
   sets_push : (sets : List Assign) (a : Assign) → SetsLie t sets → CursorLies t a.what → SetsLie t (sets ++ a ∷ [])
   sets_push [] a h g = (g, tt)
   sets_push (b ∷ sets) a h g = (h.0, sets_push sets a h.1 g)
@@ -194,3 +198,10 @@ unfolding outcome_at
 outcome_lies k t bodies p anchored =
     found_lies t [] (scan t bodies k p anchored) tt
     (tried_cut t (flat_map (tried_from t bodies k p) (starts t anchored)) (tried_starts t bodies k p (starts t anchored) (starts_below t anchored)))
+
+-- each cursor that a search assigned lies within the text
+pub outcome_from_lies : (k : ℕ) (t : List ℕ) (bodies : List Tree) (p : Tree) (anchored : Bool) (c : ℕ) → c ≤ length t → SetsLie t (outcome_at_from t bodies k p anchored c).sets
+unfolding outcome_at_from
+outcome_from_lies k t bodies p anchored c inside =
+    found_lies t [] (scan_from t bodies k p anchored c) tt
+    (tried_cut t (flat_map (tried_from t bodies k p) (starts_from t anchored c)) (tried_starts t bodies k p (starts_from t anchored c) (starts_from_below t anchored c inside)))

@@ -6,6 +6,7 @@ pub mod Within
 pub mod Words
 pub mod Repetition
 pub mod AssignedCursors
+pub mod FoundCursors
 pub mod Taking
 pub mod Congruence
 pub mod Depth

@@ -18,3 +18,4 @@ pub mod Admission
 pub mod Searching
 pub mod Laws
 pub mod CursorLaws
+pub mod SearchLaws

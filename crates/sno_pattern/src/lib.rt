@@ -33,6 +33,7 @@ mod found;
 mod identifiers;
 mod laws;
 mod name_list;
+mod search_laws;
 mod tables;
 mod text_names;
 mod texts;
@@ -52,6 +53,7 @@ pub use laws::{
     ends_lie_at_or_past_the_cursor, repeats_are_found,
 };
 pub use name_list::{MAX_DEFINITIONS, Names, NamesFault};
+pub use search_laws::{a_search_from_the_first_cursor_is_a_match, searches_lie_within_the_text};
 pub use text_names::{MAX_TEXT_NAME, NameFault, TextName};
 pub use texts::{MAX_TEXT, Text, TextFault, first_non_ascii};
 pub use tree::Pattern;
