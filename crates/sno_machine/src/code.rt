@@ -2,17 +2,22 @@
 ghost use Rattle.std.specs.Prelude.{◌≡◌, ◌<◌, ◌≤◌, ℕ, length, IfOk, IfErr, IsTrue};
 ghost use Rattle.sno_pattern.specs.Tree.{tree_of, refs_below};
 ghost use Rattle.sno_pattern.specs.Results.{enough_depth};
-ghost use Rattle.sno_pattern.specs.Outcome.{outcome, outcome_at, trials};
+ghost use Rattle.sno_pattern.specs.Outcome.{outcome, outcome_at, outcome_from, trials, trials_from};
 ghost use Rattle.sno_machine.specs.declared.faults.MatchFault.TheVariants.{TooManyTrials};
 
 use crate::compiling::builder::nodes_of;
 use crate::compiling::nodes::Compiled;
 use crate::faults::MatchFault;
-use crate::run::search::search;
+use crate::run::learnt::Learnt;
+use crate::run::search::{SearchOutcome, search};
+use crate::searched::Searched;
 use crate::starts::beginnings::Beginnings;
 use crate::starts::run_starts::RunStart;
 use crate::workspace::Workspace;
-use sno_pattern::{Found, Pattern, Rules, Text, a_greater_depth_changes_no_outcome};
+use sno_pattern::{
+    Found, Pattern, Rules, Text, a_greater_depth_changes_no_outcome,
+    a_search_from_the_first_cursor_is_a_match,
+};
 use std::alloc::{AllocError, Global};
 use std::marker::Model;
 
@@ -118,10 +123,56 @@ impl<'a> Code<'a> {
         ensures refused { IfErr result (λ e. e ≡ TooManyTrials → limit < trials text.now self.now.bodies self.now.pattern anchored) }
     {
         let history = &mut workspace.history;
-        let found = search(alloc, &self.compiled, history, text, anchored, limit)?;
+        let mut learnt = Learnt::nothing_of(text.bytes());
         // for the proof
         self.compiled.rules.bodies();
         a_greater_depth_changes_no_outcome();
+        a_search_from_the_first_cursor_is_a_match();
+        let first = search(
+            alloc,
+            &self.compiled,
+            history,
+            text,
+            &mut learnt,
+            anchored,
+            0,
+            limit,
+        )?;
+        let SearchOutcome { found, .. } = first;
         Ok(found)
+    }
+
+    /// The outcome of a search from a cursor of the text on: a match whose starts are this cursor and each later one, or if
+    /// anchored this cursor alone. All else is as in [`Code::first`], and the primitives look at the whole text.
+    ///
+    /// Also returns how many trials the search took, so that several searches can be limited together.
+    ///
+    /// Refused as [`Code::first`] is, for the trials of this search alone. The text stays searchable after a refusal.
+    pub fn first_from(
+        &self,
+        alloc: Global,
+        text: &mut Searched<'_, 'a>,
+        anchored: bool,
+        from: usize,
+        limit: u32,
+    ) -> Result<SearchOutcome, MatchFault>
+        requires { from ≤ length text.old }
+        ensures found { IfOk result (λ s. s.found ≡ outcome_from text.old self.now.bodies self.now.pattern anchored from) }
+        ensures counted { IfOk result (λ s. s.trials ≡ trials_from text.old self.now.bodies self.now.pattern anchored from) }
+        ensures within { IfOk result (λ s. s.trials ≤ limit) }
+        ensures refused { IfErr result (λ e. e ≡ TooManyTrials → limit < trials_from text.old self.now.bodies self.now.pattern anchored from) }
+        ensures same { text.new ≡ text.old }
+    {
+        let found = search(
+            alloc,
+            &self.compiled,
+            &mut text.workspace.history,
+            text.text,
+            &mut text.learnt,
+            anchored,
+            from,
+            limit,
+        );
+        found
     }
 }

@@ -137,7 +137,8 @@
 //! | File | What it holds |
 //! |---|---|
 //! | `workspace` | memory that matches use one after the other |
-//! | `code` | [`compile`], [`Code::first`] and [`Code::first_in`] |
+//! | `searched` | a text that is searched more than once |
+//! | `code` | [`compile`], [`Code::first`], [`Code::first_in`] and [`Code::first_from`] |
 //! | `compiling/nodes` | nodes and their operations |
 //! | `compiling/builder` | a pattern is compiled |
 //! | `compiling/lookaheads` | the primitives that a branch tries itself |
@@ -187,10 +188,13 @@ mod code;
 mod compiling;
 mod faults;
 mod run;
+mod searched;
 mod starts;
 mod workspace;
 
 pub use code::{Code, compile};
 pub use faults::MatchFault;
+pub use run::search::SearchOutcome;
+pub use searched::Searched;
 pub use sno_pattern::{Assign, Assigns, Conds, Found, Hit, Name, Pattern, Rules, Text, What};
 pub use workspace::Workspace;

@@ -74,6 +74,13 @@ impl<'a> Progress<'a> {
         true
     }
 
+    /// How many trials were spent.
+    pub fn trials(&self) -> u32
+        ensures { result ≡ self.now.trials }
+    {
+        self.limit - self.left
+    }
+
     /// The immediate assignments, in their order. Refused only where memory is.
     pub fn sets(&self, alloc: Global) -> Result<Vec<Assign>, AllocError>
         ensures sets { IfOk result (λ sets. sets.items ≡ self.now.sets) }

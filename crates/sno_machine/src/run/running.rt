@@ -1,5 +1,5 @@
 //! One step after the other, and one start after the other.
-ghost use Rattle.std.specs.Prelude.{◌≡◌, ◌≤◌, [], length, IfOk, IfErr, IfSome};
+ghost use Rattle.std.specs.Prelude.{◌≡◌, ◌+◌, ◌≤◌, [], length, IfOk, IfErr, IfSome};
 ghost use Rattle.std.specs.List.{flat_map};
 ghost use Rattle.sno_pattern.specs.Tree.{tree_of};
 ghost use Rattle.sno_pattern.specs.Outcome.{tried_from};
@@ -35,42 +35,46 @@ fn first_place(nodes: &Nodes, most: u32, start: usize) -> Place
     }
 }
 
-/// Tries the pattern from cursor 0 to cursor `last`, at most `most` references deep, until one of these starts ends the match.
-/// Returns the success, if there is one. With `each`, no start is passed over. What the history holds is dropped first. All of it
-/// is one loop, so that a start is not a call.
+/// Tries the pattern from cursor `first` to cursor `last`, at most `most` references deep, until one of these starts ends the
+/// match. Returns the success, if there is one. With `each`, no start is passed over. What the history holds is dropped first.
+/// All of it is one loop, so that a start is not a call.
 pub fn try_starts<'a>(
     alloc: Global,
     code: &Compiled<'a>,
     text: &[u8],
     most: u32,
     each: bool,
+    first: usize,
     last: usize,
+    learnt: &mut Learnt<'_, 'a>,
     history: &mut History<'a>,
     progress: &mut Progress<'a>,
 ) -> Result<Option<Hit>, MatchFault>
     requires compiled { IsCompiled code.now.rules.now.bodies (tree_of code.now.pattern.now) code.now.nodes }
+    requires inside { first ≤ last + 1 }
     requires within { last ≤ length text.now }
     requires short { length text.now ≤ 65536 }
+    requires known { learnt.old ≡ text.now }
     requires deep { length code.now.rules.now.bodies ≤ most }
     requires begin { AreBeginnings code.now.rules.now.bodies (tree_of code.now.pattern.now) code.now.beginnings }
     requires cheap { cost code.now.beginnings ≤ 64 }
     requires run { IfSome code.now.run (IsRunStart code.now.rules.now.bodies (tree_of code.now.pattern.now)) }
-    ensures found { IfOk result (λ hit. match_by progress.old (flat_map (tried_from text.now code.now.rules.now.bodies most (tree_of code.now.pattern.now)) (up_to 0 last)) ≡ (progress.new, hit)) }
-    ensures refused { IfErr result (Overspent progress.old (flat_map (tried_from text.now code.now.rules.now.bodies most (tree_of code.now.pattern.now)) (up_to 0 last))) }
+    ensures found { IfOk result (λ hit. match_by progress.old (flat_map (tried_from text.now code.now.rules.now.bodies most (tree_of code.now.pattern.now)) (up_to first last)) ≡ (progress.new, hit)) }
+    ensures known { learnt.new ≡ text.now }
+    ensures refused { IfErr result (Overspent progress.old (flat_map (tried_from text.now code.now.rules.now.bodies most (tree_of code.now.pattern.now)) (up_to first last))) }
 {
     history.clear();
-    let mut learnt = Learnt::nothing_of(text);
     let beginnings = &code.beginnings;
     let run = code.run;
     // Found out once, so that a start that fails costs little.
     let each = each || (run.is_none() && matches!(beginnings, Beginnings::Any));
-    let mut start = next_start(each, beginnings, None, text, &learnt, 0, last, progress)?;
+    let mut start = next_start(each, beginnings, None, text, learnt, first, last, progress)?;
     if start > last {
         return Ok(None);
     }
     let mut at = first_place(&code.nodes, most, start);
     loop {
-        let subject = Subject::of(text, &learnt);
+        let subject = Subject::of(text, learnt);
         match take_step(&code.nodes, &subject, at, history, progress)? {
             Step::Onward(place) => at = place,
             Step::Instead(place) => {
@@ -87,7 +91,7 @@ pub fn try_starts<'a>(
                             beginnings,
                             run,
                             text,
-                            &learnt,
+                            learnt,
                             start + 1,
                             last,
                             progress,

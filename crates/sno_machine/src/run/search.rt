@@ -1,9 +1,9 @@
-//! The outcome of a match: its starts in turn, until one of them ends it.
+//! The outcome of a search: its starts in turn, until one of them ends it.
 ghost use Rattle.std.specs.Prelude.{◌≡◌, ◌<◌, ◌≤◌, [], length, IfOk, IfErr, IfSome, IsTrue, MatchResult};
 ghost use Rattle.std.specs.List.{flat_map};
 ghost use Rattle.sno_pattern.specs.Tree.{tree_of, refs_below};
 ghost use Rattle.sno_pattern.specs.Results.{enough_depth};
-ghost use Rattle.sno_pattern.specs.Outcome.{outcome, outcome_at, starts, tried_from, trials};
+ghost use Rattle.sno_pattern.specs.Outcome.{outcome_from, starts_from, tried_from, trials_from};
 ghost use Rattle.sno_machine.specs.Beginnings.{AreBeginnings, IsRunStart, cost};
 ghost use Rattle.sno_machine.specs.Code.{IsCompiled};
 ghost use Rattle.sno_machine.specs.Endings.{found_of, match_by, up_to, Overspent};
@@ -12,27 +12,42 @@ ghost use Rattle.sno_machine.specs.declared.faults.MatchFault.TheVariants.{TooMa
 use crate::compiling::nodes::Compiled;
 use crate::faults::MatchFault;
 use crate::run::entries::History;
+use crate::run::learnt::Learnt;
 use crate::run::progress::Progress;
 use crate::run::running::try_starts;
 use sno_pattern::{Assigns, Found, Hit, Rules, Text};
 use std::alloc::{AllocError, Global};
 
-/// The outcome of the match, at a depth of references that is counted here. What the history holds is dropped first.
+/// What a search has found, and how many trials it took.
+#[derive(Debug, Drop)]
+pub struct SearchOutcome {
+    pub found: Found,
+    pub trials: u32,
+}
+
+/// The outcome of a search from this cursor on, at a depth of references that is counted here. What the history holds is dropped
+/// first.
 pub fn search<'a>(
     alloc: Global,
     code: &Compiled<'a>,
     history: &mut History<'a>,
     text: &Text,
+    learnt: &mut Learnt<'_, 'a>,
     anchored: bool,
+    from: usize,
     limit: u32,
-) -> Result<Found, MatchFault>
+) -> Result<SearchOutcome, MatchFault>
+    requires inside { from ≤ length text.now }
+    requires known { learnt.old ≡ text.now }
     requires compiled { IsCompiled code.now.rules.now.bodies (tree_of code.now.pattern.now) code.now.nodes }
     requires begin { AreBeginnings code.now.rules.now.bodies (tree_of code.now.pattern.now) code.now.beginnings }
     requires cheap { cost code.now.beginnings ≤ 64 }
     requires run { IfSome code.now.run (IsRunStart code.now.rules.now.bodies (tree_of code.now.pattern.now)) }
-    ensures found { IfOk result (λ found. found ≡ outcome text.now code.now.rules.now.bodies (tree_of code.now.pattern.now) anchored) }
-    ensures within { IfOk result (λ _. trials text.now code.now.rules.now.bodies (tree_of code.now.pattern.now) anchored ≤ limit) }
-    ensures refused { IfErr result (λ e. e ≡ TooManyTrials → limit < trials text.now code.now.rules.now.bodies (tree_of code.now.pattern.now) anchored) }
+    ensures found { IfOk result (λ s. s.found ≡ outcome_from text.now code.now.rules.now.bodies (tree_of code.now.pattern.now) anchored from) }
+    ensures counted { IfOk result (λ s. s.trials ≡ trials_from text.now code.now.rules.now.bodies (tree_of code.now.pattern.now) anchored from) }
+    ensures within { IfOk result (λ s. s.trials ≤ limit) }
+    ensures known { learnt.new ≡ text.now }
+    ensures refused { IfErr result (λ e. e ≡ TooManyTrials → limit < trials_from text.now code.now.rules.now.bodies (tree_of code.now.pattern.now) anchored from) }
 {
     let most = depth(text, code.rules);
     let mut progress = Progress::new(alloc, limit);
@@ -42,22 +57,29 @@ pub fn search<'a>(
         text.bytes(),
         most,
         anchored,
+        from,
+        learnt,
         history,
         &mut progress,
     )?;
-    let found = report(alloc, &progress, hit)?;
-    Ok(found)
+    let search = report(alloc, &progress, hit)?;
+    Ok(search)
 }
 
 // The result, once no start is left to be tried.
-fn report(alloc: Global, progress: &Progress, hit: Option<Hit>) -> Result<Found, AllocError>
-    ensures found { IfOk result (λ found. found ≡ found_of (progress.now, hit)) }
+fn report(alloc: Global, progress: &Progress, hit: Option<Hit>) -> Result<SearchOutcome, AllocError>
+    ensures found { IfOk result (λ s. s.found ≡ found_of (progress.now, hit)) }
+    ensures counted { IfOk result (λ s. s.trials ≡ progress.now.trials) }
     ensures within { progress.now.trials ≤ progress.now.limit }
 {
     let sets = progress.sets(alloc)?;
-    Ok(Found {
+    let found = Found {
         sets: Assigns::of(sets),
         end: hit,
+    };
+    Ok(SearchOutcome {
+        found,
+        trials: progress.trials(),
     })
 }
 
@@ -69,13 +91,15 @@ fn depth(text: &Text, rules: &Rules) -> u32
     ((text.bytes().len() + 1) * rules.len()) as u32
 }
 
-// Tries each start at which a match may begin, until one of them ends the match: cursor 0 alone if the match is anchored.
+// Tries each start at which a match may begin, until one of them ends the match: this cursor alone if the match is anchored.
 fn try_all<'a>(
     alloc: Global,
     code: &Compiled<'a>,
     text: &[u8],
     most: u32,
     anchored: bool,
+    from: usize,
+    learnt: &mut Learnt<'_, 'a>,
     history: &mut History<'a>,
     progress: &mut Progress<'a>,
 ) -> Result<Option<Hit>, MatchFault>
@@ -83,22 +107,29 @@ fn try_all<'a>(
     requires begin { AreBeginnings code.now.rules.now.bodies (tree_of code.now.pattern.now) code.now.beginnings }
     requires cheap { cost code.now.beginnings ≤ 64 }
     requires run { IfSome code.now.run (IsRunStart code.now.rules.now.bodies (tree_of code.now.pattern.now)) }
+    requires inside { from ≤ length text.now }
     requires short { length text.now ≤ 65536 }
+    requires known { learnt.old ≡ text.now }
     requires deep { length code.now.rules.now.bodies ≤ most }
-    ensures found { IfOk result (λ hit. match_by progress.old (flat_map (tried_from text.now code.now.rules.now.bodies most (tree_of code.now.pattern.now)) (starts text.now anchored)) ≡ (progress.new, hit)) }
-    ensures refused { IfErr result (Overspent progress.old (flat_map (tried_from text.now code.now.rules.now.bodies most (tree_of code.now.pattern.now)) (starts text.now anchored))) }
+    ensures known { learnt.new ≡ text.now }
+    ensures found { IfOk result (λ hit. match_by progress.old (flat_map (tried_from text.now code.now.rules.now.bodies most (tree_of code.now.pattern.now)) (starts_from text.now anchored from)) ≡ (progress.new, hit)) }
+    ensures refused { IfErr result (Overspent progress.old (flat_map (tried_from text.now code.now.rules.now.bodies most (tree_of code.now.pattern.now)) (starts_from text.now anchored from))) }
 {
-    let last = last_start(text, anchored);
+    let last = last_start(text, anchored, from);
     // A single start is tried in any case.
-    let hit = try_starts(alloc, code, text, most, anchored, last, history, progress)?;
+    let hit = try_starts(
+        alloc, code, text, most, anchored, from, last, learnt, history, progress,
+    )?;
     Ok(hit)
 }
 
 // The last cursor at which the match may begin.
-fn last_start(text: &[u8], anchored: bool) -> usize
-    requires { length text.now ≤ 65536 }
-    ensures starts { starts text.now anchored ≡ up_to 0 result }
-    ensures within { result ≤ length text.now }
+#[tactic(auto, using(crate::proofs::Ranges::single_start, crate::proofs::Ranges::each_start))]
+fn last_start(text: &[u8], anchored: bool, from: usize) -> usize
+    requires inside { from ≤ length text.now }
+    requires short { length text.now ≤ 65536 }
+    ensures starts { starts_from text.now anchored from ≡ up_to from result }
+    ensures within { (from ≤ result) × (result ≤ length text.now) }
 {
-    if anchored { 0 } else { text.len() }
+    if anchored { from } else { text.len() }
 }

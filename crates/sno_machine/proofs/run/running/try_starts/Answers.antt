@@ -33,8 +33,8 @@ returns-then-start-last-clause-found c =
     let k = c.args.most in
     c.in_ok-start.ensures.passed bodies p k c.requires.deep c.requires.begin tt ∙ none_left t bodies k p c.next_start.new.progress c.args.last c.in_ok-start.start c.if-start-last.true
 
-pub loop-learnt-init : goal.loop-learnt-init
-loop-learnt-init c =
+pub loop-place-init : goal.loop-place-init
+loop-place-init c =
     let t = c.args.text.now in
     let bodies = c.args.code.now.rules.now.bodies in
     let nodes = c.args.code.now.nodes in
@@ -47,7 +47,7 @@ loop-learnt-init c =
     let inside = c.if-start-last.false in
     let empty = c.clear.ensures in
     record {
-      known = c.nothing_of-learnt.ensures;
+      known = c.requires.known;
       same =
           c.in_ok-start.ensures.passed bodies p k c.requires.deep c.requires.begin tt
           ∙ begun t bodies p nodes k n first c.next_start.new.progress inside c.requires.compiled.begins
@@ -68,21 +68,21 @@ returns-in_err-place-clause-refused c =
     let n = c.args.last in
     let r = c.args.progress.now in
     let s = setting_of t bodies nodes in
-    let start = c.loop-learnt.start in
-    let before = c.loop-learnt.invariant in
+    let start = c.loop-place.start in
+    let before = c.loop-place.invariant in
     let others = flat_map (tried_from t bodies k p) (up_to (start + 1) n) in
-    let events = place_to_come s (entries_of c.loop-learnt.history) c.loop-learnt.at ++ left s (entries_of c.loop-learnt.history) in
+    let events = place_to_come s (entries_of c.loop-place.history) c.loop-place.at ++ left s (entries_of c.loop-place.history) in
     let e = err_from_is_err_and c.from_residual-in_err-place.result c.from_residual-in_err-place.ensures.1 in
-    let was = c.loop-learnt.progress in
-    let all = flat_map (tried_from t bodies k p) (up_to 0 n) in
+    let was = c.loop-place.progress in
+    let all = flat_map (tried_from t bodies k p) (up_to c.args.first n) in
     rw (e.1, e.2)
     (overspent r all c.in_err-place.field-0.0
     (λ is. over_limit r was all (map (λ e. (start, e)) events ++ others) before.same
     (exceeds_all start was.limit was events others
-    (overspends s (entries_of c.loop-learnt.history) was (place_to_come s (entries_of c.loop-learnt.history) c.loop-learnt.at) c.in_err-place.field-0.0 (c.in_err-place.ensures t bodies p (sym c.of-subject.ensures) c.requires.compiled before.held before.placed refl) is))))
+    (overspends s (entries_of c.loop-place.history) was (place_to_come s (entries_of c.loop-place.history) c.loop-place.at) c.in_err-place.field-0.0 (c.in_err-place.ensures t bodies p (sym c.of-subject.ensures) c.requires.compiled before.held before.placed refl) is))))
 
-pub loop-learnt-smaller-in-Onward : goal.loop-learnt-smaller-in-Onward
-loop-learnt-smaller-in-Onward c =
+pub loop-place-smaller-in-Onward : goal.loop-place-smaller-in-Onward
+loop-place-smaller-in-Onward c =
     let t = c.args.text.now in
     let bodies = c.args.code.now.rules.now.bodies in
     let nodes = c.args.code.now.nodes in
@@ -91,15 +91,15 @@ loop-learnt-smaller-in-Onward c =
     let n = c.args.last in
     let r = c.args.progress.now in
     let s = setting_of t bodies nodes in
-    let start = c.loop-learnt.start in
-    let before = c.loop-learnt.invariant in
+    let start = c.loop-place.start in
+    let before = c.loop-place.invariant in
     let others = flat_map (tried_from t bodies k p) (up_to (start + 1) n) in
-    let events = place_to_come s (entries_of c.loop-learnt.history) c.loop-learnt.at ++ left s (entries_of c.loop-learnt.history) in
+    let events = place_to_come s (entries_of c.loop-place.history) c.loop-place.at ++ left s (entries_of c.loop-place.history) in
     let did = rw c.in-Onward.is at (c.in_ok-place.ensures t bodies p (sym c.of-subject.ensures) c.requires.compiled before.held before.placed refl) in
     omega (arith, did.fewer)
 
-pub loop-learnt-smaller-in-Instead : goal.loop-learnt-smaller-in-Instead
-loop-learnt-smaller-in-Instead c =
+pub loop-place-smaller-in-Instead : goal.loop-place-smaller-in-Instead
+loop-place-smaller-in-Instead c =
     let t = c.args.text.now in
     let bodies = c.args.code.now.rules.now.bodies in
     let nodes = c.args.code.now.nodes in
@@ -108,15 +108,15 @@ loop-learnt-smaller-in-Instead c =
     let n = c.args.last in
     let r = c.args.progress.now in
     let s = setting_of t bodies nodes in
-    let start = c.loop-learnt.start in
-    let before = c.loop-learnt.invariant in
+    let start = c.loop-place.start in
+    let before = c.loop-place.invariant in
     let others = flat_map (tried_from t bodies k p) (up_to (start + 1) n) in
-    let events = place_to_come s (entries_of c.loop-learnt.history) c.loop-learnt.at ++ left s (entries_of c.loop-learnt.history) in
+    let events = place_to_come s (entries_of c.loop-place.history) c.loop-place.at ++ left s (entries_of c.loop-place.history) in
     let did = rw c.in-Instead.is at (c.in_ok-place.ensures t bodies p (sym c.of-subject.ensures) c.requires.compiled before.held before.placed refl) in
     omega (arith, did.fewer)
 
-pub loop-learnt-preserved-in-Onward : goal.loop-learnt-preserved-in-Onward
-loop-learnt-preserved-in-Onward c =
+pub loop-place-preserved-in-Onward : goal.loop-place-preserved-in-Onward
+loop-place-preserved-in-Onward c =
     let t = c.args.text.now in
     let bodies = c.args.code.now.rules.now.bodies in
     let nodes = c.args.code.now.nodes in
@@ -125,21 +125,21 @@ loop-learnt-preserved-in-Onward c =
     let n = c.args.last in
     let r = c.args.progress.now in
     let s = setting_of t bodies nodes in
-    let start = c.loop-learnt.start in
-    let before = c.loop-learnt.invariant in
+    let start = c.loop-place.start in
+    let before = c.loop-place.invariant in
     let others = flat_map (tried_from t bodies k p) (up_to (start + 1) n) in
-    let events = place_to_come s (entries_of c.loop-learnt.history) c.loop-learnt.at ++ left s (entries_of c.loop-learnt.history) in
+    let events = place_to_come s (entries_of c.loop-place.history) c.loop-place.at ++ left s (entries_of c.loop-place.history) in
     let did = rw c.in-Onward.is at (c.in_ok-place.ensures t bodies p (sym c.of-subject.ensures) c.requires.compiled before.held before.placed refl) in
     record {
       known = before.known;
-      same = before.same ∙ found_same start c.loop-learnt.progress c.take_step.new.progress events (place_to_come s (entries_of c.take_step.new.history) c.in-Onward.place ++ left s (entries_of c.take_step.new.history)) did.same others;
+      same = before.same ∙ found_same start c.loop-place.progress c.take_step.new.progress events (place_to_come s (entries_of c.take_step.new.history) c.in-Onward.place ++ left s (entries_of c.take_step.new.history)) did.same others;
       held = did.held;
       placed = did.placed;
       inside = before.inside;
     }
 
-pub loop-learnt-preserved-in-Instead : goal.loop-learnt-preserved-in-Instead
-loop-learnt-preserved-in-Instead c =
+pub loop-place-preserved-in-Instead : goal.loop-place-preserved-in-Instead
+loop-place-preserved-in-Instead c =
     let t = c.args.text.now in
     let bodies = c.args.code.now.rules.now.bodies in
     let nodes = c.args.code.now.nodes in
@@ -148,21 +148,21 @@ loop-learnt-preserved-in-Instead c =
     let n = c.args.last in
     let r = c.args.progress.now in
     let s = setting_of t bodies nodes in
-    let start = c.loop-learnt.start in
-    let before = c.loop-learnt.invariant in
+    let start = c.loop-place.start in
+    let before = c.loop-place.invariant in
     let others = flat_map (tried_from t bodies k p) (up_to (start + 1) n) in
-    let events = place_to_come s (entries_of c.loop-learnt.history) c.loop-learnt.at ++ left s (entries_of c.loop-learnt.history) in
+    let events = place_to_come s (entries_of c.loop-place.history) c.loop-place.at ++ left s (entries_of c.loop-place.history) in
     let did = rw c.in-Instead.is at (c.in_ok-place.ensures t bodies p (sym c.of-subject.ensures) c.requires.compiled before.held before.placed refl) in
     record {
       known = c.catch_up.ensures ∙ before.known;
-      same = before.same ∙ found_same start c.loop-learnt.progress c.take_step.new.progress events (place_to_come s (entries_of c.take_step.new.history) c.in-Instead.place ++ left s (entries_of c.take_step.new.history)) did.same others;
+      same = before.same ∙ found_same start c.loop-place.progress c.take_step.new.progress events (place_to_come s (entries_of c.take_step.new.history) c.in-Instead.place ++ left s (entries_of c.take_step.new.history)) did.same others;
       held = did.held;
       placed = did.placed;
       inside = before.inside;
     }
 
-pub loop-learnt-smaller-in-Some : goal.loop-learnt-smaller-in-Some
-loop-learnt-smaller-in-Some c =
+pub loop-place-smaller-in-Some : goal.loop-place-smaller-in-Some
+loop-place-smaller-in-Some c =
     let t = c.args.text.now in
     let bodies = c.args.code.now.rules.now.bodies in
     let nodes = c.args.code.now.nodes in
@@ -171,17 +171,17 @@ loop-learnt-smaller-in-Some c =
     let n = c.args.last in
     let r = c.args.progress.now in
     let s = setting_of t bodies nodes in
-    let start = c.loop-learnt.start in
-    let before = c.loop-learnt.invariant in
+    let start = c.loop-place.start in
+    let before = c.loop-place.invariant in
     let others = flat_map (tried_from t bodies k p) (up_to (start + 1) n) in
-    let events = place_to_come s (entries_of c.loop-learnt.history) c.loop-learnt.at ++ left s (entries_of c.loop-learnt.history) in
+    let events = place_to_come s (entries_of c.loop-place.history) c.loop-place.at ++ left s (entries_of c.loop-place.history) in
     let did = rw c.in-BackUp.is at (c.in_ok-place.ensures t bodies p (sym c.of-subject.ensures) c.requires.compiled before.held before.placed refl) in
     let taken = c.in-Some.ensures.taken_up s (subst (IsHistory s) (sym did.0) before.held) in
-    let same : steps_left s (entries_of c.take_step.new.history) ≡ steps_left s (entries_of c.loop-learnt.history) = ap (steps_left s) did.0 in
+    let same : steps_left s (entries_of c.take_step.new.history) ≡ steps_left s (entries_of c.loop-place.history) = ap (steps_left s) did.0 in
     omega (arith, taken.fewer, same)
 
-pub loop-learnt-preserved-in-Some : goal.loop-learnt-preserved-in-Some
-loop-learnt-preserved-in-Some c =
+pub loop-place-preserved-in-Some : goal.loop-place-preserved-in-Some
+loop-place-preserved-in-Some c =
     let t = c.args.text.now in
     let bodies = c.args.code.now.rules.now.bodies in
     let nodes = c.args.code.now.nodes in
@@ -190,10 +190,10 @@ loop-learnt-preserved-in-Some c =
     let n = c.args.last in
     let r = c.args.progress.now in
     let s = setting_of t bodies nodes in
-    let start = c.loop-learnt.start in
-    let before = c.loop-learnt.invariant in
+    let start = c.loop-place.start in
+    let before = c.loop-place.invariant in
     let others = flat_map (tried_from t bodies k p) (up_to (start + 1) n) in
-    let events = place_to_come s (entries_of c.loop-learnt.history) c.loop-learnt.at ++ left s (entries_of c.loop-learnt.history) in
+    let events = place_to_come s (entries_of c.loop-place.history) c.loop-place.at ++ left s (entries_of c.loop-place.history) in
     let did = rw c.in-BackUp.is at (c.in_ok-place.ensures t bodies p (sym c.of-subject.ensures) c.requires.compiled before.held before.placed refl) in
     let taken = c.in-Some.ensures.taken_up s (subst (IsHistory s) (sym did.0) before.held) in
     let now = c.take_step.new.progress in
@@ -201,7 +201,7 @@ loop-learnt-preserved-in-Some c =
       known = c.catch_up-in-BackUp.ensures ∙ before.known;
       same =
           before.same
-          ∙ found_same start c.loop-learnt.progress now events (place_to_come s (entries_of c.back_up.new.self) c.in-Some.place ++ left s (entries_of c.back_up.new.self))
+          ∙ found_same start c.loop-place.progress now events (place_to_come s (entries_of c.back_up.new.self) c.in-Some.place ++ left s (entries_of c.back_up.new.self))
           (did.1 ∙ ap (λ z. come now (left s z)) (sym did.0) ∙ ap (come now) taken.same) others;
       held = taken.held;
       placed = taken.placed;
@@ -218,16 +218,16 @@ returns-in_err-start-in-None-clause-refused c =
     let n = c.args.last in
     let r = c.args.progress.now in
     let s = setting_of t bodies nodes in
-    let start = c.loop-learnt.start in
-    let before = c.loop-learnt.invariant in
+    let start = c.loop-place.start in
+    let before = c.loop-place.invariant in
     let others = flat_map (tried_from t bodies k p) (up_to (start + 1) n) in
-    let events = place_to_come s (entries_of c.loop-learnt.history) c.loop-learnt.at ++ left s (entries_of c.loop-learnt.history) in
+    let events = place_to_come s (entries_of c.loop-place.history) c.loop-place.at ++ left s (entries_of c.loop-place.history) in
     let did = rw c.in-BackUp.is at (c.in_ok-place.ensures t bodies p (sym c.of-subject.ensures) c.requires.compiled before.held before.placed refl) in
     let now = c.take_step.new.progress in
     let none : left s (entries_of c.take_step.new.history) ≡ [] = c.in-None.ensures.taken_up s (subst (IsHistory s) (sym did.0) before.held) in
-    let over = before.same ∙ found_same start c.loop-learnt.progress now events [] (did.1 ∙ ap (λ z. come now (left s z)) (sym did.0) ∙ ap (come now) none) others in
+    let over = before.same ∙ found_same start c.loop-place.progress now events [] (did.1 ∙ ap (λ z. come now (left s z)) (sym did.0) ∙ ap (come now) none) others in
     let e = err_from_is_err_and c.from_residual-in_err-start-in-None.result c.from_residual-in_err-start-in-None.ensures.1 in
-    let all = flat_map (tried_from t bodies k p) (up_to 0 n) in
+    let all = flat_map (tried_from t bodies k p) (up_to c.args.first n) in
     rw (e.1, e.2)
     (overspent r all c.in_err-start-in-None.field-0.0
     (λ is. over_limit r now all others over
@@ -244,20 +244,20 @@ returns-then-start-last-2-clause-found c =
     let n = c.args.last in
     let r = c.args.progress.now in
     let s = setting_of t bodies nodes in
-    let start = c.loop-learnt.start in
-    let before = c.loop-learnt.invariant in
+    let start = c.loop-place.start in
+    let before = c.loop-place.invariant in
     let others = flat_map (tried_from t bodies k p) (up_to (start + 1) n) in
-    let events = place_to_come s (entries_of c.loop-learnt.history) c.loop-learnt.at ++ left s (entries_of c.loop-learnt.history) in
+    let events = place_to_come s (entries_of c.loop-place.history) c.loop-place.at ++ left s (entries_of c.loop-place.history) in
     let did = rw c.in-BackUp.is at (c.in_ok-place.ensures t bodies p (sym c.of-subject.ensures) c.requires.compiled before.held before.placed refl) in
     let now = c.take_step.new.progress in
     let none : left s (entries_of c.take_step.new.history) ≡ [] = c.in-None.ensures.taken_up s (subst (IsHistory s) (sym did.0) before.held) in
-    let over = before.same ∙ found_same start c.loop-learnt.progress now events [] (did.1 ∙ ap (λ z. come now (left s z)) (sym did.0) ∙ ap (come now) none) others in
+    let over = before.same ∙ found_same start c.loop-place.progress now events [] (did.1 ∙ ap (λ z. come now (left s z)) (sym did.0) ∙ ap (come now) none) others in
     over
     ∙ c.in_ok-start-in-None.ensures.passed bodies p k c.requires.deep c.requires.begin c.requires.run
     ∙ none_left t bodies k p c.next_start-in-None.new.progress n c.in_ok-start-in-None.start c.if-start-last-2.true
 
-pub loop-learnt-smaller : goal.loop-learnt-smaller
-loop-learnt-smaller c =
+pub loop-place-smaller : goal.loop-place-smaller
+loop-place-smaller c =
     let t = c.args.text.now in
     let bodies = c.args.code.now.rules.now.bodies in
     let nodes = c.args.code.now.nodes in
@@ -266,14 +266,14 @@ loop-learnt-smaller c =
     let n = c.args.last in
     let r = c.args.progress.now in
     let s = setting_of t bodies nodes in
-    let start = c.loop-learnt.start in
-    let before = c.loop-learnt.invariant in
+    let start = c.loop-place.start in
+    let before = c.loop-place.invariant in
     let others = flat_map (tried_from t bodies k p) (up_to (start + 1) n) in
-    let events = place_to_come s (entries_of c.loop-learnt.history) c.loop-learnt.at ++ left s (entries_of c.loop-learnt.history) in
+    let events = place_to_come s (entries_of c.loop-place.history) c.loop-place.at ++ left s (entries_of c.loop-place.history) in
     let did = rw c.in-BackUp.is at (c.in_ok-place.ensures t bodies p (sym c.of-subject.ensures) c.requires.compiled before.held before.placed refl) in
     let now = c.take_step.new.progress in
     let none : left s (entries_of c.take_step.new.history) ≡ [] = c.in-None.ensures.taken_up s (subst (IsHistory s) (sym did.0) before.held) in
-    let over = before.same ∙ found_same start c.loop-learnt.progress now events [] (did.1 ∙ ap (λ z. come now (left s z)) (sym did.0) ∙ ap (come now) none) others in
+    let over = before.same ∙ found_same start c.loop-place.progress now events [] (did.1 ∙ ap (λ z. come now (left s z)) (sym did.0) ∙ ap (come now) none) others in
     let next = c.in_ok-start-in-None.start in
     let inside = c.if-start-last-2.false in
     let empty = c.in-None.ensures.empty in
@@ -284,8 +284,8 @@ loop-learnt-smaller c =
     let gone : steps_left s (entries_of c.back_up.new.self) ≡ 0 = ap (steps_left s) empty in
     omega (arith, few, here, gone)
 
-pub loop-learnt-preserved : goal.loop-learnt-preserved
-loop-learnt-preserved c =
+pub loop-place-preserved : goal.loop-place-preserved
+loop-place-preserved c =
     let t = c.args.text.now in
     let bodies = c.args.code.now.rules.now.bodies in
     let nodes = c.args.code.now.nodes in
@@ -294,14 +294,14 @@ loop-learnt-preserved c =
     let n = c.args.last in
     let r = c.args.progress.now in
     let s = setting_of t bodies nodes in
-    let start = c.loop-learnt.start in
-    let before = c.loop-learnt.invariant in
+    let start = c.loop-place.start in
+    let before = c.loop-place.invariant in
     let others = flat_map (tried_from t bodies k p) (up_to (start + 1) n) in
-    let events = place_to_come s (entries_of c.loop-learnt.history) c.loop-learnt.at ++ left s (entries_of c.loop-learnt.history) in
+    let events = place_to_come s (entries_of c.loop-place.history) c.loop-place.at ++ left s (entries_of c.loop-place.history) in
     let did = rw c.in-BackUp.is at (c.in_ok-place.ensures t bodies p (sym c.of-subject.ensures) c.requires.compiled before.held before.placed refl) in
     let now = c.take_step.new.progress in
     let none : left s (entries_of c.take_step.new.history) ≡ [] = c.in-None.ensures.taken_up s (subst (IsHistory s) (sym did.0) before.held) in
-    let over = before.same ∙ found_same start c.loop-learnt.progress now events [] (did.1 ∙ ap (λ z. come now (left s z)) (sym did.0) ∙ ap (come now) none) others in
+    let over = before.same ∙ found_same start c.loop-place.progress now events [] (did.1 ∙ ap (λ z. come now (left s z)) (sym did.0) ∙ ap (come now) none) others in
     let next = c.in_ok-start-in-None.start in
     let inside = c.if-start-last-2.false in
     let empty = c.in-None.ensures.empty in
@@ -329,13 +329,13 @@ returns-in-Ended-clause-found c =
     let n = c.args.last in
     let r = c.args.progress.now in
     let s = setting_of t bodies nodes in
-    let start = c.loop-learnt.start in
-    let before = c.loop-learnt.invariant in
+    let start = c.loop-place.start in
+    let before = c.loop-place.invariant in
     let others = flat_map (tried_from t bodies k p) (up_to (start + 1) n) in
-    let events = place_to_come s (entries_of c.loop-learnt.history) c.loop-learnt.at ++ left s (entries_of c.loop-learnt.history) in
+    let events = place_to_come s (entries_of c.loop-place.history) c.loop-place.at ++ left s (entries_of c.loop-place.history) in
     let did = rw c.in-Ended.is at (c.in_ok-place.ensures t bodies p (sym c.of-subject.ensures) c.requires.compiled before.held before.placed refl) in
     let now = c.take_step.new.progress in
-    before.same ∙ found_same start c.loop-learnt.progress now events (End c.in-Ended.place.cursor c.of.result ∷ did.0)
+    before.same ∙ found_same start c.loop-place.progress now events (End c.in-Ended.place.cursor c.of.result ∷ did.0)
     (did.2
     ∙ ap (λ z. come now (End c.in-Ended.place.cursor (conds_at z c.in-Ended.place.pending) ∷ did.0)) (sym did.1)
     ∙ ap (λ a. come now (End c.in-Ended.place.cursor a ∷ did.0)) (sym (c.of.ensures ∙ ap (λ v. v.items) c.replace-parts.ensures.value ∙ c.in_ok-gather-in-Ended.ensures.gathered))) others
@@ -350,9 +350,9 @@ returns-in-Failed-clause-found c =
     let n = c.args.last in
     let r = c.args.progress.now in
     let s = setting_of t bodies nodes in
-    let start = c.loop-learnt.start in
-    let before = c.loop-learnt.invariant in
+    let start = c.loop-place.start in
+    let before = c.loop-place.invariant in
     let others = flat_map (tried_from t bodies k p) (up_to (start + 1) n) in
-    let events = place_to_come s (entries_of c.loop-learnt.history) c.loop-learnt.at ++ left s (entries_of c.loop-learnt.history) in
+    let events = place_to_come s (entries_of c.loop-place.history) c.loop-place.at ++ left s (entries_of c.loop-place.history) in
     let did = rw c.in-Failed.is at (c.in_ok-place.ensures t bodies p (sym c.of-subject.ensures) c.requires.compiled before.held before.placed refl) in
-    before.same ∙ found_same start c.loop-learnt.progress c.take_step.new.progress events (Halt ∷ did.0) did.1 others
+    before.same ∙ found_same start c.loop-place.progress c.take_step.new.progress events (Halt ∷ did.0) did.1 others

@@ -8,10 +8,10 @@ use Rattle.sno_machine.specs.History.{entries_of, setting_of, place_to_come, pla
 use Rattle.sno_machine.proofs.StartLaws.{comes_to, first_place, steps_ahead}
 use Rattle.sno_machine.proofs.run.running.try_starts.Given as goal
 
-abbrev pub invariant-loop-learnt : goal.invariant-loop-learnt
-invariant-loop-learnt l = record {
+abbrev pub invariant-loop-place : goal.invariant-loop-place
+invariant-loop-place l = record {
   known : l.learnt ≡ l.text;
-  same : match_by l.fn.progress (flat_map (tried_from l.text l.code.rules.now.bodies l.most (tree_of l.code.pattern.now)) (up_to 0 l.last))
+  same : match_by l.fn.progress (flat_map (tried_from l.text l.code.rules.now.bodies l.most (tree_of l.code.pattern.now)) (up_to l.first l.last))
       ≡ comes_to l.text l.code.rules.now.bodies l.most (tree_of l.code.pattern.now) l.last l.progress l.start
       (place_to_come (setting_of l.text l.code.rules.now.bodies l.code.nodes) (entries_of l.history) l.at ++ left (setting_of l.text l.code.rules.now.bodies l.code.nodes) (entries_of l.history));
   held : IsHistory (setting_of l.text l.code.rules.now.bodies l.code.nodes) (entries_of l.history);
@@ -19,8 +19,8 @@ invariant-loop-learnt l = record {
   inside : l.start ≤ l.last;
 }
 
-abbrev pub decreases-loop-learnt : goal.decreases-loop-learnt
-decreases-loop-learnt l =
+abbrev pub decreases-loop-place : goal.decreases-loop-place
+decreases-loop-place l =
     place_steps (setting_of l.text l.code.rules.now.bodies l.code.nodes) (entries_of l.history) l.at
     + steps_left (setting_of l.text l.code.rules.now.bodies l.code.nodes) (entries_of l.history)
     + steps_ahead (λ c. place_steps (setting_of l.text l.code.rules.now.bodies l.code.nodes) [] (first_place l.code.nodes l.most c)) (up_to (l.start + 1) l.last)
