@@ -3,4 +3,7 @@ pub mod Decimals
 pub mod Entries
 pub mod LastValues
 pub mod NotMemory
+pub mod PassLaws
+pub mod Replacing
 pub mod Rounds
+pub mod WholePasses

@@ -4,7 +4,7 @@ use Rattle.sno_statement.specs.declared.outcomes.StatementFault.{StatementFault}
 use Rattle.sno_statement.specs.declared.outcomes.StatementFault.TheVariants as fault
 use Rattle.sno_statement.specs.Statement.{Statement}
 use Rattle.sno_statement.specs.Bindings.{Bindings}
-use Rattle.sno_statement.specs.Perform.{Outcome, Matched, Failed, Repeated, Gives, left_by, follow, rounds, perform_once}
+use Rattle.sno_statement.specs.Perform.{Outcome, Matched, Failed, Repeated, All, Gives, left_by, follow, rounds, perform_once}
 
 -- a round that leaves something leads on from it
 pub goes_on : (d : Outcome) (bound : Bindings) (t : List ℕ) (ended : Bindings → Outcome) (go_on : Bindings → List ℕ → Result Outcome StatementFault) → left_by d ≡ Some (bound, t) → follow (Ok d) ended go_on ≡ go_on bound t
@@ -12,6 +12,7 @@ goes_on (Matched s e b (Some after)) bound t ended go_on is = ap (λ (o : Option
 goes_on (Matched s e b None) bound t ended go_on is = cc
 goes_on (Failed b) bound t ended go_on is = cc
 goes_on (Repeated n b after) bound t ended go_on is = cc
+goes_on (All matches after) bound t ended go_on is = cc
 
 -- one round fewer
 pub round_more : (s : Statement) (left n : ℕ) (bound : Bindings) (t : List ℕ) → 0 < left → rounds s left n bound t ≡ follow (perform_once s t) (λ _. Repeated n bound t) (rounds s (left - 1) (n + 1))

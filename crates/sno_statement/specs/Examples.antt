@@ -1,20 +1,22 @@
 -- Worked examples: each is proved by computing from the definitions alone. Texts, patterns and objects are written out, so that
 -- a reader can compare them with the manual.
-use Rattle.std.specs.Prelude.{◌≡◌, ℕ, false, List, [], ◌∷◌, Option, Some, None, Ok, Err, replicate, codes, refl}
+use Rattle.std.specs.Prelude.{◌≡◌, ℕ, true, false, List, [], ◌∷◌, Option, Some, None, Ok, Err, replicate, codes, refl}
 use Rattle.std.specs.Fmt.{digits}
-use Rattle.sno_pattern.specs.Tree.{Tree, Lit, Len, Tab, Rtab, AnyOf, Break, Rem, Fence, At, Seq, Cond, Imm}
+use Rattle.sno_pattern.specs.Tree.{Tree, Lit, Len, Pos, Tab, Rtab, AnyOf, Span, Break, Rem, Fence, Abort, At, Seq, Alt, Cond, Imm}
 use Rattle.sno_pattern.specs.Results.{results_of}
-use Rattle.sno_pattern.specs.Outcome.{outcome_at, trials_at}
+use Rattle.sno_pattern.specs.Outcome.{outcome_at, trials_at, outcome_at_from, trials_at_from}
 use Rattle.sno_pattern.specs.declared.events.What.TheVariants as what
 use Rattle.sno_pattern.specs.declared.found.Found.{Found}
 use Rattle.sno_read.specs.declared.objects.Part.{Part}
 use Rattle.sno_read.specs.declared.objects.Part.TheVariants.{Quoted, Var}
 use Rattle.sno_statement.specs.declared.binding.Datum.TheVariants.{Str, Int}
 use Rattle.sno_statement.specs.declared.outcomes.StatementFault.TheVariants as fault
-use Rattle.sno_statement.specs.Statement.{Statement, with_limit, with_repeat}
+use Rattle.sno_statement.specs.Statement.{Statement, with_all, with_limit, with_repeat}
 use Rattle.sno_statement.specs.Bindings.{Bindings, bind, lookup, bindings_of}
 use Rattle.sno_statement.specs.Value.{value_of}
-use Rattle.sno_statement.specs.Perform.{Matched, Failed, Repeated, with_text, perform}
+use Rattle.sno_statement.specs.Passes.{matches_from, trials_onward}
+use Rattle.sno_statement.specs.Perform.{Matched, Failed, Repeated, All, with_text, finish_all, perform, perform_all}
+use Rattle.sno_statement.specs.declared.match_lists.Match.{Match}
 
 -- ---- Bindings
 -- a variable that is assigned again keeps its place and has the later value
@@ -106,6 +108,7 @@ floating pattern object = record {
   anchored = false;
   limit = 1000000;
   repeat = None;
+  all = false;
 }
 
 -- BREAK('=') . K '=' REM . V, object V '=' K, on k=v
@@ -245,3 +248,83 @@ last_round_refused = refl
 no_round_matches : perform (replacing (Lit (codes "a")) (Quoted (codes "c") ∷ []) 2) (codes "b") ≡ Ok (Failed [])
 unfolding outcome_at trials_at results_of
 no_round_matches = refl
+
+-- ---- Statements for all matches
+abbrev for_all : Tree → Option (List Part) → Statement
+for_all pattern object = with_all (floating pattern object)
+
+abbrev anchored : Statement → Statement
+anchored s = record { number = s.number; rules = s.rules; pattern = s.pattern; object = s.object; text = s.text; anchored = true; limit = s.limit; repeat = s.repeat; all = s.all }
+
+abbrev at : ℕ → ℕ → Bindings → Match
+at start end bindings = record { start = start; end = end; bindings = bindings }
+
+-- '&', object '&amp;', on a&b&c: what is put in isn't searched
+each_replaced : perform (for_all (Lit (codes "&")) (Some (Quoted (codes "&amp;") ∷ []))) (codes "a&b&c") ≡ Ok (All (at 1 2 [] ∷ at 3 4 [] ∷ []) (Some (codes "a&amp;b&amp;c")))
+unfolding outcome_at trials_at outcome_at_from trials_at_from results_of matches_from trials_onward perform_all
+each_replaced = refl
+
+-- 'a', object 'aa', on aaa
+none_between : perform (for_all (Lit (codes "a")) (Some (Quoted (codes "aa") ∷ []))) (codes "aaa") ≡ Ok (All (at 0 1 [] ∷ at 1 2 [] ∷ at 2 3 [] ∷ []) (Some (codes "aaaaaa")))
+unfolding outcome_at trials_at outcome_at_from trials_at_from results_of matches_from trials_onward perform_all
+none_between = refl
+
+-- LEN(1) $ L ANY('12') . D on a1b2: each match has its own bindings
+own_bindings : perform (for_all (Seq (Imm (Len 1) (codes "L")) (Cond (AnyOf (codes "12")) (codes "D"))) None) (codes "a1b2") ≡ Ok (All (at 0 2 ((codes "L", Str (codes "a")) ∷ (codes "D", Str (codes "1")) ∷ []) ∷ at 2 4 ((codes "L", Str (codes "b")) ∷ (codes "D", Str (codes "2")) ∷ []) ∷ []) None)
+unfolding outcome_at trials_at outcome_at_from trials_at_from results_of matches_from trials_onward perform_all
+own_bindings = refl
+
+-- SPAN('a') | '', object 'x', on baaac: the null string at cursor 4 doesn't count
+null_at_end_of_match : perform (for_all (Alt (Span (codes "a")) (Lit [])) (Some (Quoted (codes "x") ∷ []))) (codes "baaac") ≡ Ok (All (at 0 0 [] ∷ at 1 4 [] ∷ at 5 5 [] ∷ []) (Some (codes "xbxcx")))
+unfolding outcome_at trials_at outcome_at_from trials_at_from results_of matches_from trials_onward perform_all
+null_at_end_of_match = refl
+
+-- '', object '-', on abc
+null_everywhere : perform (for_all (Lit []) (Some (Quoted (codes "-") ∷ []))) (codes "abc") ≡ Ok (All (at 0 0 [] ∷ at 1 1 [] ∷ at 2 2 [] ∷ at 3 3 [] ∷ []) (Some (codes "-a-b-c-")))
+unfolding outcome_at trials_at outcome_at_from trials_at_from results_of matches_from trials_onward perform_all
+null_everywhere = refl
+
+-- '', object 'z', on the empty text
+null_on_empty : perform (for_all (Lit []) (Some (Quoted (codes "z") ∷ []))) [] ≡ Ok (All (at 0 0 [] ∷ []) (Some (codes "z")))
+unfolding outcome_at trials_at outcome_at_from trials_at_from results_of matches_from trials_onward perform_all
+null_on_empty = refl
+
+-- anchored, 'a', object 'x', on aab
+anchored_run : perform (anchored (for_all (Lit (codes "a")) (Some (Quoted (codes "x") ∷ [])))) (codes "aab") ≡ Ok (All (at 0 1 [] ∷ at 1 2 [] ∷ []) (Some (codes "xxb")))
+unfolding outcome_at trials_at outcome_at_from trials_at_from results_of matches_from trials_onward perform_all
+anchored_run = refl
+
+-- anchored, 'a', on baa
+anchored_none : perform (anchored (for_all (Lit (codes "a")) None)) (codes "baa") ≡ Ok (Failed [])
+unfolding outcome_at trials_at outcome_at_from trials_at_from results_of matches_from trials_onward perform_all
+anchored_none = refl
+
+-- POS(2) 'a', object 'x', on abab: a primitive looks at the whole text
+whole_text_seen : perform (for_all (Seq (Pos 2) (Lit (codes "a"))) (Some (Quoted (codes "x") ∷ []))) (codes "abab") ≡ Ok (All (at 2 3 [] ∷ []) (Some (codes "abxb")))
+unfolding outcome_at trials_at outcome_at_from trials_at_from results_of matches_from trials_onward perform_all
+whole_text_seen = refl
+
+-- 'a' | ABORT, object 'x', on ab: a search that is aborted ends the pass
+abort_ends : perform (for_all (Alt (Lit (codes "a")) Abort) (Some (Quoted (codes "x") ∷ []))) (codes "ab") ≡ Ok (All (at 0 1 [] ∷ []) (Some (codes "xb")))
+unfolding outcome_at trials_at outcome_at_from trials_at_from results_of matches_from trials_onward perform_all
+abort_ends = refl
+
+-- 'a', object 'x', on aab: three searches take 1, 1 and 2 trials, more than three together ..
+together_refused : perform (with_limit (for_all (Lit (codes "a")) (Some (Quoted (codes "x") ∷ []))) 3) (codes "aab") ≡ Err fault.TooManyTrials
+unfolding outcome_at trials_at outcome_at_from trials_at_from results_of matches_from trials_onward perform_all
+together_refused = refl
+
+-- .. but no more than four
+together_within : perform (with_limit (for_all (Lit (codes "a")) (Some (Quoted (codes "x") ∷ []))) 4) (codes "aab") ≡ Ok (All (at 0 1 [] ∷ at 1 2 [] ∷ []) (Some (codes "xxb")))
+unfolding outcome_at trials_at outcome_at_from trials_at_from results_of matches_from trials_onward perform_all
+together_within = refl
+
+-- the new text may have 65,536 characters, and no more
+abbrev doubled : ℕ → List Match
+doubled n = at 0 n ((codes "A", Str (replicate n 97)) ∷ []) ∷ []
+
+longest_of_all : finish_all (Some (Var (codes "A") ∷ [])) (replicate 65536 97) (doubled 65536) ≡ Ok (All (doubled 65536) (Some (replicate 65536 97)))
+longest_of_all = refl
+
+too_long_of_all : finish_all (Some (Var (codes "A") ∷ Quoted (codes "a") ∷ [])) (replicate 65536 97) (doubled 65536) ≡ Err fault.TextTooLong
+too_long_of_all = refl

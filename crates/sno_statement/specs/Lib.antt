@@ -3,5 +3,6 @@ pub mod StatementPatterns
 pub mod Bindings
 pub mod LastAssignments
 pub mod Value
+pub mod Passes
 pub mod Perform
 pub mod Examples

@@ -1,5 +1,5 @@
 -- What a statement does to a text.
-use Rattle.std.specs.Prelude.{◌≡◌, ◌<◌, ◌≤◌, ◌+◌, ◌-◌, ℕ, zero, suc, List, length, nat_lt, Option, Some, None, Result, Ok, Err, if◌then◌else◌}
+use Rattle.std.specs.Prelude.{◌≡◌, ◌<◌, ◌≤◌, ◌+◌, ◌-◌, ℕ, zero, suc, List, [], ◌∷◌, length, nat_lt, Option, Some, None, Result, Ok, Err, if◌then◌else◌}
 use Rattle.std.specs.Option.{option_map}
 use Rattle.std.specs.Arc.{arc_value}
 use Rattle.std.specs.declared.sync.Arc.{Arc}
@@ -13,6 +13,8 @@ use Rattle.sno_machine.specs.Sources.{Source}
 use Rattle.sno_statement.specs.Statement.{Statement}
 use Rattle.sno_statement.specs.Bindings.{Bindings, bindings_of}
 use Rattle.sno_statement.specs.Value.{value_of, new_text}
+use Rattle.sno_statement.specs.Passes.{all_matches, all_trials, replaced}
+use Rattle.sno_statement.specs.declared.match_lists.Match.{Match}
 use Rattle.sno_read.specs.declared.objects.Part.{Part}
 use Rattle.sno_statement.specs.declared.outcomes.Outcome.{Outcome as StoredOutcome}
 use Rattle.sno_statement.specs.declared.outcomes.Outcome.TheVariants as outcomes
@@ -28,17 +30,20 @@ of_match matching.Memory = fault.Memory
 -- an outcome by value:
 -- - the cursors of the match, the bindings, and the new text exactly if there is an object;
 -- - the failure, with the bindings that stay;
--- - of a repeated statement, how many matches there were, with the bindings and the new text of the last
+-- - of a repeated statement, how many matches there were, with the bindings and the new text of the last;
+-- - of a statement for all matches, the matches, and the new text exactly if there is an object
 pub data Outcome : Type 0 where
   Matched : ℕ → ℕ → Bindings → Option (List ℕ) → Outcome
   Failed : Bindings → Outcome
   Repeated : ℕ → Bindings → List ℕ → Outcome
+  All : List Match → Option (List ℕ) → Outcome
 
 -- the new text, if there is one
 abbrev pub after_of : Outcome → Option (List ℕ)
 after_of (Matched s e bound after) = after
 after_of (Failed bound) = None
 after_of (Repeated n bound after) = Some after
+after_of (All matches after) = after
 
 -- a new text is refused if it has more than 65,536 characters
 abbrev pub with_text : ℕ → ℕ → Bindings → List ℕ → Result Outcome StatementFault
@@ -88,15 +93,31 @@ abbrev pub perform_times : Statement → Option ℕ → List ℕ → Result Outc
 perform_times s None t = perform_once s t
 perform_times s (Some r) t = follow (perform_once s t) Failed (rounds s (r - 1) 1)
 
+-- what all these matches do to the text t; a new text is refused if it has more than 65,536 characters
+abbrev pub finish_all : Option (List Part) → List ℕ → List Match → Result Outcome StatementFault
+finish_all None t matches = Ok (All matches None)
+finish_all (Some parts) t matches = if nat_lt MAX_TEXT (length (replaced parts t 0 matches)) then Err fault.TextTooLong else Ok (All matches (Some (replaced parts t 0 matches)))
+
+-- If no match counts, the statement has failed as if it were not for all matches.
+abbrev pub all_or_failed : Statement → List ℕ → List Match → Result Outcome StatementFault
+all_or_failed s t [] = Ok (Failed (bindings_of t (outcome t s.rules.bodies s.pattern s.anchored)))
+all_or_failed s t (m ∷ ms) = finish_all s.object t (m ∷ ms)
+
+-- What the statement does to the text t in one pass. It is refused if all searches together take more trials than its limit,
+-- which is checked before the new text's length.
+unfoldable pub perform_all : Statement → List ℕ → Result Outcome StatementFault
+perform_all s t = if nat_lt s.limit (all_trials s t) then Err fault.TooManyTrials else all_or_failed s t (all_matches s t)
+
 -- what the statement does to the text t
 abbrev pub perform : Statement → List ℕ → Result Outcome StatementFault
-perform s t = perform_times s s.repeat t
+perform s t = if s.all then perform_all s t else perform_times s s.repeat t
 
 -- an outcome of the program, by value
 abbrev pub outcome_seen : StoredOutcome → Outcome
 outcome_seen (outcomes.Matched s e bound after) = Matched s e bound (option_map arc_value after)
 outcome_seen (outcomes.Failed bound) = Failed bound
 outcome_seen (outcomes.Repeated n bound after) = Repeated n bound (arc_value after)
+outcome_seen (outcomes.All matches after) = All matches (option_map arc_value after)
 
 -- the result is the one wanted, by value, or `Memory`
 abbrev pub Gives : Result StoredOutcome StatementFault → Result Outcome StatementFault → Type 0

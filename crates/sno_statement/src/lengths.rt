@@ -1,9 +1,11 @@
 //! How many characters a new text has, which is known before any is copied.
-ghost use Rattle.std.specs.Prelude.{◌≡◌, ◌≤◌, ◌<◌, IfSome, IfNone, length};
+ghost use Rattle.std.specs.Prelude.{◌≡◌, ◌+◌, ◌*◌, ◌≤◌, ◌<◌, IfSome, IfNone, length};
 ghost use Rattle.std.specs.Fmt.{decimal};
+ghost use Rattle.sno_statement.specs.Passes.{replaced};
 ghost use Rattle.sno_statement.specs.Value.{part_value, value_of, new_text};
 
-use crate::values::{back, front};
+use crate::match_lists::Match;
+use crate::values::{back, between, front};
 use crate::{Bindings, Datum};
 use sno_pattern::{MAX_TEXT, Text};
 use sno_read::Part;
@@ -48,12 +50,41 @@ pub(crate) fn new_length(
     ensures short { IfSome result (λ n. n ≤ MAX_TEXT) }
     ensures long { IfNone result (MAX_TEXT < length (new_text subject.now start end (value_of bindings.now parts.now))) }
 {
-    let mut total = front(subject.bytes(), start).len() + back(subject.bytes(), end).len();
+    let kept = front(subject.bytes(), start).len() + back(subject.bytes(), end).len();
+    with_value(kept, parts, bindings)
+}
+
+/// This many characters and those of the object's value; `None` if they are more than a text can have.
+fn with_value(already: usize, parts: &[Part], bindings: &Bindings) -> Option<usize>
+    requires { already ≤ 2 * MAX_TEXT }
+    ensures value { IfSome result (λ n. n ≡ already + length (value_of bindings.now parts.now)) }
+    ensures short { IfSome result (λ n. n ≤ MAX_TEXT) }
+    ensures long { IfNone result (MAX_TEXT < already + length (value_of bindings.now parts.now)) }
+{
+    let mut total = already;
     for part in parts {
         if total > MAX_TEXT {
             return None;
         }
         total += part_length(part, bindings);
     }
+    if total > MAX_TEXT { None } else { Some(total) }
+}
+
+/// How many characters the text has when the object's value replaces each of these matches; `None` if they are more than a text
+/// can have.
+pub(crate) fn replaced_length(subject: &Text, parts: &[Part], matches: &[Match]) -> Option<usize>
+    ensures value { IfSome result (λ n. n ≡ length (replaced parts.now subject.now 0 matches.now)) }
+    ensures short { IfSome result (λ n. n ≤ MAX_TEXT) }
+    ensures long { IfNone result (MAX_TEXT < length (replaced parts.now subject.now 0 matches.now)) }
+{
+    let mut total = 0;
+    let mut cursor = 0;
+    for m in matches {
+        let kept = between(subject.bytes(), cursor, m.start).len();
+        total = with_value(total + kept, parts, &m.bindings)?;
+        cursor = m.end;
+    }
+    total += back(subject.bytes(), cursor).len();
     if total > MAX_TEXT { None } else { Some(total) }
 }

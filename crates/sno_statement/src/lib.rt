@@ -57,14 +57,18 @@
 mod binding;
 mod last_assignments;
 mod lengths;
+mod match_lists;
 mod outcomes;
+mod passes;
 mod performing;
 mod statement_patterns;
 mod statements;
 mod values;
 
 pub use binding::{Bindings, Datum};
+pub use match_lists::{Match, Matches};
 pub use outcomes::{Outcome, StatementFault};
+pub use passes::Pass;
 pub use performing::perform;
 pub use sno_machine::MatchFault;
 pub use sno_pattern::{Name, Pattern, Rules, Text, TextName};

@@ -6,6 +6,7 @@ ghost use Rattle.sno_statement.specs.Perform.{after_of, outcome_seen, of_match};
 ghost use Rattle.sno_statement.specs.declared.outcomes.StatementFault.TheVariants.{Memory};
 
 use crate::Bindings;
+use crate::match_lists::Matches;
 use sno_machine::MatchFault;
 use sno_pattern::Text;
 use std::alloc::{AllocError, AllocFailed};
@@ -26,7 +27,8 @@ pub enum Outcome {
         /// The new text, exactly if the statement has an object; also if it equals the old one.
         after: Option<Arc<Text>>,
     },
-    /// The pattern did not match; if the statement is repeated, not in its first round. Nothing is replaced.
+    /// The pattern did not match; if the statement is repeated, not in its first round. Nothing is replaced. Of a statement for all
+    /// matches, no match was found.
     Failed {
         /// The variables that were assigned at once on the way.
         bindings: Bindings,
@@ -40,10 +42,18 @@ pub enum Outcome {
         /// The new text of the last match.
         after: Arc<Text>,
     },
+    /// A statement for all matches matched at least once.
+    All {
+        /// The matches, from left to right. They don't overlap. There are at most 65,537 of them, one more than characters.
+        matches: Matches,
+        /// The new text, exactly if the statement has an object; also if it equals the old one.
+        after: Option<Arc<Text>>,
+    },
 }
 
 impl Outcome {
-    /// The new text, if there is one: of a match with an object, or of a repeated statement. It takes no memory.
+    /// The new text, if there is one: of a match with an object, of a repeated statement, or of all matches with an object. It
+    /// takes no memory.
     pub fn after(&self) -> Option<&Arc<Text>>
         ensures { option_map (λ text. arc_value text.now) result ≡ after_of (outcome_seen self.now) }
     {
@@ -51,6 +61,7 @@ impl Outcome {
             Outcome::Matched { after, .. } => after.as_ref(),
             Outcome::Failed { .. } => None,
             Outcome::Repeated { after, .. } => Some(after),
+            Outcome::All { after, .. } => after.as_ref(),
         }
     }
 }

@@ -1,16 +1,20 @@
 //! What a statement does to a text.
-ghost use Rattle.std.specs.Prelude.{◌≡◌, ◌≤◌, ◌-◌, ℕ, List, Result, IfOk, IfErr, OnOk, Ok, [], Some, None};
+ghost use Rattle.std.specs.Prelude.{◌≡◌, ◌<◌, ◌≤◌, ◌-◌, ◌∷◌, ℕ, List, Result, IfOk, IfErr, OnOk, Ok, [], Some, None};
 ghost use Rattle.std.specs.Option.{option_copied};
 ghost use Rattle.std.specs.Arc.{arc_value};
 ghost use Rattle.sno_pattern.specs.CursorLaws.{SetsLie};
 ghost use Rattle.sno_statement.specs.declared.outcomes.StatementFault.{StatementFault};
+ghost use Rattle.sno_statement.specs.declared.outcomes.StatementFault.TheVariants.{TooManyTrials, TextTooLong};
+ghost use Rattle.sno_statement.specs.Passes.{matches_left, replaced, trials_together};
 ghost use Rattle.sno_statement.specs.Bindings.{bind_sets, bind_conds};
 ghost use Rattle.sno_statement.specs.Value.{value_of, new_text};
-ghost use Rattle.sno_statement.specs.Perform.{Failed, Repeated, Gives, GivesText, IsCodeOf, NextRound, outcome_seen, finish, finish_found, follow, left_by, perform, perform_once, rounds};
+ghost use Rattle.sno_statement.specs.Perform.{Failed, Repeated, Gives, GivesText, IsCodeOf, NextRound, outcome_seen, finish, finish_found, finish_all, follow, left_by, perform, perform_all, perform_once, rounds};
 
 use crate::last_assignments::{Last, LastAssignments};
-use crate::lengths::new_length;
-use crate::values::{part, replace, text_of};
+use crate::lengths::{new_length, replaced_length};
+use crate::match_lists::{Match, Matches};
+use crate::passes::{Pass, match_of};
+use crate::values::{part, replace, replace_all, text_of};
 use crate::{Bindings, Datum, Outcome, Statement, StatementFault};
 use sno_machine::{Code, Workspace, compile};
 use sno_pattern::{Assign, Found, Hit, Name, Text, cursors_lie_within_the_text};
@@ -55,7 +59,7 @@ fn bind_later(
 }
 
 /// What the variables are bound to after these assignments. Of many, only the last one of each variable is bound.
-fn bindings_of(
+pub(crate) fn bindings_of(
     alloc: Global,
     subject: &Text,
     sets: &[Assign],
@@ -247,6 +251,82 @@ fn follow<'a>(
     }
 }
 
+/// The text in which each match is replaced. If it is too long, nothing is copied; otherwise it is written once.
+fn replaced_text(
+    alloc: Global,
+    parts: &[Part],
+    subject: &Text,
+    matches: &[Match],
+) -> Result<Arc<Text>, StatementFault>
+    ensures { GivesText result (replaced parts.now subject.now 0 matches.now) }
+{
+    let Some(length) = replaced_length(subject, parts, matches) else {
+        return Err(StatementFault::TextTooLong);
+    };
+    let characters = replace_all(alloc, subject, parts, matches, length)?;
+    Ok(Arc::new(alloc, text_of(characters))?)
+}
+
+/// What all matches do to the text.
+fn finish_all(
+    alloc: Global,
+    object: Option<&Object>,
+    subject: &Text,
+    matches: Matches,
+) -> Result<Outcome, StatementFault>
+    ensures { Gives result (finish_all (option_copied object.entry) subject.now matches) }
+{
+    let after = match object {
+        None => None,
+        Some(object) => Some(replaced_text(alloc, object.parts(), subject, matches.as_slice())?),
+    };
+    Ok(Outcome::All { matches, after })
+}
+
+/// The matches that are left of a pass, after those that were found already.
+fn gather(
+    alloc: Global,
+    mut pass: Pass<'_, '_, '_>,
+    first: Match,
+) -> Result<Matches, StatementFault>
+    ensures matches { IfOk result (λ ms. ms ≡ first ∷ matches_left pass.entry) }
+    ensures within { IfOk result (λ _. trials_together pass.entry ≤ pass.entry.statement.limit) }
+    ensures refused { IfErr result (λ e. e ≡ TooManyTrials → pass.entry.statement.limit < trials_together pass.entry) }
+    ensures never { IfErr result (λ e. e ≡ TextTooLong → ⊥) }
+{
+    let mut matches = Vec::new(alloc);
+    matches.push(first)?;
+    while let Some(next) = pass.next(alloc)? {
+        matches.push(next)?;
+    }
+    Ok(Matches::of(matches))
+}
+
+/// Performs a statement for all matches. The code is that of the statement's pattern.
+fn perform_all(
+    alloc: Global,
+    code: &Code<'_>,
+    statement: &Statement,
+    subject: &Text,
+) -> Result<Outcome, StatementFault>
+    requires { IsCodeOf code.now statement.now }
+    ensures { Gives result (perform_all statement.now subject.now) }
+{
+    let mut pass = Pass::new(alloc, statement, code, subject);
+    let found = pass.search(alloc, 0)?;
+    match &found.end {
+        None => {
+            let bindings = bindings_of(alloc, subject, found.sets.as_slice(), &[])?;
+            Ok(Outcome::Failed { bindings })
+        }
+        Some(hit) => {
+            let first = match_of(alloc, subject, &found, hit)?;
+            let matches = gather(alloc, pass, first)?;
+            finish_all(alloc, statement.object(), subject, matches)
+        }
+    }
+}
+
 /// Performs a statement on a text: matches the pattern and binds the variables. If the statement has an object and the match
 /// succeeds, it also makes the new text. Statement and text are unchanged, whatever is returned.
 ///
@@ -265,8 +345,18 @@ fn follow<'a>(
 /// `Repeated` has how many matches there were, at least 1, and the bindings and the new text of the last one. If the first
 /// round fails, the result is its `Failed`. A round that is refused refuses the statement, even after rounds that matched.
 ///
+/// A statement for all matches is performed in one pass over the text, from left to right. Each search begins where the match
+/// before ended, or one further if that was the null string. A null string at the end of the match before doesn't count. Every
+/// variable is the null string again before each search. The pass ends when a search fails, or no cursor is left; anchored, a
+/// search begins at its cursor alone, and the null string ends the pass.
+///
+/// `All` has the matches, each with its bindings, and the new text, exactly if there is an object: the text with each match
+/// replaced by the object's value for that match. What is put in is not searched. If no match counts, the result is the `Failed`
+/// of the first search.
+///
 /// Refused, in each round:
-/// - `TooManyTrials` exactly if the match takes more trials than the statement's limit;
+/// - `TooManyTrials` exactly if the match takes more trials than the statement's limit; of a statement for all matches, if all
+///   searches together do;
 /// - then `TextTooLong` exactly if the new text would have more than 65,536 characters;
 /// - `Memory` at any allocation that fails, and so instead of any refusal that would have come later.
 pub fn perform(
@@ -277,6 +367,9 @@ pub fn perform(
     ensures { Gives result (perform statement.now subject.now) }
 {
     let code = compile(alloc, statement.rules(), statement.pattern())?;
+    if statement.is_for_all() {
+        return perform_all(alloc, &code, statement, subject);
+    }
     let mut workspace = Workspace::new(alloc);
     let first = perform_once(alloc, &code, &mut workspace, statement, subject)?;
     match statement.repeat() {

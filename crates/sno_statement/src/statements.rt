@@ -1,9 +1,9 @@
 //! Statements.
-ghost use Rattle.std.specs.Prelude.{◌≡◌, length, IsTrue, IfSome, None};
+ghost use Rattle.std.specs.Prelude.{◌≡◌, length, IsTrue, IfSome, None, false};
 ghost use Rattle.std.specs.Option.{option_map};
 ghost use Rattle.std.specs.Arc.{arc_value};
 ghost use Rattle.sno_pattern.specs.Tree.{tree_of, refs_below};
-ghost use Rattle.sno_statement.specs.Statement.{IsLimit, IsRepeat, with_limit, with_repeat};
+ghost use Rattle.sno_statement.specs.Statement.{IsLimit, IsOneWay, IsRepeat, with_all, with_limit, with_repeat};
 ghost use Rattle.sno_statement.specs.StatementPatterns.{tree_in};
 
 use crate::statement_patterns::StatementPattern;
@@ -33,13 +33,14 @@ pub struct Statement {
     anchored: bool,
     limit: u32,
     repeat: Option<u32>,
+    all: bool,
 }
 
 impl Model for Statement {
     ghost use Rattle.std.specs.Prelude.{length, IsTrue, IfSome};
     ghost use Rattle.std.specs.Arc.{arc_value};
     ghost use Rattle.sno_pattern.specs.Tree.{tree_of, refs_below};
-    ghost use Rattle.sno_statement.specs.Statement.{Statement, statement_code, IsLimit, IsRepeat};
+    ghost use Rattle.sno_statement.specs.Statement.{Statement, statement_code, IsLimit, IsOneWay, IsRepeat};
     ghost use Rattle.sno_statement.specs.StatementPatterns.{tree_in};
 
     ghost Value = { Statement };
@@ -55,9 +56,10 @@ impl Model for Statement {
       anchored = s.anchored;
       limit = s.limit;
       repeat = s.repeat;
+      all = s.all;
     } };
 
-    ghost invariant = { λ s. IsTrue (refs_below (length (arc_value s.rules).bodies) (tree_in s.pattern)) × IsLimit s.limit × IfSome s.repeat (λ r. IsRepeat s.object r) };
+    ghost invariant = { λ s. IsTrue (refs_below (length (arc_value s.rules).bodies) (tree_in s.pattern)) × IsLimit s.limit × IfSome s.repeat (λ r. IsRepeat s.object r) × IsOneWay s.repeat s.all };
 }
 
 impl Statement {
@@ -68,7 +70,7 @@ impl Statement {
     /// - If anchored, a match begins at cursor 0 alone.
     /// - The number is the caller's own: nothing here depends on it.
     /// - A match may have 1,000,000 trials; [`Statement::limited`] sets another limit.
-    /// - It is performed once; [`Statement::repeated`] makes it repeated.
+    /// - It is performed once; [`Statement::repeated`] makes it repeated, and [`Statement::for_all`] makes it one for all matches.
     pub fn new(
         number: u32,
         rules: Arc<Rules>,
@@ -87,6 +89,7 @@ impl Statement {
           anchored = anchored;
           limit = USUAL_TRIALS;
           repeat = None;
+          all = false;
         } }
     {
         let pattern = StatementPattern::Own(pattern);
@@ -112,6 +115,7 @@ impl Statement {
           anchored = anchored;
           limit = USUAL_TRIALS;
           repeat = None;
+          all = false;
         } }
     {
         let pattern = StatementPattern::Shared(pattern);
@@ -136,6 +140,7 @@ impl Statement {
           anchored = anchored;
           limit = USUAL_TRIALS;
           repeat = None;
+          all = false;
         } }
     {
         Statement {
@@ -147,6 +152,7 @@ impl Statement {
             anchored,
             limit: USUAL_TRIALS,
             repeat: None,
+            all: false,
         }
     }
 
@@ -161,14 +167,25 @@ impl Statement {
     }
 
     /// This statement in at most `rounds` rounds, 1 to 1,000. It has to have an object. Each round after the first is performed
-    /// on the new text of the round before. It takes no memory and is never refused.
+    /// on the new text of the round before. It is then not for all matches. It takes no memory and is never refused.
     pub fn repeated(self, rounds: u32) -> Statement
         requires { IsRepeat self.object rounds }
         ensures { result ≡ with_repeat self rounds }
     {
         let mut repeated = self;
         repeated.repeat = Some(rounds);
+        repeated.all = false;
         repeated
+    }
+
+    /// This statement for all matches, in one pass over the text. It is then not repeated. It takes no memory and is never refused.
+    pub fn for_all(self) -> Statement
+        ensures { result ≡ with_all self }
+    {
+        let mut statement = self;
+        statement.repeat = None;
+        statement.all = true;
+        statement
     }
 
     /// The caller's number, as it was given.
@@ -215,6 +232,7 @@ impl Statement {
     }
 
     /// How many trials a match may have, 1 to 1,000,000,000. In a repeated statement this is the limit for the match of each round.
+    /// In a statement for all matches it is the limit for all searches together.
     pub fn limit(&self) -> u32
         ensures value { result ≡ self.now.limit }
         ensures within { IsLimit self.now.limit }
@@ -228,5 +246,13 @@ impl Statement {
         ensures within { IfSome self.now.repeat (λ r. IsRepeat self.now.object r) }
     {
         self.repeat
+    }
+
+    /// Whether the statement is for all matches; then it isn't repeated.
+    pub fn is_for_all(&self) -> bool
+        ensures value { result ≡ self.now.all }
+        ensures one_way { IsOneWay self.now.repeat self.now.all }
+    {
+        self.all
     }
 }

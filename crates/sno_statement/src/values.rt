@@ -5,9 +5,11 @@ ghost use Rattle.std.specs.Char.{is_ascii};
 ghost use Rattle.std.specs.Fmt.{decimal};
 ghost use Rattle.sno_pattern.specs.Ends.{part};
 ghost use Rattle.sno_statement.specs.Bindings.{lookup};
+ghost use Rattle.sno_statement.specs.Passes.{replaced};
 ghost use Rattle.sno_statement.specs.Value.{part_value, string_of, value_of, new_text};
 ghost use Rattle.sno_pattern.specs.declared.texts.TheConstants.{MAX_TEXT};
 
+use crate::match_lists::Match;
 use crate::{Bindings, Datum};
 use sno_pattern::{Name, Text};
 use sno_read::Part;
@@ -35,6 +37,13 @@ pub(crate) fn back(characters: &[u8], count: usize) -> &[u8]
     }
 }
 
+/// The characters between two cursors.
+pub(crate) fn between(characters: &[u8], from: usize, to: usize) -> &[u8]
+    ensures { result.now ≡ part characters.now from to }
+{
+    front(back(characters, from), to.saturating_sub(from))
+}
+
 /// The text of these characters. They are ASCII, and no more than a text can have.
 #[tactic(auto, using(crate::proofs::Ascii::refused_is_long))]
 pub(crate) fn text_of(characters: Vec<u8>) -> Text
@@ -58,7 +67,7 @@ pub(crate) fn part(
 ) -> Result<Text, AllocError>
     ensures { IfOk result (λ s. s ≡ part subject.now from to) }
 {
-    let characters = front(back(subject.bytes(), from), to.saturating_sub(from));
+    let characters = between(subject.bytes(), from, to);
     Ok(text_of(Vec::from_slice(alloc, characters)?))
 }
 
@@ -141,5 +150,29 @@ pub(crate) fn replace(
     out.extend_from_slice(front(subject.bytes(), start))?;
     put_parts(alloc, parts, bindings, &mut out)?;
     out.extend_from_slice(back(subject.bytes(), end))?;
+    Ok(out)
+}
+
+/// The characters in which each match is replaced by the object's value for the match's bindings. If `length` is their number,
+/// their memory is taken at once.
+#[tactic(auto, using(crate::proofs::Ascii::ascii_append, crate::proofs::Ascii::ascii_part, crate::proofs::Ascii::ascii_drop))]
+pub(crate) fn replace_all(
+    alloc: Global,
+    subject: &Text,
+    parts: &[Part],
+    matches: &[Match],
+    length: usize,
+) -> Result<Vec<u8>, AllocError>
+    ensures value { IfOk result (λ v. v.items ≡ replaced parts.now subject.now 0 matches.now) }
+    ensures ascii { IfOk result (λ v. IsTrue (list_all is_ascii v.items)) }
+{
+    let mut out = Vec::with_capacity(alloc, length)?;
+    let mut cursor = 0;
+    for m in matches {
+        out.extend_from_slice(between(subject.bytes(), cursor, m.start))?;
+        put_parts(alloc, parts, &m.bindings, &mut out)?;
+        cursor = m.end;
+    }
+    out.extend_from_slice(back(subject.bytes(), cursor))?;
     Ok(out)
 }
