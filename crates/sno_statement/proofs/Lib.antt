@@ -4,6 +4,7 @@ pub mod Entries
 pub mod LastValues
 pub mod NotMemory
 pub mod PassLaws
+pub mod PassOrder
 pub mod Replacing
 pub mod Rounds
 pub mod WholePasses

@@ -11,7 +11,7 @@ use Rattle.sno_statement.specs.Statement.{Statement}
 use Rattle.sno_statement.specs.Passes.{Pass, IsCursor, counts, cursors_left, match_of, matches_after, matches_from, matches_left, most_searches, moved, next_search, search, search_trials, trials_after, trials_onward, trials_together}
 
 -- a cursor past c, within the text; or none
-abbrev IsPast : List ℕ → ℕ → Option ℕ → Type 0
+abbrev pub IsPast : List ℕ → ℕ → Option ℕ → Type 0
 IsPast t c None = Unit {0}
 IsPast t c (Some d) = (c < d) × (d ≤ length t)
 
@@ -32,11 +32,11 @@ next_past anchored t c hit lies =
     next_by t c hit.end (nat_eq hit.start hit.end) (nat_eq hit.end (length t)) anchored (omega arith) lies.within
     (λ h. let apart = eqb-false hit.start hit.end h in omega arith) (λ h. let apart = eqb-false hit.end (length t) h in omega arith)
 
-past_cursor : (t : List ℕ) (c : ℕ) (at : Option ℕ) → IsPast t c at → IsCursor t at
+pub past_cursor : (t : List ℕ) (c : ℕ) (at : Option ℕ) → IsPast t c at → IsCursor t at
 past_cursor t c None h = tt
 past_cursor t c (Some d) h = h.1
 
-past_fewer : (t : List ℕ) (c : ℕ) (at : Option ℕ) → IsPast t c at → c ≤ length t → cursors_left t at < length t + 1 - c
+pub past_fewer : (t : List ℕ) (c : ℕ) (at : Option ℕ) → IsPast t c at → c ≤ length t → cursors_left t at < length t + 1 - c
 past_fewer t c None h inside = omega arith
 past_fewer t c (Some d) h inside = omega (arith, h.0, h.1)
 

@@ -5,4 +5,5 @@ pub mod LastAssignments
 pub mod Value
 pub mod Passes
 pub mod Perform
+pub mod Laws
 pub mod Examples

@@ -86,5 +86,5 @@ pub(crate) fn replaced_length(subject: &Text, parts: &[Part], matches: &[Match])
         cursor = m.end;
     }
     total += back(subject.bytes(), cursor).len();
-    if total > MAX_TEXT { None } else { Some(total) }
+    if total <= MAX_TEXT { Some(total) } else { None }
 }

@@ -56,6 +56,7 @@
 
 mod binding;
 mod last_assignments;
+mod laws;
 mod lengths;
 mod match_lists;
 mod outcomes;
@@ -66,6 +67,7 @@ mod statements;
 mod values;
 
 pub use binding::{Bindings, Datum};
+pub use laws::{kept_matches_keep_the_text, matches_are_in_order, the_first_is_the_plain_match};
 pub use match_lists::{Match, Matches};
 pub use outcomes::{Outcome, StatementFault};
 pub use passes::Pass;

@@ -317,7 +317,8 @@ fn perform_all(
     match &found.end {
         None => {
             let bindings = bindings_of(alloc, subject, found.sets.as_slice(), &[])?;
-            Ok(Outcome::Failed { bindings })
+            let failed = Outcome::Failed { bindings };
+            Ok(failed)
         }
         Some(hit) => {
             let first = match_of(alloc, subject, &found, hit)?;
