@@ -13,12 +13,13 @@ use Rattle.sno_read.specs.declared.objects.Part.{Part}
 use Rattle.sno_read.specs.declared.objects.Part.TheVariants.{Quoted, Var}
 use Rattle.sno_statement.specs.Statement.{Statement}
 use Rattle.sno_statement.specs.Bindings.{Bindings}
-use Rattle.sno_statement.specs.Perform.{Outcome, Matched, Failed, Repeated}
+use Rattle.sno_statement.specs.Perform.{Outcome, Matched, Failed, Repeated, All}
+use Rattle.sno_statement.specs.declared.match_lists.Match.{Match}
 use Rattle.sno_statement.specs.declared.binding.Datum.{Datum}
 use Rattle.sno_statement.specs.declared.binding.Datum.TheVariants.{Str, Int}
 use Rattle.sno_book.specs.Entries.{Entry}
 use Rattle.sno_book.specs.SamePatterns.{same_tree}
-use Rattle.sno_book.specs.SameEntries.{same_part, same_object, same_definitions, same_statement, same_datum, same_binding, same_bound, same_outcome, same_entry}
+use Rattle.sno_book.specs.SameEntries.{same_part, same_object, same_definitions, same_statement, same_datum, same_binding, same_bound, same_match, same_outcome, same_entry}
 use Rattle.sno_book.proofs.SameTrees.{tree_decides}
 
 -- lists, and values that may be there, by their elements
@@ -51,30 +52,33 @@ statement_decides s t =
     let number = nat_eq s.number t.number in
     let limit = nat_eq s.limit t.limit in
     let repeat = option_eq nat_eq s.repeat t.repeat in
+    let all = beq s.all t.all in
     let anchored = beq s.anchored t.anchored in
     let text = same s.text t.text in
     let object = same_object s.object t.object in
     let pattern = same_tree s.pattern t.pattern in
     let rules = same_definitions s.rules t.rules in
-    Decides-like (number && (limit && (repeat && (anchored && (text && (object && (pattern && rules)))))))
-    (λ (h : (s.number ≡ t.number) × ((s.limit ≡ t.limit) × ((s.repeat ≡ t.repeat) × ((s.anchored ≡ t.anchored) × ((s.text ≡ t.text) × ((s.object ≡ t.object) × ((s.pattern ≡ t.pattern) × (s.rules ≡ t.rules)))))))). (λ i. record {
+    Decides-like (number && (limit && (repeat && (all && (anchored && (text && (object && (pattern && rules))))))))
+    (λ (h : (s.number ≡ t.number) × ((s.limit ≡ t.limit) × ((s.repeat ≡ t.repeat) × ((s.all ≡ t.all) × ((s.anchored ≡ t.anchored) × ((s.text ≡ t.text) × ((s.object ≡ t.object) × ((s.pattern ≡ t.pattern) × (s.rules ≡ t.rules))))))))). (λ i. record {
       number = h.0 i;
       limit = h.1.0 i;
       repeat = h.1.1.0 i;
-      anchored = h.1.1.1.0 i;
-      text = h.1.1.1.1.0 i;
-      object = h.1.1.1.1.1.0 i;
-      pattern = h.1.1.1.1.1.1.0 i;
-      rules = h.1.1.1.1.1.1.1 i;
+      all = h.1.1.1.0 i;
+      anchored = h.1.1.1.1.0 i;
+      text = h.1.1.1.1.1.0 i;
+      object = h.1.1.1.1.1.1.0 i;
+      pattern = h.1.1.1.1.1.1.1.0 i;
+      rules = h.1.1.1.1.1.1.1.1 i;
     }))
-    (λ (h : s ≡ t). (ap (λ (x : Statement). x.number) h, (ap (λ (x : Statement). x.limit) h, (ap (λ (x : Statement). x.repeat) h, (ap (λ (x : Statement). x.anchored) h, (ap (λ (x : Statement). x.text) h, (ap (λ (x : Statement). x.object) h, (ap (λ (x : Statement). x.pattern) h, ap (λ (x : Statement). x.rules) h))))))))
-    (Decides-and number (limit && (repeat && (anchored && (text && (object && (pattern && rules)))))) (unsigned_Decides s.number t.number)
-    (Decides-and limit (repeat && (anchored && (text && (object && (pattern && rules))))) (unsigned_Decides s.limit t.limit)
-    (Decides-and repeat (anchored && (text && (object && (pattern && rules)))) (options nat_eq unsigned_Decides s.repeat t.repeat)
+    (λ (h : s ≡ t). (ap (λ (x : Statement). x.number) h, (ap (λ (x : Statement). x.limit) h, (ap (λ (x : Statement). x.repeat) h, (ap (λ (x : Statement). x.all) h, (ap (λ (x : Statement). x.anchored) h, (ap (λ (x : Statement). x.text) h, (ap (λ (x : Statement). x.object) h, (ap (λ (x : Statement). x.pattern) h, ap (λ (x : Statement). x.rules) h)))))))))
+    (Decides-and number (limit && (repeat && (all && (anchored && (text && (object && (pattern && rules))))))) (unsigned_Decides s.number t.number)
+    (Decides-and limit (repeat && (all && (anchored && (text && (object && (pattern && rules)))))) (unsigned_Decides s.limit t.limit)
+    (Decides-and repeat (all && (anchored && (text && (object && (pattern && rules))))) (options nat_eq unsigned_Decides s.repeat t.repeat)
+    (Decides-and all (anchored && (text && (object && (pattern && rules)))) (booleans_Decides s.all t.all)
     (Decides-and anchored (text && (object && (pattern && rules))) (booleans_Decides s.anchored t.anchored)
     (Decides-and text (object && (pattern && rules)) (bytes_eq-Decides s.text t.text)
     (Decides-and object (pattern && rules) (options (pointwise same_part) (lists same_part part_decides) s.object t.object)
-    (Decides-and pattern rules (tree_decides s.pattern t.pattern) (definitions_decide s.rules t.rules))))))))
+    (Decides-and pattern rules (tree_decides s.pattern t.pattern) (definitions_decide s.rules t.rules)))))))))
 
 -- outcomes
 datum_decides : (d e : Datum) → Decides (same_datum d e) (d ≡ e)
@@ -94,6 +98,15 @@ binding_decides b c =
 bound_decides : (b c : Bindings) → Decides (same_bound b c) (b ≡ c)
 bound_decides b c = lists same_binding binding_decides b c
 
+match_decides : (m n : Match) → Decides (same_match m n) (m ≡ n)
+match_decides m n =
+    let from = nat_eq m.start n.start in
+    let to = nat_eq m.end n.end in
+    let bound = same_bound m.bindings n.bindings in
+    Decides-like (from && (to && bound)) (λ (h : (m.start ≡ n.start) × ((m.end ≡ n.end) × (m.bindings ≡ n.bindings))). (λ i. record { start = h.0 i; end = h.1.0 i; bindings = h.1.1 i }))
+    (λ (h : m ≡ n). (ap (λ (x : Match). x.start) h, (ap (λ (x : Match). x.end) h, ap (λ (x : Match). x.bindings) h)))
+    (Decides-and from (to && bound) (unsigned_Decides m.start n.start) (Decides-and to bound (unsigned_Decides m.end n.end) (bound_decides m.bindings n.bindings)))
+
 outcome_decides : (d e : Outcome) → Decides (same_outcome d e) (d ≡ e)
 outcome_decides (Matched s e b after) (Matched t f c more) =
     let from = nat_eq s t in
@@ -108,10 +121,21 @@ outcome_decides (Matched s e b after) (Matched t f c more) =
     (Decides-and bound text (bound_decides b c) (options same bytes_eq-Decides after more))))
 outcome_decides (Matched s e b after) (Failed c) = (λ h. cc, λ e. cc)
 outcome_decides (Matched s e b after) (Repeated n c u) = (λ h. cc, λ e. cc)
+outcome_decides (Matched s e b after) (All ns more) = (λ h. cc, λ e. cc)
 outcome_decides (Failed b) (Matched t f c more) = (λ h. cc, λ e. cc)
 outcome_decides (Failed b) (Repeated n c u) = (λ h. cc, λ e. cc)
+outcome_decides (Failed b) (All ns more) = (λ h. cc, λ e. cc)
 outcome_decides (Repeated m b t) (Matched s f c more) = (λ h. cc, λ e. cc)
 outcome_decides (Repeated m b t) (Failed c) = (λ h. cc, λ e. cc)
+outcome_decides (Repeated m b t) (All ns more) = (λ h. cc, λ e. cc)
+outcome_decides (All ms after) (Matched s f c more) = (λ h. cc, λ e. cc)
+outcome_decides (All ms after) (Failed c) = (λ h. cc, λ e. cc)
+outcome_decides (All ms after) (Repeated n c u) = (λ h. cc, λ e. cc)
+outcome_decides (All ms after) (All ns more) =
+    let matches = pointwise same_match ms ns in
+    let text = option_eq same after more in
+    Decides-like (matches && text) (λ (h : (ms ≡ ns) × (after ≡ more)). (λ i. All (h.0 i) (h.1 i))) (λ (h : All ms after ≡ All ns more). (cc, cc))
+    (Decides-and matches text (lists same_match match_decides ms ns) (options same bytes_eq-Decides after more))
 outcome_decides (Repeated m b t) (Repeated n c u) =
     let matches = nat_eq m n in
     let bound = same_bound b c in

@@ -10,7 +10,8 @@ use Rattle.sno_read.specs.declared.objects.Part.{Part}
 use Rattle.sno_read.specs.declared.objects.Part.TheVariants.{Quoted, Var}
 use Rattle.sno_statement.specs.Statement.{Statement}
 use Rattle.sno_statement.specs.Bindings.{Bindings}
-use Rattle.sno_statement.specs.Perform.{Outcome, Matched, Failed, Repeated}
+use Rattle.sno_statement.specs.Perform.{Outcome, Matched, Failed, Repeated, All}
+use Rattle.sno_statement.specs.declared.match_lists.Match.{Match}
 use Rattle.sno_statement.specs.declared.binding.Datum.{Datum}
 use Rattle.sno_statement.specs.declared.binding.Datum.TheVariants.{Str, Int}
 use Rattle.sno_book.specs.Entries.{Entry}
@@ -34,8 +35,9 @@ same_statement s t =
     nat_eq s.number t.number
     && (nat_eq s.limit t.limit
     && (option_eq nat_eq s.repeat t.repeat
+    && (beq s.all t.all
     && (beq s.anchored t.anchored
-    && (same s.text t.text && (same_object s.object t.object && (same_tree s.pattern t.pattern && same_definitions s.rules t.rules))))))
+    && (same s.text t.text && (same_object s.object t.object && (same_tree s.pattern t.pattern && same_definitions s.rules t.rules)))))))
 
 -- values of variables
 abbrev pub same_datum : Datum → Datum → Bool
@@ -50,10 +52,14 @@ same_binding b c = same b.0 c.0 && same_datum b.1 c.1
 abbrev pub same_bound : Bindings → Bindings → Bool
 same_bound = pointwise same_binding
 
+abbrev pub same_match : Match → Match → Bool
+same_match m n = nat_eq m.start n.start && (nat_eq m.end n.end && same_bound m.bindings n.bindings)
+
 abbrev pub same_outcome : Outcome → Outcome → Bool
 same_outcome (Matched s e b after) (Matched t f c more) = nat_eq s t && (nat_eq e f && (same_bound b c && option_eq same after more))
 same_outcome (Failed b) (Failed c) = same_bound b c
 same_outcome (Repeated m b t) (Repeated n c u) = nat_eq m n && (same_bound b c && same t u)
+same_outcome (All ms after) (All ns more) = pointwise same_match ms ns && option_eq same after more
 same_outcome _ _ = false
 
 abbrev pub same_entry : Entry → Entry → Bool

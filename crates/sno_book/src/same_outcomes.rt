@@ -1,13 +1,15 @@
 //! Equality of outcomes, wherever they lie in memory.
 ghost use Rattle.std.specs.Prelude.{◌≡◌};
+ghost use Rattle.std.specs.List.{list_all, zip};
+ghost use Rattle.std.specs.Cmp.Lexicographic.{pointwise};
 ghost use Rattle.std.specs.Option.{option_eq, option_map};
 ghost use Rattle.std.specs.Arc.{arc_value};
 ghost use Rattle.sno_pattern.specs.Identifiers.{same};
 ghost use Rattle.sno_statement.specs.Perform.{outcome_seen};
-ghost use Rattle.sno_book.specs.SameEntries.{same_binding, same_bound, same_outcome};
+ghost use Rattle.sno_book.specs.SameEntries.{same_binding, same_bound, same_match, same_outcome};
 
 use sno_pattern::{Name, Text};
-use sno_statement::{Bindings, Datum, Outcome};
+use sno_statement::{Bindings, Datum, Match, Outcome};
 use std::sync::Arc;
 
 /// Whether two bindings are the same, or both are missing.
@@ -39,8 +41,30 @@ fn same_after(one: &Option<Arc<Text>>, other: &Option<Arc<Text>>) -> bool
     one == other
 }
 
+fn same_match(one: &Match, other: &Match) -> bool
+    ensures { result ≡ same_match one.now other.now }
+{
+    one.start == other.start
+        && one.end == other.end
+        && same_bindings(&one.bindings, &other.bindings)
+}
+
+/// Whether the matches at one place are the same, as far as both lists reach.
+fn same_match_pairs(one: &[Match], other: &[Match]) -> bool
+    ensures { result ≡ list_all (λ p. same_match p.0 p.1) (zip one.now other.now) }
+{
+    one.iter().zip(other).all(|(a, b)| same_match(a, b))
+}
+
+#[tactic(auto, using(crate::proofs::Pairs::apart))]
+fn same_matches(one: &[Match], other: &[Match]) -> bool
+    ensures { result ≡ pointwise same_match one.now other.now }
+{
+    one.len() == other.len() && same_match_pairs(one, other)
+}
+
 /// Whether two outcomes are the same. Compared are the cursors, the bindings and the new text; or the failure with its
-/// bindings; or the number of matches with the bindings and the new text.
+/// bindings; or the number of matches with the bindings and the new text; or all matches and the new text.
 pub(crate) fn same_outcome(one: &Outcome, other: &Outcome) -> bool
     ensures { result ≡ same_outcome (outcome_seen one.now) (outcome_seen other.now) }
 {
@@ -85,6 +109,19 @@ pub(crate) fn same_outcome(one: &Outcome, other: &Outcome) -> bool
             matches == other_matches
                 && same_bindings(left, other_left)
                 && text.bytes() == other_text.bytes()
+        }
+        (
+            Outcome::All {
+                matches: all,
+                after: replaced,
+            },
+            Outcome::All {
+                matches: other_all,
+                after: other_replaced,
+            },
+        ) => {
+            same_matches(all.as_slice(), other_all.as_slice())
+                && same_after(replaced, other_replaced)
         }
         _ => false,
     }

@@ -79,13 +79,14 @@ fn same_rules(one: &Rules, other: &Rules) -> bool
 }
 
 /// Whether two statements are the same: number, definitions, pattern, object, text, whether they are anchored, the
-/// limit of trials, and how often they are repeated at most.
+/// limit of trials, how often they are repeated at most, and whether they are for all matches.
 pub(crate) fn same_statement(one: &Statement, other: &Statement) -> bool
     ensures { result ≡ same_statement one.now other.now }
 {
     one.number() == other.number()
         && one.limit() == other.limit()
         && one.repeat() == other.repeat()
+        && one.is_for_all() == other.is_for_all()
         && one.anchored() == other.anchored()
         && one.text() == other.text()
         && same_object(one.object(), other.object())

@@ -1,13 +1,11 @@
 -- The cursors that are left, from one on.
-use Rattle.std.proofs.Common.{◌≡◌, ℕ, suc, ◌+◌, ◌-◌, ◌≤◌, length, List, [], ◌∷◌, ◌++◌, ap, sym, ◌∙◌, arith, append_assoc}
+use Rattle.std.proofs.Common.{◌≡◌, ℕ, suc, ◌+◌, ◌-◌, ◌≤◌, true, false, length, List, [], ◌∷◌, ◌++◌, ap, sym, ◌∙◌, arith, append_assoc}
 use Rattle.std.specs.List.{range_with_len}
 use Rattle.sno_pattern.specs.Results.{ends, further_ends}
+use Rattle.sno_pattern.specs.Outcome.{starts_from}
+pub use Rattle.sno_eval.specs.Steps.{up_to}
 use Rattle.sno_pattern.specs.declared.events.Event.{Event}
 use Rattle.sno_pattern.specs.declared.events.Event.TheVariants.{Try, End}
-
--- the cursors from i to n
-abbrev pub up_to : ℕ → ℕ → List ℕ
-up_to i n = range_with_len i (suc n - i)
 
 -- the first of them, and the others
 pub up_to_more : (i n : ℕ) → i ≤ n → up_to i n ≡ i ∷ up_to (i + 1) n
@@ -34,3 +32,10 @@ ends_some (e ∷ es) l is some = is
 pub ends_none : (es : List ℕ) (l one : List Event) → l ≡ further_ends es → length l ≡ 0 → one ≡ Try ∷ [] → one ≡ ends es
 ends_none [] l one is none same = same
 ends_none (e ∷ es) l one is none same = let some : length l ≡ suc (suc (length (further_ends es))) = ap length is in absurd (omega arith)
+
+-- the starts of a search from a cursor on
+pub single_start : (t : List ℕ) (c : ℕ) → up_to c c ≡ starts_from t true c
+single_start t c = let one : suc c - c ≡ 1 = omega arith in ap (range_with_len c) one
+
+pub each_start : (t : List ℕ) (c : ℕ) → up_to c (length t) ≡ starts_from t false c
+each_start t c = let all : suc (length t) - c ≡ length t + 1 - c = omega arith in ap (range_with_len c) all

@@ -3,7 +3,7 @@ use Rattle.std.proofs.Common.{◌≡◌, ℕ, suc, ◌+◌, ◌-◌, ◌≤◌, 
 use Rattle.std.specs.List.{flat_map, range_with_len}
 use Rattle.sno_pattern.specs.Tree.{Tree}
 use Rattle.sno_pattern.specs.Results.{results, enough_depth}
-use Rattle.sno_pattern.specs.Outcome.{Tried, starts, tried_from, cut_scan, found_in, outcome_at, outcome}
+use Rattle.sno_pattern.specs.Outcome.{Tried, starts_from, tried_from, cut_scan, found_in, outcome_at_from, outcome_from}
 use Rattle.sno_pattern.specs.declared.events.Assign.{Assign}
 use Rattle.sno_pattern.specs.declared.events.Event.{Event}
 use Rattle.sno_pattern.specs.declared.events.Event.TheVariants.{Try, Set, End, Halt}
@@ -43,14 +43,13 @@ pub sets_are : (new sets : List Assign) (end : Option Hit) → new ≡ sets → 
 sets_are new sets end is = ap (λ s. found_as s end) (sym is)
 
 -- all starts are still to be tried
-pub begun : (t : List ℕ) (bodies : List Tree) (p : Tree) (anchored : Bool) (most last : ℕ) (sets : List Assign) → most ≡ enough_depth t bodies → range_with_len 0 (last + 1) ≡ starts t anchored → sets ≡ []
-    → outcome t bodies p anchored ≡ found_in sets (cut_scan (flat_map (tried_from t bodies most p) (up_to 0 last)))
-unfolding outcome_at
-begun t bodies p anchored most last sets deep all none =
-    let same : suc last - 0 ≡ last + 1 = omega arith in
-    ap (λ s. found_in [] (cut_scan (flat_map (tried_from t bodies (enough_depth t bodies) p) s))) (sym all ∙ ap (range_with_len 0) (sym same))
-    ∙ ap (λ k. found_in [] (cut_scan (flat_map (tried_from t bodies k p) (up_to 0 last)))) (sym deep)
-    ∙ ap (λ z. found_in z (cut_scan (flat_map (tried_from t bodies most p) (up_to 0 last)))) (sym none)
+pub begun : (t : List ℕ) (bodies : List Tree) (p : Tree) (anchored : Bool) (from most last : ℕ) (sets : List Assign) → most ≡ enough_depth t bodies → up_to from last ≡ starts_from t anchored from → sets ≡ []
+    → outcome_from t bodies p anchored from ≡ found_in sets (cut_scan (flat_map (tried_from t bodies most p) (up_to from last)))
+unfolding outcome_at_from
+begun t bodies p anchored from most last sets deep all none =
+    ap (λ s. found_in [] (cut_scan (flat_map (tried_from t bodies (enough_depth t bodies) p) s))) (sym all)
+    ∙ ap (λ k. found_in [] (cut_scan (flat_map (tried_from t bodies k p) (up_to from last)))) (sym deep)
+    ∙ ap (λ z. found_in z (cut_scan (flat_map (tried_from t bodies most p) (up_to from last)))) (sym none)
 
 -- one start is tried
 pub start_tried : (t : List ℕ) (bodies : List Tree) (k : ℕ) (p : Tree) (s n : ℕ) (sets new : List Assign) (l m : List Event) (ending : Ending) → s ≤ n → l ≡ m → m ≡ results t bodies k p s

@@ -3,7 +3,7 @@ use Rattle.std.proofs.Common.{◌≡◌, ℕ, suc, List, [], ◌∷◌, ◌++◌
 use Rattle.std.specs.List.{flat_map}
 use Rattle.sno_pattern.specs.Tree.{Tree}
 use Rattle.sno_pattern.specs.Results.{results, enough_depth}
-use Rattle.sno_pattern.specs.Outcome.{Tried, starts, tried_from, cut_scan, trials_in, trials_at, trials}
+use Rattle.sno_pattern.specs.Outcome.{Tried, starts_from, tried_from, cut_scan, trials_in, trials_at_from, trials_from}
 use Rattle.sno_pattern.specs.declared.events.Event.{Event}
 use Rattle.sno_pattern.specs.declared.events.Event.TheVariants.{Try, Set, End, Halt}
 use Rattle.sno_eval.specs.Steps.{trials_of}
@@ -19,6 +19,6 @@ trials_starts : (t : List ℕ) (bodies : List Tree) (k : ℕ) (p : Tree) (ss : L
 trials_starts t bodies k p [] = refl
 trials_starts t bodies k p (s ∷ ss) = trials_join s (results t bodies k p s) (flat_map (results t bodies k p) ss) (flat_map (tried_from t bodies k p) ss) (trials_starts t bodies k p ss)
 
-pub trials_are : (t : List ℕ) (bodies : List Tree) (p : Tree) (anchored : Bool) → trials t bodies p anchored ≡ trials_of (flat_map (results t bodies (enough_depth t bodies) p) (starts t anchored))
-unfolding trials_at
-trials_are t bodies p anchored = trials_starts t bodies (enough_depth t bodies) p (starts t anchored)
+pub trials_are : (t : List ℕ) (bodies : List Tree) (p : Tree) (anchored : Bool) (c : ℕ) → trials_from t bodies p anchored c ≡ trials_of (flat_map (results t bodies (enough_depth t bodies) p) (starts_from t anchored c))
+unfolding trials_at_from
+trials_are t bodies p anchored c = trials_starts t bodies (enough_depth t bodies) p (starts_from t anchored c)

@@ -1,5 +1,6 @@
 -- Terms for the steps in which lists of events are made.
-use Rattle.std.specs.Prelude.{ℕ, suc, Bool, true, false, List, [], ◌∷◌}
+use Rattle.std.specs.Prelude.{ℕ, suc, ◌-◌, Bool, true, false, List, [], ◌∷◌}
+use Rattle.std.specs.List.{range_with_len}
 use Rattle.sno_pattern.specs.Tree.{Tree, Arbno, Ref, Seq, Alt, Cond, Imm}
 use Rattle.sno_pattern.specs.declared.events.Event.{Event}
 use Rattle.sno_pattern.specs.declared.events.Event.TheVariants.{Try, Set, End, Halt}
@@ -28,3 +29,7 @@ trials_of (Try ∷ l) = suc (trials_of l)
 trials_of (Set a ∷ l) = trials_of l
 trials_of (End e a ∷ l) = 0
 trials_of (Halt ∷ l) = 0
+
+-- the cursors from i to n
+abbrev pub up_to : ℕ → ℕ → List ℕ
+up_to i n = range_with_len i (suc n - i)

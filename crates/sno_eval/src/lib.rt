@@ -5,7 +5,8 @@
 //! - its conditional assignments;
 //! - the immediate assignments that were done before it, in order.
 //!
-//! [`trials`] returns how many trials the match takes. Both are refused only if out of memory.
+//! [`trials`] returns how many trials the match takes. [`first_from`] and [`trials_from`] are of a search from a cursor on. All are
+//! refused only if out of memory.
 #![tactic(auto)]
 
 mod counting;
@@ -15,6 +16,6 @@ mod leaves;
 mod results;
 mod starts;
 
-pub use counting::trials;
+pub use counting::{trials, trials_from};
 pub use sno_pattern::{Assign, Assigns, Conds, Found, Hit, Name, Pattern, Rules, Text, What};
-pub use starts::first;
+pub use starts::{first, first_from};

@@ -9,4 +9,4 @@ use Rattle.sno_eval.proofs.counting.all_events.Given as goal
 abbrev pub invariant-loop-start : goal.invariant-loop-start
 invariant-loop-start l =
     l.all.items ++ flat_map (results l.text l.rules.bodies l.most (tree_of l.pattern)) (up_to l.start l.last)
-    ≡ flat_map (results l.text l.rules.bodies l.most (tree_of l.pattern)) (up_to 0 l.last)
+    ≡ flat_map (results l.text l.rules.bodies l.most (tree_of l.pattern)) (up_to l.from l.last)

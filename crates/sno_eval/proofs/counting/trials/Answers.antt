@@ -1,16 +1,11 @@
--- The trials of all events are those of the match.
-use Rattle.std.proofs.Common.{◌≡◌, ap, sym, ◌∙◌}
+-- A search from cursor 0 takes the trials of the match.
+use Rattle.std.proofs.Common.{◌≡◌, sym, ◌∙◌}
 use Rattle.sno_pattern.specs.Tree.{tree_of}
 use Rattle.sno_pattern.specs.Outcome.{trials}
-use Rattle.sno_eval.specs.Steps.{trials_of}
-use Rattle.sno_eval.proofs.TrialLaws.{trials_are}
 use Rattle.sno_eval.proofs.counting.trials.Goals as goal
 
-counted : (c : goal.After-drop-events) → c.count_trials.result ≡ trials c.args.text.now c.args.rules.now.bodies (tree_of c.args.pattern.now) c.args.anchored
-counted c =
-    c.count_trials.ensures
-    ∙ ap trials_of (c.deref.ensures.value ∙ c.in_ok-events.ensures)
-    ∙ sym (trials_are c.args.text.now c.args.rules.now.bodies (tree_of c.args.pattern.now) c.args.anchored)
+counted : (c : goal.In_ok-count) → c.in_ok-count.count ≡ trials c.args.text.now c.args.rules.now.bodies (tree_of c.args.pattern.now) c.args.anchored
+counted c = c.in_ok-count.ensures ∙ (c.a_search_from_the_first_cursor_is_a_match.ensures c.args.text.now c.args.rules.now.bodies (tree_of c.args.pattern.now) c.args.anchored).1
 
 pub returns-clause-count : goal.returns-clause-count
 returns-clause-count c = counted c

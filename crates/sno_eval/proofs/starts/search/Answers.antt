@@ -10,7 +10,7 @@ use Rattle.sno_eval.proofs.starts.search.Goals as goal
 
 pub loop-start-init : goal.loop-start-init
 loop-start-init c =
-    begun c.args.text.now c.args.rules.now.bodies (tree_of c.args.pattern.now) c.args.anchored c.depth-most.result c.last_start-last.result _ c.depth-most.ensures c.last_start-last.ensures.starts c.new-sets.ensures.items
+    begun c.args.text.now c.args.rules.now.bodies (tree_of c.args.pattern.now) c.args.anchored c.args.from c.depth-most.result c.last_start-last.result _ c.depth-most.ensures c.last_start-last.ensures.starts c.new-sets.ensures.items
 
 pub returns-in-Success : goal.returns-in-Success
 returns-in-Success c =
