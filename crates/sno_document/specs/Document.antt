@@ -1,6 +1,6 @@
 -- Documents: what JSON represents, and the first fault of input that is not a document. `IsDocument`, at the end, says
 -- in which order the checks come. Numbers in faults count from 1.
-use Rattle.std.specs.Prelude.{◌≡◌, ℕ, ◌+◌, ◌&&◌, nat_le, Bool, List, [], ◌∷◌, ◌++◌, length, map, nat_lt, Option, Some, None, Result, Ok, Err, unwrap_or, slice_get, if◌then◌else◌}
+use Rattle.std.specs.Prelude.{◌≡◌, ℕ, ◌+◌, ◌&&◌, nat_le, Bool, List, [], ◌∷◌, ◌++◌, length, map, nat_lt, Option, Some, None, Result, Ok, Err, unwrap_or, slice_get, if◌then◌else◌, false, is_some}
 use Rattle.serde_json.specs.Data.{Num, unsigned, negative, float, Data}
 use Rattle.sno_pattern.specs.Tree.{Tree}
 use Rattle.sno_pattern.specs.Identifiers.{name_of}
@@ -18,7 +18,7 @@ use Rattle.sno_read.specs.Reading.{pattern_of}
 use Rattle.sno_read.specs.Objects.{object_of}
 use Rattle.sno_read.specs.declared.faults.ReadFault.{ReadFault}
 use Rattle.sno_read.specs.declared.objects.Part.{Part}
-use Rattle.sno_statement.specs.Statement.{Statement, with_limit, with_repeat}
+use Rattle.sno_statement.specs.Statement.{Statement, with_all, with_limit, with_repeat}
 use Rattle.sno_statement.specs.declared.statements.TheConstants.{USUAL_TRIALS}
 use Rattle.sno_document.specs.Json.{json_of}
 use Rattle.sno_document.specs.Shape.{Rows, StatementRow, rows_of}
@@ -128,7 +128,7 @@ unfoldable pub usual_row : Definitions → Bool → ℕ → StatementRow → Res
 usual_row rules anchor s row =
     text_name_row s row.text >>= λ text. reading (fault.StatementPattern s) (pattern_of rules.names (length rules.names) row.pattern) >>= λ pattern.
     object_row rules.names s row.object >>= λ object.
-    Ok (record { number = s; rules = rules; pattern = pattern; object = object; text = text; anchored = unwrap_or row.anchored anchor; limit = USUAL_TRIALS; repeat = None })
+    Ok (record { number = s; rules = rules; pattern = pattern; object = object; text = text; anchored = unwrap_or row.anchored anchor; limit = USUAL_TRIALS; repeat = None; all = false })
 
 -- how many rounds a number says, if it is from 1 to 1,000 and written without sign, fraction and exponent
 abbrev pub rounds_in : Num → Option ℕ
@@ -142,16 +142,21 @@ repeat_row s object None = Ok None
 repeat_row s None (Some n) = Err (fault.StatementRepeat s)
 repeat_row s (Some parts) (Some n) = or_fault (fault.StatementRepeat s) (rounds_in n) >>= λ rounds. Ok (Some rounds)
 
--- the statement with its limit of trials, and with the number of its rounds if it is repeated
-abbrev pub bounded : Statement → ℕ → Option ℕ → Statement
-bounded statement limit None = with_limit statement limit
-bounded statement limit (Some rounds) = with_repeat (with_limit statement limit) rounds
+-- whether statement number s is for all matches, if it says so; it must not be repeated then
+abbrev pub all_row : ℕ → Option ℕ → Bool → Result Bool DocumentFault
+all_row s repeat all = if all && is_some repeat then Err (fault.StatementAll s) else Ok all
+
+-- the statement with its limit of trials, and with the number of its rounds if it is repeated, or for all matches
+abbrev pub bounded : Statement → ℕ → Option ℕ → Bool → Statement
+bounded statement limit None all = if all then with_all (with_limit statement limit) else with_limit statement limit
+bounded statement limit (Some rounds) all = with_repeat (with_limit statement limit) rounds
 
 -- statement number s with what the mode says: whether it is anchored if it doesn't say so itself, and how many trials
--- it may take. How often it is repeated is checked after its object
+-- it may take. How often it is repeated is checked after its object, and whether it is for all matches after that
 unfoldable pub task_row : Definitions → Mode → ℕ → StatementRow → Result Statement DocumentFault
 task_row rules mode s row =
-    usual_row rules mode.anchor s row >>= λ statement. repeat_row s statement.object row.repeat >>= λ repeat. Ok (bounded statement mode.trials repeat)
+    usual_row rules mode.anchor s row >>= λ statement. repeat_row s statement.object row.repeat >>= λ repeat.
+    all_row s repeat (unwrap_or row.all false) >>= λ all. Ok (bounded statement mode.trials repeat all)
 
 -- the statements from number s on, after those before
 abbrev pub statements_from : Definitions → Mode → ℕ → List Statement → List StatementRow → Result (List Statement) DocumentFault

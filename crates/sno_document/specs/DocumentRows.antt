@@ -17,6 +17,7 @@ statement_seen row = record {
   object = option_map (λ s. s.now) row.object;
   anchored = row.anchored;
   repeat = option_map (λ s. number_seen s.now) row.repeat;
+  all = row.all;
 }
 
 abbrev pub rows_seen : Rows → written.Rows

@@ -25,7 +25,8 @@ abbrev pub row_on : List ℕ → Data → Result StatementRow DocumentFault
 row_on text d =
     or_shape (string_at (codes "pattern") d) >>= λ pattern. or_shape (optional_string_at (codes "object") d) >>= λ object.
     or_shape (optional_bool_at (codes "anchored") d) >>= λ anchored. or_shape (optional_number_at (codes "repeat") d) >>= λ repeat.
-    Ok (record { text = text; pattern = pattern; object = object; anchored = anchored; repeat = repeat })
+    or_shape (optional_bool_at (codes "all") d) >>= λ all.
+    Ok (record { text = text; pattern = pattern; object = object; anchored = anchored; repeat = repeat; all = all })
 
 -- a statement, which is for every text if it names none
 abbrev pub rule_row : Data → Result StatementRow DocumentFault

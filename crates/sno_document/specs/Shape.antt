@@ -14,6 +14,7 @@ pub record StatementRow : Type 0 where
   pub object : Option (List ℕ)
   pub anchored : Option Bool
   pub repeat : Option Num
+  pub all : Option Bool
 
 -- a document as it is written: names with patterns, names with texts, and statements
 pub record Rows : Type 0 where
@@ -39,8 +40,8 @@ abbrev pub statement_row : Data → Result StatementRow DocumentFault
 statement_row d =
     or_shape (string_at (codes "text") d) >>= λ text. or_shape (string_at (codes "pattern") d) >>= λ pattern.
     or_shape (optional_string_at (codes "object") d) >>= λ object. or_shape (optional_bool_at (codes "anchored") d) >>= λ anchored.
-    or_shape (optional_number_at (codes "repeat") d) >>= λ repeat.
-    Ok (record { text = text; pattern = pattern; object = object; anchored = anchored; repeat = repeat })
+    or_shape (optional_number_at (codes "repeat") d) >>= λ repeat. or_shape (optional_bool_at (codes "all") d) >>= λ all.
+    Ok (record { text = text; pattern = pattern; object = object; anchored = anchored; repeat = repeat; all = all })
 
 -- the array of pairs with this key
 unfoldable pub pairs_at : List ℕ → List ℕ → List ℕ → Data → Result (List (List ℕ × List ℕ)) DocumentFault

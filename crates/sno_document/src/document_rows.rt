@@ -25,6 +25,7 @@ pub(crate) struct StatementRow<'t> {
     pub(crate) object: Option<&'t str>,
     pub(crate) anchored: Option<bool>,
     pub(crate) repeat: Option<&'t str>,
+    pub(crate) all: Option<bool>,
 }
 
 /// A document as it is written.
@@ -70,12 +71,14 @@ pub(crate) fn row_on<'t>(
     let object = optional_string_at(value, "object").ok_or(DocumentFault::Shape)?;
     let anchored = optional_bool_at(value, "anchored").ok_or(DocumentFault::Shape)?;
     let repeat = optional_number_at(value, "repeat").ok_or(DocumentFault::Shape)?;
+    let all = optional_bool_at(value, "all").ok_or(DocumentFault::Shape)?;
     Ok(StatementRow {
         text,
         pattern,
         object,
         anchored,
         repeat,
+        all,
     })
 }
 

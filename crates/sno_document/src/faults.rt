@@ -68,6 +68,9 @@ pub enum DocumentFault {
     /// This statement is to be repeated, but its number of times is not one of 1 to 1,000, or it has no object.
     #[error("statement {0}: bad repeat")]
     StatementRepeat(usize),
+    /// This statement is to be for all matches and to be repeated too.
+    #[error("statement {0}: bad all")]
+    StatementAll(usize),
     /// Out of memory.
     #[error("out of memory")]
     Memory,

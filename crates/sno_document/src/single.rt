@@ -20,7 +20,7 @@ use std::sync::Arc;
 /// document is, and other members are ignored. `mode` has what it doesn't say itself, with 1 to 1,000,000,000 trials.
 ///
 /// Refused with the first fault, in this order, as `specs/Document.antt` checks a statement: `DocumentTooLong`, `NotJson`, `Shape`, `StatementName`,
-/// `StatementPattern`, `StatementObject`, `StatementRepeat`. `Memory` may come instead of any result.
+/// `StatementPattern`, `StatementObject`, `StatementRepeat`, `StatementAll`. `Memory` may come instead of any result.
 pub fn read_statement(
     alloc: Global,
     rules: &Arc<Rules>,

@@ -1,12 +1,12 @@
 //! The statements of a document.
-ghost use Rattle.std.specs.Prelude.{◌≡◌, ◌≤◌, ◌<◌, ◌^◌, ◌+◌, [], map, length, IfOk, IfSome, IsTrue};
+ghost use Rattle.std.specs.Prelude.{◌≡◌, ◌≤◌, ◌<◌, ◌^◌, ◌+◌, [], map, length, false, IfOk, IfSome, IsTrue, unwrap_or};
 ghost use Rattle.std.specs.Option.{option_copied, option_map};
 ghost use Rattle.std.specs.Arc.{arc_value};
 ghost use Rattle.sno_statement.specs.Statement.{IsLimit, IsRepeat};
 ghost use Rattle.sno_document.specs.Faults.{Gives};
 ghost use Rattle.sno_document.specs.LastPatterns.{IsOfNames};
 ghost use Rattle.sno_document.specs.DocumentRows.{statement_seen};
-ghost use Rattle.sno_document.specs.Document.{object_row, text_name_row, task_row, statements_from, statements_of, usual_row, repeat_row};
+ghost use Rattle.sno_document.specs.Document.{object_row, text_name_row, task_row, statements_from, statements_of, usual_row, repeat_row, all_row};
 ghost use Rattle.sno_document.specs.Trees.{number_seen};
 
 use crate::document_rows::StatementRow;
@@ -69,6 +69,17 @@ fn repeat(
     }
 }
 
+/// Whether statement number `number` is for all matches. It must not be repeated then.
+fn for_all(number: usize, repeat: Option<u32>, written: Option<bool>) -> Result<bool, DocumentFault>
+    ensures { Gives (λ a. a) result (all_row number repeat (unwrap_or written false)) }
+{
+    let all = written.unwrap_or(false);
+    if all && repeat.is_some() {
+        return Err(DocumentFault::StatementAll(number));
+    }
+    Ok(all)
+}
+
 /// Statement number `number`, performed once, with the usual limit of trials.
 #[tactic(auto, unfolding(crate::specs::Document::usual_row))]
 fn usual_statement<'t>(
@@ -92,7 +103,7 @@ fn usual_statement<'t>(
     Ok(Statement::sharing(number as u32, rules, pattern, object, name, anchored))
 }
 
-/// Statement number `number`, by the mode, and repeated if it says so.
+/// Statement number `number`, by the mode, and repeated or for all matches if it says so.
 #[tactic(auto, unfolding(crate::specs::Document::task_row))]
 pub(crate) fn statement<'t>(
     alloc: Global,
@@ -110,10 +121,12 @@ pub(crate) fn statement<'t>(
 {
     let usual = usual_statement(alloc, rules, mode.anchor, number, row, last)?;
     let repeat = repeat(number, usual.object(), row.repeat)?;
+    let all = for_all(number, repeat, row.all)?;
     let limited = usual.limited(mode.trials);
     match repeat {
-        None => Ok(limited),
         Some(rounds) => Ok(limited.repeated(rounds)),
+        None if all => Ok(limited.for_all()),
+        None => Ok(limited),
     }
 }
 
