@@ -1,9 +1,9 @@
 -- What a statement does on a text, as the line of the statement says it.
-use Rattle.std.specs.Prelude.{ℕ, List, Bool, Option, Some, None, Result, Ok, Err, nat_lt, if◌then◌else◌}
+use Rattle.std.specs.Prelude.{ℕ, List, length, Bool, Option, Some, None, Result, Ok, Err, nat_lt, if◌then◌else◌}
 use Rattle.sno_pattern.specs.Outcome.{outcome, trials}
 use Rattle.sno_pattern.specs.declared.found.Hit.{Hit}
 use Rattle.sno_machine.specs.Sources.{Source}
-use Rattle.sno_statement.specs.Perform.{Outcome, Matched, Failed, Repeated}
+use Rattle.sno_statement.specs.Perform.{Outcome, Matched, Failed, Repeated, All}
 use Rattle.sno_statement.specs.declared.outcomes.StatementFault.{StatementFault}
 use Rattle.sno_statement.specs.declared.outcomes.StatementFault.TheVariants as fault
 use Rattle.bench_matches.specs.declared.effects.Effect.{Effect}
@@ -14,6 +14,7 @@ abbrev pub effect_of_performing : Result Outcome StatementFault → Effect
 effect_of_performing (Ok (Matched s e bound after)) = effects.Matched s e
 effect_of_performing (Ok (Failed bound)) = effects.Failed
 effect_of_performing (Ok (Repeated n bound after)) = effects.Repeated n
+effect_of_performing (Ok (All matches after)) = effects.All (length matches)
 effect_of_performing (Err why) = effects.Refused why
 
 -- the cursors of a success, or a failure

@@ -18,6 +18,8 @@ pub enum Effect {
     Failed,
     /// A repeated statement matched this often.
     Repeated { matches: u32 },
+    /// All matches were found, this many.
+    All { matches: usize },
     /// The statement is refused.
     Refused(StatementFault),
 }
@@ -28,6 +30,7 @@ impl fmt::Display for Effect {
             Effect::Matched { start, end } => write!(f, "matched {start} to {end}"),
             Effect::Failed => write!(f, "failed"),
             Effect::Repeated { matches } => write!(f, "repeated {matches}"),
+            Effect::All { matches } => write!(f, "all {matches}"),
             Effect::Refused(fault) => write!(f, "{fault}"),
         }
     }
@@ -45,6 +48,9 @@ pub fn effect_of_performing(
         Ok(Outcome::Matched { start, end, .. }) => Ok(Effect::Matched { start, end }),
         Ok(Outcome::Failed { .. }) => Ok(Effect::Failed),
         Ok(Outcome::Repeated { matches, .. }) => Ok(Effect::Repeated { matches }),
+        Ok(Outcome::All { matches, .. }) => Ok(Effect::All {
+            matches: matches.len(),
+        }),
         Err(StatementFault::Memory) => Err(AllocError),
         Err(fault) => Ok(Effect::Refused(fault)),
     }

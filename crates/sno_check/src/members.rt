@@ -29,7 +29,7 @@ impl Kind {
             Kind::Document => "'patterns', 'texts' and 'statements'",
             Kind::Definition => "'name' and 'pattern'",
             Kind::Text => "'name' and 'text'",
-            Kind::Statement => "'text', 'pattern', 'object', 'anchored' and 'repeat'",
+            Kind::Statement => "'text', 'pattern', 'object', 'anchored', 'repeat' and 'all'",
         }
     }
 
@@ -38,7 +38,7 @@ impl Kind {
             Kind::Document => &["patterns", "texts", "statements", "$schema"],
             Kind::Definition => &["name", "pattern"],
             Kind::Text => &["name", "text"],
-            Kind::Statement => &["text", "pattern", "object", "anchored", "repeat"],
+            Kind::Statement => &["text", "pattern", "object", "anchored", "repeat", "all"],
         }
     }
 }

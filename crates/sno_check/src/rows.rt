@@ -20,6 +20,7 @@ pub(crate) struct Row<'t> {
     pub(crate) object: Option<&'t str>,
     pub(crate) anchored: bool,
     pub(crate) repeat: Option<&'t str>,
+    pub(crate) all: bool,
 }
 
 /// A document.
@@ -216,6 +217,7 @@ fn row_of<'t>(
             object: None,
             anchored: false,
             repeat: None,
+            all: false,
         });
     }
     let text = string_at(findings, place, value, "text")?;
@@ -223,12 +225,14 @@ fn row_of<'t>(
     let object = optional_string_at(findings, place, value, "object")?;
     let anchored = is_true_at(findings, place, value, "anchored")?;
     let repeat = optional_number_at(findings, place, value, "repeat")?;
+    let all = is_true_at(findings, place, value, "all")?;
     Ok(Row {
         text,
         pattern,
         object,
         anchored,
         repeat,
+        all,
     })
 }
 

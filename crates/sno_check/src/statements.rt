@@ -113,6 +113,15 @@ fn check_repeat<'t>(
     }
 }
 
+/// A statement for all matches isn't repeated.
+fn check_all<'t>(findings: &mut Collector, number: usize, row: &Row<'t>) -> Result<(), AllocError> {
+    if row.all && row.repeat.is_some() {
+        let fault = DocumentFault::StatementAll(number);
+        findings.refuse_plainly(fault, advice_of(&fault))?;
+    }
+    Ok(())
+}
+
 /// Warns of what an object probably doesn't mean.
 fn check_object<'t>(
     findings: &mut Collector,
@@ -150,6 +159,7 @@ fn check_statement<'t>(
     let pattern = pattern_of(findings, surroundings, number, row)?;
     let object = object_of(findings, surroundings, number, row)?;
     let repeats = check_repeat(findings, number, row)?;
+    check_all(findings, number, row)?;
     let Some(pattern) = pattern else {
         return Ok(u64::MAX);
     };
@@ -160,7 +170,8 @@ fn check_statement<'t>(
         check_object(findings, surroundings, number, facts, &object)?;
         if repeats {
             let place = Place::Statement(number);
-            warn_of_growth(findings, place, &pattern, row.anchored, &object)?;
+            let bodies = &surroundings.definitions.bodies;
+            warn_of_growth(findings, place, bodies, &pattern, row.anchored, &object)?;
         }
     }
     Ok(references)

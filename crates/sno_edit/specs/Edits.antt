@@ -3,7 +3,7 @@ use Rattle.std.specs.Prelude.{◌≡◌, ◌≢◌, ◌+◌, ℕ, Bool, List, []
 use Rattle.std.specs.Arc.{arc_value}
 use Rattle.sno_pattern.specs.Identifiers.{same}
 use Rattle.sno_statement.specs.Statement.{Statement}
-use Rattle.sno_statement.specs.Perform.{Outcome, Matched, Failed, Repeated, after_of, perform}
+use Rattle.sno_statement.specs.Perform.{Outcome, Matched, Failed, Repeated, All, after_of, perform}
 use Rattle.sno_statement.specs.declared.outcomes.StatementFault.{StatementFault}
 use Rattle.sno_statement.specs.declared.outcomes.StatementFault.TheVariants.{Memory}
 use Rattle.sno_edit.specs.declared.edits.EditedText.{EditedText}
@@ -23,6 +23,7 @@ abbrev pub matches_of : Outcome → ℕ
 matches_of (Matched s e bound after) = 1
 matches_of (Failed bound) = 0
 matches_of (Repeated n bound after) = n
+matches_of (All matches after) = length matches
 
 -- what a statement leaves: its new text, or the old one if it has none; a refused statement leaves nothing
 abbrev pub left_by : Statement → Edited → Result Outcome StatementFault → Result Edited RefusedStatement

@@ -59,6 +59,13 @@ fn left_by(outcome: Outcome, before: EditedText) -> EditedText
             text: after,
             matches: matches + u64::from(rounds),
         },
+        Outcome::All {
+            matches: all,
+            after,
+        } => EditedText {
+            text: after.unwrap_or(text),
+            matches: matches + all.len() as u64,
+        },
     }
 }
 

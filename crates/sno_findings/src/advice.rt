@@ -32,6 +32,9 @@ pub fn advice_of(fault: &DocumentFault) -> &'static str {
         DocumentFault::StatementRepeat(_) => {
             "a whole number from 1 to 1000 is wanted, and an object"
         }
+        DocumentFault::StatementAll(_) => {
+            "a statement for all matches is performed in one pass; take 'repeat' away, or 'all'"
+        }
         DocumentFault::Memory => "there is too little memory",
     }
 }

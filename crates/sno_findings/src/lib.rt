@@ -13,6 +13,7 @@
 //! | `whose` | the expressions of a document: patterns and objects |
 //! | `facts`, `edges` | what a pattern assigns, refers to and seeks, and what can't come after its parts |
 //! | `warnings` | what patterns and objects probably don't mean |
+//! | `found_again` | whether a repeated statement may find again what its object puts in |
 //! | `advice`, `reading` | what to write instead, by a fault of the document or of an expression |
 //! | `spelling` | the known name that is nearest to a word |
 //! | `excerpts`, `ascii` | the characters around a place; ASCII characters as text |
@@ -25,6 +26,7 @@ mod edges;
 mod excerpts;
 mod facts;
 mod findings;
+mod found_again;
 mod json_lines;
 mod json_places;
 mod json_walk;

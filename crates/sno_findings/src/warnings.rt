@@ -4,6 +4,7 @@ use crate::ascii::text_of;
 use crate::collector::Collector;
 use crate::edges::{Blocked, always_matches};
 use crate::facts::{Facts, escape_in, has_what_is_sought};
+use crate::found_again::may_find_again;
 use crate::spelling::nearest;
 use crate::{Place, Whose};
 use sno_pattern::{Name, Pattern};
@@ -183,12 +184,14 @@ fn finds_itself_again(pattern: &Pattern, anchored: bool, object: &Object) -> boo
     false
 }
 
-/// Warns of a repeated statement whose pattern matches every text, or whose object has what its pattern seeks.
+/// Warns of a repeated statement whose pattern matches every text, or may find again what its object puts in. `bodies` has the
+/// definitions, each if it can be read.
 ///
 /// Refused only if memory runs out.
 pub fn warn_of_growth(
     findings: &mut Collector,
     place: Place,
+    bodies: &[Option<Pattern>],
     pattern: &Pattern,
     anchored: bool,
     object: &Object,
@@ -196,7 +199,9 @@ pub fn warn_of_growth(
     let message = if always_matches(pattern, anchored) {
         "repeat: the pattern matches every text, so there are as many rounds as it says"
     } else if finds_itself_again(pattern, anchored, object) {
-        "repeat: the object has what the pattern seeks, so each round finds it again"
+        "repeat: the object has what the pattern seeks, so each round finds it again; \"all\": true is one pass"
+    } else if !anchored && may_find_again(bodies, pattern, object) {
+        "repeat: a round may find again what the object puts in; \"all\": true is one pass"
     } else {
         return Ok(());
     };

@@ -14,7 +14,8 @@ use Rattle.serde_json.specs.declared.value.Value.{Value}
 use Rattle.serde_json.specs.Written.{has_float, items_have_float}
 use Rattle.sno_pattern.specs.Identifiers.{is_letter, is_name_char, is_name}
 use Rattle.sno_pattern.specs.TextNames.{is_text_name}
-use Rattle.sno_statement.specs.Perform.{Outcome, Matched, Failed, Repeated}
+use Rattle.sno_statement.specs.Perform.{Outcome, Matched, Failed, Repeated, All}
+use Rattle.sno_statement.specs.declared.match_lists.Match.{Match}
 use Rattle.sno_statement.specs.declared.binding.Datum.{Datum}
 use Rattle.sno_statement.specs.declared.binding.Datum.TheVariants.{Str, Int}
 use Rattle.sno_book.specs.States.{VersionedText}
@@ -22,7 +23,7 @@ use Rattle.sno_book.specs.Entries.{Entry}
 use Rattle.sno_listing.specs.History.{History}
 use Rattle.sno_listing.specs.declared.refusals.Refusal.{Refusal}
 use Rattle.sno_listing.proofs.ListingLemmas.{row_next}
-use Rattle.sno_listing.specs.JsonListing.{text_data, value_data, binding_data, subject_members, matched_members, failed_members, repeated_members, done_members, entries_data, refused_data, json_listing_data}
+use Rattle.sno_listing.specs.JsonListing.{text_data, value_data, binding_data, subject_members, matched_members, failed_members, repeated_members, match_data, all_members, done_members, entries_data, refused_data, json_listing_data}
 
 neither : (a b : Bool) → a ≡ false → b ≡ false → (a || b) ≡ false
 neither a b h g = λ i. h i || g i
@@ -74,6 +75,10 @@ binding_float : (b : List ℕ × Datum) → has_float (binding_data b) ≡ false
 unfolding binding_data
 binding_float b = neither (has_float (value_data b.1)) false (value_float b.1) refl
 
+match_float : (m : Match) → has_float (match_data m) ≡ false
+unfolding match_data
+match_float m = neither _ false (items_float binding_data binding_float m.bindings) refl
+
 text_float : (t : VersionedText) → has_float (text_data t) ≡ false
 unfolding text_data
 text_float t = refl
@@ -83,11 +88,13 @@ unfolding refused_data
 refused_float r = refl
 
 entry_float : (index : ℕ) (e : Entry) (done : Outcome) → has_float (Data.object (done_members index e done)) ≡ false
-unfolding matched_members failed_members repeated_members subject_members
+unfolding matched_members failed_members repeated_members all_members subject_members
 entry_float index e (Matched s t bound None) = neither _ false (items_float binding_data binding_float bound) refl
 entry_float index e (Matched s t bound (Some after)) = neither _ false (items_float binding_data binding_float bound) refl
 entry_float index e (Failed bound) = neither _ false (items_float binding_data binding_float bound) refl
 entry_float index e (Repeated n bound after) = neither _ false (items_float binding_data binding_float bound) refl
+entry_float index e (All matches None) = neither _ false (items_float match_data match_float matches) refl
+entry_float index e (All matches (Some after)) = neither _ false (items_float match_data match_float matches) refl
 
 entries_float : (index : ℕ) (entries : List Entry) → items_have_float (items_of (entries_data index entries)) ≡ false
 entries_float index [] = refl

@@ -5,7 +5,8 @@ use Rattle.serde_json.specs.Data.{Data, boolean, number, string, array, object, 
 use Rattle.serde_json.specs.View.{items_of}
 use Rattle.serde_json.specs.Written.{compact_text}
 use Rattle.sno_statement.specs.Bindings.{Bindings}
-use Rattle.sno_statement.specs.Perform.{Outcome, Matched, Failed, Repeated}
+use Rattle.sno_statement.specs.Perform.{Outcome, Matched, Failed, Repeated, All}
+use Rattle.sno_statement.specs.declared.match_lists.Match.{Match}
 use Rattle.sno_statement.specs.declared.binding.Datum.{Datum}
 use Rattle.sno_statement.specs.declared.binding.Datum.TheVariants.{Str, Int}
 use Rattle.sno_book.specs.States.{VersionedText}
@@ -68,10 +69,20 @@ repeated_members index e matches bound =
     member (codes "bindings") (bindings_data bound) (member (codes "entry") (count index)
     (member (codes "matched") (boolean true) (member (codes "repeated") (count matches) (subject_members e))))
 
+-- one of all matches: what it bound, where it ended, and where it began
+unfoldable pub match_data : Match → Data
+match_data m = object (member (codes "bindings") (bindings_data m.bindings) (member (codes "end") (count m.end) (member (codes "start") (count m.start) no_members)))
+
+-- a statement for all matches: the matches, and the entry's index
+unfoldable pub all_members : ℕ → Entry → List Match → Members
+all_members index e matches =
+    member (codes "all") (array_of (map match_data matches)) (member (codes "entry") (count index) (member (codes "matched") (boolean true) (subject_members e)))
+
 abbrev pub done_members : ℕ → Entry → Outcome → Members
 done_members index e (Matched start end bound after) = with_after after (matched_members index e start end bound)
 done_members index e (Failed bound) = failed_members index e bound
 done_members index e (Repeated n bound after) = with_after (Some after) (repeated_members index e n bound)
+done_members index e (All matches after) = with_after after (all_members index e matches)
 
 -- an entry of the journal, at its index
 abbrev pub entry_data : ℕ → Entry → Data

@@ -2,7 +2,8 @@
 use Rattle.std.specs.Prelude.{ℕ, ◌+◌, ◌/◌, ◌%◌, Bool, not, ◌&&◌, List, [], ◌∷◌, ◌++◌, length, nat_eq, nat_lt, nat_le, Option, Some, None, if◌then◌else◌, codes}
 use Rattle.std.specs.List.{flat_map}
 use Rattle.std.specs.Fmt.{decimal}
-use Rattle.sno_statement.specs.Perform.{Outcome, Matched, Failed, Repeated}
+use Rattle.sno_statement.specs.Perform.{Outcome, Matched, Failed, Repeated, All}
+use Rattle.sno_statement.specs.declared.match_lists.Match.{Match}
 use Rattle.sno_statement.specs.declared.binding.Datum.{Datum}
 use Rattle.sno_statement.specs.declared.binding.Datum.TheVariants.{Str, Int}
 use Rattle.sno_book.specs.States.{VersionedText}
@@ -45,13 +46,22 @@ abbrev pub after_line : Option (List ℕ) → List ℕ
 after_line None = []
 after_line (Some t) = codes "  -> |" ++ (escaped_text t ++ (124 ∷ 10 ∷ []))
 
--- the outcome of a statement: the cursors of the match, the failure, or how many matches a repeated one had; a line for
--- each binding, and the new text
+-- the same line further in
+abbrev pub indented : List ℕ → List ℕ × Datum → List ℕ
+indented blanks b = blanks ++ binding_line b
+
+-- one of all matches: its cursors, and below it a line for each binding
+unfoldable pub match_lines : Match → List ℕ
+match_lines m = codes "  at " ++ (decimal m.start ++ (32 ∷ [] ++ (decimal m.end ++ (10 ∷ [] ++ flat_map (indented (codes "  ")) m.bindings))))
+
+-- the outcome of a statement: the cursors of the match, the failure, or how many matches a repeated one had, with a line for
+-- each binding; or how many matches there are in all, with the lines of each; and the new text
 unfoldable pub done_lines : Outcome → List ℕ
 done_lines (Matched s e bound after) =
     codes " matched " ++ (decimal s ++ (32 ∷ [] ++ (decimal e ++ (10 ∷ [] ++ (flat_map binding_line bound ++ after_line after)))))
 done_lines (Failed bound) = codes " failed" ++ (10 ∷ [] ++ flat_map binding_line bound)
 done_lines (Repeated n bound after) = codes " repeated " ++ (decimal n ++ (10 ∷ [] ++ (flat_map binding_line bound ++ after_line (Some after))))
+done_lines (All matches after) = codes " all " ++ (decimal (length matches) ++ (10 ∷ [] ++ (flat_map match_lines matches ++ after_line after)))
 
 -- the index of an entry and the statement's number
 unfoldable pub entry_label : ℕ → ℕ → List ℕ

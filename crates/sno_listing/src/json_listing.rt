@@ -12,14 +12,14 @@ ghost use Rattle.sno_listing.specs.Listing.{reason_words};
 ghost use Rattle.sno_book.specs.Views.{state_of};
 ghost use Rattle.sno_book.specs.Books.{view_of};
 ghost use Rattle.sno_listing.specs.History.{history_of};
-ghost use Rattle.sno_listing.specs.JsonListing.{array_of, text_members, text_data, value_data, binding_data, bindings_data, subject_members, matched_members, failed_members, repeated_members, done_members, entry_data, entries_data, refused_data, json_listing_data, json_listing};
+ghost use Rattle.sno_listing.specs.JsonListing.{array_of, text_members, text_data, value_data, binding_data, bindings_data, subject_members, matched_members, failed_members, repeated_members, match_data, all_members, done_members, entry_data, entries_data, refused_data, json_listing_data, json_listing};
 
 use crate::listing::put_reason;
 use crate::{Reason, Refusal};
 use serde_json::{Map, Value, json, put};
 use sno_book::{Book, Entry};
 use sno_pattern::{Name, Text, TextName};
-use sno_statement::{Bindings, Datum, Outcome};
+use sno_statement::{Bindings, Datum, Match, Matches, Outcome};
 use std::alloc::{AllocError, Global};
 
 /// A string of ASCII characters.
@@ -173,9 +173,44 @@ fn repeated_members(
     Ok(members)
 }
 
+#[tactic(auto, unfolding(crate::specs::JsonListing::match_data))]
+fn match_value(alloc: Global, one: &Match) -> Result<Value, AllocError>
+    ensures { IfOk result (λ v. view v ≡ match_data one.now) }
+{
+    let bound = bindings_value(alloc, &one.bindings)?;
+    json!(in alloc; {"bindings": bound, "end": one.end, "start": one.start})
+}
+
+fn match_values(alloc: Global, matches: &[Match]) -> Result<Vec<Value>, AllocError>
+    ensures { IfOk result (λ v. map view v.items ≡ map match_data matches.now) }
+{
+    let mut values = Vec::with_capacity(alloc, matches.len())?;
+    for one in matches {
+        values.push(match_value(alloc, one)?)?;
+    }
+    Ok(values)
+}
+
+#[tactic(auto, unfolding(crate::specs::JsonListing::all_members, crate::specs::JsonListing::subject_members))]
+fn all_members(
+    alloc: Global,
+    index: usize,
+    entry: &Entry,
+    matches: &Matches,
+) -> Result<Map<String, Value>, AllocError>
+    ensures { IfOk result (λ m. members_view m.entries ≡ all_members index entry.now matches.now) }
+{
+    let all = Value::Array(match_values(alloc, matches.as_slice())?);
+    let mut members = subject_members(alloc, entry)?;
+    put(&mut members, alloc, "matched", Value::from(true))?;
+    put(&mut members, alloc, "entry", Value::from(index))?;
+    put(&mut members, alloc, "all", all)?;
+    Ok(members)
+}
+
 /// Returns the members of the object that the JSON listing has for an entry at this index, in the order of their names.
 /// Refused only if memory runs out.
-#[tactic(auto, unfolding(crate::specs::JsonListing::matched_members, crate::specs::JsonListing::repeated_members))]
+#[tactic(auto, unfolding(crate::specs::JsonListing::matched_members, crate::specs::JsonListing::repeated_members, crate::specs::JsonListing::all_members))]
 pub fn done_members(
     alloc: Global,
     index: usize,
@@ -209,6 +244,19 @@ pub fn done_members(
         } => {
             let text = ascii_value(alloc, after.bytes())?;
             let mut members = repeated_members(alloc, index, entry, *matches, bindings)?;
+            put(&mut members, alloc, "after", text)?;
+            Ok(members)
+        }
+        Outcome::All {
+            matches,
+            after: None,
+        } => all_members(alloc, index, entry, matches),
+        Outcome::All {
+            matches,
+            after: Some(text),
+        } => {
+            let text = ascii_value(alloc, text.bytes())?;
+            let mut members = all_members(alloc, index, entry, matches)?;
             put(&mut members, alloc, "after", text)?;
             Ok(members)
         }

@@ -9,13 +9,13 @@ ghost use Rattle.sno_statement.specs.Perform.{outcome_seen};
 ghost use Rattle.sno_book.specs.Views.{state_of};
 ghost use Rattle.sno_book.specs.Books.{view_of};
 ghost use Rattle.sno_listing.specs.History.{history_of};
-ghost use Rattle.sno_listing.specs.Listing.{hex_digit, is_plain, escaped_character, escaped_text, text_line, value_words, binding_line, after_line, done_lines, entry_label, entry_subject, entry_lines, entries_from, tries_words, reason_words, refused_line, count_line, listing};
+ghost use Rattle.sno_listing.specs.Listing.{hex_digit, is_plain, escaped_character, escaped_text, text_line, value_words, binding_line, indented, match_lines, after_line, done_lines, entry_label, entry_subject, entry_lines, entries_from, tries_words, reason_words, refused_line, count_line, listing};
 
 use crate::{Reason, Refusal};
 use itoa::Buffer;
 use sno_book::{Book, Entry};
 use sno_pattern::{Name, Text, TextName};
-use sno_statement::{Bindings, Datum, Outcome};
+use sno_statement::{Bindings, Datum, Match, Matches, Outcome};
 use std::alloc::{AllocError, Global};
 use std::sync::Arc;
 
@@ -147,6 +147,19 @@ fn put_binding(out: &mut Vec<u8>, name: &Name, value: &Datum) -> Result<(), Allo
     put(out, b"\n")
 }
 
+/// A binding's line after these blanks.
+fn put_indented(
+    out: &mut Vec<u8>,
+    blanks: &str,
+    name: &Name,
+    value: &Datum,
+) -> Result<(), AllocError>
+    ensures { OnOk result (out.new.items ≡ out.old.items ++ indented blanks.now (name.now, value.now)) }
+{
+    put(out, blanks.as_bytes())?;
+    put_binding(out, name, value)
+}
+
 fn put_after(out: &mut Vec<u8>, after: Option<&Arc<Text>>) -> Result<(), AllocError>
     ensures { OnOk result (out.new.items ≡ out.old.items ++ after_line (option_map (λ a. arc_value a.now) after.entry)) }
 {
@@ -194,14 +207,35 @@ pub(crate) fn put_reason(out: &mut Vec<u8>, reason: Reason) -> Result<(), AllocE
 }
 
 #[tactic(auto, using(crate::proofs::ListingLemmas::row_there))]
-fn put_bindings(out: &mut Vec<u8>, bindings: &Bindings) -> Result<(), AllocError>
-    ensures { OnOk result (out.new.items ≡ out.old.items ++ flat_map binding_line bindings.now) }
+fn put_bindings(out: &mut Vec<u8>, blanks: &str, bindings: &Bindings) -> Result<(), AllocError>
+    ensures { OnOk result (out.new.items ≡ out.old.items ++ flat_map (indented blanks.now) bindings.now) }
 {
     for place in 0..bindings.len() {
         match bindings.get(place) {
-            Some((name, value)) => put_binding(out, name, value)?,
+            Some((name, value)) => put_indented(out, blanks, name, value)?,
             None => unreachable!(),
         }
+    }
+    Ok(())
+}
+
+#[tactic(auto, unfolding(crate::specs::Listing::match_lines))]
+fn put_one_match(out: &mut Vec<u8>, one: &Match) -> Result<(), AllocError>
+    ensures { OnOk result (out.new.items ≡ out.old.items ++ match_lines one.now) }
+{
+    put(out, b"  at ")?;
+    put_number(out, one.start as u64)?;
+    put(out, b" ")?;
+    put_number(out, one.end as u64)?;
+    put(out, b"\n")?;
+    put_bindings(out, "  ", &one.bindings)
+}
+
+fn put_each_match(out: &mut Vec<u8>, matches: &[Match]) -> Result<(), AllocError>
+    ensures { OnOk result (out.new.items ≡ out.old.items ++ flat_map match_lines matches.now) }
+{
+    for one in matches {
+        put_one_match(out, one)?;
     }
     Ok(())
 }
@@ -226,6 +260,16 @@ fn put_matches(out: &mut Vec<u8>, matches: u32) -> Result<(), AllocError>
     put(out, b"\n")
 }
 
+/// How many matches there are, and the lines of each.
+fn put_all(out: &mut Vec<u8>, matches: &Matches) -> Result<(), AllocError>
+    ensures { OnOk result (out.new.items ≡ out.old.items ++ (codes " all " ++ (decimal (length matches.now) ++ (10 ∷ [] ++ flat_map match_lines matches.now)))) }
+{
+    put(out, b" all ")?;
+    put_number(out, matches.len() as u64)?;
+    put(out, b"\n")?;
+    put_each_match(out, matches.as_slice())
+}
+
 #[tactic(auto, unfolding(crate::specs::Listing::done_lines))]
 fn put_done(out: &mut Vec<u8>, outcome: &Outcome) -> Result<(), AllocError>
     ensures { OnOk result (out.new.items ≡ out.old.items ++ done_lines (outcome_seen outcome.now)) }
@@ -238,12 +282,12 @@ fn put_done(out: &mut Vec<u8>, outcome: &Outcome) -> Result<(), AllocError>
             after,
         } => {
             put_match(out, *start, *end)?;
-            put_bindings(out, bindings)?;
+            put_bindings(out, "", bindings)?;
             put_after(out, after.as_ref())
         }
         Outcome::Failed { bindings } => {
             put(out, b" failed\n")?;
-            put_bindings(out, bindings)
+            put_bindings(out, "", bindings)
         }
         Outcome::Repeated {
             matches,
@@ -251,8 +295,12 @@ fn put_done(out: &mut Vec<u8>, outcome: &Outcome) -> Result<(), AllocError>
             after,
         } => {
             put_matches(out, *matches)?;
-            put_bindings(out, bindings)?;
+            put_bindings(out, "", bindings)?;
             put_after(out, Some(after))
+        }
+        Outcome::All { matches, after } => {
+            put_all(out, matches)?;
+            put_after(out, after.as_ref())
         }
     }
 }

@@ -22,10 +22,10 @@ abbrev no_rules : Definitions
 no_rules = record { names = []; bodies = [] }
 
 abbrev with_object : List Part → ℕ → List ℕ → Tree → Statement
-with_object parts number text pattern = record { number = number; rules = no_rules; pattern = pattern; object = Some parts; text = text; anchored = false; limit = 1000000; repeat = None }
+with_object parts number text pattern = record { number = number; rules = no_rules; pattern = pattern; object = Some parts; text = text; anchored = false; limit = 1000000; repeat = None; all = false }
 
 abbrev without_object : ℕ → List ℕ → Tree → Statement
-without_object number text pattern = record { number = number; rules = no_rules; pattern = pattern; object = None; text = text; anchored = false; limit = 1000000; repeat = None }
+without_object number text pattern = record { number = number; rules = no_rules; pattern = pattern; object = None; text = text; anchored = false; limit = 1000000; repeat = None; all = false }
 
 -- T is abc, and its b is replaced by X
 abbrev one_replacement : Document

@@ -127,6 +127,7 @@ fn fault_words(alloc: Global, fault: &DocumentFault) -> Result<String, AllocErro
         DocumentFault::StatementObject(_, fault) => format!(in alloc; "object: {fault}"),
         DocumentFault::StatementName(_) => format!(in alloc; "bad name"),
         DocumentFault::StatementRepeat(_) => format!(in alloc; "bad repeat"),
+        DocumentFault::StatementAll(_) => format!(in alloc; "bad all"),
         DocumentFault::Shape => format!(in alloc; "wrong shape"),
         DocumentFault::NotJson => format!(in alloc; "not JSON"),
         DocumentFault::DocumentTooLong => format!(in alloc; "longer than 16777216 bytes"),

@@ -116,7 +116,9 @@ pub(crate) fn check_exchange(rt: &impl Abort, outcome: &Outcome) {
             let after = after.as_ref().expect(rt, "there is a new text");
             check_bytes(rt, after.bytes(), b"v=k".as_slice());
         }
-        Outcome::Failed { .. } | Outcome::Repeated { .. } => assert!(rt; false, "no match"),
+        Outcome::Failed { .. } | Outcome::Repeated { .. } | Outcome::All { .. } => {
+            assert!(rt; false, "no match")
+        }
     }
 }
 

@@ -136,6 +136,7 @@ fn check_matched(rt: &impl Abort, outcome: &Outcome, wanted: &str) {
         }
         Outcome::Failed { .. } => assert!(rt; false, "it failed"),
         Outcome::Repeated { .. } => assert!(rt; false, "it was repeated"),
+        Outcome::All { .. } => assert!(rt; false, "it was for all matches"),
     }
 }
 

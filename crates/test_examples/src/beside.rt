@@ -1,7 +1,7 @@
 //! The matcher compared with the plain evaluator.
 use sno_machine::{Code, Found, MatchFault, compile};
 use sno_pattern::{Name, Text};
-use sno_statement::Statement;
+use sno_statement::{Outcome, Statement, StatementFault, perform};
 use std::alloc::Global;
 use std::test::Fail;
 
@@ -95,7 +95,84 @@ fn trials_beside(alloc: Global, statement: &Statement, text: &Text) -> Result<u3
     check_beside_plain(alloc, &code, statement, text, anchored)
 }
 
-/// Compares the matcher with the evaluator, anchored and not. If the match isn't repeated, and a number of trials is
+/// Whether a match counts, and where the search after it begins, as the rule of a pass has it.
+fn passed(
+    anchored: bool,
+    length: usize,
+    before: Option<usize>,
+    start: usize,
+    end: usize,
+) -> (bool, Option<usize>) {
+    if start != end {
+        return (true, Some(end));
+    }
+    let next = if anchored || end >= length {
+        None
+    } else {
+        Some(end + 1)
+    };
+    (before != Some(end), next)
+}
+
+/// The cursors of all matches, by searches of the evaluator, and how many trials they take together.
+fn plain_pass(
+    alloc: Global,
+    statement: &Statement,
+    text: &Text,
+) -> Result<(Vec<(usize, usize)>, u64), Fail> {
+    let (rules, pattern, anchored) = (statement.rules(), statement.pattern(), statement.anchored());
+    let length = text.bytes().len();
+    let mut matches = Vec::new(alloc);
+    let mut trials = 0u64;
+    let mut next = Some(0);
+    let mut before = None;
+    for _search in 0..length + 1 {
+        let Some(from) = next else {
+            break;
+        };
+        if from > length {
+            break;
+        }
+        let spent = sno_eval::trials_from(alloc, rules, pattern, text, anchored, from)?;
+        trials = trials.saturating_add(spent);
+        let found = sno_eval::first_from(alloc, rules, pattern, text, anchored, from)?;
+        let Some((start, end)) = extent(&found) else {
+            break;
+        };
+        let (counts, after) = passed(anchored, length, before, start, end);
+        if counts {
+            matches.push((start, end))?;
+        }
+        before = Some(end);
+        next = after;
+    }
+    Ok((matches, trials))
+}
+
+/// Compares a statement for all matches with searches of the evaluator: the cursors of its matches, and whether their trials
+/// together are within its limit.
+fn check_pass(alloc: Global, statement: &Statement, text: &Text) -> Result<(), Fail> {
+    let (wanted, trials) = plain_pass(alloc, statement, text)?;
+    let is_refused = trials > u64::from(statement.limit());
+    match perform(alloc, statement, text) {
+        Ok(Outcome::All { matches, .. }) if !is_refused => {
+            let mut cursors = Vec::new(alloc);
+            for one in matches.as_slice() {
+                cursors.push((one.start, one.end))?;
+            }
+            if cursors.as_slice() == wanted.as_slice() {
+                return Ok(());
+            }
+        }
+        Ok(Outcome::Failed { .. }) if !is_refused && wanted.is_empty() => return Ok(()),
+        Err(StatementFault::TextTooLong) if !is_refused => return Ok(()),
+        Err(StatementFault::TooManyTrials) if is_refused => return Ok(()),
+        _ => {}
+    }
+    Err("the pass doesn't find what searches of the plain evaluator do".into())
+}
+
+/// Compares the matcher with the evaluator, anchored and not. If the statement is for one match, and a number of trials is
 /// expected, compares that too.
 pub(crate) fn check_beside(
     alloc: Global,
@@ -104,7 +181,13 @@ pub(crate) fn check_beside(
     expected: Option<u32>,
 ) -> Result<(), Fail> {
     let trials = trials_beside(alloc, statement, text)?;
-    if statement.repeat().is_some() || expected.unwrap_or(trials) == trials {
+    if statement.is_for_all() {
+        check_pass(alloc, statement, text)?;
+    }
+    if statement.repeat().is_some()
+        || statement.is_for_all()
+        || expected.unwrap_or(trials) == trials
+    {
         Ok(())
     } else {
         Err(Fail::new(format_args!("the match takes {trials} trials")))

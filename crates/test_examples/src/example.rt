@@ -6,7 +6,7 @@
 //!   line may say that the match is anchored, or within how many trials it must be. After the text it may say how many
 //!   times the text is written one after the other. At the end it may say how many trials the match takes.
 //! - ``- `banana` with `'nan'`, replaced by `''`: `matched 2 5 -> |baa|` ``: with an object. Before the colon the line
-//!   may say how often at most.
+//!   may say how often at most, or that it is for all matches.
 //! - ``- `'a' | 'b' 'c'` is read as `('a' | ('b' 'c'))` ``: a pattern, and its tree.
 //! - ``- where `A` is `*B` and `B` is `*A`: `unguarded 0 1` ``: definitions, and whether they are admitted. Each
 //!   example may begin with definitions.
@@ -75,6 +75,7 @@ fn replacement<'l>(pattern: &'l str, object: Quoted<'l>) -> Result<(Task<'l>, Qu
     let told = cut(object.after)?;
     let task = match told.before {
         ": " => Task::Replace(pattern, object.inside),
+        ", for all matches: " => Task::ReplaceAll(pattern, object.inside),
         words => Task::Repeat(
             pattern,
             object.inside,
@@ -106,6 +107,7 @@ pub(crate) fn row<'l>(text: Quoted<'l>, pattern: Quoted<'l>) -> Result<Row<'l>, 
     let (task, told) = match next.before {
         ": " => (Task::Match(pattern.inside), next),
         ", anchored: " => (Task::MatchAnchored(pattern.inside), next),
+        ", for all matches: " => (Task::MatchAll(pattern.inside), next),
         ", replaced by " => replacement(pattern.inside, next)?,
         words => {
             let limit = number(words, ", within ", " trials: ")?;

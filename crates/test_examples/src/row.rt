@@ -23,6 +23,10 @@ pub(crate) enum Task<'l> {
     Replace(&'l str, &'l str),
     /// An unanchored match, and a replacement, at most this many times, 1 to 1,000.
     Repeat(&'l str, &'l str, u32),
+    /// All unanchored matches.
+    MatchAll(&'l str),
+    /// All unanchored matches, each replaced.
+    ReplaceAll(&'l str, &'l str),
 }
 
 /// What is done to a text, and its outcome, as `performance_line` writes it.
@@ -53,14 +57,18 @@ impl<'l> Task<'l> {
             | Task::MatchAnchored(pattern)
             | Task::MatchWithin(pattern, _)
             | Task::Replace(pattern, _)
-            | Task::Repeat(pattern, _, _) => pattern,
+            | Task::Repeat(pattern, _, _)
+            | Task::MatchAll(pattern)
+            | Task::ReplaceAll(pattern, _) => pattern,
         }
     }
 
     fn object(self) -> Option<&'l str> {
         match self {
-            Task::Match(_) | Task::MatchAnchored(_) | Task::MatchWithin(_, _) => None,
-            Task::Replace(_, object) | Task::Repeat(_, object, _) => Some(object),
+            Task::Match(_) | Task::MatchAnchored(_) | Task::MatchWithin(_, _) | Task::MatchAll(_) =>
+                None,
+            Task::Replace(_, object) | Task::Repeat(_, object, _) | Task::ReplaceAll(_, object) =>
+                Some(object),
         }
     }
 
@@ -68,11 +76,12 @@ impl<'l> Task<'l> {
         matches!(self, Task::MatchAnchored(_))
     }
 
-    // The statement with the limit or the number of rounds that the task names.
+    // The statement with the limit or the number of rounds that the task names, or for all matches.
     fn bound(self, statement: Statement) -> Result<Statement, Fail> {
         match self {
             Task::MatchWithin(_, limit) => limited(statement, limit),
             Task::Repeat(_, _, rounds) => repeated(statement, rounds),
+            Task::MatchAll(_) | Task::ReplaceAll(_, _) => Ok(statement.for_all()),
             Task::Match(_) | Task::MatchAnchored(_) | Task::Replace(_, _) => Ok(statement),
         }
     }
@@ -232,6 +241,7 @@ pub(crate) fn text_of(alloc: Global, characters: &str, times: u32) -> Result<Tex
 ///
 /// - `matched`, the two cursors and the bindings, and the new text after `->`, if there is one;
 /// - `repeated`, how often, the bindings and the new text;
+/// - `all`, how many, the cursors and the bindings of each match, and the new text after `->`, if there is one;
 /// - `failed` and the bindings;
 /// - or why the statement is refused.
 ///
@@ -247,11 +257,20 @@ pub(crate) fn performance_line(
     }
 }
 
-fn bindings_of(outcome: &Outcome) -> &Bindings {
+/// Writes the bindings, those of each match in its place.
+fn tell_bound(alloc: Global, outcome: &Outcome, line: &mut String) -> Result<(), Fail> {
     match outcome {
         Outcome::Failed { bindings }
         | Outcome::Matched { bindings, .. }
-        | Outcome::Repeated { bindings, .. } => bindings,
+        | Outcome::Repeated { bindings, .. } => tell_bindings(alloc, bindings, line),
+        Outcome::All { matches, .. } => {
+            for one in matches.as_slice() {
+                let cursors = format!(in alloc; " {}..{}", one.start, one.end)?;
+                line.push_str(cursors.as_str())?;
+                tell_bindings(alloc, &one.bindings, line)?;
+            }
+            Ok(())
+        }
     }
 }
 
@@ -261,6 +280,7 @@ fn beginning(alloc: Global, outcome: &Outcome) -> Result<String, Fail> {
         Outcome::Failed { .. } => Ok(String::from_str(alloc, "failed")?),
         Outcome::Matched { start, end, .. } => Ok(format!(in alloc; "matched {start} {end}")?),
         Outcome::Repeated { matches, .. } => Ok(format!(in alloc; "repeated {matches}")?),
+        Outcome::All { matches, .. } => Ok(format!(in alloc; "all {}", matches.len())?),
     }
 }
 
@@ -277,7 +297,7 @@ fn tell_after(alloc: Global, outcome: &Outcome, line: &mut String) -> Result<(),
 
 pub(crate) fn outcome_line(alloc: Global, outcome: &Outcome) -> Result<String, Fail> {
     let mut line = beginning(alloc, outcome)?;
-    tell_bindings(alloc, bindings_of(outcome), &mut line)?;
+    tell_bound(alloc, outcome, &mut line)?;
     tell_after(alloc, outcome, &mut line)?;
     Ok(line)
 }

@@ -5,7 +5,7 @@ import unittest
 from pathlib import Path
 from typing import Any
 
-from sno_rewrite import Entry, Listing, Refusal, Statement, Text, rewrite, rewrite_document
+from sno_rewrite import Entry, Listing, Match, Refusal, Statement, Text, rewrite, rewrite_document
 
 EXAMPLES = Path(__file__).resolve().parents[3] / "examples"
 
@@ -35,6 +35,18 @@ class Rewrite(unittest.TestCase):
         found = rewrite(texts={"T": "abc"}, statements=[Statement("T", "'b'", "'X'")])
         changed = entry(0, 1, "T", 0, matched=True, start=1, end=2, after="aXc")
         self.assertEqual(found, Listing((Text("T", "aXc", 1),), (changed,), ()))
+
+    def test_lists_all_matches(self) -> None:
+        found = rewrite(
+            texts={"T": "a&1&", "U": "b"},
+            statements=[
+                Statement("T", "'&' . A", "'&amp;'", all=True),
+                {"text": "U", "pattern": "'&'", "all": True},
+            ],
+        )
+        both = (Match(1, 2, (("A", "&"),)), Match(3, 4, (("A", "&"),)))
+        changed = entry(0, 1, "T", 0, matched=True, after="a&amp;1&amp;", all=both)
+        self.assertEqual(found.entries, (changed, entry(1, 2, "U", 0)))
 
     def test_lists_variables_failures_and_refusals(self) -> None:
         found = rewrite(

@@ -9,7 +9,7 @@
 from ._desk import Desk, DeskError
 from ._documents import Patterns, Statement, Statements, Texts
 from ._library import USUAL_TRIALS
-from ._listings import Entry, Fault, Listing, Refusal, Text
+from ._listings import Entry, Fault, Listing, Match, Refusal, Text
 from ._rewrite import rewrite, rewrite_document
 
 __all__ = [
@@ -19,6 +19,7 @@ __all__ = [
     "Entry",
     "Fault",
     "Listing",
+    "Match",
     "Patterns",
     "Refusal",
     "Statement",

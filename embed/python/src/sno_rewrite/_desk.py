@@ -33,7 +33,7 @@ class Desk:
         self._reader.start()
 
     def submit(self, text: str, pattern: str, object: str | None = None, **members: Any) -> dict[str, Any]:
-        """The entry of a statement, or its `reason` if it is refused. `members` are `anchored` and `repeat`."""
+        """The entry of a statement, or its `reason` if it is refused. `members` are `anchored`, `repeat` and `all`."""
         line = {"text": text, "pattern": pattern, **members}
         return self._ask(line if object is None else {**line, "object": object})
 

@@ -17,6 +17,7 @@ class Statement:
     object: str | None = None
     anchored: bool | None = None
     repeat: int | None = None
+    all: bool | None = None
 
 
 Texts: TypeAlias = Mapping[str, str] | Iterable[tuple[str, str]]
@@ -24,7 +25,7 @@ Patterns: TypeAlias = Mapping[str, str] | Iterable[tuple[str, str]]
 Statements: TypeAlias = Iterable[Statement | Mapping[str, Any]]
 
 _MEMBERS = tuple(field.name for field in fields(Statement))
-_KINDS: dict[str, type] = {"text": str, "pattern": str, "object": str, "anchored": bool, "repeat": int}
+_KINDS: dict[str, type] = {"text": str, "pattern": str, "object": str, "anchored": bool, "repeat": int, "all": bool}
 _REQUIRED = ("text", "pattern")
 
 

@@ -18,13 +18,23 @@ class Text:
 
 
 @dataclass(frozen=True)
+class Match:
+    """One of the matches of a statement for all matches: its cursors, and each variable with its string or cursor."""
+
+    start: int
+    end: int
+    bindings: tuple[tuple[str, str | int], ...]
+
+
+@dataclass(frozen=True)
 class Entry:
     """What an accepted statement did.
 
     `index` counts from 0 and `statement` from 1. `version` is the version of the text on which it was performed.
     `start` and `end` are cursors. They are None if the match failed. They are also None if a repeated statement
     matched: then `repeated` is the number of its matches. `bindings` has each variable with its string, or with its
-    cursor. `after` is the new text, if there is one.
+    cursor. `after` is the new text, if there is one. `all` has the matches of a statement for all matches that
+    matched; then `start` and `end` are None, and `bindings` is empty.
     """
 
     index: int
@@ -37,6 +47,7 @@ class Entry:
     repeated: int | None
     bindings: tuple[tuple[str, str | int], ...]
     after: str | None
+    all: tuple[Match, ...] | None = None
 
 
 @dataclass(frozen=True)
@@ -105,6 +116,16 @@ class Fault(Exception):
         return self.line
 
 
+def _bindings(members: dict[str, Any]) -> tuple[tuple[str, str | int], ...]:
+    return tuple((variable, value) for variable, value in members.get("bindings", ()))
+
+
+def _matches(members: dict[str, Any]) -> tuple[Match, ...] | None:
+    if "all" not in members:
+        return None
+    return tuple(Match(one["start"], one["end"], _bindings(one)) for one in members["all"])
+
+
 def _entry(members: dict[str, Any]) -> Entry:
     return Entry(
         index=members["entry"],
@@ -115,8 +136,9 @@ def _entry(members: dict[str, Any]) -> Entry:
         start=members.get("start"),
         end=members.get("end"),
         repeated=members.get("repeated"),
-        bindings=tuple((variable, value) for variable, value in members["bindings"]),
+        bindings=_bindings(members),
         after=members.get("after"),
+        all=_matches(members),
     )
 
 
