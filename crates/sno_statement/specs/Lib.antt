@@ -5,3 +5,4 @@ pub mod LastAssignments
 pub mod Value
 pub mod Perform
 pub mod Examples
+pub mod Limits
