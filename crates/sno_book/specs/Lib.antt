@@ -14,3 +14,4 @@ pub mod Starts
 pub mod VersionedTexts
 pub mod SamePatterns
 pub mod SameEntries
+pub mod Examples

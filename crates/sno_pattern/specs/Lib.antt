@@ -11,6 +11,7 @@ pub mod Results
 pub mod Outcome
 pub mod Beginnings
 pub mod Examples
+pub mod Limits
 pub mod NameList
 pub mod Definitions
 pub mod Guard

@@ -3,6 +3,8 @@ use Rattle.std.specs.Prelude.{◌≡◌, ℕ, [], ◌∷◌, ◌++◌, Ok, Err, 
 use Rattle.std.specs.List.{flat_map}
 use Rattle.sno_pattern.specs.Identifiers.{is_letter, is_name_char, is_reserved}
 use Rattle.sno_pattern.specs.Tree.{Lit, Len, Arb, Ref, Seq, Alt, Cond, Imm}
+use Rattle.sno_read.specs.declared.characters.TheConstants.{MAX_NUMBER}
+use Rattle.sno_read.specs.declared.reading.TheConstants.{MAX_WRITTEN, MAX_OPEN, MAX_DEPTH}
 use Rattle.sno_read.specs.declared.faults.ReadFault.TheVariants as fault
 use Rattle.sno_read.specs.declared.objects.Part.TheVariants.{Quoted, Var}
 use Rattle.sno_read.specs.Objects.{object_of, parts_of, part_at, gap_at}
@@ -11,6 +13,21 @@ use Rattle.sno_read.specs.Keywords.{keyword_of, call_of}
 use Rattle.sno_read.specs.Characters.{number_from, start_of, sign_of, what_follows}
 use Rattle.sno_read.specs.Reading.{pattern_of, whole_of, unless_too_deep, end_at, inside, alternation_at, concatenation_at, parts_at, items_at, item_at, targets_at, sign_at, element_at, quotation_at, from_name_at, repetition_at, group_at, set_call_at, number_call_at, plain_of, reference_at, cursor_at, blanks_at, closing_at, opening_at, variable_at, name_at, number_at, set_at, literal_at}
 
+-- ---- Limits
+largest_number : MAX_NUMBER ≡ 65536
+largest_number = refl
+
+-- characters of a pattern or an object
+longest_written : MAX_WRITTEN ≡ 4096
+longest_written = refl
+
+most_open_parentheses : MAX_OPEN ≡ 100
+most_open_parentheses = refl
+
+greatest_depth : MAX_DEPTH ≡ 1000
+greatest_depth = refl
+
+-- ---- Readings
 -- the empty text
 null_text : pattern_of [] 0 [] ≡ Err (fault.Empty 0)
 unfolding pattern_of whole_of unless_too_deep end_at inside alternation_at concatenation_at parts_at items_at item_at targets_at sign_at element_at quotation_at from_name_at repetition_at group_at set_call_at number_call_at plain_of reference_at cursor_at blanks_at closing_at opening_at variable_at name_at number_at set_at literal_at depth keyword_of call_of number_from start_of sign_of what_follows is_letter is_name_char is_reserved

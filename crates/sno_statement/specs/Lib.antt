@@ -7,3 +7,4 @@ pub mod Passes
 pub mod Perform
 pub mod Laws
 pub mod Examples
+pub mod Limits
