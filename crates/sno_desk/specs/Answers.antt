@@ -39,7 +39,14 @@ pub record IsRefusedOnSome (s : Statement) (refused : StatementFault) : Type 0 w
 -- `NoText` exactly if the opening has no text of the statement's name
 abbrev pub DecidesNoText : Opening → Statement → Answer → Type 0
 DecidesNoText opening s (Err submit.NoText) = place_in opening s.text ≡ None
-DecidesNoText opening s answer = place_in opening s.text ≢ None
+DecidesNoText opening s (Ok receipt) = place_in opening s.text ≢ None
+DecidesNoText opening s (Err submit.GateShut) = place_in opening s.text ≢ None
+DecidesNoText opening s (Err submit.TextTooLong) = place_in opening s.text ≢ None
+DecidesNoText opening s (Err submit.Stopped) = place_in opening s.text ≢ None
+DecidesNoText opening s (Err submit.Full) = place_in opening s.text ≢ None
+DecidesNoText opening s (Err submit.Memory) = place_in opening s.text ≢ None
+DecidesNoText opening s (Err (submit.TriesSpent seen now)) = place_in opening s.text ≢ None
+DecidesNoText opening s (Err submit.TooManyTrials) = place_in opening s.text ≢ None
 
 -- the receipt's entry has the statement; the gate was shut only if it may be; the statement gets this refusal on some
 -- text; or the text rose from the version that the last try saw to a higher one, which is at least the number of tries
@@ -49,7 +56,10 @@ IsJustified shuts tries lost s (Err submit.GateShut) = MayShut shuts s.number tr
 IsJustified shuts tries lost s (Err submit.TextTooLong) = IsRefusedOnSome s statement.TextTooLong
 IsJustified shuts tries lost s (Err submit.TooManyTrials) = IsRefusedOnSome s statement.TooManyTrials
 IsJustified shuts tries lost s (Err (submit.TriesSpent seen now)) = (seen < now) × (lost ≤ now)
-IsJustified shuts tries lost s answer = Unit {0}
+IsJustified shuts tries lost s (Err submit.NoText) = Unit {0}
+IsJustified shuts tries lost s (Err submit.Stopped) = Unit {0}
+IsJustified shuts tries lost s (Err submit.Full) = Unit {0}
+IsJustified shuts tries lost s (Err submit.Memory) = Unit {0}
 
 -- what a submit may return, whatever its seat has seen
 abbrev pub Answers : (ℕ → ℕ → Type 0) → ℕ → Opening → Statement → Answer → Type 0
@@ -95,17 +105,33 @@ AnswersAt tries opening before after s (Err submit.TextTooLong) = IsRefusedOn op
 AnswersAt tries opening before after s (Err submit.TooManyTrials) = IsRefusedOn opening after s statement.TooManyTrials
 AnswersAt tries opening before after s (Err submit.Full) = (length after ≡ opening.room) × IsPerformedOn opening after s
 AnswersAt tries opening before after s (Err (submit.TriesSpent seen now)) = HasRisen opening before after s tries seen now
-AnswersAt tries opening before after s answer = Unit {0}
+AnswersAt tries opening before after s (Err submit.NoText) = Unit {0}
+AnswersAt tries opening before after s (Err submit.GateShut) = Unit {0}
+AnswersAt tries opening before after s (Err submit.Stopped) = Unit {0}
+AnswersAt tries opening before after s (Err submit.Memory) = Unit {0}
 
 -- `TriesSpent` names a current version that a text can have
 abbrev pub SpentAt : ℕ → ℕ → SubmitFault → Type 0
 SpentAt seats accepted (submit.TriesSpent seen now) = CanStandAt seats accepted now
-SpentAt seats accepted fault = Unit {0}
+SpentAt seats accepted submit.NoText = Unit {0}
+SpentAt seats accepted submit.GateShut = Unit {0}
+SpentAt seats accepted submit.TextTooLong = Unit {0}
+SpentAt seats accepted submit.Stopped = Unit {0}
+SpentAt seats accepted submit.Full = Unit {0}
+SpentAt seats accepted submit.Memory = Unit {0}
+SpentAt seats accepted submit.TooManyTrials = Unit {0}
 
 -- the text changed during the try
 abbrev pub is_lost : Answer → Bool
 is_lost (Err (submit.TriesSpent seen now)) = true
-is_lost answer = false
+is_lost (Ok receipt) = false
+is_lost (Err submit.NoText) = false
+is_lost (Err submit.GateShut) = false
+is_lost (Err submit.TextTooLong) = false
+is_lost (Err submit.Stopped) = false
+is_lost (Err submit.Full) = false
+is_lost (Err submit.Memory) = false
+is_lost (Err submit.TooManyTrials) = false
 
 -- how many receipts a result has: one or zero
 abbrev pub receipts_in : Answer → ℕ

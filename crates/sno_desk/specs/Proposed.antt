@@ -25,4 +25,6 @@ GivesProposed (Err submit.TextTooLong) opening seen s = IsRefusedOn opening seen
 GivesProposed (Err submit.TooManyTrials) opening seen s = IsRefusedOn opening seen s statement.TooManyTrials
 GivesProposed (Err submit.Stopped) opening seen s = place_in opening s.text ≢ None
 GivesProposed (Err submit.Memory) opening seen s = place_in opening s.text ≢ None
-GivesProposed (Err fault) opening seen s = ⊥
+GivesProposed (Err submit.GateShut) opening seen s = ⊥
+GivesProposed (Err submit.Full) opening seen s = ⊥
+GivesProposed (Err (submit.TriesSpent saw now)) opening seen s = ⊥

@@ -40,4 +40,7 @@ pub record CanStandAt (seats accepted version : ℕ) : Type 0 where
 -- the version that a text is said to have now is one that it can have
 abbrev pub NamesVersion : ℕ → ℕ → CommitFault → Type 0
 NamesVersion seats accepted (commit.Changed seen now) = CanStandAt seats accepted now
-NamesVersion seats accepted fault = Unit {0}
+NamesVersion seats accepted commit.Stopped = Unit {0}
+NamesVersion seats accepted commit.NoText = Unit {0}
+NamesVersion seats accepted commit.Full = Unit {0}
+NamesVersion seats accepted commit.Memory = Unit {0}

@@ -32,7 +32,8 @@ pub record IsSeen (opening : Opening) (seen : List Entry) (name : List ℕ) (tak
 abbrev pub GivesSeen : Result Snapshot SnapshotFault → Opening → List Entry → List ℕ → Type 0
 GivesSeen (Ok taken) opening seen name = IsSeen opening seen name taken
 GivesSeen (Err snapshot.NoText) opening seen name = place_in opening name ≡ None
-GivesSeen (Err fault) opening seen name = place_in opening name ≢ None
+GivesSeen (Err snapshot.Stopped) opening seen name = place_in opening name ≢ None
+GivesSeen (Err snapshot.Memory) opening seen name = place_in opening name ≢ None
 
 -- the places of these names, if the opening has a text of each
 abbrev pub places_of : Opening → List (List ℕ) → Option (List ℕ)
@@ -41,7 +42,8 @@ places_of opening names = if_all (map (place_in opening) names)
 -- `NoText` exactly if the opening has no text of one of these names
 abbrev pub IsCauseForAll : SnapshotFault → Opening → List (List ℕ) → Type 0
 IsCauseForAll snapshot.NoText opening names = places_of opening names ≡ None
-IsCauseForAll fault opening names = places_of opening names ≢ None
+IsCauseForAll snapshot.Stopped opening names = places_of opening names ≢ None
+IsCauseForAll snapshot.Memory opening names = places_of opening names ≢ None
 
 -- the result is one that the function may return for the text of this name and its version, as these entries leave it
 pub record IsRead {F T : Type 0} (calls : Once F (Bor (List ℕ) × (ℕ × Unit {0})) T) (f : F) (opening : Opening) (seen : List Entry) (name : List ℕ) (r : T) : Type 0 where
@@ -70,7 +72,8 @@ IsLookCause look.Stopped opening name = place_in opening name ≢ None
 -- after `Memory` what is shown was seen; after another refusal nothing more is seen
 abbrev pub IsViewAfter : SnapshotFault → Viewing → Viewing → Type 0
 IsViewAfter snapshot.Memory before after = after.seen ≡ after.shown
-IsViewAfter fault before after = after.seen ≡ before.seen
+IsViewAfter snapshot.NoText before after = after.seen ≡ before.seen
+IsViewAfter snapshot.Stopped before after = after.seen ≡ before.seen
 
 -- the seat was told a legal list that ends in the receipt's entry, with as many entries before it as the receipt's
 -- index. What the seat has seen begins with that list. The receipt's text is that of its statement's name, with the

@@ -253,11 +253,11 @@ impl<L: Naming> Desk<L> {
     /// Returns shares of the journal's entries from this index on, and none if it has no more. The call waits for the
     /// lock. It takes memory for the list alone, and holds the lock while it shares the entries.
     ///
-    /// On `Ok` the seat has then seen the whole journal, and the entries are those of its view from that index on. What
-    /// it has seen begins with all that it had seen.
+    /// On `Ok` the seat has looked while the lock was held, so it has then seen the whole journal. The entries are those
+    /// of its view from that index on. What it has seen begins with all that it had seen.
     ///
-    /// Refused: `Stopped`, if the seat has seen more than the journal has, which no legal run meets; `Memory`. The desk
-    /// is unchanged.
+    /// Refused: `Stopped`, if nothing more is shown to the seat, or it has seen more than the journal has, which no legal
+    /// run meets; `Memory`. The desk is unchanged.
     pub fn since<R: Wait>(
         &self,
         rt: &R,
@@ -265,6 +265,7 @@ impl<L: Naming> Desk<L> {
         from: usize,
     ) -> Result<Vec<Entry>, SinceFault>
         ensures entries { IfOk result (λ entries. entries.items ≡ drop from seat.new.viewer.seen) }
+        ensures shown { OnOk result (seat.new.viewer.seen ≡ seat.new.viewer.shown) }
         ensures begins { Begins seat.old.viewer.seen seat.new.viewer.seen }
         ensures same { seat.new.accepted ≡ seat.old.accepted }
     {

@@ -50,7 +50,7 @@ pub enum LookFault {
 /// Why a desk shared no entries. Its journal is as it was.
 #[derive(Clone, Copy, Debug, PartialEq, Eq, Error)]
 pub enum SinceFault {
-    /// The seat has seen more than the journal has, which no legal run meets.
+    /// Nothing is shown to the seat any more, or it has seen more than the journal has, which no legal run meets.
     #[error("stopped")]
     Stopped,
     /// Out of memory.

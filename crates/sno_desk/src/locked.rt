@@ -1,5 +1,5 @@
 //! What is under a desk's lock.
-ghost use Rattle.std.specs.Prelude.{◌≡◌, ◌≤◌, ◌<◌, Decides, IfOk, IfErr, OnErr, None, drop, length, sum_by, true};
+ghost use Rattle.std.specs.Prelude.{◌≡◌, ◌≤◌, ◌<◌, Decides, IfOk, IfErr, OnOk, OnErr, None, drop, length, sum_by, true};
 ghost use Rattle.std.specs.List.{All};
 ghost use mathlib.Core.List.{IsPrefix as Begins};
 ghost use Rattle.sno_book.specs.Books.{view_of};
@@ -141,7 +141,8 @@ impl<L: Naming> Locked<L> {
         )
     }
 
-    /// Shares of the journal's entries from this index on. The seat is told of all of them.
+    /// Shares of the journal's entries from this index on. The seat looks first. Nothing can be published meanwhile, so it
+    /// then sees the whole journal.
     pub(crate) fn since(
         &self,
         alloc: Global,
@@ -149,11 +150,14 @@ impl<L: Naming> Locked<L> {
         from: usize,
     ) -> Result<Vec<Entry>, SinceFault>
         ensures entries { IfOk result (λ entries. entries.items ≡ drop from seat.new.viewer.seen) }
+        ensures shown { OnOk result (seat.new.viewer.seen ≡ seat.new.viewer.shown) }
         ensures begins { Begins seat.old.viewer.seen seat.new.viewer.seen }
         ensures same { seat.new.accepted ≡ seat.old.accepted }
     {
-        seat.learn(self.screen.table());
-        if !seat.is_within(self.screen.table()) {
+        let Ok(_count) = seat.look() else {
+            return Err(SinceFault::Stopped);
+        };
+        if !seat.is_level(self.screen.table()) {
             return Err(SinceFault::Stopped);
         }
         share_all(alloc, self.book.journal().get(from..).unwrap_or(&[]))

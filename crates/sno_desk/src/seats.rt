@@ -194,7 +194,7 @@ impl<L: Naming> Seat<L> {
     /// nobody. What comes back can be committed by [`Desk::commit`](crate::Desk::commit) through this seat.
     ///
     /// On `Ok` the proposal has the statement, and comes from the text of its name as the entries that the seat has seen
-    /// now leave it. These entries begin with all that the seat had seen or was told of.
+    /// now leave it. These entries are those that are shown, and begin with all that the seat had seen or was told of.
     ///
     /// Refused as [`Seat::snapshot`] and `propose` are: `NoText`, exactly if the opening has no text of the statement's
     /// name; `Stopped`; `TooManyTrials` and `TextTooLong`, only if performing the statement on that text is refused so;
@@ -206,6 +206,7 @@ impl<L: Naming> Seat<L> {
     ) -> Result<Proposal, SubmitFault>
         ensures gives { GivesProposed result L.opening self.new.viewer.seen (arc_value statement.now) }
         ensures view { IfOk result (λ p. BeginsView p.origin (view_after L.opening self.new.viewer.seen)) }
+        ensures shown { OnOk result (self.new.viewer.seen ≡ self.new.viewer.shown) }
         ensures begins { IsPrefix self.old.viewer.seen self.new.viewer.seen }
         ensures same { self.new.accepted ≡ self.old.accepted }
     {
@@ -232,6 +233,13 @@ impl<L: Naming> Seat<L> {
         ensures accepted { self.new.accepted ≡ self.old.accepted }
     {
         self.viewer.learn(table);
+    }
+
+    /// Whether a table shows just what the seat has seen.
+    pub(crate) fn is_level(&self, table: &Table<L>) -> bool
+        ensures { Decides result (self.now.viewer.seen ≡ table.now) }
+    {
+        self.viewer.is_level(table)
     }
 
     /// Whether a table shows all that the seat has seen.

@@ -115,6 +115,50 @@ impl LooksOn {
     }
 }
 
+/// One seat commits; another one, which hasn't looked, asks for the entries, and proposes on the text that it sees now.
+#[derive(Drop)]
+struct Asks {
+    first: Arc<Statement>,
+    second: Arc<Statement>,
+}
+
+impl Work for Asks {
+    fn work<L: Naming, R: Wait + Abort>(
+        &self,
+        rt: &R,
+        alloc: Global,
+        desk: &Desk<L>,
+        seats: &mut [Seat<L>],
+    ) -> Result<(), Fail> {
+        assert!(rt; seats.len() == 2);
+        let (writers, askers) = seats.split_at_mut(1);
+        let (writer, asker) = (&mut writers[0], &mut askers[0]);
+        commit(rt, alloc, desk, writer, &self.first)?;
+        check_eq(rt, &asker.seen(), &0);
+        check_numbers(rt, &desk.since(rt, asker, 0)?, &[1]);
+        check_eq(rt, &asker.seen(), &1);
+        commit(rt, alloc, desk, writer, &self.second)?;
+        check_eq(rt, &asker.seen(), &1);
+        let proposal = asker.propose(alloc, &self.second)?;
+        check_eq(rt, &proposal.version(), &2);
+        check_eq(rt, &asker.seen(), &2);
+        Ok(())
+    }
+}
+
+#[test]
+fn a_seat_that_has_not_looked_gets_all_entries(rt: HostRuntime) -> Result<(), Fail> {
+    let alloc = rt.alloc();
+    let work = Asks {
+        first: statement(&rt, alloc, 1, "T", "'a'", "'b'")?,
+        second: statement(&rt, alloc, 2, "T", "'b'", "'c'")?,
+    };
+    let book = book(alloc, &[("T", b"a")], 1_000_000)?;
+    let closed = at_desk(&rt, alloc, book, 2, &work)?;
+    check_eq(&rt, &closed.journal().len(), &2);
+    Ok(())
+}
+
 #[test]
 fn a_seat_looks_on(rt: HostRuntime) -> Result<(), Fail> {
     let alloc = rt.alloc();
