@@ -28,3 +28,19 @@ fn a_statement_has_the_limit_and_the_rounds_that_it_is_given(rt: HostRuntime) ->
     check_eq(&rt, &(limited.limit(), limited.repeat()), &(7, Some(7)));
     Ok(())
 }
+
+#[test]
+fn a_statement_for_all_matches_is_not_repeated(rt: HostRuntime) -> Result<(), Fail> {
+    let often = repeated(rt.alloc(), 7)?;
+    check_eq(&rt, &often.is_for_all(), &false);
+    let all = often.for_all();
+    check_eq(&rt, &(all.is_for_all(), all.repeat()), &(true, None));
+    assert!(rt; all.object().is_some());
+    let again = all.repeated(3);
+    check_eq(
+        &rt,
+        &(again.is_for_all(), again.repeat()),
+        &(false, Some(3)),
+    );
+    Ok(())
+}

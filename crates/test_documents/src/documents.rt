@@ -73,6 +73,24 @@ static LISTED: [Listed; 15] = [
         0,
     ),
     Listed(
+        r#"{"texts":[{"name":"T","text":"k=v;x=y;"}],"statements":[{"text":"T","pattern":"BREAK('=') . K '=' BREAK(';') . V ';'","object":"V '=' K ';'","all":true}]}"#,
+        false,
+        "texts 1\nT 1 |v=k;y=x;|\nentries 1\n0 statement 1 T 0 all 2\n  at 0 4\n    K = |k|\n    V = |v|\n  at 4 8\n    K = |x|\n    V = |y|\n  -> |v=k;y=x;|\nrefused 0\n",
+        0,
+    ),
+    Listed(
+        r#"{"texts":[{"name":"T","text":"baaac"}],"statements":[{"text":"T","pattern":"SPAN('a') | ''","all":true},{"text":"T","pattern":"'z'","object":"''","all":true},{"text":"T","pattern":"'a'","object":"'&a'","all":true,"repeat":null},{"text":"T","pattern":"'&'","object":"","all":false,"repeat":2}]}"#,
+        false,
+        "texts 1\nT 2 |baa&ac|\nentries 4\n0 statement 1 T 0 all 3\n  at 0 0\n  at 1 4\n  at 5 5\n1 statement 2 T 0 failed\n2 statement 3 T 0 all 3\n  at 1 2\n  at 2 3\n  at 3 4\n  -> |b&a&a&ac|\n3 statement 4 T 1 repeated 2\n  -> |baa&ac|\nrefused 0\n",
+        0,
+    ),
+    Listed(
+        r#"{"texts":[{"name":"T","text":"aab"}],"statements":[{"text":"T","pattern":"'a'","object":"'x'","all":true}]}"#,
+        true,
+        "texts 1\nT 1 |xxb|\nentries 1\n0 statement 1 T 0 all 2\n  at 0 1\n  at 1 2\n  -> |xxb|\nrefused 0\n",
+        0,
+    ),
+    Listed(
         r#"{"texts":[{"name":"T","text":"b"}],"statements":[{"text":"T","pattern":"'a'","object":"'c'","repeat":2}]}"#,
         false,
         "texts 1\nT 0 |b|\nentries 1\n0 statement 1 T 0 failed\nrefused 0\n",
@@ -218,6 +236,26 @@ static FAULTS: [(&'static str, &'static str); 28] = [
         "statement 1: bad repeat",
     ),
     (
+        r#"{"statements":[{"text":"T","pattern":"'a'","all":1}]}"#,
+        "input: wrong shape",
+    ),
+    (
+        r#"{"statements":[{"text":"T","pattern":"'a'","all":"true"}]}"#,
+        "input: wrong shape",
+    ),
+    (
+        r#"{"statements":[{"text":"T","pattern":"'a'","all":null}]}"#,
+        "input: wrong shape",
+    ),
+    (
+        r#"{"statements":[{"text":"T","pattern":"'a'"},{"text":"T","pattern":"'a'","object":"'b'","repeat":2,"all":true}]}"#,
+        "statement 2: bad all",
+    ),
+    (
+        r#"{"statements":[{"text":"T","pattern":"'a'","object":"'b'","repeat":0,"all":true}]}"#,
+        "statement 1: bad repeat",
+    ),
+    (
         r#"{"statements":[{"text":"T","pattern":"'a'","object":"ARB","repeat":0}]}"#,
         "statement 1: object: reserved name at 0",
     ),
@@ -322,6 +360,7 @@ fn each_fault_of_statements_has_its_line(rt: HostRuntime) -> Result<(), Fail> {
             "statement 3: object: too long at 4096",
         ),
         (DocumentFault::StatementRepeat(4), "statement 4: bad repeat"),
+        (DocumentFault::StatementAll(5), "statement 5: bad all"),
     ];
     check_lines(&rt, &rows)
 }

@@ -34,6 +34,11 @@ static LISTED: [(&'static str, &'static str, usize); 6] = [
         0,
     ),
     (
+        r#"{"texts":[{"name":"T","text":"a1b2"}],"statements":[{"text":"T","pattern":"LEN(1) $ L ANY('12') . D","all":true},{"text":"T","pattern":"@P '2'","object":"P","all":true}]}"#,
+        r#"{"entries":[{"all":[{"bindings":[["L","a"],["D","1"]],"end":2,"start":0},{"bindings":[["L","b"],["D","2"]],"end":4,"start":2}],"entry":0,"matched":true,"statement":1,"text":"T","version":0},{"after":"a1b3","all":[{"bindings":[["P",3]],"end":4,"start":3}],"entry":1,"matched":true,"statement":2,"text":"T","version":0}],"refused":[],"texts":[{"name":"T","text":"a1b3","version":1}]}"#,
+        0,
+    ),
+    (
         r#"{"texts":[{"name":"T","text":"a1b2"}],"statements":[{"text":"T","pattern":"ANY('12') . D","object":"","repeat":10},{"text":"T","pattern":"'z'","object":"","repeat":2}]}"#,
         r#"{"entries":[{"after":"ab","bindings":[["D","2"]],"entry":0,"matched":true,"repeated":2,"statement":1,"text":"T","version":0},{"bindings":[],"entry":1,"matched":false,"statement":2,"text":"T","version":1}],"refused":[],"texts":[{"name":"T","text":"ab","version":1}]}"#,
         0,

@@ -56,6 +56,18 @@ static LIMITED: [Limited; 6] = [
         "texts 1\nT 0 |aab|\nentries 0\nrefused 1\nstatement 1 too many trials\n",
         1,
     ),
+    Limited(
+        r#"{"texts":[{"name":"T","text":"aab"}],"statements":[{"text":"T","pattern":"'a'","object":"'x'","all":true}]}"#,
+        4,
+        "texts 1\nT 1 |xxb|\nentries 1\n0 statement 1 T 0 all 2\n  at 0 1\n  at 1 2\n  -> |xxb|\nrefused 0\n",
+        0,
+    ),
+    Limited(
+        r#"{"texts":[{"name":"T","text":"aab"}],"statements":[{"text":"T","pattern":"'a'","object":"'x'","all":true}]}"#,
+        3,
+        "texts 1\nT 0 |aab|\nentries 0\nrefused 1\nstatement 1 too many trials\n",
+        1,
+    ),
 ];
 
 fn options_of(trials: u32, workers: Option<u32>) -> Options
