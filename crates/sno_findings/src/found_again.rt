@@ -1,10 +1,12 @@
 //! Whether a pattern may find again what an object puts in.
 
+ghost use Rattle.std.specs.Prelude.{◌≤◌};
+
 use sno_pattern::{Class, Name, Pattern};
 use sno_read::{Object, Part};
 
-/// How many references deep a pattern is looked at.
-const MOST_REFERENCES: u32 = 64;
+/// How many parts of the patterns are looked at: definitions that name one another could give far more.
+const MOST_PARTS: u32 = 10_000;
 
 /// Whether the literal stands in a quoted part of the object.
 fn has_literal(object: &Object, sought: &[u8]) -> bool {
@@ -61,28 +63,45 @@ pub(crate) fn may_find_again(
     pattern: &Pattern,
     object: &Object,
 ) -> bool {
-    may_find(bodies, MOST_REFERENCES, pattern, object)
+    let mut search = PartSearch {
+        bodies,
+        object,
+        room: MOST_PARTS,
+    };
+    search.may_find(pattern)
 }
 
-fn may_find(bodies: &[Option<Pattern>], depth: u32, pattern: &Pattern, object: &Object) -> bool {
-    match pattern {
-        Pattern::Lit(text) => has_literal(object, text.bytes()),
-        Pattern::AnyOf(set) | Pattern::Span(set) => has_character(object, set, true),
-        Pattern::NoneOf(set) => has_character(object, set, false),
-        Pattern::Seq(first, second) => {
-            may_find(bodies, depth, first, object) && may_find(bodies, depth, second, object)
+/// What the parts are looked for in, and how many more are looked at.
+#[derive(Drop)]
+struct PartSearch<'a> {
+    bodies: &'a [Option<Pattern>],
+    object: &'a Object,
+    room: u32,
+}
+
+impl<'a> PartSearch<'a> {
+    fn may_find(&mut self, pattern: &Pattern) -> bool
+        ensures less { self.new.room ≤ self.old.room }
+    {
+        if self.room == 0 {
+            return false;
         }
-        Pattern::Alt(first, second) => {
-            may_find(bodies, depth, first, object) || may_find(bodies, depth, second, object)
+        self.room -= 1;
+        match pattern {
+            Pattern::Lit(text) => has_literal(self.object, text.bytes()),
+            Pattern::AnyOf(set) | Pattern::Span(set) => has_character(self.object, set, true),
+            Pattern::NoneOf(set) => has_character(self.object, set, false),
+            Pattern::Seq(first, second) => self.may_find(first) && self.may_find(second),
+            Pattern::Alt(first, second) => self.may_find(first) || self.may_find(second),
+            Pattern::Cond(part, name) | Pattern::Imm(part, name) => {
+                has_variable(self.object, name) || self.may_find(part)
+            }
+            Pattern::Ref(number) => match self.bodies.get(*number) {
+                Some(Some(body)) => self.may_find(body),
+                _ => false,
+            },
+            Pattern::Abort | Pattern::Fail => false,
+            _ => true,
         }
-        Pattern::Cond(part, name) | Pattern::Imm(part, name) => {
-            has_variable(object, name) || may_find(bodies, depth, part, object)
-        }
-        Pattern::Ref(number) => match bodies.get(*number) {
-            Some(Some(body)) if depth > 0 => may_find(bodies, depth - 1, body, object),
-            _ => false,
-        },
-        Pattern::Abort | Pattern::Fail => false,
-        _ => true,
     }
 }

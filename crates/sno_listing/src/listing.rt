@@ -207,7 +207,11 @@ pub(crate) fn put_reason(out: &mut Vec<u8>, reason: Reason) -> Result<(), AllocE
 }
 
 #[tactic(auto, using(crate::proofs::ListingLemmas::row_there))]
-fn put_bindings(out: &mut Vec<u8>, blanks: &str, bindings: &Bindings) -> Result<(), AllocError>
+fn put_each_indented(
+    out: &mut Vec<u8>,
+    blanks: &str,
+    bindings: &Bindings,
+) -> Result<(), AllocError>
     ensures { OnOk result (out.new.items ≡ out.old.items ++ flat_map (indented blanks.now) bindings.now) }
 {
     for place in 0..bindings.len() {
@@ -219,6 +223,12 @@ fn put_bindings(out: &mut Vec<u8>, blanks: &str, bindings: &Bindings) -> Result<
     Ok(())
 }
 
+fn put_bindings(out: &mut Vec<u8>, bindings: &Bindings) -> Result<(), AllocError>
+    ensures { OnOk result (out.new.items ≡ out.old.items ++ flat_map binding_line bindings.now) }
+{
+    put_each_indented(out, "", bindings)
+}
+
 #[tactic(auto, unfolding(crate::specs::Listing::match_lines))]
 fn put_one_match(out: &mut Vec<u8>, one: &Match) -> Result<(), AllocError>
     ensures { OnOk result (out.new.items ≡ out.old.items ++ match_lines one.now) }
@@ -228,7 +238,7 @@ fn put_one_match(out: &mut Vec<u8>, one: &Match) -> Result<(), AllocError>
     put(out, b" ")?;
     put_number(out, one.end as u64)?;
     put(out, b"\n")?;
-    put_bindings(out, "  ", &one.bindings)
+    put_each_indented(out, "  ", &one.bindings)
 }
 
 fn put_each_match(out: &mut Vec<u8>, matches: &[Match]) -> Result<(), AllocError>
@@ -282,12 +292,12 @@ fn put_done(out: &mut Vec<u8>, outcome: &Outcome) -> Result<(), AllocError>
             after,
         } => {
             put_match(out, *start, *end)?;
-            put_bindings(out, "", bindings)?;
+            put_bindings(out, bindings)?;
             put_after(out, after.as_ref())
         }
         Outcome::Failed { bindings } => {
             put(out, b" failed\n")?;
-            put_bindings(out, "", bindings)
+            put_bindings(out, bindings)
         }
         Outcome::Repeated {
             matches,
@@ -295,7 +305,7 @@ fn put_done(out: &mut Vec<u8>, outcome: &Outcome) -> Result<(), AllocError>
             after,
         } => {
             put_matches(out, *matches)?;
-            put_bindings(out, "", bindings)?;
+            put_bindings(out, bindings)?;
             put_after(out, Some(after))
         }
         Outcome::All { matches, after } => {

@@ -6,9 +6,10 @@
 //! - whether a match begins at cursor 0 alone;
 //! - the object whose value replaces the matched part, if that is to be replaced.
 //!
-//! A statement that replaces may be repeated, each round on the new text of the round before. [`perform`] performs it on one
-//! text and returns the [`Outcome`]: a new text beside the old one, which stays as it is. Nothing is shared or kept, and
-//! nothing is waited for. The newer versions of a text are not this crate's concern.
+//! A statement that replaces may be repeated, each round on the new text of the round before. Any statement may be for all
+//! matches, in one pass over its text. [`perform`] performs it on one text and returns the [`Outcome`]: a new text beside the
+//! old one, which stays as it is. A [`Pass`] goes from match to match and keeps none. Nothing is shared or kept, and nothing is
+//! waited for. The newer versions of a text are not this crate's concern.
 //!
 //! # What is promised, and where
 //!
@@ -30,6 +31,11 @@
 //!   new text of the round before, with every variable the null string again. They end after as many matches as are allowed, or
 //!   with the first round that fails. The result has the number of matches, with the bindings and the new text of the last one.
 //!   If the first round fails, its failure is the result. A round that is refused refuses the statement.
+//! - **The matches of a statement for all matches** (`specs/Passes.antt`): the first search begins at cursor 0, each later one at
+//!   the end of the match before, or one further if that was the null string. The null string at the end of the match before
+//!   doesn't count. Each match has bindings of its own, and the object is evaluated for each. If none counts, the statement fails
+//!   with the bindings of its first search. The limit of trials is for all searches together. `specs/Laws.antt` has what follows:
+//!   matches are in order and don't overlap, the first is that of the plain statement, and it fails exactly if that does.
 //! - **The limits** (`specs/Perform.antt`), in each round: `TooManyTrials` comes exactly if the match takes more trials than the
 //!   statement's limit. `TextTooLong` comes exactly if it doesn't, succeeds, and the new text would have more than 65,536 characters.
 //!
@@ -39,6 +45,8 @@
 //!   `new` was given. The type ensures that the definitions cover the pattern.
 //! - `src/statement_patterns.rt`: the pattern of a statement, its own or one that statements share.
 //! - `src/performing.rt`: [`perform`], with the bindings and the rounds.
+//! - `src/passes.rt`: [`Pass`], the matches of a statement for all matches one after the other.
+//! - `src/match_lists.rt`: [`Match`] and [`Matches`]; `src/laws.rt`: what follows of matches, for callers' proofs.
 //! - `src/last_assignments.rt`: the last assignment of each variable, for a match that assigns often.
 //! - `src/lengths.rt`: how many characters the new text has, counted before any is copied.
 //! - `src/values.rt`: the object's value, and cutting and joining texts.

@@ -4,7 +4,7 @@ ghost use Rattle.sno_book.specs.Books.{view_of};
 ghost use Rattle.sno_book.specs.Views.{IsPrefix};
 
 use crate::answers::{Answer, check_eq, tell, tell_ready, tell_twice};
-use crate::jobs::{book, check_book, check_exchange, exchange, proposed, row};
+use crate::jobs::{book, check_book, check_exchange, check_exchange_all, exchange, exchange_all, proposed, row};
 use sno_book::{
     Book, BookFault, CommitFault, Proposal, Snapshot, StatementFault, Text, TextName, propose,
 };
@@ -67,6 +67,27 @@ fn a_statement_is_performed(rt: HostRuntime) -> Result<(), Fail> {
     let statement = exchange(&rt, alloc)?;
     let text = Text::new(Vec::from_slice(alloc, BEFORE)?)?;
     tell_twice(&rt, || perform_once(&rt, alloc, &statement, &text))
+}
+
+fn perform_all_once(rt: &impl Abort, alloc: Global, statement: &Statement, text: &Text) -> Answer {
+    match perform(alloc, statement, text) {
+        Ok(outcome) => {
+            check_exchange_all(rt, &outcome);
+            Answer::Given
+        }
+        Err(fault) => {
+            check_eq(rt, &fault, &StatementFault::Memory);
+            Answer::Refused
+        }
+    }
+}
+
+#[test]
+fn a_statement_for_all_matches_is_performed(rt: HostRuntime) -> Result<(), Fail> {
+    let alloc = rt.alloc();
+    let statement = exchange_all(&rt, alloc)?;
+    let text = Text::new(Vec::from_slice(alloc, b"k=v;m=n;")?)?;
+    tell_twice(&rt, || perform_all_once(&rt, alloc, &statement, &text))
 }
 
 /// A share of a statement, and one of its text.

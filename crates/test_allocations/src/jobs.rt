@@ -70,6 +70,21 @@ pub(crate) fn statement(
     Ok(Arc::new(alloc, statement)?)
 }
 
+/// Each key and its value change places, for all matches.
+pub(crate) fn exchange_all(rt: &impl Abort, alloc: Global) -> Result<Statement, Fail> {
+    let rules = rules(alloc)?;
+    let (pattern, object) = parts(
+        alloc,
+        &rules,
+        "BREAK('=') . K '=' BREAK(';') . V ';'",
+        "V '=' K ';'",
+    )?;
+    assert!(rt; rules.covers(&pattern));
+    let text = TextName::new(alloc, b"T")?;
+    let statement = Statement::new(1, rules, pattern, Some(object), text, false);
+    Ok(statement.for_all())
+}
+
 /// A key and its value change places.
 pub(crate) fn exchange(rt: &impl Abort, alloc: Global) -> Result<Arc<Statement>, Fail> {
     statement(rt, alloc, "T", "BREAK('=') . K '=' REM . V", "V '=' K")
@@ -118,6 +133,20 @@ pub(crate) fn check_exchange(rt: &impl Abort, outcome: &Outcome) {
         }
         Outcome::Failed { .. } | Outcome::Repeated { .. } | Outcome::All { .. } => {
             assert!(rt; false, "no match")
+        }
+    }
+}
+
+/// That this is what `exchange_all` does to `k=v;m=n;`.
+pub(crate) fn check_exchange_all(rt: &impl Abort, outcome: &Outcome) {
+    match outcome {
+        Outcome::All { matches, after } => {
+            check_eq(rt, &matches.len(), &2);
+            let after = after.as_ref().expect(rt, "there is a new text");
+            check_bytes(rt, after.bytes(), b"v=k;n=m;".as_slice());
+        }
+        Outcome::Matched { .. } | Outcome::Failed { .. } | Outcome::Repeated { .. } => {
+            assert!(rt; false, "not for all matches")
         }
     }
 }

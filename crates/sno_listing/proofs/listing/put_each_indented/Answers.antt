@@ -2,7 +2,7 @@
 use Rattle.std.proofs.Common.{sym}
 use Rattle.sno_listing.specs.Listing.{indented}
 use Rattle.sno_listing.proofs.ListingLemmas.{row_step}
-use Rattle.sno_listing.proofs.listing.put_bindings.Goals as goal
+use Rattle.sno_listing.proofs.listing.put_each_indented.Goals as goal
 
 pub loop-place-preserved : goal.loop-place-preserved
 loop-place-preserved c =
