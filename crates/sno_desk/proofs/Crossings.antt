@@ -5,7 +5,7 @@ use mathlib.Core.List.{List, [], ◌∷◌}
 use mir.Syntax.{Sym}
 use denote.Struct.Field.{row_field}
 use denote.Struct.Tuple.{TupleAt, type_at, parts}
-use denote.Param.Send.{IsSend, IsSync, AllSync, sendable, view_send}
+use denote.Param.Send.{IsSend, IsSync, AllSync, sendable, view_send, view_sync}
 use denote.Param.SendFields.{FieldsHave, as_row_send, as_row_sync, declared_send, declared_sync}
 use Rattle.std.proofs.Crossing.{crosses, Arc-send, Arc-sync, Deque-send, send, sync, frees}
 use Rattle.std.proofs.option.Option.TheSendSync as option
@@ -24,6 +24,14 @@ use Rattle.sno_pattern.proofs.texts.Text.TheSendSync as text
 use Rattle.sno_pattern.specs.contracts.texts.Text as Text
 use Rattle.left_right.proofs.writer.Writer.TheSendSync as writer
 use Rattle.left_right.specs.contracts.writer.Writer as Writer
+use Rattle.sno_statement.proofs.outcomes.Outcome.TheSendSync as outcome
+use Rattle.sno_statement.specs.contracts.statements.Statement as Statement
+use Rattle.sno_statement.specs.contracts.statements.Statement.TheInside as StatementInside
+use Rattle.sno_pattern.specs.contracts.definitions.Rules as Rules
+use Rattle.sno_pattern.proofs.tree.Pattern.TheLaws.TheKnot as knot
+use Rattle.sno_pattern.proofs.name_list.Names.TheSendSync as names
+use Rattle.sno_pattern.proofs.text_names.TextName.TheSendSync as name
+use Rattle.sno_read.proofs.objects.Object.TheSendSync as object
 use Rattle.sno_book.proofs.openings.Opening.TheSendSync as opening
 use Rattle.sno_book.specs.contracts.books.Book as Book
 use Rattle.sno_book.specs.contracts.entries.Entry as Entry
@@ -50,6 +58,31 @@ use Rattle.sno_desk.specs.contracts.faults.SubmitFault as SubmitFault
 use Rattle.sno_desk.specs.contracts.locked.Locked as Locked
 use Rattle.sno_desk.specs.contracts.locked.Locked.TheInside as LockedInside
 use Rattle.sno_desk.specs.contracts.seats.Seat as Seat
+
+-- definitions
+rules_send : IsSend Rules.the_row
+rules_send = search (sendable, crosses, knot.send-Pattern, knot.sync-Pattern, names.the_send, names.the_sync) depth 40 fits 100000
+
+rules_sync : IsSync Rules.the_row
+rules_sync = search (sendable, crosses, knot.send-Pattern, knot.sync-Pattern, names.the_send, names.the_sync) depth 40 fits 100000
+
+-- a statement, by its fields
+statement_send : IsSend Statement.the_row
+statement_send = view_send _ _ _ _ _ (declared_send StatementInside.the_type
+    (search sendable, (Arc-send Rules.the_row rules_send rules_sync, (search (sendable, crosses, knot.send-Pattern, knot.sync-Pattern) depth 40 fits 100000,
+    (search (sendable, crosses, object.the_send) depth 40 fits 100000, (search (sendable, crosses, name.the_send) depth 40 fits 100000, (search sendable, (search sendable, (search (sendable, crosses) depth 40 fits 100000, (search sendable, tt))))))))))
+
+statement_sync : IsSync Statement.the_row
+statement_sync = view_sync _ _ _ _ _ (declared_sync StatementInside.the_type
+    (search sendable, (Arc-sync Rules.the_row rules_send rules_sync, (search (sendable, crosses, knot.send-Pattern, knot.sync-Pattern) depth 40 fits 100000,
+    (search (sendable, crosses, object.the_sync) depth 40 fits 100000, (search (sendable, crosses, name.the_sync) depth 40 fits 100000, (search sendable, (search sendable, (search (sendable, crosses) depth 40 fits 100000, (search sendable, tt))))))))))
+
+-- an entry, from its statement and its outcome
+pub entry_send : IsSend Entry.the_row
+entry_send = search (sendable, crosses, outcome.the_send, outcome.the_sync, statement_send, statement_sync) depth 40 fits 100000
+
+pub entry_sync : IsSync Entry.the_row
+entry_sync = search (sendable, crosses, outcome.the_send, outcome.the_sync, statement_send, statement_sync) depth 40 fits 100000
 
 -- a book, from its entries
 pub book_send : IsSend Entry.the_row → IsSend Book.the_row

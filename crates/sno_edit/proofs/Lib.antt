@@ -1,3 +1,4 @@
+pub mod EditLemmas
 pub mod ScriptLemmas
 pub mod FileLemmas
 pub mod BatchLemmas

@@ -1,7 +1,8 @@
 -- What statements do to the text of a file: each is performed on the text that those before it left.
-use Rattle.std.specs.Prelude.{◌≡◌, ◌≢◌, ◌+◌, ℕ, Bool, List, [], ◌∷◌, ◌||◌, Result, Ok, Err, codes, unwrap_or, if◌then◌else◌}
+use Rattle.std.specs.Prelude.{◌≡◌, ◌≢◌, ◌≤◌, ◌+◌, ℕ, Bool, List, [], ◌∷◌, ◌||◌, Result, Ok, Err, codes, length, unwrap_or, if◌then◌else◌}
 use Rattle.std.specs.Arc.{arc_value}
 use Rattle.sno_pattern.specs.Identifiers.{same}
+use Rattle.sno_pattern.specs.declared.texts.TheConstants.{MAX_TEXT}
 use Rattle.sno_statement.specs.Statement.{Statement}
 use Rattle.sno_statement.specs.Perform.{Outcome, Matched, Failed, Repeated, All, after_of, perform}
 use Rattle.sno_statement.specs.declared.outcomes.StatementFault.{StatementFault}
@@ -24,6 +25,11 @@ matches_of (Matched s e bound after) = 1
 matches_of (Failed bound) = 0
 matches_of (Repeated n bound after) = n
 matches_of (All matches after) = length matches
+
+-- a statement for all matches has at most one at each cursor of its text
+abbrev pub IsFew : Outcome → Type 0
+IsFew (All matches after) = length matches ≤ MAX_TEXT + 1
+IsFew done = Unit {0}
 
 -- what a statement leaves: its new text, or the old one if it has none; a refused statement leaves nothing
 abbrev pub left_by : Statement → Edited → Result Outcome StatementFault → Result Edited RefusedStatement

@@ -2,7 +2,7 @@
 ghost use Rattle.std.specs.Prelude.{◌≡◌, ◌≤◌, ◌<◌, ◌+◌, ◌^◌, unwrap_or, IfOk};
 ghost use Rattle.std.specs.Arc.{arc_value};
 ghost use Rattle.sno_statement.specs.Perform.{after_of, outcome_seen};
-ghost use Rattle.sno_edit.specs.Edits.{GivesEdited, edited, edited_seen, is_for, matches_of, turn};
+ghost use Rattle.sno_edit.specs.Edits.{GivesEdited, IsFew, edited, edited_seen, is_for, matches_of, turn};
 ghost use Rattle.sno_edit.specs.Rules.{statements_in};
 
 use crate::EditRules;
@@ -39,7 +39,8 @@ fn is_for(statement: &Statement, path: &str) -> bool
 
 /// What the outcome leaves of a text.
 fn left_by(outcome: Outcome, before: EditedText) -> EditedText
-    requires { before.matches < 2 ^ 63 }
+    requires matches { before.matches < 2 ^ 63 }
+    requires few { IsFew (outcome_seen outcome) }
     ensures text { arc_value result.text ≡ unwrap_or (after_of (outcome_seen outcome)) (arc_value before.text) }
     ensures matches { result.matches ≡ before.matches + matches_of (outcome_seen outcome) }
     ensures few { result.matches ≤ before.matches + 2 ^ 32 }
@@ -83,6 +84,8 @@ fn turn(
     if !is_for(statement, path) {
         return Ok(before);
     }
+    // The contract of `bytes` bounds the text's length, and so the number of matches.
+    let _characters = before.text.bytes();
     match perform(alloc, statement, &before.text) {
         Ok(outcome) => Ok(left_by(outcome, before)),
         Err(fault) => Err(RefusedStatement {

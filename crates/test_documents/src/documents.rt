@@ -10,7 +10,7 @@ use std::test::Fail;
 #[derive(Clone, Copy)]
 struct Listed(&'static str, bool, &'static str, usize);
 
-static LISTED: [Listed; 15] = [
+static LISTED: [Listed; 18] = [
     Listed(
         r#"{"texts":[{"name":"T","text":""}],"statements":[{"text":"T","pattern":"''","object":"'z'"}]}"#,
         false,
@@ -135,7 +135,7 @@ fn documents_are_listed(rt: HostRuntime) -> Result<(), Fail> {
 }
 
 // Documents, each with the line of its first fault.
-static FAULTS: [(&'static str, &'static str); 28] = [
+static FAULTS: [(&'static str, &'static str); 33] = [
     (
         r#"{"texts":[{"name":"T","text":"abc"}],"statements":[{"text":"T","pattern":"'b'","object":"'X'"}]"#,
         "input: not JSON",

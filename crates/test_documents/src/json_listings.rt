@@ -11,7 +11,7 @@ const JSON: Options = Options {
 };
 
 // Documents, each with its listing, without the end of the line, and the number of statements that are refused.
-static LISTED: [(&'static str, &'static str, usize); 6] = [
+static LISTED: [(&'static str, &'static str, usize); 7] = [
     (
         FIRST,
         r#"{"entries":[{"after":"aXc","bindings":[],"end":2,"entry":0,"matched":true,"start":1,"statement":1,"text":"T","version":0}],"refused":[],"texts":[{"name":"T","text":"aXc","version":1}]}"#,

@@ -19,7 +19,7 @@ struct Limited(&'static str, u32, &'static str, u8);
 // - When `'a'` is replaced by `'b'` on aab again and again, the third round takes four trials and fails.
 // - A part that repeats within a part that repeats, before something that isn't there, takes more than a million trials
 //   on 30 a.
-static LIMITED: [Limited; 6] = [
+static LIMITED: [Limited; 8] = [
     Limited(
         r#"{"texts":[{"name":"T","text":"aab"}],"statements":[{"text":"T","pattern":"'b'"}]}"#,
         2,

@@ -11,9 +11,15 @@ use Rattle.sno_desk.specs.contracts.desk.Desk as Desk
 use Rattle.sno_book.specs.contracts.books.Book as Book
 use Rattle.sno_book.specs.contracts.entries.Entry as Entry
 use Rattle.sno_book.specs.contracts.entries.Receipt as Receipt
-use Rattle.sno_desk.proofs.Crossings.{book_send, book_sync, receipt_send, receipt_sync, seat_send, desk_sync, closure_sync}
+use Rattle.sno_desk.proofs.Crossings.{entry_send, entry_sync, book_send, book_sync, receipt_send, receipt_sync, seat_send, desk_sync, closure_sync}
 use Rattle.sno_desk.proofs.desk_work.work_each.Lts as Lts
 use Rattle.sno_desk.proofs.desk_work.work_each.Goals as goal
+
+pub may_cross-requires-send-T : goal.may_cross-requires-send-T
+may_cross-requires-send-T g c κs = param_send 0 (Lts.arg-0-0 g.row.L g.row.W g.row.R g.L.laws g.W.laws g.R.laws g.L.Naming g.L.Naming-dict g.L.Ledger g.L.Ledger-dict g.W.DeskWork g.W.DeskWork-dict g.R.Threads g.R.Threads-dict g.R.Wait g.R.Wait-dict κs) (arg_send _ yes _ entry_send)
+
+pub may_cross-requires-sync-T : goal.may_cross-requires-sync-T
+may_cross-requires-sync-T g c κs = param_sync 0 (Lts.arg-0-0 g.row.L g.row.W g.row.R g.L.laws g.W.laws g.R.laws g.L.Naming g.L.Naming-dict g.L.Ledger g.L.Ledger-dict g.W.DeskWork g.W.DeskWork-dict g.R.Threads g.R.Threads-dict g.R.Wait g.R.Wait-dict κs) (arg_sync _ yes _ entry_sync)
 
 pub may_cross-requires-2-send-T : goal.may_cross-requires-2-send-T
 may_cross-requires-2-send-T g c κs =
