@@ -66,7 +66,10 @@ reason_in submit.NoText = Some reason.NoText
 reason_in submit.TextTooLong = Some reason.TextTooLong
 reason_in submit.TooManyTrials = Some reason.TooManyTrials
 reason_in (submit.TriesSpent seen now) = Some (reason.TriesSpent seen now)
-reason_in fault = None
+reason_in submit.GateShut = None
+reason_in submit.Stopped = None
+reason_in submit.Full = None
+reason_in submit.Memory = None
 
 abbrev pub refusal_by : ℕ → Option Reason → Option Refusal
 refusal_by s None = None

@@ -1,9 +1,12 @@
 //! A line with its reply, at a seat.
-ghost use Rattle.std.specs.Prelude.{◌≡◌, ◌≤◌, ◌⊎◌, IfOk, None, codes, drop};
+ghost use Rattle.std.specs.Prelude.{◌≡◌, ◌≤◌, ◌⊎◌, ◌+◌, IfOk, None, codes, drop};
 ghost use Rattle.std.specs.Arc.{arc_value};
 ghost use Rattle.std.specs.Option.{option_map};
 ghost use mathlib.Core.List.{IsPrefix as Begins};
 ghost use Rattle.serde_json.specs.View.{view};
+ghost use Rattle.sno_desk.specs.Answers.{Answers, AnswersAt, receipts_in};
+ghost use Rattle.sno_desk.specs.Turns.{position};
+ghost use Rattle.sno_serve.specs.Accepted.{AsksFor, HasTaken, IsCounted, IsCountedOnce};
 ghost use Rattle.sno_serve.specs.Replies.{IsReplied, IsPerformed, IsLooked, capped, refusal_in, reason_in, since_reply, word_reply};
 
 use crate::replies::{fault_reply, read_reply, reason_reply, since_reply, submit_reply};
@@ -56,7 +59,28 @@ pub(crate) fn refusal_in(number: u32, reply: &Reply) -> Option<Refusal>
     }
 }
 
-/// Submits a statement.
+/// Submits a statement through the seat, at an open gate.
+#[tactic(auto, using(crate::proofs::Accepting::taken))]
+pub(crate) fn submit<L: Naming, R: Wait>(
+    rt: &R,
+    alloc: Global,
+    desk: &Desk<L>,
+    seat: &mut Seat<L>,
+    statement: Arc<Statement>,
+    tries: u32,
+) -> Reply
+    requires { (1 ≤ tries) × (tries ≤ 1000) }
+    ensures answers { Answers (λ _ _. ⊥) tries L.opening (arc_value statement) result }
+    ensures at { AnswersAt tries L.opening seat.old.viewer.seen seat.new.viewer.seen (arc_value statement) result }
+    ensures begins { Begins seat.old.viewer.seen seat.new.viewer.seen }
+    ensures counted { seat.new.accepted ≡ seat.old.accepted + receipts_in result }
+    ensures taken { HasTaken (λ s. s ≡ arc_value statement) (position seat.old.accepted seat.old.viewer.seen) (position seat.new.accepted seat.new.viewer.seen) }
+{
+    let reply = desk.submit(rt, alloc, seat, statement, tries, &OpenGate);
+    reply
+}
+
+/// Submits a statement, and puts its result into a reply.
 fn perform<L: Naming, R: Wait>(
     rt: &R,
     alloc: Global,
@@ -68,11 +92,13 @@ fn perform<L: Naming, R: Wait>(
 ) -> Result<Answered, AllocError>
     requires { (1 ≤ tries) × (tries ≤ 1000) }
     ensures performed { IfOk result (λ a. IsPerformed tries L.opening seat.old.viewer.seen seat.new.viewer.seen (option_map view id) statement (view a.reply) a.refused) }
+    ensures counted { IfOk result (λ a. IsCountedOnce seat.old.accepted seat.new.accepted (option_map view id) (view a.reply)) }
+    ensures taken { HasTaken (λ s. s ≡ statement) (position seat.old.accepted seat.old.viewer.seen) (position seat.new.accepted seat.new.viewer.seen) }
     ensures begins { Begins seat.old.viewer.seen seat.new.viewer.seen }
 {
     let number = statement.number();
     let statement = Arc::new(alloc, statement)?;
-    let reply = desk.submit(rt, alloc, seat, statement, tries, &OpenGate);
+    let reply = submit(rt, alloc, desk, seat, statement, tries);
     let refused = refusal_in(number, &reply);
     let reply = submit_reply(alloc, id, &reply)?;
     Ok(Answered { reply, refused })
@@ -86,6 +112,7 @@ fn look<L: Naming>(
     name: &TextName,
 ) -> Result<Value, AllocError>
     ensures looked { IfOk result (λ v. IsLooked L.opening seat.new.viewer.seen (option_map view id) name.now (view v)) }
+    ensures same { seat.new.accepted ≡ seat.old.accepted }
     ensures begins { Begins seat.old.viewer.seen seat.new.viewer.seen }
 {
     match seat.snapshot(name) {
@@ -117,6 +144,7 @@ fn list<L: Naming, R: Wait>(
     index: u64,
 ) -> Result<Value, AllocError>
     ensures listed { IfOk result (λ v. (view v ≡ since_reply (option_map view id) (capped index) (drop (capped index) seat.new.viewer.seen)) ⊎ (view v ≡ word_reply (option_map view id) (codes "reason") (codes "stopped"))) }
+    ensures same { seat.new.accepted ≡ seat.old.accepted }
     ensures begins { Begins seat.old.viewer.seen seat.new.viewer.seen }
 {
     let from = capped(index);
@@ -133,7 +161,9 @@ fn list<L: Naming, R: Wait>(
 /// why it was refused. The reply to a read is what [`Seat::snapshot`] gives, and that to an index what [`Desk::since`] does.
 /// A line that can't be read gets words that say why. Each has the line's id, if there is one.
 ///
-/// Refused only if memory runs out. A statement may have been accepted then.
+/// The seat's count rises by one if the reply is an entry, and is the same otherwise.
+///
+/// Refused only if memory runs out. One entry may have been accepted then, of the line's statement.
 pub fn answer<L: Naming, R: Wait>(
     rt: &R,
     alloc: Global,
@@ -144,6 +174,8 @@ pub fn answer<L: Naming, R: Wait>(
 ) -> Result<Answered, AllocError>
     requires { (1 ≤ tries) × (tries ≤ 1000) }
     ensures replied { IfOk result (λ a. IsReplied tries L.opening seat.old.viewer.seen seat.new.viewer.seen (option_map view line.id) line.asked (view a.reply) a.refused) }
+    ensures counted { IfOk result (λ a. IsCounted seat.old.accepted seat.new.accepted (option_map view line.id) line.asked (view a.reply)) }
+    ensures taken { HasTaken (AsksFor line.asked) (position seat.old.accepted seat.old.viewer.seen) (position seat.new.accepted seat.new.viewer.seen) }
     ensures begins { Begins seat.old.viewer.seen seat.new.viewer.seen }
 {
     let Line { id, asked } = line;

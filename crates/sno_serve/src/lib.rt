@@ -26,5 +26,6 @@ pub use asked::{Asked, Line, line_in};
 pub use faults::ServeFault;
 pub use intake::MAX_LINE;
 pub use service::{Served, serve};
-pub use sno_desk::{Desk, Naming, Seat};
+pub use sno_desk::{Desk, Entry, Naming, Seat};
 pub use sno_document::{Document, Mode, Rules};
+pub use sno_listing::{Reason, Refusal};

@@ -1,5 +1,5 @@
 //! Seats that take lines until there are no more.
-ghost use Rattle.std.specs.Prelude.{◌≡◌, ◌≤◌, ◌⊎◌, [], IfErr, IfOk};
+ghost use Rattle.std.specs.Prelude.{◌≡◌, ◌≤◌, ◌⊎◌, ℕ, [], IfErr, IfOk, map};
 ghost use Rattle.std.specs.List.Sorted.{IsNonDecreasingBy};
 ghost use mathlib.Core.List.{IsPrefix as Begins};
 ghost use Rattle.sno_book.specs.Books.{view_of};
@@ -7,17 +7,21 @@ ghost use Rattle.sno_book.specs.Views.{IsLawful};
 ghost use Rattle.sno_statement.specs.Statement.{IsLimit};
 ghost use Rattle.sno_document.specs.Reads.{IsReady};
 ghost use Rattle.std.specs.Thread.{IsSend, IsSync};
+ghost use Rattle.std.specs.Arc.{arc_value};
+ghost use Rattle.sno_desk.specs.Turns.{position};
 ghost use Rattle.sno_desk.specs.Worked.{HasWorkedAt};
+ghost use Rattle.sno_serve.specs.Asked.{asked_in};
+ghost use Rattle.sno_serve.specs.Accepted.{HasServed, IsGiven};
 ghost use Rattle.sno_serve.specs.declared.faults.ServeFault.TheVariants.{Desk as Failed, Memory};
 
-use crate::answers::refusal_in;
+use crate::answers::{refusal_in, submit};
 use crate::intake::{Intake, Next};
 use crate::outlet::Outlet;
 use crate::replies::error_reply;
 use crate::{Answered, Asked, Line, ServeFault, answer, line_in};
 use serde_json::Value;
 use sno_book::Book;
-use sno_desk::{AtDeskFault, Desk, DeskWork, Naming, OpenGate, Seat, at_desk};
+use sno_desk::{AtDeskFault, Desk, DeskWork, Naming, Seat, at_desk};
 use sno_document::{Document, Mode, Rules};
 use sno_listing::Refusal;
 use sno_statement::Statement;
@@ -64,7 +68,7 @@ impl<I: Read + Drop, W: Write + Drop> Service<I, W> {
     }
 
     /// Performs the statements of the document.
-    #[tactic(auto, using(sno_published::proofs::Prefixes::prefix_trans, sno_published::proofs::Prefixes::prefix_self))]
+    #[tactic(auto, using(crate::proofs::Accepting::served_on, crate::proofs::Accepting::served_self))]
     fn begin<L: Naming, R: Wait>(
         &self,
         rt: &R,
@@ -72,19 +76,19 @@ impl<I: Read + Drop, W: Write + Drop> Service<I, W> {
         desk: &Desk<L>,
         seat: &mut Seat<L>,
     ) -> Result<(), AllocError>
-        ensures begins { Begins seat.old.viewer.seen seat.new.viewer.seen }
+        ensures served { HasServed (IsGiven (arc_value self.now.rules) (map arc_value self.now.statements.items) self.now.mode) (position seat.old.accepted seat.old.viewer.seen) (position seat.new.accepted seat.new.viewer.seen) }
     {
         for statement in &self.statements {
             let number = statement.number();
             let shared = Arc::try_clone(statement)?;
-            let reply = desk.submit(rt, alloc, seat, shared, self.tries, &OpenGate);
+            let reply = submit(rt, alloc, desk, seat, shared, self.tries);
             self.outlet.lock(rt).refuse(refusal_in(number, &reply));
         }
         Ok(())
     }
 
     /// The next line. The first seat that takes one performs the statements of the document before it.
-    #[tactic(auto, using(sno_published::proofs::Prefixes::prefix_trans, sno_published::proofs::Prefixes::prefix_self))]
+    #[tactic(auto, using(crate::proofs::Accepting::served_on, crate::proofs::Accepting::served_self))]
     fn next<L: Naming, R: Wait>(
         &self,
         rt: &R,
@@ -92,7 +96,7 @@ impl<I: Read + Drop, W: Write + Drop> Service<I, W> {
         desk: &Desk<L>,
         seat: &mut Seat<L>,
     ) -> Result<Next, ServeFault>
-        ensures begins { Begins seat.old.viewer.seen seat.new.viewer.seen }
+        ensures served { HasServed (IsGiven (arc_value self.now.rules) (map arc_value self.now.statements.items) self.now.mode) (position seat.old.accepted seat.old.viewer.seen) (position seat.new.accepted seat.new.viewer.seen) }
     {
         let mut intake = self.intake.lock(rt);
         if !intake.is_begun {
@@ -107,7 +111,9 @@ impl<I: Read + Drop, W: Write + Drop> Service<I, W> {
     }
 
     /// What a line asks for. A statement takes the next number.
-    fn read<R: Wait>(&self, rt: &R, alloc: Global, line: &[u8]) -> Result<Line, AllocError> {
+    fn read<R: Wait>(&self, rt: &R, alloc: Global, line: &[u8]) -> Result<Line, AllocError>
+        ensures { IfOk result (λ l. (number : ℕ) × (l.asked ≡ asked_in (arc_value self.now.rules) self.now.mode number line.now)) }
+    {
         let mut number = self.numbers.lock(rt);
         let line = line_in(alloc, &self.rules, self.mode, *number, line)?;
         if matches!(&line.asked, Asked::Perform(_)) {
@@ -117,7 +123,7 @@ impl<I: Read + Drop, W: Write + Drop> Service<I, W> {
     }
 
     /// Answers a line, and writes the reply.
-    #[tactic(auto, using(sno_published::proofs::Prefixes::prefix_trans, sno_published::proofs::Prefixes::prefix_self))]
+    #[tactic(auto, using(crate::proofs::Accepting::served_on, crate::proofs::Accepting::served_self))]
     fn reply<L: Naming, R: Wait>(
         &self,
         rt: &R,
@@ -126,7 +132,7 @@ impl<I: Read + Drop, W: Write + Drop> Service<I, W> {
         seat: &mut Seat<L>,
         line: &[u8],
     ) -> Result<(), AllocError>
-        ensures begins { Begins seat.old.viewer.seen seat.new.viewer.seen }
+        ensures served { HasServed (IsGiven (arc_value self.now.rules) (map arc_value self.now.statements.items) self.now.mode) (position seat.old.accepted seat.old.viewer.seen) (position seat.new.accepted seat.new.viewer.seen) }
     {
         let line = self.read(rt, alloc, line)?;
         let Answered { reply, refused } = answer(rt, alloc, desk, seat, line, self.tries)?;
@@ -146,7 +152,7 @@ impl<I: Read + Drop, W: Write + Drop> Service<I, W> {
     }
 
     /// Takes one line and answers it. Returns whether there may be more.
-    #[tactic(auto, using(sno_published::proofs::Prefixes::prefix_trans, sno_published::proofs::Prefixes::prefix_self))]
+    #[tactic(auto, using(crate::proofs::Accepting::served_on, crate::proofs::Accepting::served_self))]
     fn step<L: Naming, R: Wait>(
         &self,
         rt: &R,
@@ -154,7 +160,7 @@ impl<I: Read + Drop, W: Write + Drop> Service<I, W> {
         desk: &Desk<L>,
         seat: &mut Seat<L>,
     ) -> Result<bool, ServeFault>
-        ensures begins { Begins seat.old.viewer.seen seat.new.viewer.seen }
+        ensures served { HasServed (IsGiven (arc_value self.now.rules) (map arc_value self.now.statements.items) self.now.mode) (position seat.old.accepted seat.old.viewer.seen) (position seat.new.accepted seat.new.viewer.seen) }
     {
         match self.next(rt, alloc, desk, seat)? {
             Next::End => Ok(false),
@@ -171,9 +177,9 @@ impl<I: Read + Drop, W: Write + Drop> Service<I, W> {
 }
 
 impl<I: Read + Drop, W: Write + Drop> DeskWork for Service<I, W> {
-    ghost takes = { λ _ before after. Begins before.seen after.seen };
+    ghost takes = { λ s before after. HasServed (IsGiven (arc_value s.rules) (map arc_value s.statements.items) s.mode) before after };
 
-    #[tactic(auto, using(sno_published::proofs::Prefixes::prefix_trans, sno_published::proofs::Prefixes::prefix_self))]
+    #[tactic(auto, using(crate::proofs::Accepting::served_on, crate::proofs::Accepting::served_self))]
     fn work<L: Naming, R: Wait>(
         &self,
         rt: &R,
@@ -206,8 +212,9 @@ fn may_cross<T: Send + Sync>()
 /// that of the one read before it, counted on from the document's.
 ///
 /// On `Ok` the book has the document's opening, and its journal is legal. It begins with what each seat has seen, and has as
-/// many entries as the seats have accepted. The refused statements come by rising number. If a reply could not be written, a line not be read, or memory ran out, the service
-/// ended there, and `fault` says so.
+/// many entries as the seats have accepted. Each seat has accepted its entries one after the other, and each of these is of
+/// a statement of the document or of one that a line asks for. The refused statements come by rising number. If a reply could
+/// not be written, a line not be read, or memory ran out, the service ended there, and `fault` says so.
 ///
 /// Refused: `Memory`; `Desk` if there is no place for the seats, or the desk could not be closed, which no legal run meets.
 pub fn serve<I: Read + Send + Drop, W: Write + Send + Drop, R: Threads + Wait + Sync>(
@@ -227,6 +234,7 @@ pub fn serve<I: Read + Send + Drop, W: Write + Send + Drop, R: Threads + Wait + 
     ensures opening { IfOk result (λ s. s.book.opening ≡ document.book.opening) }
     ensures lawful { IfOk result (λ s. IsLawful (view_of s.book)) }
     ensures worked { IfOk result (λ s. HasWorkedAt (λ before after. Begins before.seen after.seen) seats s.book.journal) }
+    ensures given { IfOk result (λ s. HasWorkedAt (HasServed (IsGiven (arc_value document.rules) (map arc_value document.statements.items) mode)) seats s.book.journal) }
     ensures rising { IfOk result (λ s. IsNonDecreasingBy (λ r. r.number) s.refused.items) }
     ensures refused { IfErr result (λ e. (e ≡ Memory) ⊎ (e ≡ Failed)) }
 {
