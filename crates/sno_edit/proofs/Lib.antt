@@ -1,3 +1,4 @@
 pub mod ScriptLemmas
 pub mod FileLemmas
 pub mod BatchLemmas
+pub mod HunkLemmas
