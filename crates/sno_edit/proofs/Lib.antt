@@ -2,3 +2,4 @@ pub mod EditLemmas
 pub mod ScriptLemmas
 pub mod FileLemmas
 pub mod BatchLemmas
+pub mod HunkLemmas

@@ -152,12 +152,12 @@ line_more text rest lines after line n tail so first is front back =
     ap (λ l. seen l ++ lines_in tail) is ∙ ap (λ t. t ++ lines_in tail) (seen_append lines (line ∷ [])) ∙ append_assoc (seen lines) (line.now ∷ []) (lines_in tail)
     ∙ ap (λ t. seen lines ++ (t ∷ lines_in tail)) front ∙ ap (λ t. seen lines ++ (take n rest ∷ lines_in t)) back ∙ ap (λ t. seen lines ++ t) (sym first) ∙ so
 
-old_append : (a b : List DiffLine) → old_lines (a ++ b) ≡ old_lines a ++ old_lines b
+pub old_append : (a b : List DiffLine) → old_lines (a ++ b) ≡ old_lines a ++ old_lines b
 old_append [] b = refl
 old_append (line ∷ a) b =
     ap (λ t. old_part line.mark (line.text.now ∷ []) ++ t) (old_append a b) ∙ sym (append_assoc (old_part line.mark (line.text.now ∷ [])) (old_lines a) (old_lines b))
 
-new_append : (a b : List DiffLine) → new_lines (a ++ b) ≡ new_lines a ++ new_lines b
+pub new_append : (a b : List DiffLine) → new_lines (a ++ b) ≡ new_lines a ++ new_lines b
 new_append [] b = refl
 new_append (line ∷ a) b =
     ap (λ t. new_part line.mark (line.text.now ∷ []) ++ t) (new_append a b) ∙ sym (append_assoc (new_part line.mark (line.text.now ∷ [])) (new_lines a) (new_lines b))

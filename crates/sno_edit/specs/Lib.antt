@@ -2,7 +2,9 @@ pub mod Edits
 pub mod Held
 pub mod Faults
 pub mod Scripts
+pub mod Hunks
 pub mod Files
 pub mod Rules
 pub mod Batches
 pub mod Statuses
+pub mod Examples

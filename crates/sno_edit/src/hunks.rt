@@ -1,4 +1,9 @@
 //! Scripts as unified diffs.
+ghost use Rattle.std.specs.Prelude.{◌≡◌, ◌≤◌, ◌<◌, ◌+◌, ◌-◌, ◌++◌, [], ◌∷◌, ℕ, if◌then◌else◌, true, false, codes, drop, length, List, nat_eq, position, take, not, IfOk, IfSome, OnOk, IsTrue, string_bytes, None, Some};
+ghost use Rattle.std.specs.List.{flat_map, list_all, list_any};
+ghost use Rattle.std.specs.Str.{chars, is_utf8};
+ghost use Rattle.sno_edit.specs.Scripts.{new_lines, new_part, old_lines, old_part};
+ghost use Rattle.sno_edit.specs.Hunks.{AreHunks, AreKept, Hunk, IsUnifiedDiff, name_text, octal, needs_quotes, path_text, quoted_character, as_text, bare, has_line_feed, hunk_at, hunk_text, is_kept, line_code, line_end_code, line_text, paint, place_text, range_text, ranges_text, sign, unended};
 
 use crate::{DiffLine, Mark};
 use std::alloc::{AllocError, Global};
@@ -6,256 +11,465 @@ use std::alloc::{AllocError, Global};
 /// How many lines that both texts have are shown around a difference.
 const CONTEXT: usize = 3;
 
-/// How parts of a diff are coloured on a terminal.
-struct Colours {
-    header: &'static str,
-    place: &'static str,
-    removed: &'static str,
-    added: &'static str,
-    end: &'static str,
+/// The code that ends a colour on a terminal.
+const PLAIN: &str = "\x1b[m";
+
+/// A code for a terminal, if there is to be colour.
+fn paint(coloured: bool, code: &'static str) -> &'static str
+    ensures { result.now ≡ paint coloured code.now }
+{
+    if coloured { code } else { "" }
 }
 
-const PLAIN: Colours = Colours {
-    header: "",
-    place: "",
-    removed: "",
-    added: "",
-    end: "",
-};
+fn line_code(mark: Mark) -> &'static str
+    ensures { result.now ≡ line_code mark }
+{
+    match mark {
+        Mark::Kept => "",
+        Mark::Removed => "\x1b[31m",
+        Mark::Added => "\x1b[32m",
+    }
+}
 
-const COLOURED: Colours = Colours {
-    header: "\x1b[1m",
-    place: "\x1b[36m",
-    removed: "\x1b[31m",
-    added: "\x1b[32m",
-    end: "\x1b[m",
-};
+fn line_end_code(mark: Mark) -> &'static str
+    ensures { result.now ≡ line_end_code mark }
+{
+    match mark {
+        Mark::Kept => "",
+        Mark::Removed | Mark::Added => PLAIN,
+    }
+}
 
-/// The numbers of the next lines of the old and the new text, from 1.
+fn sign(mark: Mark) -> &'static str
+    ensures { result.now ≡ sign mark }
+{
+    match mark {
+        Mark::Kept => " ",
+        Mark::Removed => "-",
+        Mark::Added => "+",
+    }
+}
+
+fn is_kept(mark: Mark) -> bool
+    ensures { result ≡ is_kept mark }
+{
+    match mark {
+        Mark::Kept => true,
+        Mark::Removed | Mark::Added => false,
+    }
+}
+
+/// Whether a line has its line feed.
+fn has_line_feed(line: &[u8]) -> bool
+    ensures { result ≡ has_line_feed line.now }
+{
+    match line.last() {
+        Some(character) => *character == b'\n',
+        None => false,
+    }
+}
+
+/// A line without its line feed.
+fn bare<'t>(line: &'t [u8]) -> &'t [u8]
+    ensures { result.now ≡ bare line.now }
+{
+    if has_line_feed(line) {
+        let (text, _) = line.split_at(line.len() - 1);
+        text
+    } else {
+        line
+    }
+}
+
+/// What can be written of characters: nothing if they aren't UTF-8.
+fn as_text<'t>(characters: &'t [u8]) -> &'t str
+    ensures { result.now ≡ as_text characters.now }
+{
+    match str::from_utf8(characters) {
+        Ok(text) => text,
+        Err(_) => "",
+    }
+}
+
+/// What comes after a line.
+fn unended(line: &[u8]) -> &'static str
+    ensures { result.now ≡ unended line.now }
+{
+    if has_line_feed(line) {
+        ""
+    } else {
+        "\\ No newline at end of file\n"
+    }
+}
+
+/// One line of a hunk.
+fn put_line(diff: &mut String, coloured: bool, line: &DiffLine<'_>) -> Result<(), AllocError>
+    ensures { OnOk result (string_bytes diff.new ≡ string_bytes diff.old ++ line_text coloured line.now) }
+{
+    diff.push_str(paint(coloured, line_code(line.mark)))?;
+    diff.push_str(sign(line.mark))?;
+    diff.push_str(as_text(bare(line.text)))?;
+    diff.push_str(paint(coloured, line_end_code(line.mark)))?;
+    diff.push_str("\n")?;
+    diff.push_str(unended(line.text))
+}
+
+fn put_lines(diff: &mut String, coloured: bool, lines: &[DiffLine<'_>]) -> Result<(), AllocError>
+    ensures { OnOk result (string_bytes diff.new ≡ string_bytes diff.old ++ flat_map (line_text coloured) lines.now) }
+{
+    for line in lines {
+        put_line(diff, coloured, line)?;
+    }
+    Ok(())
+}
+
+/// Which lines of a text a hunk has.
+fn put_range(diff: &mut String, before: usize, count: usize) -> Result<(), AllocError>
+    requires { before + count ≤ usize.MAX }
+    ensures { OnOk result (string_bytes diff.new ≡ string_bytes diff.old ++ range_text before count) }
+{
+    match count {
+        0 => write!(diff, "{before},0"),
+        1 => {
+            let first = before + 1;
+            write!(diff, "{first}")
+        }
+        _ => {
+            let first = before + 1;
+            write!(diff, "{first},{count}")
+        }
+    }
+}
+
+/// How many lines the old text has of one with this mark.
+fn old_count(mark: Mark) -> usize
+    ensures is { (line : List ℕ) → result ≡ length (old_part mark (line ∷ [])) }
+    ensures within { result ≤ 1 }
+{
+    match mark {
+        Mark::Kept | Mark::Removed => 1,
+        Mark::Added => 0,
+    }
+}
+
+/// How many lines the new text has of one with this mark.
+fn new_count(mark: Mark) -> usize
+    ensures is { (line : List ℕ) → result ≡ length (new_part mark (line ∷ [])) }
+    ensures within { result ≤ 1 }
+{
+    match mark {
+        Mark::Kept | Mark::Added => 1,
+        Mark::Removed => 0,
+    }
+}
+
+/// How many of the lines the old text has.
+fn old_len(lines: &[DiffLine<'_>]) -> usize
+    ensures is { result ≡ length (old_lines lines.now) }
+    ensures within { result ≤ length lines.now }
+{
+    let mut count = 0;
+    for line in lines {
+        count += old_count(line.mark);
+    }
+    count
+}
+
+/// How many of the lines the new text has.
+fn new_len(lines: &[DiffLine<'_>]) -> usize
+    ensures is { result ≡ length (new_lines lines.now) }
+    ensures within { result ≤ length lines.now }
+{
+    let mut count = 0;
+    for line in lines {
+        count += new_count(line.mark);
+    }
+    count
+}
+
+/// How many lines of the old and of the new text come before a place.
 #[derive(Clone, Copy)]
-struct LineNumbers {
+struct LinesBefore {
     old: usize,
     new: usize,
 }
 
-/// How many lines of this side, kept or not, come at this place or later before the next of the other side.
-fn run_from(script: &[DiffLine<'_>], place: usize, kept: bool) -> usize {
-    match script.get(place..) {
-        None => 0,
-        Some(rest) => rest
-            .iter()
-            .take_while(|line| (line.mark == Mark::Kept) == kept)
-            .count(),
+/// How many lines come before the place after these.
+fn after(before: LinesBefore, lines: &[DiffLine<'_>]) -> LinesBefore
+    requires old { before.old + length lines.now ≤ usize.MAX }
+    requires new { before.new + length lines.now ≤ usize.MAX }
+    ensures old { result.old ≡ before.old + length (old_lines lines.now) }
+    ensures new { result.new ≡ before.new + length (new_lines lines.now) }
+    ensures old_within { result.old ≤ before.old + length lines.now }
+    ensures new_within { result.new ≤ before.new + length lines.now }
+{
+    LinesBefore {
+        old: before.old + old_len(lines),
+        new: before.new + new_len(lines),
     }
 }
 
-/// Where the lines end that are shown together with a change: after three lines that both texts have, or at the end.
-/// Changes that are at most six lines apart are shown together.
-fn shown_to(script: &[DiffLine<'_>], change: usize) -> usize {
-    let mut end = change;
-    for _ in 0..script.len() {
-        end = end.saturating_add(run_from(script, end, false));
-        let gap = run_from(script, end, true);
-        let next = end.saturating_add(gap);
-        if next >= script.len() || gap > 2 * CONTEXT {
-            return end.saturating_add(gap.min(CONTEXT));
-        }
-        end = next;
-    }
-    end
-}
-
-/// How many of the lines don't have this mark.
-fn count_without(lines: &[DiffLine<'_>], mark: Mark) -> usize {
-    lines.iter().filter(|line| line.mark != mark).count()
-}
-
-/// The numbers after these lines.
-fn after(numbers: LineNumbers, lines: &[DiffLine<'_>]) -> LineNumbers {
-    LineNumbers {
-        old: numbers
-            .old
-            .saturating_add(count_without(lines, Mark::Added)),
-        new: numbers
-            .new
-            .saturating_add(count_without(lines, Mark::Removed)),
-    }
-}
-
-/// The numbers after the lines from one place up to another.
-fn after_part(
-    numbers: LineNumbers,
-    script: &[DiffLine<'_>],
-    from: usize,
-    to: usize,
-) -> LineNumbers {
-    match script.get(from..to) {
-        Some(lines) => after(numbers, lines),
-        None => numbers,
-    }
-}
-
-/// Which lines these are: the number of the first, and how many if it isn't one.
-fn put_range(diff: &mut String, first: usize, count: usize) -> Result<(), AllocError> {
-    match count {
-        0 => {
-            let before = first.saturating_sub(1);
-            write!(diff, "{before},0")
-        }
-        1 => write!(diff, "{first}"),
-        _ => write!(diff, "{first},{count}"),
-    }
+/// Which lines a hunk has of the old text and of the new one.
+fn put_ranges(
+    diff: &mut String,
+    before: LinesBefore,
+    lines: &[DiffLine<'_>],
+) -> Result<(), AllocError>
+    requires old { before.old + length lines.now ≤ usize.MAX }
+    requires new { before.new + length lines.now ≤ usize.MAX }
+    ensures { OnOk result (string_bytes diff.new ≡ string_bytes diff.old ++ ranges_text (record { old_before = before.old; new_before = before.new; lines = lines.now })) }
+{
+    put_range(diff, before.old, old_len(lines))?;
+    diff.push_str(" +")?;
+    put_range(diff, before.new, new_len(lines))
 }
 
 /// The line before the lines of a hunk.
 fn put_place(
     diff: &mut String,
-    colours: &Colours,
-    numbers: LineNumbers,
+    coloured: bool,
+    before: LinesBefore,
     lines: &[DiffLine<'_>],
-) -> Result<(), AllocError> {
-    diff.push_str(colours.place)?;
+) -> Result<(), AllocError>
+    requires old { before.old + length lines.now ≤ usize.MAX }
+    requires new { before.new + length lines.now ≤ usize.MAX }
+    ensures { OnOk result (string_bytes diff.new ≡ string_bytes diff.old ++ place_text coloured (record { old_before = before.old; new_before = before.new; lines = lines.now })) }
+{
+    diff.push_str(paint(coloured, "\x1b[36m"))?;
     diff.push_str("@@ -")?;
-    put_range(diff, numbers.old, count_without(lines, Mark::Added))?;
-    diff.push_str(" +")?;
-    put_range(diff, numbers.new, count_without(lines, Mark::Removed))?;
+    put_ranges(diff, before, lines)?;
     diff.push_str(" @@")?;
-    diff.push_str(colours.end)?;
+    diff.push_str(paint(coloured, PLAIN))?;
     diff.push_str("\n")
 }
 
-/// One line of a hunk.
-fn put_line(diff: &mut String, colours: &Colours, line: &DiffLine<'_>) -> Result<(), AllocError> {
-    let (colour, sign) = match line.mark {
-        Mark::Kept => ("", " "),
-        Mark::Removed => (colours.removed, "-"),
-        Mark::Added => (colours.added, "+"),
-    };
-    let (text, is_ended) = match line.text.strip_suffix(b"\n") {
-        Some(text) => (text, true),
-        None => (line.text, false),
-    };
-    diff.push_str(colour)?;
-    diff.push_str(sign)?;
-    diff.push_str(str::from_utf8(text).unwrap_or(""))?;
-    if line.mark != Mark::Kept {
-        diff.push_str(colours.end)?;
-    }
-    diff.push_str("\n")?;
-    if !is_ended {
-        diff.push_str("\\ No newline at end of file\n")?;
-    }
-    Ok(())
-}
-
-fn put_lines(
-    diff: &mut String,
-    colours: &Colours,
-    lines: &[DiffLine<'_>],
-) -> Result<(), AllocError> {
-    for line in lines {
-        put_line(diff, colours, line)?;
-    }
-    Ok(())
-}
-
-/// The lines from one place up to another, with the line before them.
+/// The lines of a hunk, with the line before them.
 fn put_hunk(
     diff: &mut String,
-    colours: &Colours,
-    numbers: LineNumbers,
-    script: &[DiffLine<'_>],
-    from: usize,
-    to: usize,
-) -> Result<(), AllocError> {
-    let Some(lines) = script.get(from..to) else {
-        return Ok(());
-    };
-    put_place(diff, colours, numbers, lines)?;
-    put_lines(diff, colours, lines)
+    coloured: bool,
+    before: LinesBefore,
+    lines: &[DiffLine<'_>],
+) -> Result<(), AllocError>
+    requires old { before.old + length lines.now ≤ usize.MAX }
+    requires new { before.new + length lines.now ≤ usize.MAX }
+    ensures { OnOk result (string_bytes diff.new ≡ string_bytes diff.old ++ hunk_text coloured (record { old_before = before.old; new_before = before.new; lines = lines.now })) }
+{
+    put_place(diff, coloured, before, lines)?;
+    put_lines(diff, coloured, lines)
+}
+
+/// How many lines that both texts have come first.
+fn kept_len(script: &[DiffLine<'_>]) -> usize
+    ensures within { result ≤ length script.now }
+    ensures kept { AreKept (take result script.now) }
+    ensures all { AreKept script.now → result ≡ length script.now }
+{
+    for (place, line) in script.iter().enumerate() {
+        if !is_kept(line.mark) {
+            return place;
+        }
+    }
+    script.len()
+}
+
+/// How many lines are shown together, of lines that begin with a change: up to three lines after it that both texts have.
+/// Changes that are at most six lines apart are shown together.
+fn shown_len(lines: &[DiffLine<'_>]) -> usize
+    requires { 0 < length lines.now }
+    ensures some { 0 < result }
+    ensures within { result ≤ length lines.now }
+{
+    let mut end = 1;
+    for place in 1..lines.len() {
+        if !is_kept(lines[place].mark) {
+            end = place + 1;
+        } else if place - end >= 2 * CONTEXT {
+            break;
+        }
+    }
+    end + (lines.len() - end).min(CONTEXT)
+}
+
+/// How many lines come before the next hunk, and how many it has.
+fn next_hunk(script: &[DiffLine<'_>]) -> Option<(usize, usize)>
+    ensures none { result ≡ None → AreKept script.now }
+    ensures some { IfSome result (λ h. 0 < h.1) }
+    ensures within { IfSome result (λ h. h.0 + h.1 ≤ length script.now) }
+    ensures kept { IfSome result (λ h. AreKept (take h.0 script.now)) }
+{
+    let change = kept_len(script);
+    let (_, shown) = script.split_at(change);
+    if shown.is_empty() {
+        return None;
+    }
+    let context = change.min(CONTEXT);
+    Some((change - context, context + shown_len(shown)))
+}
+
+/// What is left of a script, and how many lines come before it.
+#[derive(Clone, Copy)]
+struct Left<'l, 't> {
+    before: LinesBefore,
+    script: &'l [DiffLine<'t>],
+}
+
+/// Puts the next hunk, which has `count` lines after the next `place` ones, and returns what is left after it.
+fn put_next<'l, 't>(
+    diff: &mut String,
+    coloured: bool,
+    left: Left<'l, 't>,
+    place: usize,
+    count: usize,
+) -> Result<Left<'l, 't>, AllocError>
+    requires within { place + count ≤ length left.script.now }
+    requires old { left.before.old + length left.script.now ≤ usize.MAX }
+    requires new { left.before.new + length left.script.now ≤ usize.MAX }
+    ensures written { OnOk result (string_bytes diff.new ≡ string_bytes diff.old
+        ++ hunk_text coloured (hunk_at left.entry.before.old left.entry.before.new place count left.entry.script.now)) }
+    ensures old { IfOk result (λ next. next.before.old ≡ left.entry.before.old + length (old_lines (take place left.entry.script.now))
+        + length (old_lines (take count (drop place left.entry.script.now)))) }
+    ensures new { IfOk result (λ next. next.before.new ≡ left.entry.before.new + length (new_lines (take place left.entry.script.now))
+        + length (new_lines (take count (drop place left.entry.script.now)))) }
+    ensures rest { IfOk result (λ next. next.script.now ≡ drop count (drop place left.entry.script.now)) }
+{
+    let (between, shown) = left.script.split_at(place);
+    let (hunk, script) = shown.split_at(count);
+    let before = after(left.before, between);
+    put_hunk(diff, coloured, before, hunk)?;
+    Ok(Left {
+        before: after(before, hunk),
+        script,
+    })
+}
+
+/// The hunks of a script.
+fn put_hunks(diff: &mut String, coloured: bool, script: &[DiffLine<'_>]) -> Result<(), AllocError>
+    ensures { OnOk result ((hunks : List Hunk) × (string_bytes diff.new ≡ string_bytes diff.old ++ flat_map (hunk_text coloured) hunks) × AreHunks 0 0 hunks script.now) }
+{
+    let before = LinesBefore { old: 0, new: 0 };
+    let mut left = Left { before, script };
+    while let Some((place, count)) = next_hunk(left.script) {
+        left = put_next(diff, coloured, left, place, count)?;
+    }
+    Ok(())
+}
+
+fn octal_digit(digit: u8) -> char
+    requires { digit < 8 }
+    ensures { result ≡ 48 + digit }
+{
+    char::from(b'0' + digit)
+}
+
+/// A control character.
+fn put_octal(diff: &mut String, code: u8) -> Result<(), AllocError>
+    requires { code < 128 }
+    ensures { OnOk result (string_bytes diff.new ≡ string_bytes diff.old ++ octal code) }
+{
+    diff.push(octal_digit(code / 64))?;
+    diff.push(octal_digit(code / 8 % 8))?;
+    diff.push(octal_digit(code % 8))
+}
+
+fn needs_quotes(character: u8) -> bool
+    ensures { result ≡ needs_quotes character }
+{
+    character.is_ascii_control() || character == b'"' || character == b'\\'
 }
 
 /// Whether a path is written in quotes.
-fn is_quoted(path: &str) -> bool {
+fn is_quoted(path: &str) -> bool
+    ensures { result ≡ list_any needs_quotes path.now }
+{
     path.as_bytes()
         .iter()
-        .any(|c| c.is_ascii_control() || *c == b'"' || *c == b'\\')
+        .any(|character| needs_quotes(*character))
 }
 
-fn put_quoted(diff: &mut String, path: &str) -> Result<(), AllocError> {
-    for character in path.chars() {
-        match character {
-            '"' => diff.push_str("\\\"")?,
-            '\\' => diff.push_str("\\\\")?,
-            '\n' => diff.push_str("\\n")?,
-            '\t' => diff.push_str("\\t")?,
-            _ if character.is_ascii_control() => {
-                let code = u32::from(character);
-                write!(diff, "\\{code:03o}")?;
-            }
-            _ => diff.push(character)?,
+/// Whether a path has a blank.
+fn has_blank(path: &str) -> bool
+    ensures { result ≡ list_any (λ c. nat_eq c 32) path.now }
+{
+    path.as_bytes().iter().any(|character| *character == b' ')
+}
+
+fn put_quoted_character(diff: &mut String, character: char) -> Result<(), AllocError>
+    ensures { OnOk result (string_bytes diff.new ≡ string_bytes diff.old ++ quoted_character character) }
+{
+    match character {
+        '"' => diff.push_str("\\\""),
+        '\\' => diff.push_str("\\\\"),
+        '\n' => diff.push_str("\\n"),
+        '\t' => diff.push_str("\\t"),
+        _ if character.is_ascii_control() => {
+            diff.push_str("\\")?;
+            put_octal(diff, character as u8)
         }
+        _ => diff.push(character),
+    }
+}
+
+fn put_quoted(diff: &mut String, path: &str) -> Result<(), AllocError>
+    ensures { OnOk result (string_bytes diff.new ≡ string_bytes diff.old ++ flat_map quoted_character (chars path.now)) }
+{
+    for character in path.chars() {
+        put_quoted_character(diff, character)?;
     }
     Ok(())
 }
 
-/// The line that names the old or the new text. After a path with blanks comes a tab, by which its end is seen.
-fn put_name(
-    diff: &mut String,
-    colours: &Colours,
-    sign: &str,
-    side: &str,
-    path: &str,
-) -> Result<(), AllocError> {
-    diff.push_str(colours.header)?;
-    diff.push_str(sign)?;
+/// The path of one of the texts. After a path with blanks comes a tab, by which its end is seen.
+fn put_path(diff: &mut String, side: &str, path: &str) -> Result<(), AllocError>
+    ensures { OnOk result (string_bytes diff.new ≡ string_bytes diff.old ++ path_text side.now path.now) }
+{
     if is_quoted(path) {
         diff.push_str("\"")?;
         diff.push_str(side)?;
         put_quoted(diff, path)?;
-        diff.push_str("\"")?;
-    } else {
-        diff.push_str(side)?;
-        diff.push_str(path)?;
-        if path.as_bytes().contains(&b' ') {
-            diff.push_str("\t")?;
-        }
+        return diff.push_str("\"");
     }
-    diff.push_str(colours.end)?;
+    diff.push_str(side)?;
+    diff.push_str(path)?;
+    diff.push_str(if has_blank(path) { "\t" } else { "" })
+}
+
+/// The line that names the old or the new text.
+fn put_name(
+    diff: &mut String,
+    coloured: bool,
+    signs: &str,
+    side: &str,
+    path: &str,
+) -> Result<(), AllocError>
+    ensures { OnOk result (string_bytes diff.new ≡ string_bytes diff.old ++ name_text coloured signs.now side.now path.now) }
+{
+    diff.push_str(paint(coloured, "\x1b[1m"))?;
+    diff.push_str(signs)?;
+    put_path(diff, side, path)?;
+    diff.push_str(paint(coloured, PLAIN))?;
     diff.push_str("\n")
 }
 
 /// Returns a script as a unified diff of the file with this path: three lines around each difference, as `diff -u` has
 /// them. Before the path comes `a/` or `b/`, as in a diff of git. A script without differences has an empty diff.
-/// Coloured, it is for a terminal, and no program reads it.
+/// Coloured, it is for a terminal, and no program reads it. Characters that aren't UTF-8 are left out.
 ///
+/// What its hunks say takes the old lines of the script to the new ones: `IsUnifiedDiff` of `specs/Hunks.antt`.
 /// Refused only if memory runs out.
 pub fn unified_diff(
     alloc: Global,
     path: &str,
     script: &[DiffLine<'_>],
     coloured: bool,
-) -> Result<String, AllocError> {
-    let colours = if coloured { &COLOURED } else { &PLAIN };
+) -> Result<String, AllocError>
+    ensures { IfOk result (λ diff. IsUnifiedDiff coloured path.now script.now (string_bytes diff)) }
+{
     let mut diff = String::new(alloc);
-    let mut numbers = LineNumbers { old: 1, new: 1 };
-    let mut place = 0usize;
-    for _ in 0..script.len() {
-        let kept = run_from(script, place, true);
-        let change = place.saturating_add(kept);
-        if change >= script.len() {
-            break;
-        }
-        if diff.is_empty() {
-            put_name(&mut diff, colours, "--- ", "a/", path)?;
-            put_name(&mut diff, colours, "+++ ", "b/", path)?;
-        }
-        let from = change.saturating_sub(kept.min(CONTEXT));
-        let to = shown_to(script, change);
-        numbers = after_part(numbers, script, place, from);
-        put_hunk(&mut diff, colours, numbers, script, from, to)?;
-        numbers = after_part(numbers, script, from, to);
-        place = to;
+    if kept_len(script) == script.len() {
+        return Ok(diff);
     }
+    put_name(&mut diff, coloured, "--- ", "a/", path)?;
+    put_name(&mut diff, coloured, "+++ ", "b/", path)?;
+    put_hunks(&mut diff, coloured, script)?;
     Ok(diff)
 }

@@ -9,6 +9,7 @@
 //!   of them is refused, the file stays as it was.
 //! - A file that doesn't change isn't written.
 //! - [`script_of`] compares two texts line by line; its clause says that the script takes one to the other.
+//! - [`unified_diff`] writes a script as hunks; its clause says that they take the old lines to the new ones.
 //!
 //! | File | What it does |
 //! |---|---|
