@@ -68,14 +68,28 @@ rules_sync = search (sendable, crosses, knot.send-Pattern, knot.sync-Pattern, na
 
 -- a statement, by its fields
 statement_send : IsSend Statement.the_row
-statement_send = view_send _ _ _ _ _ (declared_send StatementInside.the_type
-    (search sendable, (Arc-send Rules.the_row rules_send rules_sync, (search (sendable, crosses, knot.send-Pattern, knot.sync-Pattern) depth 40 fits 100000,
-    (search (sendable, crosses, object.the_send) depth 40 fits 100000, (search (sendable, crosses, name.the_send) depth 40 fits 100000, (search sendable, (search sendable, (search (sendable, crosses) depth 40 fits 100000, (search sendable, tt))))))))))
+statement_send = view_send _ _ _ _ _ (declared_send StatementInside.the_type (
+  search sendable,
+  (
+    Arc-send Rules.the_row rules_send rules_sync,
+    (
+      search (sendable, crosses, knot.send-Pattern, knot.sync-Pattern) depth 40 fits 100000,
+      (search (sendable, crosses, object.the_send) depth 40 fits 100000, (search (sendable, crosses, name.the_send) depth 40 fits 100000, (search sendable, (search sendable, (search (sendable, crosses) depth 40 fits 100000, (search sendable, tt)))))),
+    ),
+  ),
+))
 
 statement_sync : IsSync Statement.the_row
-statement_sync = view_sync _ _ _ _ _ (declared_sync StatementInside.the_type
-    (search sendable, (Arc-sync Rules.the_row rules_send rules_sync, (search (sendable, crosses, knot.send-Pattern, knot.sync-Pattern) depth 40 fits 100000,
-    (search (sendable, crosses, object.the_sync) depth 40 fits 100000, (search (sendable, crosses, name.the_sync) depth 40 fits 100000, (search sendable, (search sendable, (search (sendable, crosses) depth 40 fits 100000, (search sendable, tt))))))))))
+statement_sync = view_sync _ _ _ _ _ (declared_sync StatementInside.the_type (
+  search sendable,
+  (
+    Arc-sync Rules.the_row rules_send rules_sync,
+    (
+      search (sendable, crosses, knot.send-Pattern, knot.sync-Pattern) depth 40 fits 100000,
+      (search (sendable, crosses, object.the_sync) depth 40 fits 100000, (search (sendable, crosses, name.the_sync) depth 40 fits 100000, (search sendable, (search sendable, (search (sendable, crosses) depth 40 fits 100000, (search sendable, tt)))))),
+    ),
+  ),
+))
 
 -- an entry, from its statement and its outcome
 pub entry_send : IsSend Entry.the_row

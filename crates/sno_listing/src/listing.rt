@@ -207,11 +207,7 @@ pub(crate) fn put_reason(out: &mut Vec<u8>, reason: Reason) -> Result<(), AllocE
 }
 
 #[tactic(auto, using(crate::proofs::ListingLemmas::row_there))]
-fn put_each_indented(
-    out: &mut Vec<u8>,
-    blanks: &str,
-    bindings: &Bindings,
-) -> Result<(), AllocError>
+fn put_each_indented(out: &mut Vec<u8>, blanks: &str, bindings: &Bindings) -> Result<(), AllocError>
     ensures { OnOk result (out.new.items ≡ out.old.items ++ flat_map (indented blanks.now) bindings.now) }
 {
     for place in 0..bindings.len() {

@@ -4,7 +4,9 @@ ghost use Rattle.sno_book.specs.Books.{view_of};
 ghost use Rattle.sno_book.specs.Views.{IsPrefix};
 
 use crate::answers::{Answer, check_eq, tell, tell_ready, tell_twice};
-use crate::jobs::{book, check_book, check_exchange, check_exchange_all, exchange, exchange_all, proposed, row};
+use crate::jobs::{
+    book, check_book, check_exchange, check_exchange_all, exchange, exchange_all, proposed, row,
+};
 use sno_book::{
     Book, BookFault, CommitFault, Proposal, Snapshot, StatementFault, Text, TextName, propose,
 };
