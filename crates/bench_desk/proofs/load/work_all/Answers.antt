@@ -4,7 +4,7 @@ use mir.Syntax.{named}
 use denote.Ref.{ShrRef}
 use denote.Exit.{yes}
 use denote.Param.{param}
-use denote.Param.Send.{IsSend, IsSync, param_send, arg_send, shr_sync, sendable}
+use denote.Param.Send.{IsSend, IsSync, param_send, param_sync, arg_send, arg_sync, shr_sync, sendable}
 use denote.Param.SendFields.{declared_sync}
 use Rattle.std.proofs.Crossing.{crosses, sync, Arc-sync, Vec-sync}
 use Rattle.std.specs.contracts.sync.atomic.AtomicU64 as AtomicU64
@@ -14,12 +14,21 @@ use Rattle.sno_desk.specs.contracts.desk.Desk as Desk
 use Rattle.sno_book.specs.contracts.entries.Entry as Entry
 use Rattle.sno_book.specs.contracts.entries.Receipt as Receipt
 use Rattle.sno_statement.specs.contracts.statements.Statement as Statement
-use Rattle.sno_desk.proofs.Crossings.{book_send, desk_sync, closure_sync}
+use Rattle.sno_desk.proofs.Crossings.{entry_send, entry_sync, receipt_send, book_send, desk_sync, closure_sync}
 use Rattle.bench_desk.specs.contracts.posts.Shared as Shared
 use Rattle.bench_desk.proofs.words.Load.TheSendSync as load
 use Rattle.bench_desk.proofs.Crossings.{post_send}
 use Rattle.bench_desk.proofs.load.work_all.Lts as Lts
 use Rattle.bench_desk.proofs.load.work_all.Goals as goal
+
+pub may_cross-requires-send-T : goal.may_cross-requires-send-T
+may_cross-requires-send-T g c κs = param_send 0 (Lts.arg-0-0 g.row.L g.row.R g.L.laws g.R.laws g.L.Naming g.L.Naming-dict g.L.Ledger g.L.Ledger-dict g.R.Threads g.R.Threads-dict g.R.Wait g.R.Wait-dict κs) (arg_send _ yes _ entry_send)
+
+pub may_cross-requires-sync-T : goal.may_cross-requires-sync-T
+may_cross-requires-sync-T g c κs = param_sync 0 (Lts.arg-0-0 g.row.L g.row.R g.L.laws g.R.laws g.L.Naming g.L.Naming-dict g.L.Ledger g.L.Ledger-dict g.R.Threads g.R.Threads-dict g.R.Wait g.R.Wait-dict κs) (arg_sync _ yes _ entry_sync)
+
+pub may_cross-requires-3-send-T : goal.may_cross-requires-3-send-T
+may_cross-requires-3-send-T g c κs = param_send 0 (Lts.arg-2-0 g.row.L g.row.R g.L.laws g.R.laws g.L.Naming g.L.Naming-dict g.L.Ledger g.L.Ledger-dict g.R.Threads g.R.Threads-dict g.R.Wait g.R.Wait-dict κs) (arg_send _ yes _ (receipt_send entry_send))
 
 pub for_each_mut-requires-send-T : goal.for_each_mut-requires-send-T
 for_each_mut-requires-send-T g c κs within =
