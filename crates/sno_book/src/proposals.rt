@@ -7,7 +7,7 @@ ghost use Rattle.sno_book.specs.Proposals.{GivesProposal, entry_of};
 
 use crate::{Entry, Origin, Receipt, Snapshot};
 use sno_pattern::Text;
-use sno_statement::{Outcome, Statement, StatementFault, perform};
+use sno_statement::{Outcome, Statement, StatementFault, perform_shared};
 use std::alloc::Global;
 use std::marker::Model;
 use std::sync::Arc;
@@ -101,7 +101,7 @@ pub fn propose(
 ) -> Result<Proposal, StatementFault>
     ensures { GivesProposal result (arc_value statement) snapshot }
 {
-    let outcome = perform(alloc, &statement, &snapshot.text)?;
+    let outcome = perform_shared(alloc, &statement, &snapshot.text)?;
     Ok(Proposal {
         entry: Entry {
             statement,

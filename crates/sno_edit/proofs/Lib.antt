@@ -1,4 +1,3 @@
-pub mod EditLemmas
 pub mod ScriptLemmas
 pub mod FileLemmas
 pub mod BatchLemmas

@@ -1,10 +1,10 @@
 -- What statements do to the text of a file: each is performed on the text that those before it left.
-use Rattle.std.specs.Prelude.{◌≡◌, ◌≢◌, ◌≤◌, ◌+◌, ℕ, Bool, List, [], ◌∷◌, ◌||◌, Result, Ok, Err, codes, length, unwrap_or, if◌then◌else◌}
+use Rattle.std.specs.Prelude.{◌≡◌, ◌≢◌, ◌+◌, ℕ, Bool, List, [], ◌∷◌, ◌||◌, Result, Ok, Err, codes, unwrap_or, if◌then◌else◌}
 use Rattle.std.specs.Arc.{arc_value}
 use Rattle.sno_pattern.specs.Identifiers.{same}
-use Rattle.sno_pattern.specs.declared.texts.TheConstants.{MAX_TEXT}
 use Rattle.sno_statement.specs.Statement.{Statement}
-use Rattle.sno_statement.specs.Perform.{Outcome, Matched, Failed, Repeated, All, after_of, perform}
+use Rattle.sno_statement.specs.Perform.{perform}
+use Rattle.sno_statement.specs.Rewriting.{Rewriting, rewriting}
 use Rattle.sno_statement.specs.declared.outcomes.StatementFault.{StatementFault}
 use Rattle.sno_statement.specs.declared.outcomes.StatementFault.TheVariants.{Memory}
 use Rattle.sno_edit.specs.declared.edits.EditedText.{EditedText}
@@ -19,26 +19,14 @@ pub record Edited : Type 0 where
 abbrev pub is_for : List ℕ → Statement → Bool
 is_for path s = same (codes "*") s.text || same path s.text
 
--- how many matches an outcome has
-abbrev pub matches_of : Outcome → ℕ
-matches_of (Matched s e bound after) = 1
-matches_of (Failed bound) = 0
-matches_of (Repeated n bound after) = n
-matches_of (All matches after) = length matches
-
--- a statement for all matches has at most one at each cursor of its text
-abbrev pub IsFew : Outcome → Type 0
-IsFew (All matches after) = length matches ≤ MAX_TEXT + 1
-IsFew done = Unit {0}
-
 -- what a statement leaves: its new text, or the old one if it has none; a refused statement leaves nothing
-abbrev pub left_by : Statement → Edited → Result Outcome StatementFault → Result Edited RefusedStatement
-left_by s e (Ok done) = Ok (record { text = unwrap_or (after_of done) e.text; matches = e.matches + matches_of done })
+abbrev pub left_by : Statement → Edited → Result Rewriting StatementFault → Result Edited RefusedStatement
+left_by s e (Ok done) = Ok (record { text = unwrap_or done.after e.text; matches = e.matches + done.matches })
 left_by s e (Err fault) = Err (record { statement = s.number; fault = fault })
 
 -- a statement on a text, if it is for the file
 abbrev pub turn : List ℕ → Statement → Edited → Result Edited RefusedStatement
-turn path s e = if is_for path s then left_by s e (perform s e.text) else Ok e
+turn path s e = if is_for path s then left_by s e (rewriting (perform s e.text)) else Ok e
 
 -- what follows if nothing was refused
 abbrev pub then_on : Result Edited RefusedStatement → (Edited → Result Edited RefusedStatement) → Result Edited RefusedStatement

@@ -1,13 +1,13 @@
 //! Statements on the text of one file.
 ghost use Rattle.std.specs.Prelude.{◌≡◌, ◌≤◌, ◌<◌, ◌+◌, ◌^◌, unwrap_or, IfOk};
 ghost use Rattle.std.specs.Arc.{arc_value};
-ghost use Rattle.sno_statement.specs.Perform.{after_of, outcome_seen};
-ghost use Rattle.sno_edit.specs.Edits.{GivesEdited, IsFew, edited, edited_seen, is_for, matches_of, turn};
+ghost use Rattle.std.specs.Option.{option_map};
+ghost use Rattle.sno_edit.specs.Edits.{GivesEdited, edited, edited_seen, is_for, turn};
 ghost use Rattle.sno_edit.specs.Rules.{statements_in};
 
 use crate::EditRules;
 use sno_pattern::Text;
-use sno_statement::{Outcome, Statement, StatementFault, perform};
+use sno_statement::{Rewritten, Statement, StatementFault, rewrite};
 use std::alloc::{AllocError, Global};
 use std::sync::Arc;
 
@@ -37,36 +37,16 @@ fn is_for(statement: &Statement, path: &str) -> bool
     name == b"*".as_slice() || name == path.as_bytes()
 }
 
-/// What the outcome leaves of a text.
-fn left_by(outcome: Outcome, before: EditedText) -> EditedText
+/// What is left of a text that a statement has rewritten.
+fn left_by(rewritten: Rewritten, before: EditedText) -> EditedText
     requires matches { before.matches < 2 ^ 63 }
-    requires few { IsFew (outcome_seen outcome) }
-    ensures text { arc_value result.text ≡ unwrap_or (after_of (outcome_seen outcome)) (arc_value before.text) }
-    ensures matches { result.matches ≡ before.matches + matches_of (outcome_seen outcome) }
-    ensures few { result.matches ≤ before.matches + 2 ^ 32 }
+    requires few { rewritten.matches < 2 ^ 32 }
+    ensures text { arc_value result.text ≡ unwrap_or (option_map arc_value rewritten.after) (arc_value before.text) }
+    ensures matches { result.matches ≡ before.matches + rewritten.matches }
 {
-    let EditedText { text, matches } = before;
-    match outcome {
-        Outcome::Matched { after, .. } => EditedText {
-            text: after.unwrap_or(text),
-            matches: matches + 1,
-        },
-        Outcome::Failed { .. } => EditedText { text, matches },
-        Outcome::Repeated {
-            matches: rounds,
-            after,
-            ..
-        } => EditedText {
-            text: after,
-            matches: matches + u64::from(rounds),
-        },
-        Outcome::All {
-            matches: all,
-            after,
-        } => EditedText {
-            text: after.unwrap_or(text),
-            matches: matches + all.len() as u64,
-        },
+    EditedText {
+        text: rewritten.after.unwrap_or(before.text),
+        matches: before.matches + rewritten.matches,
     }
 }
 
@@ -84,10 +64,8 @@ fn turn(
     if !is_for(statement, path) {
         return Ok(before);
     }
-    // The contract of `bytes` bounds the text's length, and so the number of matches.
-    let _characters = before.text.bytes();
-    match perform(alloc, statement, &before.text) {
-        Ok(outcome) => Ok(left_by(outcome, before)),
+    match rewrite(alloc, statement, &before.text) {
+        Ok(rewritten) => Ok(left_by(rewritten, before)),
         Err(fault) => Err(RefusedStatement {
             statement: statement.number(),
             fault,

@@ -7,6 +7,8 @@ ghost use Rattle.std.specs.Char.{is_ascii};
 ghost use Rattle.serde_json.specs.Data.{string};
 ghost use Rattle.serde_json.specs.View.{view, members_view};
 ghost use Rattle.serde_json.specs.Written.{compact_text};
+ghost use Rattle.sno_statement.specs.BindingRefs.{datum_lent};
+ghost use Rattle.sno_statement.specs.MatchLists.{match_lent};
 ghost use Rattle.sno_statement.specs.Perform.{outcome_seen};
 ghost use Rattle.sno_listing.specs.Listing.{reason_words};
 ghost use Rattle.sno_book.specs.Views.{state_of};
@@ -19,7 +21,7 @@ use crate::{Reason, Refusal};
 use serde_json::{Map, Value, json, put};
 use sno_book::{Book, Entry};
 use sno_pattern::{Name, Text, TextName};
-use sno_statement::{Bindings, Datum, Match, Matches, Outcome};
+use sno_statement::{Bindings, BindingsRef, DatumRef, MatchRef, Matches, Outcome};
 use std::alloc::{AllocError, Global};
 
 /// A string of ASCII characters.
@@ -60,18 +62,18 @@ pub fn text_members(
     Ok(members)
 }
 
-fn datum_value(alloc: Global, datum: &Datum) -> Result<Value, AllocError>
-    ensures { IfOk result (λ v. view v ≡ value_data datum.now) }
+fn datum_value(alloc: Global, datum: &DatumRef<'_>) -> Result<Value, AllocError>
+    ensures { IfOk result (λ v. view v ≡ value_data (datum_lent datum.now)) }
 {
     match datum {
-        Datum::Str(text) => ascii_value(alloc, text.bytes()),
-        Datum::Int(number) => Ok(Value::from(*number)),
+        DatumRef::Str(text) => ascii_value(alloc, text.bytes()),
+        DatumRef::Int(number) => Ok(Value::from(*number)),
     }
 }
 
 #[tactic(auto, using(crate::proofs::JsonListingLemmas::name_ascii), unfolding(crate::specs::JsonListing::binding_data))]
-fn binding_value(alloc: Global, name: &Name, datum: &Datum) -> Result<Value, AllocError>
-    ensures { IfOk result (λ v. view v ≡ binding_data (name.now, datum.now)) }
+fn binding_value(alloc: Global, name: &Name, datum: &DatumRef<'_>) -> Result<Value, AllocError>
+    ensures { IfOk result (λ v. view v ≡ binding_data (name.now, datum_lent datum.now)) }
 {
     let name = ascii_value(alloc, name.bytes())?;
     let datum = datum_value(alloc, datum)?;
@@ -79,20 +81,20 @@ fn binding_value(alloc: Global, name: &Name, datum: &Datum) -> Result<Value, All
 }
 
 #[tactic(auto, using(crate::proofs::ListingLemmas::row_there))]
-fn binding_values(alloc: Global, bindings: &Bindings) -> Result<Vec<Value>, AllocError>
+fn binding_values(alloc: Global, bindings: &BindingsRef<'_>) -> Result<Vec<Value>, AllocError>
     ensures { IfOk result (λ v. map view v.items ≡ map binding_data bindings.now) }
 {
     let mut values = Vec::with_capacity(alloc, bindings.len())?;
     for place in 0..bindings.len() {
         match bindings.get(place) {
-            Some((name, datum)) => values.push(binding_value(alloc, name, datum)?)?,
+            Some((name, datum)) => values.push(binding_value(alloc, name, &datum)?)?,
             None => unreachable!(),
         }
     }
     Ok(values)
 }
 
-fn bindings_value(alloc: Global, bindings: &Bindings) -> Result<Value, AllocError>
+fn bindings_value(alloc: Global, bindings: &BindingsRef<'_>) -> Result<Value, AllocError>
     ensures { IfOk result (λ v. view v ≡ bindings_data bindings.now) }
 {
     Ok(Value::Array(binding_values(alloc, bindings)?))
@@ -127,7 +129,7 @@ fn matched_members(
 ) -> Result<Map<String, Value>, AllocError>
     ensures { IfOk result (λ m. members_view m.entries ≡ matched_members index entry.now start end bindings.now) }
 {
-    let bound = bindings_value(alloc, bindings)?;
+    let bound = bindings_value(alloc, &bindings.lend())?;
     let mut members = subject_members(alloc, entry)?;
     put(&mut members, alloc, "start", Value::from(start))?;
     put(&mut members, alloc, "matched", Value::from(true))?;
@@ -146,7 +148,7 @@ fn failed_members(
 ) -> Result<Map<String, Value>, AllocError>
     ensures { IfOk result (λ m. members_view m.entries ≡ failed_members index entry.now bindings.now) }
 {
-    let bound = bindings_value(alloc, bindings)?;
+    let bound = bindings_value(alloc, &bindings.lend())?;
     let mut members = subject_members(alloc, entry)?;
     put(&mut members, alloc, "matched", Value::from(false))?;
     put(&mut members, alloc, "entry", Value::from(index))?;
@@ -164,7 +166,7 @@ fn repeated_members(
 ) -> Result<Map<String, Value>, AllocError>
     ensures { IfOk result (λ m. members_view m.entries ≡ repeated_members index entry.now matches bindings.now) }
 {
-    let bound = bindings_value(alloc, bindings)?;
+    let bound = bindings_value(alloc, &bindings.lend())?;
     let mut members = subject_members(alloc, entry)?;
     put(&mut members, alloc, "repeated", Value::from(matches))?;
     put(&mut members, alloc, "matched", Value::from(true))?;
@@ -174,19 +176,23 @@ fn repeated_members(
 }
 
 #[tactic(auto, unfolding(crate::specs::JsonListing::match_data))]
-fn match_value(alloc: Global, one: &Match) -> Result<Value, AllocError>
-    ensures { IfOk result (λ v. view v ≡ match_data one.now) }
+fn match_value(alloc: Global, one: &MatchRef<'_>) -> Result<Value, AllocError>
+    ensures { IfOk result (λ v. view v ≡ match_data (match_lent one.now)) }
 {
     let bound = bindings_value(alloc, &one.bindings)?;
     json!(in alloc; {"bindings": bound, "end": one.end, "start": one.start})
 }
 
-fn match_values(alloc: Global, matches: &[Match]) -> Result<Vec<Value>, AllocError>
+#[tactic(auto, using(crate::proofs::ListingLemmas::row_there))]
+fn match_values(alloc: Global, matches: &Matches) -> Result<Vec<Value>, AllocError>
     ensures { IfOk result (λ v. map view v.items ≡ map match_data matches.now) }
 {
     let mut values = Vec::with_capacity(alloc, matches.len())?;
-    for one in matches {
-        values.push(match_value(alloc, one)?)?;
+    for place in 0..matches.len() {
+        match matches.get(place) {
+            Some(one) => values.push(match_value(alloc, &one)?)?,
+            None => unreachable!(),
+        }
     }
     Ok(values)
 }
@@ -200,7 +206,7 @@ fn all_members(
 ) -> Result<Map<String, Value>, AllocError>
     ensures { IfOk result (λ m. members_view m.entries ≡ all_members index entry.now matches.now) }
 {
-    let all = Value::Array(match_values(alloc, matches.as_slice())?);
+    let all = Value::Array(match_values(alloc, matches)?);
     let mut members = subject_members(alloc, entry)?;
     put(&mut members, alloc, "matched", Value::from(true))?;
     put(&mut members, alloc, "entry", Value::from(index))?;

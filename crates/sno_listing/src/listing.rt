@@ -5,6 +5,8 @@ ghost use Rattle.std.specs.Arc.{arc_value};
 ghost use Rattle.std.specs.Char.{is_ascii};
 ghost use Rattle.std.specs.List.{flat_map, list_all};
 ghost use Rattle.std.specs.Fmt.{decimal};
+ghost use Rattle.sno_statement.specs.BindingRefs.{datum_lent};
+ghost use Rattle.sno_statement.specs.MatchLists.{match_lent};
 ghost use Rattle.sno_statement.specs.Perform.{outcome_seen};
 ghost use Rattle.sno_book.specs.Views.{state_of};
 ghost use Rattle.sno_book.specs.Books.{view_of};
@@ -15,7 +17,7 @@ use crate::{Reason, Refusal};
 use itoa::Buffer;
 use sno_book::{Book, Entry};
 use sno_pattern::{Name, Text, TextName};
-use sno_statement::{Bindings, Datum, Match, Matches, Outcome};
+use sno_statement::{Bindings, BindingsRef, DatumRef, MatchRef, Matches, Outcome};
 use std::alloc::{AllocError, Global};
 use std::sync::Arc;
 
@@ -123,22 +125,22 @@ fn put_text(
     put(out, b"|\n")
 }
 
-fn put_value(out: &mut Vec<u8>, value: &Datum) -> Result<(), AllocError>
-    ensures { OnOk result (out.new.items ≡ out.old.items ++ value_words value.now) }
+fn put_value(out: &mut Vec<u8>, value: &DatumRef<'_>Ref<'_>) -> Result<(), AllocError>
+    ensures { OnOk result (out.new.items ≡ out.old.items ++ value_words (datum_lent value.now)) }
 {
     match value {
-        Datum::Str(text) => {
+        DatumRef::Str(text) => {
             put(out, b"|")?;
             put_escaped(out, text.bytes())?;
             put(out, b"|")
         }
-        Datum::Int(number) => put_number(out, u64::from(*number)),
+        DatumRef::Int(number) => put_number(out, u64::from(*number)),
     }
 }
 
 #[tactic(auto, unfolding(crate::specs::Listing::binding_line))]
-fn put_binding(out: &mut Vec<u8>, name: &Name, value: &Datum) -> Result<(), AllocError>
-    ensures { OnOk result (out.new.items ≡ out.old.items ++ binding_line (name.now, value.now)) }
+fn put_binding(out: &mut Vec<u8>, name: &Name, value: &DatumRef<'_>) -> Result<(), AllocError>
+    ensures { OnOk result (out.new.items ≡ out.old.items ++ binding_line (name.now, datum_lent value.now)) }
 {
     put(out, b"  ")?;
     put(out, name.bytes())?;
@@ -152,9 +154,9 @@ fn put_indented(
     out: &mut Vec<u8>,
     blanks: &str,
     name: &Name,
-    value: &Datum,
+    value: &DatumRef<'_>,
 ) -> Result<(), AllocError>
-    ensures { OnOk result (out.new.items ≡ out.old.items ++ indented blanks.now (name.now, value.now)) }
+    ensures { OnOk result (out.new.items ≡ out.old.items ++ indented blanks.now (name.now, datum_lent value.now)) }
 {
     put(out, blanks.as_bytes())?;
     put_binding(out, name, value)
@@ -207,12 +209,12 @@ pub(crate) fn put_reason(out: &mut Vec<u8>, reason: Reason) -> Result<(), AllocE
 }
 
 #[tactic(auto, using(crate::proofs::ListingLemmas::row_there))]
-fn put_each_indented(out: &mut Vec<u8>, blanks: &str, bindings: &Bindings) -> Result<(), AllocError>
+fn put_each_indented(out: &mut Vec<u8>, blanks: &str, bindings: &BindingsRef<'_>) -> Result<(), AllocError>
     ensures { OnOk result (out.new.items ≡ out.old.items ++ flat_map (indented blanks.now) bindings.now) }
 {
     for place in 0..bindings.len() {
         match bindings.get(place) {
-            Some((name, value)) => put_indented(out, blanks, name, value)?,
+            Some((name, value)) => put_indented(out, blanks, name, &value)?,
             None => unreachable!(),
         }
     }
@@ -222,12 +224,12 @@ fn put_each_indented(out: &mut Vec<u8>, blanks: &str, bindings: &Bindings) -> Re
 fn put_bindings(out: &mut Vec<u8>, bindings: &Bindings) -> Result<(), AllocError>
     ensures { OnOk result (out.new.items ≡ out.old.items ++ flat_map binding_line bindings.now) }
 {
-    put_each_indented(out, "", bindings)
+    put_each_indented(out, "", &bindings.lend())
 }
 
 #[tactic(auto, unfolding(crate::specs::Listing::match_lines))]
-fn put_one_match(out: &mut Vec<u8>, one: &Match) -> Result<(), AllocError>
-    ensures { OnOk result (out.new.items ≡ out.old.items ++ match_lines one.now) }
+fn put_one_match(out: &mut Vec<u8>, one: &MatchRef<'_>) -> Result<(), AllocError>
+    ensures { OnOk result (out.new.items ≡ out.old.items ++ match_lines (match_lent one.now)) }
 {
     put(out, b"  at ")?;
     put_number(out, one.start as u64)?;
@@ -237,11 +239,15 @@ fn put_one_match(out: &mut Vec<u8>, one: &Match) -> Result<(), AllocError>
     put_each_indented(out, "  ", &one.bindings)
 }
 
-fn put_each_match(out: &mut Vec<u8>, matches: &[Match]) -> Result<(), AllocError>
+#[tactic(auto, using(crate::proofs::ListingLemmas::row_there))]
+fn put_each_match(out: &mut Vec<u8>, matches: &Matches) -> Result<(), AllocError>
     ensures { OnOk result (out.new.items ≡ out.old.items ++ flat_map match_lines matches.now) }
 {
-    for one in matches {
-        put_one_match(out, one)?;
+    for place in 0..matches.len() {
+        match matches.get(place) {
+            Some(one) => put_one_match(out, &one)?,
+            None => unreachable!(),
+        }
     }
     Ok(())
 }
@@ -273,7 +279,7 @@ fn put_all(out: &mut Vec<u8>, matches: &Matches) -> Result<(), AllocError>
     put(out, b" all ")?;
     put_number(out, matches.len() as u64)?;
     put(out, b"\n")?;
-    put_each_match(out, matches.as_slice())
+    put_each_match(out, matches)
 }
 
 #[tactic(auto, unfolding(crate::specs::Listing::done_lines))]

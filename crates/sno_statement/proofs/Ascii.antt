@@ -6,7 +6,7 @@ use Rattle.std.specs.Str.{IsAscii}
 use Rattle.std.specs.Fmt.{decimal}
 use Rattle.std.proofs.lemmas.Fmt.{IsAscii-decimal}
 use Rattle.std.proofs.lemmas.Bool.{and_from, and_parts, lt-ltb, cases_lt}
-use Rattle.std.proofs.lemmas.List.{take-append-drop}
+use Rattle.std.proofs.lemmas.List.{length-drop, length-take, take-append-drop}
 use Rattle.std.proofs.lemmas.List.Folds.{list_all-append}
 use Rattle.sno_pattern.specs.Texts.{text_of}
 use Rattle.sno_pattern.specs.declared.texts.TextFault.{TextFault}
@@ -30,6 +30,10 @@ ascii_drop n xs h = (and_parts _ _ (parts n xs h)).1
 
 pub ascii_part : (t : List ℕ) (from to : ℕ) → AreAscii t → AreAscii (part t from to)
 ascii_part t from to h = ascii_take (to - from) (drop from t) (ascii_drop from t h)
+
+-- a part of a short text is short
+pub short_part : (n : ℕ) (t : List ℕ) (from to : ℕ) → length t ≤ n → length (part t from to) ≤ n
+short_part n t from to h = let few = length-take (to - from) (drop from t) in let fewer = length-drop from t in omega (arith, few, fewer, h)
 
 ascii_code : (b : ℕ) → b < 128 → is_ascii b ≡ true
 ascii_code b h = lt-ltb b 128 h

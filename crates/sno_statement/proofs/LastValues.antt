@@ -1,5 +1,5 @@
 -- The last assignments give the same values as all assignments, one after the other.
-use Rattle.std.proofs.Common.{◌≡◌, ℕ, Bool, true, false, List, [], ◌∷◌, ◌++◌, map, None, Some, slice_get, drop, length, ◌+◌, ◌≤◌, if◌then◌else◌, refl, sym, ap, subst, ◌∙◌}
+use Rattle.std.proofs.Common.{◌≡◌, ℕ, Bool, true, false, List, [], ◌∷◌, ◌++◌, map, None, Some, option_map, slice_get, drop, length, ◌+◌, ◌≤◌, if◌then◌else◌, refl, sym, ap, subst, ◌∙◌}
 use Rattle.std.proofs.lemmas.Cmp.{nat_list_eq_equiv}
 use Rattle.std.proofs.lemmas.List.{append_assoc, append-nil, at_drop_more, at_drop_all}
 use Rattle.std.proofs.lemmas.Option.{get_or_from_slice_get, slice_get_within}
@@ -21,6 +21,16 @@ bind_values t (b ∷ lasts) name last = by (same name b.0) (bind_values t lasts 
         ≡ (if s then (b.0, value_of_last t last) ∷ values_of_last t lasts else (b.0, value_of_last t b.1) ∷ bind (values_of_last t lasts) name (value_of_last t last))
     by true rest = refl
     by false rest = ap (λ (bound : Bindings). (b.0, value_of_last t b.1) ∷ bound) rest
+
+-- the value of a variable is that of its last assignment
+pub lookup_values : (t name : List ℕ) (lasts : List (List ℕ × Last)) → lookup name (values_of_last t lasts) ≡ option_map (value_of_last t) (lookup name lasts)
+lookup_values t name [] = refl
+lookup_values t name (b ∷ lasts) = by (same name b.0) (lookup_values t name lasts)
+  where
+    by : (s : Bool) → lookup name (values_of_last t lasts) ≡ option_map (value_of_last t) (lookup name lasts)
+        → (if s then Some (value_of_last t b.1) else lookup name (values_of_last t lasts)) ≡ option_map (value_of_last t) (if s then Some b.1 else lookup name lasts)
+    by true rest = refl
+    by false rest = rest
 
 -- these variables are assigned these values, one after the other
 abbrev pub bind_all : Bindings → Bindings → Bindings

@@ -1,10 +1,14 @@
 pub mod Ascii
+pub mod Assigning
 pub mod Decimals
 pub mod Entries
+pub mod FewMatches
+pub mod Gathering
 pub mod LastValues
 pub mod NotMemory
 pub mod PassLaws
 pub mod PassOrder
 pub mod Replacing
+pub mod RewritingLaws
 pub mod Rounds
 pub mod WholePasses

@@ -1,5 +1,5 @@
 -- A pass, search by search.
-use Rattle.std.proofs.Common.{◌≡◌, ℕ, zero, suc, ◌+◌, ◌-◌, ◌<◌, ◌≤◌, Bool, true, false, not, ◌&&◌, ◌||◌, cond, List, [], ◌∷◌, ◌++◌, length, nat_eq, Option, Some, None, IfSome, refl, ap, sym, subst, ◌∙◌, arith}
+use Rattle.std.proofs.Common.{◌≡◌, ℕ, zero, suc, ◌+◌, ◌-◌, ◌<◌, ◌≤◌, Bool, true, false, not, ◌||◌, cond, List, [], ◌∷◌, ◌++◌, length, nat_eq, Option, Some, None, IfSome, refl, ap, sym, subst, ◌∙◌, arith}
 use Rattle.std.proofs.lemmas.Bool.{eqb-false}
 use Rattle.sno_pattern.specs.SearchLaws.{LiesFrom}
 use Rattle.sno_pattern.specs.Results.{enough_depth}
@@ -115,6 +115,29 @@ module _ (s : Statement) (t : List ℕ) where
   unfolding trials_onward
   no_trials zero = refl
   no_trials (suc n) = refl
+
+-- at the end of a pass all trials were spent
+pub ended_within : (p : Pass) → p.at ≡ None → p.spent ≤ p.statement.limit → trials_together p ≤ p.statement.limit
+ended_within p end few =
+    let all : trials_together p ≡ p.spent + 0 = ap (λ (z : Option ℕ). p.spent + trials_onward p.statement p.text (most_searches p.text) z) end ∙ ap (λ (z : ℕ). p.spent + z) (no_trials p.statement p.text (most_searches p.text)) in
+    omega (arith, all, few)
+
+-- one match more, or none
+one_more : (b : Bool) (m : Match) (ms : List Match) (n : ℕ) → length ms ≤ n → length (cond b (m ∷ []) [] ++ ms) ≤ suc n
+one_more true m ms n h = omega (arith, h)
+one_more false m ms n h = omega (arith, h)
+
+after_few : (s : Statement) (t : List ℕ) (before : Option ℕ) (go : Option ℕ → Option ℕ → List Match) (found : Found) (end : Option Hit) (n : ℕ)
+    → ((b c : Option ℕ) → length (go b c) ≤ n) → length (matches_after s t before go found end) ≤ suc n
+after_few s t before go found None n h = omega arith
+after_few s t before go found (Some hit) n h = one_more (counts before hit) (match_of t found hit) _ n (h (Some hit.end) (next_search s.anchored t hit))
+
+-- there are at most as many matches as searches
+pub matches_few : (s : Statement) (t : List ℕ) (n : ℕ) (before c : Option ℕ) → length (matches_from s t n before c) ≤ n
+unfolding matches_from
+matches_few s t zero before c = omega arith
+matches_few s t (suc n) before None = omega arith
+matches_few s t (suc n) before (Some c) = after_few s t before (matches_from s t n) (search s t c) (search s t c).end n (matches_few s t n)
 
 -- the pass after a search
 module _ (p : Pass) (c : ℕ) (at : p.at ≡ Some c) (inside : c ≤ length p.text) where

@@ -1,8 +1,7 @@
 -- The matches of a pass are in order, the first is the plain match, and matches that are put back leave the text as it was.
-use Rattle.std.proofs.Common.{◌≡◌, ℕ, zero, suc, ◌+◌, ◌-◌, ◌≤◌, Bool, true, false, not, ◌||◌, cond, List, [], ◌∷◌, ◌++◌, length, take, drop, nat_eq, Option, Some, None, IfSome, refl, ap, sym, subst, ◌∙◌, append_assoc, arith}
+use Rattle.std.proofs.Common.{◌≡◌, ℕ, zero, suc, ◌+◌, ◌-◌, ◌≤◌, Bool, true, false, not, ◌||◌, cond, List, [], ◌∷◌, ◌++◌, length, drop, nat_eq, Option, Some, None, IfSome, refl, ap, sym, subst, ◌∙◌, arith}
 use Rattle.std.proofs.lemmas.List.{drop-drop, take-append-drop}
 use Rattle.sno_pattern.specs.Ends.{part}
-use Rattle.sno_pattern.specs.Outcome.{outcome}
 use Rattle.sno_pattern.specs.SearchLaws.{LiesFrom}
 use Rattle.sno_pattern.specs.declared.found.Found.{Found}
 use Rattle.sno_pattern.specs.declared.found.Hit.{Hit}
@@ -12,7 +11,6 @@ use Rattle.sno_statement.specs.declared.match_lists.Match.{Match}
 use Rattle.sno_statement.specs.Statement.{Statement}
 use Rattle.sno_statement.specs.Passes.{IsCursor, all_matches, counts, match_of, matches_after, matches_from, most_searches, next_search, replaced, search}
 use Rattle.sno_statement.specs.Laws.{AreInOrder, AreKept, FirstIsThePlainMatch, IsFirst, KeptMatchesKeepTheText, MatchesAreInOrder}
-use Rattle.sno_statement.specs.Value.{value_of}
 use Rattle.sno_statement.proofs.PassLaws.{lies_at, next_matches, next_past, past_cursor}
 
 -- from the cursor c on, or none

@@ -1,5 +1,5 @@
 -- What a whole pass does.
-use Rattle.std.proofs.Common.{◌≡◌, ℕ, ◌+◌, ◌<◌, ◌≤◌, true, false, cond, List, [], ◌∷◌, length, nat_lt, Option, Some, None, Result, Ok, Err, refl, ap, sym, subst, ◌∙◌, arith}
+use Rattle.std.proofs.Common.{◌≡◌, ℕ, ◌+◌, ◌<◌, ◌≤◌, cond, List, [], ◌∷◌, Option, Some, None, Ok, Err, refl, ap, sym, ◌∙◌, arith}
 use Rattle.std.proofs.lemmas.Bool.{lt-ltb, le-ltb}
 use Rattle.sno_pattern.specs.Outcome.{outcome}
 use Rattle.sno_pattern.specs.declared.found.Found.{Found}
@@ -10,8 +10,8 @@ use Rattle.sno_statement.specs.declared.outcomes.StatementFault.{StatementFault}
 use Rattle.sno_statement.specs.declared.outcomes.StatementFault.TheVariants as fault
 use Rattle.sno_statement.specs.Statement.{Statement}
 use Rattle.sno_statement.specs.Bindings.{Bindings, bind_conds, bind_sets, bindings_of, conds_of}
-use Rattle.sno_statement.specs.Passes.{Pass, all_matches, all_trials, begun, match_of, matches_left, moved, most_searches, search, search_trials, trials_onward, trials_together}
-use Rattle.sno_statement.specs.Perform.{Outcome, Failed, Gives, all_or_failed, finish_all, perform_all}
+use Rattle.sno_statement.specs.Passes.{Pass, all_matches, all_trials, begun, match_of, matches_left, moved, most_searches, search, search_trials, trials_together}
+use Rattle.sno_statement.specs.Perform.{Failed, Gives, all_or_failed, finish_all, perform_all}
 use Rattle.sno_statement.proofs.PassLaws.{counted, none_left, no_trials, trials_kept, trials_over}
 
 module _ (s : Statement) (t : List ℕ) where
@@ -19,12 +19,12 @@ module _ (s : Statement) (t : List ℕ) where
   first = begun s t
 
   -- if all searches together take too many trials, the statement is refused
-  refused_all : s.limit < all_trials s t → perform_all s t ≡ Err fault.TooManyTrials
+  pub refused_all : s.limit < all_trials s t → perform_all s t ≡ Err fault.TooManyTrials
   unfolding perform_all
   refused_all over = ap (λ b. cond b (Err fault.TooManyTrials) (all_or_failed s t (all_matches s t))) (lt-ltb s.limit (all_trials s t) over)
 
   -- if not, its matches decide
-  within_all : all_trials s t ≤ s.limit → perform_all s t ≡ all_or_failed s t (all_matches s t)
+  pub within_all : all_trials s t ≤ s.limit → perform_all s t ≡ all_or_failed s t (all_matches s t)
   unfolding perform_all
   within_all few = ap (λ b. cond b (Err fault.TooManyTrials) (all_or_failed s t (all_matches s t))) (le-ltb s.limit (all_trials s t) few)
 

@@ -21,7 +21,7 @@ bind [] name value = (name, value) ∷ []
 bind (b ∷ bound) name value = if same name b.0 then (b.0, value) ∷ bound else b ∷ bind bound name value
 
 -- the value of a variable; `None` if it was never assigned
-abbrev pub lookup : List ℕ → Bindings → Option Datum
+abbrev pub lookup : {V : Type 0} → List ℕ → List (List ℕ × V) → Option V
 lookup name [] = None
 lookup name (b ∷ bound) = if same name b.0 then Some b.1 else lookup name bound
 

@@ -2,9 +2,13 @@ pub mod Statement
 pub mod StatementPatterns
 pub mod Bindings
 pub mod LastAssignments
+pub mod BindingRefs
+pub mod MatchLists
+pub mod Gathered
 pub mod Value
 pub mod Passes
 pub mod Perform
+pub mod Rewriting
 pub mod Laws
 pub mod Examples
 pub mod Limits

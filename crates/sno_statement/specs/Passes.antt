@@ -8,7 +8,8 @@ use Rattle.sno_read.specs.declared.objects.Part.{Part}
 use Rattle.sno_statement.specs.declared.match_lists.Match.{Match}
 use Rattle.sno_statement.specs.Statement.{Statement, statement_code}
 use Rattle.std.specs.Coded.{Coded, code_by, coded×, coded_list, coded_ℕ, coded_option}
-use Rattle.sno_statement.specs.Bindings.{bindings_of}
+use Rattle.sno_pattern.specs.declared.events.Assign.{Assign}
+use Rattle.sno_statement.specs.Bindings.{bind_conds, bind_sets, bindings_of}
 use Rattle.sno_statement.specs.Value.{value_of}
 
 -- what a search of the text t from cursor c on finds, and how many trials it takes
@@ -34,6 +35,10 @@ counts (Some before) hit = not (nat_eq hit.start before && nat_eq hit.end before
 -- a match with the bindings of its search
 abbrev pub match_of : List ℕ → Found → Hit → Match
 match_of t found hit = record { start = hit.start; end = hit.end; bindings = bindings_of t found }
+
+-- .. which are those of what was assigned at once, and then of the conditional assignments
+abbrev pub match_by : List ℕ → List Assign → Hit → Match
+match_by t sets hit = record { start = hit.start; end = hit.end; bindings = bind_conds t (bind_sets t [] sets) hit.conds }
 
 -- the matches after a search: the one that it found, if it counts, and then those of the searches that follow
 abbrev pub matches_after : Statement → List ℕ → Option ℕ → (Option ℕ → Option ℕ → List Match) → Found → Option Hit → List Match

@@ -3,6 +3,7 @@ ghost use Rattle.std.specs.Prelude.{◌≡◌, ◌↔◌, [], length, slice_get,
 ghost use Rattle.std.specs.Option.{option_map};
 ghost use Rattle.sno_statement.specs.Bindings.{AreDistinct, bind, lookup};
 
+use crate::BindingsRef;
 use indexmap::IndexMap;
 use sno_pattern::{Name, Text};
 use std::alloc::{AllocError, Global};
@@ -50,6 +51,13 @@ impl Bindings {
     {
         self.map.insert(name, value)?;
         Ok(())
+    }
+
+    /// These bindings, lent.
+    pub fn lend(&self) -> BindingsRef<'_>
+        ensures { result ≡ self.now }
+    {
+        BindingsRef::kept(self)
     }
 
     /// How many variables there are. They are distinct.

@@ -4,10 +4,11 @@ ghost use Rattle.std.specs.List.{IsDistinct};
 ghost use Rattle.sno_pattern.specs.Identifiers.{same};
 ghost use Rattle.sno_pattern.specs.CursorLaws.{SetsLie, CursorLies};
 ghost use Rattle.sno_statement.specs.Bindings.{bind, bind_sets, bind_conds, datum_of};
+ghost use Rattle.sno_statement.specs.BindingRefs.{datum_lent};
 ghost use Rattle.sno_statement.specs.LastAssignments.{value_of_last, values_of_last};
 
 use crate::values::part;
-use crate::{Bindings, Datum};
+use crate::{Bindings, Datum, DatumRef, TextPart};
 use indexmap::IndexMap;
 use sno_pattern::{Assign, Name, Text, What};
 use std::alloc::{AllocError, Global};
@@ -35,6 +36,16 @@ impl Last {
                 let _short = subject.bytes();
                 Last::Cursor(cursor as u32)
             }
+        }
+    }
+
+    /// The value, with its string as a part of the subject.
+    pub(crate) fn lent<'t>(self, subject: &'t Text) -> DatumRef<'t>
+        ensures { datum_lent result ≡ value_of_last subject.now self }
+    {
+        match self {
+            Last::Part(from, to) => DatumRef::Str(TextPart::between(subject, from, to)),
+            Last::Cursor(cursor) => DatumRef::Int(cursor),
         }
     }
 
@@ -109,7 +120,7 @@ impl LastAssignments {
     }
 
     /// How many variables were assigned. They are distinct.
-    fn len(&self) -> usize
+    pub(crate) fn len(&self) -> usize
         ensures count { result ≡ length self.now }
         ensures distinct { IsDistinct same (map (λ b. b.0) self.now) }
     {
@@ -117,7 +128,7 @@ impl LastAssignments {
     }
 
     /// The variable at this place, with its last assignment.
-    fn at(&self, place: usize) -> (Name, Last)
+    pub(crate) fn at(&self, place: usize) -> (Name, Last)
         requires { place < length self.now }
         ensures { slice_get self.now place ≡ Some result }
     {

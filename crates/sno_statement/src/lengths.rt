@@ -4,9 +4,9 @@ ghost use Rattle.std.specs.Fmt.{decimal};
 ghost use Rattle.sno_statement.specs.Passes.{replaced};
 ghost use Rattle.sno_statement.specs.Value.{part_value, value_of, new_text};
 
-use crate::match_lists::Match;
+use crate::match_lists::Matches;
 use crate::values::{back, between, front};
-use crate::{Bindings, Datum};
+use crate::{BindingsRef, DatumRef};
 use sno_pattern::{MAX_TEXT, Text};
 use sno_read::Part;
 
@@ -23,7 +23,7 @@ fn decimal_length(number: u32) -> usize
 
 /// How many characters a part's value has.
 #[tactic(auto, using(crate::proofs::Decimals::few_digits))]
-fn part_length(part: &Part, bindings: &Bindings) -> usize
+fn part_length(part: &Part, bindings: &BindingsRef<'_>) -> usize
     ensures value { result ≡ length (part_value bindings.now part.now) }
     ensures short { result ≤ MAX_TEXT }
 {
@@ -31,8 +31,8 @@ fn part_length(part: &Part, bindings: &Bindings) -> usize
         Part::Quoted(text) => text.bytes().len(),
         Part::Var(name) => match bindings.value(name) {
             None => 0,
-            Some(Datum::Str(text)) => text.bytes().len(),
-            Some(Datum::Int(number)) => decimal_length(*number),
+            Some(DatumRef::Str(text)) => text.bytes().len(),
+            Some(DatumRef::Int(number)) => decimal_length(number),
         },
     }
 }
@@ -44,7 +44,7 @@ pub(crate) fn new_length(
     start: usize,
     end: usize,
     parts: &[Part],
-    bindings: &Bindings,
+    bindings: &BindingsRef<'_>,
 ) -> Option<usize>
     ensures value { IfSome result (λ n. n ≡ length (new_text subject.now start end (value_of bindings.now parts.now))) }
     ensures short { IfSome result (λ n. n ≤ MAX_TEXT) }
@@ -55,7 +55,11 @@ pub(crate) fn new_length(
 }
 
 /// This many characters and those of the object's value; `None` if they are more than a text can have.
-fn with_value(already: usize, parts: &[Part], bindings: &Bindings) -> Option<usize>
+pub(crate) fn with_value(
+    already: usize,
+    parts: &[Part],
+    bindings: &BindingsRef<'_>,
+) -> Option<usize>
     requires { already ≤ 2 * MAX_TEXT }
     ensures value { IfSome result (λ n. n ≡ already + length (value_of bindings.now parts.now)) }
     ensures short { IfSome result (λ n. n ≤ MAX_TEXT) }
@@ -73,14 +77,17 @@ fn with_value(already: usize, parts: &[Part], bindings: &Bindings) -> Option<usi
 
 /// How many characters the text has when the object's value replaces each of these matches; `None` if they are more than a text
 /// can have.
-pub(crate) fn replaced_length(subject: &Text, parts: &[Part], matches: &[Match]) -> Option<usize>
+pub(crate) fn replaced_length(subject: &Text, parts: &[Part], matches: &Matches) -> Option<usize>
     ensures value { IfSome result (λ n. n ≡ length (replaced parts.now subject.now 0 matches.now)) }
     ensures short { IfSome result (λ n. n ≤ MAX_TEXT) }
     ensures long { IfNone result (MAX_TEXT < length (replaced parts.now subject.now 0 matches.now)) }
 {
     let mut total = 0;
     let mut cursor = 0;
-    for m in matches {
+    for place in 0..matches.len() {
+        let Some(m) = matches.get(place) else {
+            unreachable!();
+        };
         let kept = between(subject.bytes(), cursor, m.start).len();
         total = with_value(total + kept, parts, &m.bindings)?;
         cursor = m.end;

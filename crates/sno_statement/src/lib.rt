@@ -62,7 +62,10 @@
 //! compiled once for all rounds, and one text and its new text are held at a time; no clause says so.
 #![tactic(auto)]
 
+mod assigned;
 mod binding;
+mod binding_refs;
+mod gathered;
 mod last_assignments;
 mod laws;
 mod lengths;
@@ -70,16 +73,19 @@ mod match_lists;
 mod outcomes;
 mod passes;
 mod performing;
+mod rewriting;
 mod statement_patterns;
 mod statements;
 mod values;
 
 pub use binding::{Bindings, Datum};
+pub use binding_refs::{BindingsRef, DatumRef, TextPart};
 pub use laws::{kept_matches_keep_the_text, matches_are_in_order, the_first_is_the_plain_match};
-pub use match_lists::{Match, Matches};
+pub use match_lists::{Match, MatchRef, Matches};
 pub use outcomes::{Outcome, StatementFault};
 pub use passes::Pass;
-pub use performing::perform;
+pub use performing::{perform, perform_shared};
+pub use rewriting::{Rewritten, rewrite};
 pub use sno_machine::MatchFault;
 pub use sno_pattern::{Name, Pattern, Rules, Text, TextName};
 pub use sno_read::{Object, Part};

@@ -1,15 +1,15 @@
 //! One pass over a text: all matches of a statement, from left to right.
-ghost use Rattle.std.specs.Prelude.{◌≡◌, ◌+◌, ◌<◌, ◌≤◌, ◌∷◌, [], ◌++◌, length, Some, None, IfOk, IfErr, OnOk, MatchOption};
+ghost use Rattle.std.specs.Prelude.{◌≡◌, ◌+◌, ◌<◌, ◌≤◌, ◌∷◌, [], ◌++◌, length, Some, None, IfOk, IfErr, IfSome, OnOk, MatchOption};
 ghost use Rattle.sno_pattern.specs.CursorLaws.{SetsLie};
 ghost use Rattle.sno_statement.specs.declared.outcomes.StatementFault.TheVariants.{TooManyTrials, TextTooLong};
-ghost use Rattle.sno_statement.specs.Passes.{begun, counts, cursors_left, match_of, matches_left, moved, next_search, search, search_trials, trials_together};
+ghost use Rattle.sno_statement.specs.Passes.{begun, counts, cursors_left, match_by, matches_left, moved, next_search, search, search_trials, trials_together};
 ghost use Rattle.sno_statement.specs.Perform.{IsCodeOf};
 
 use crate::match_lists::Match;
 use crate::performing::bindings_of;
 use crate::{Statement, StatementFault};
 use sno_machine::{Code, SearchOutcome, Searched};
-use sno_pattern::{Found, Hit, Text, searches_lie_within_the_text};
+use sno_pattern::{Assigns, Found, Hit, Text, searches_lie_within_the_text};
 use std::alloc::{AllocError, Global};
 use std::marker::Model;
 
@@ -90,18 +90,42 @@ impl<'c, 't, 'a> Pass<'c, 't, 'a> {
         Ok(found)
     }
 
-    /// The text.
-    fn text(&self) -> &Text
-        ensures { result.now ≡ self.now.text }
-    {
-        self.searched.text()
-    }
-
     /// Takes the memory of a result back.
-    fn give_back(&mut self, found: Found)
+    pub(crate) fn give_back(&mut self, sets: Assigns, hit: Hit)
         ensures { self.new ≡ self.old }
     {
-        self.searched.give_back(found);
+        self.searched.give_back(Found {
+            sets,
+            end: Some(hit),
+        });
+    }
+
+    /// The next match, with what its search assigned at once; `None` if there is none left. Refused as [`Pass::next`] is.
+    pub(crate) fn next_hit(
+        &mut self,
+        alloc: Global,
+    ) -> Result<Option<(Assigns, Hit)>, StatementFault>
+        ensures next { IfOk result (λ next. MatchOption next (matches_left self.old ≡ []) (λ h. matches_left self.old ≡ match_by self.old.text h.0 h.1 ∷ matches_left self.new)) }
+        ensures lies { IfOk result (λ next. IfSome next (λ h. SetsLie self.old.text h.0)) }
+        ensures ended { IfOk result (λ next. MatchOption next (self.new.at ≡ None) (λ _. cursors_left self.new.text self.new.at < cursors_left self.old.text self.old.at)) }
+        ensures trials { OnOk result (trials_together self.new ≡ trials_together self.old) }
+        ensures same { OnOk result ((self.new.statement ≡ self.old.statement) × (self.new.text ≡ self.old.text)) }
+        ensures within { OnOk result (self.new.spent ≤ self.new.statement.limit) }
+        ensures refused { IfErr result (λ e. e ≡ TooManyTrials → self.old.statement.limit < trials_together self.old) }
+        ensures never { IfErr result (λ e. e ≡ TextTooLong → ⊥) }
+    {
+        while let Some(from) = self.at {
+            let before = self.before;
+            let found = self.search(alloc, from)?;
+            let Found { sets, end } = found;
+            let Some(hit) = end else {
+                return Ok(None);
+            };
+            if counts(before, &hit) {
+                return Ok(Some((sets, hit)));
+            }
+        }
+        Ok(None)
     }
 
     /// The next match with its bindings; `None` if there is none left. The limit is for the trials of all searches of the pass
@@ -120,19 +144,14 @@ impl<'c, 't, 'a> Pass<'c, 't, 'a> {
         ensures refused { IfErr result (λ e. e ≡ TooManyTrials → self.old.statement.limit < trials_together self.old) }
         ensures never { IfErr result (λ e. e ≡ TextTooLong → ⊥) }
     {
-        while let Some(from) = self.at {
-            let before = self.before;
-            let found = self.search(alloc, from)?;
-            let Some(hit) = &found.end else {
-                return Ok(None);
-            };
-            if counts(before, hit) {
-                let next = match_of(alloc, self.text(), &found, hit)?;
-                self.give_back(found);
-                return Ok(Some(next));
+        match self.next_hit(alloc)? {
+            None => Ok(None),
+            Some((sets, hit)) => {
+                let next = match_by(alloc, self.searched.text(), &sets, &hit)?;
+                self.give_back(sets, hit);
+                Ok(Some(next))
             }
         }
-        Ok(None)
     }
 }
 
@@ -161,17 +180,11 @@ fn counts(before: Option<usize>, hit: &Hit) -> bool
 }
 
 /// A match with the bindings of its search.
-pub(crate) fn match_of(
-    alloc: Global,
-    subject: &Text,
-    found: &Found,
-    hit: &Hit,
-) -> Result<Match, AllocError>
-    requires lies { SetsLie subject.now found.now.sets }
-    requires hit { found.now.end ≡ Some hit.now }
-    ensures { IfOk result (λ m. m ≡ match_of subject.now found.now hit.now) }
+fn match_by(alloc: Global, subject: &Text, sets: &Assigns, hit: &Hit) -> Result<Match, AllocError>
+    requires { SetsLie subject.now sets.now }
+    ensures { IfOk result (λ m. m ≡ match_by subject.now sets.now hit.now) }
 {
-    let bindings = bindings_of(alloc, subject, found.sets.as_slice(), hit.conds.as_slice())?;
+    let bindings = bindings_of(alloc, subject, sets.as_slice(), hit.conds.as_slice())?;
     Ok(Match {
         start: hit.start,
         end: hit.end,

@@ -1,29 +1,30 @@
 //! What a statement does to a text.
-ghost use Rattle.std.specs.Prelude.{◌≡◌, ◌<◌, ◌≤◌, ◌-◌, ◌∷◌, ℕ, List, Result, IfOk, IfErr, OnOk, Ok, [], Some, None};
+ghost use Rattle.std.specs.Prelude.{◌≡◌, ◌<◌, ◌≤◌, ◌-◌, ◌++◌, ◌∷◌, ℕ, List, Result, IfOk, IfErr, OnOk, Ok, [], Some, None};
 ghost use Rattle.std.specs.Option.{option_copied};
 ghost use Rattle.std.specs.Arc.{arc_value};
 ghost use Rattle.sno_pattern.specs.CursorLaws.{SetsLie};
 ghost use Rattle.sno_statement.specs.declared.outcomes.StatementFault.{StatementFault};
 ghost use Rattle.sno_statement.specs.declared.outcomes.StatementFault.TheVariants.{TooManyTrials, TextTooLong};
-ghost use Rattle.sno_statement.specs.Passes.{matches_left, replaced, trials_together};
+ghost use Rattle.sno_statement.specs.declared.match_lists.Match.{Match};
+ghost use Rattle.sno_statement.specs.Gathered.{AreGathered};
+ghost use Rattle.sno_statement.specs.Passes.{match_by, matches_left, replaced, trials_together};
 ghost use Rattle.sno_statement.specs.Bindings.{bind_sets, bind_conds};
 ghost use Rattle.sno_statement.specs.Value.{value_of, new_text};
-ghost use Rattle.sno_statement.specs.Perform.{Failed, Repeated, Gives, GivesText, IsCodeOf, NextRound, outcome_seen, finish, finish_found, finish_all, follow, left_by, perform, perform_all, perform_once, rounds};
+ghost use Rattle.sno_statement.specs.Perform.{Failed, Repeated, Gives, GivesText, IsCodeOf, NextRound, outcome_seen, finish, finish_found, finish_all, follow, left_by, perform, perform_all, perform_once, perform_times, rounds};
 
+use crate::assigned::MANY;
+use crate::gathered::Gathered;
 use crate::last_assignments::{Last, LastAssignments};
 use crate::lengths::{new_length, replaced_length};
-use crate::match_lists::{Match, Matches};
-use crate::passes::{Pass, match_of};
-use crate::values::{part, replace, replace_all, text_of};
+use crate::match_lists::Matches;
+use crate::passes::Pass;
+use crate::values::{copy_of, part, replace, replace_all, text_of};
 use crate::{Bindings, Datum, Outcome, Statement, StatementFault};
 use sno_machine::{Code, Workspace, compile};
-use sno_pattern::{Assign, Found, Hit, Name, Text, cursors_lie_within_the_text};
+use sno_pattern::{Assign, Assigns, Found, Hit, Name, Text, cursors_lie_within_the_text};
 use sno_read::{Object, Part};
 use std::alloc::{AllocError, Global};
 use std::sync::Arc;
-
-/// From this many assignments on, the last one of each variable is found before a string is cut.
-const MANY: usize = 16;
 
 /// Binds what was assigned at once, after what is already bound.
 fn bind_at_once(
@@ -58,7 +59,7 @@ fn bind_later(
     Ok(())
 }
 
-/// What the variables are bound to after these assignments. Of many, only the last one of each variable is bound.
+/// What the variables are bound to after these assignments. Of `MANY`, only the last one of each variable is bound.
 pub(crate) fn bindings_of(
     alloc: Global,
     subject: &Text,
@@ -112,10 +113,11 @@ fn new_text(
 ) -> Result<Arc<Text>, StatementFault>
     ensures { GivesText result (new_text subject.now hit.now.start hit.now.end (value_of bindings.now parts.now)) }
 {
-    let Some(length) = new_length(subject, hit.start, hit.end, parts, bindings) else {
+    let lent = bindings.lend();
+    let Some(length) = new_length(subject, hit.start, hit.end, parts, &lent) else {
         return Err(StatementFault::TextTooLong);
     };
-    let characters = replace(alloc, subject, hit.start, hit.end, parts, bindings, length)?;
+    let characters = replace(alloc, subject, hit.start, hit.end, parts, &lent, length)?;
     Ok(Arc::new(alloc, text_of(characters))?)
 }
 
@@ -256,7 +258,7 @@ fn replaced_text(
     alloc: Global,
     parts: &[Part],
     subject: &Text,
-    matches: &[Match],
+    matches: &Matches,
 ) -> Result<Arc<Text>, StatementFault>
     ensures { GivesText result (replaced parts.now subject.now 0 matches.now) }
 {
@@ -278,28 +280,53 @@ fn finish_all(
 {
     let after = match object {
         None => None,
-        Some(object) => Some(replaced_text(alloc, object.parts(), subject, matches.as_slice())?),
+        Some(object) => Some(replaced_text(alloc, object.parts(), subject, &matches)?),
     };
     Ok(Outcome::All { matches, after })
 }
 
-/// The matches that are left of a pass, after those that were found already.
+/// Adds the matches that are left of a pass to those that were gathered.
 fn gather(
     alloc: Global,
-    mut pass: Pass<'_, '_, '_>,
-    first: Match,
-) -> Result<Matches, StatementFault>
-    ensures matches { IfOk result (λ ms. ms ≡ first ∷ matches_left pass.entry) }
-    ensures within { IfOk result (λ _. trials_together pass.entry ≤ pass.entry.statement.limit) }
-    ensures refused { IfErr result (λ e. e ≡ TooManyTrials → pass.entry.statement.limit < trials_together pass.entry) }
+    subject: &Text,
+    pass: &mut Pass<'_, '_, '_>,
+    gathered: &mut Gathered,
+) -> Result<(), StatementFault>
+    requires { pass.old.text ≡ subject.now }
+    ensures matches { OnOk result ((ms : List Match) → AreGathered subject.now gathered.old ms → AreGathered subject.now gathered.new (ms ++ matches_left pass.old)) }
+    ensures within { OnOk result (trials_together pass.old ≤ pass.old.statement.limit) }
+    ensures refused { IfErr result (λ e. e ≡ TooManyTrials → pass.old.statement.limit < trials_together pass.old) }
     ensures never { IfErr result (λ e. e ≡ TextTooLong → ⊥) }
 {
-    let mut matches = Vec::new(alloc);
-    matches.push(first)?;
-    while let Some(next) = pass.next(alloc)? {
-        matches.push(next)?;
+    while let Some((sets, hit)) = pass.next_hit(alloc)? {
+        gathered.add(alloc, subject, &sets, &hit)?;
+        pass.give_back(sets, hit);
     }
-    Ok(Matches::of(matches))
+    Ok(())
+}
+
+/// The match that a pass found last, and those that are left of it. Their strings are parts of the shared text.
+fn gathered(
+    alloc: Global,
+    subject: &Text,
+    shared: &Arc<Text>,
+    pass: &mut Pass<'_, '_, '_>,
+    sets: &Assigns,
+    hit: &Hit,
+) -> Result<Matches, StatementFault>
+    requires same { arc_value shared.now ≡ subject.now }
+    requires text { pass.old.text ≡ subject.now }
+    requires lies { SetsLie subject.now sets.now }
+    ensures matches { IfOk result (λ ms. ms ≡ match_by subject.now sets.now hit.now ∷ matches_left pass.old) }
+    ensures within { IfOk result (λ _. trials_together pass.old ≤ pass.old.statement.limit) }
+    ensures refused { IfErr result (λ e. e ≡ TooManyTrials → pass.old.statement.limit < trials_together pass.old) }
+    ensures never { IfErr result (λ e. e ≡ TextTooLong → ⊥) }
+{
+    let mut found = Gathered::new(alloc);
+    found.add(alloc, subject, sets, hit)?;
+    gather(alloc, subject, pass, &mut found)?;
+    let shared = Arc::try_clone(shared)?;
+    Ok(found.into_matches(shared))
 }
 
 /// Performs a statement for all matches. The code is that of the statement's pattern.
@@ -308,8 +335,10 @@ fn perform_all(
     code: &Code<'_>,
     statement: &Statement,
     subject: &Text,
+    shared: &Arc<Text>,
 ) -> Result<Outcome, StatementFault>
-    requires { IsCodeOf code.now statement.now }
+    requires code { IsCodeOf code.now statement.now }
+    requires same { arc_value shared.now ≡ subject.now }
     ensures { Gives result (perform_all statement.now subject.now) }
 {
     let mut pass = Pass::new(alloc, statement, code, subject);
@@ -321,10 +350,26 @@ fn perform_all(
             Ok(failed)
         }
         Some(hit) => {
-            let first = match_of(alloc, subject, &found, hit)?;
-            let matches = gather(alloc, pass, first)?;
+            let matches = gathered(alloc, subject, shared, &mut pass, &found.sets, hit)?;
             finish_all(alloc, statement.object(), subject, matches)
         }
+    }
+}
+
+/// Performs a statement that is not for all matches: once, or in rounds.
+pub(crate) fn perform_rounds(
+    alloc: Global,
+    statement: &Statement,
+    subject: &Text,
+) -> Result<Outcome, StatementFault>
+    ensures { Gives result (perform_times statement.now statement.now.repeat subject.now) }
+{
+    let code = compile(alloc, statement.rules(), statement.pattern())?;
+    let mut workspace = Workspace::new(alloc);
+    let first = perform_once(alloc, &code, &mut workspace, statement, subject)?;
+    match statement.repeat() {
+        None => Ok(first),
+        Some(times) => follow(alloc, &code, &mut workspace, statement, first, times),
     }
 }
 
@@ -367,14 +412,24 @@ pub fn perform(
 ) -> Result<Outcome, StatementFault>
     ensures { Gives result (perform statement.now subject.now) }
 {
-    let code = compile(alloc, statement.rules(), statement.pattern())?;
     if statement.is_for_all() {
-        return perform_all(alloc, &code, statement, subject);
+        let shared = Arc::new(alloc, copy_of(alloc, subject)?)?;
+        return perform_shared(alloc, statement, &shared);
     }
-    let mut workspace = Workspace::new(alloc);
-    let first = perform_once(alloc, &code, &mut workspace, statement, subject)?;
-    match statement.repeat() {
-        None => Ok(first),
-        Some(times) => follow(alloc, &code, &mut workspace, statement, first, times),
+    perform_rounds(alloc, statement, subject)
+}
+
+/// As [`perform`], on a text that is shared. So the matches of a statement for all matches share it, and it isn't copied.
+pub fn perform_shared(
+    alloc: Global,
+    statement: &Statement,
+    subject: &Arc<Text>,
+) -> Result<Outcome, StatementFault>
+    ensures { Gives result (perform statement.now (arc_value subject.now)) }
+{
+    if statement.is_for_all() {
+        let code = compile(alloc, statement.rules(), statement.pattern())?;
+        return perform_all(alloc, &code, statement, subject, subject);
     }
+    perform_rounds(alloc, statement, subject)
 }

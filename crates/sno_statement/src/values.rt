@@ -9,8 +9,8 @@ ghost use Rattle.sno_statement.specs.Passes.{replaced};
 ghost use Rattle.sno_statement.specs.Value.{part_value, string_of, value_of, new_text};
 ghost use Rattle.sno_pattern.specs.declared.texts.TheConstants.{MAX_TEXT};
 
-use crate::match_lists::Match;
-use crate::{Bindings, Datum};
+use crate::match_lists::Matches;
+use crate::{BindingsRef, DatumRef};
 use sno_pattern::{Name, Text};
 use sno_read::Part;
 use std::alloc::{AllocError, Global};
@@ -71,6 +71,14 @@ pub(crate) fn part(
     Ok(text_of(Vec::from_slice(alloc, characters)?))
 }
 
+/// A copy of a text.
+pub(crate) fn copy_of(alloc: Global, text: &Text) -> Result<Text, AllocError>
+    ensures { IfOk result (λ copy. copy ≡ text.now) }
+{
+    let characters = Vec::from_slice(alloc, text.bytes())?;
+    Ok(text_of(characters))
+}
+
 /// Appends a number in decimal digits.
 #[tactic(auto, using(crate::proofs::Ascii::ascii_decimal))]
 fn put_number(alloc: Global, number: u32, out: &mut Vec<u8>) -> Result<(), AllocError>
@@ -85,7 +93,7 @@ fn put_number(alloc: Global, number: u32, out: &mut Vec<u8>) -> Result<(), Alloc
 fn put_variable(
     alloc: Global,
     name: &Name,
-    bindings: &Bindings,
+    bindings: &BindingsRef<'_>,
     out: &mut Vec<u8>,
 ) -> Result<(), AllocError>
     ensures value { OnOk result (out.new.items ≡ out.old.items ++ string_of (lookup name.now bindings.now)) }
@@ -93,8 +101,8 @@ fn put_variable(
 {
     match bindings.value(name) {
         None => Ok(()),
-        Some(Datum::Str(text)) => out.extend_from_slice(text.bytes()),
-        Some(Datum::Int(number)) => put_number(alloc, *number, out),
+        Some(DatumRef::Str(text)) => out.extend_from_slice(text.bytes()),
+        Some(DatumRef::Int(number)) => put_number(alloc, number, out),
     }
 }
 
@@ -102,7 +110,7 @@ fn put_variable(
 fn put_part(
     alloc: Global,
     part: &Part,
-    bindings: &Bindings,
+    bindings: &BindingsRef<'_>,
     out: &mut Vec<u8>,
 ) -> Result<(), AllocError>
     ensures value { OnOk result (out.new.items ≡ out.old.items ++ part_value bindings.now part.now) }
@@ -116,10 +124,10 @@ fn put_part(
 
 /// Appends the values of the parts, in order.
 #[tactic(auto, using(crate::proofs::Ascii::ascii_append))]
-fn put_parts(
+pub(crate) fn put_parts(
     alloc: Global,
     parts: &[Part],
-    bindings: &Bindings,
+    bindings: &BindingsRef<'_>,
     out: &mut Vec<u8>,
 ) -> Result<(), AllocError>
     ensures value { OnOk result (out.new.items ≡ out.old.items ++ value_of bindings.now parts.now) }
@@ -140,7 +148,7 @@ pub(crate) fn replace(
     start: usize,
     end: usize,
     parts: &[Part],
-    bindings: &Bindings,
+    bindings: &BindingsRef<'_>,
     length: usize,
 ) -> Result<Vec<u8>, AllocError>
     ensures value { IfOk result (λ v. v.items ≡ new_text subject.now start end (value_of bindings.now parts.now)) }
@@ -160,7 +168,7 @@ pub(crate) fn replace_all(
     alloc: Global,
     subject: &Text,
     parts: &[Part],
-    matches: &[Match],
+    matches: &Matches,
     length: usize,
 ) -> Result<Vec<u8>, AllocError>
     ensures value { IfOk result (λ v. v.items ≡ replaced parts.now subject.now 0 matches.now) }
@@ -168,7 +176,10 @@ pub(crate) fn replace_all(
 {
     let mut out = Vec::with_capacity(alloc, length)?;
     let mut cursor = 0;
-    for m in matches {
+    for place in 0..matches.len() {
+        let Some(m) = matches.get(place) else {
+            unreachable!();
+        };
         out.extend_from_slice(between(subject.bytes(), cursor, m.start))?;
         put_parts(alloc, parts, &m.bindings, &mut out)?;
         cursor = m.end;

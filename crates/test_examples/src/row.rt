@@ -1,7 +1,7 @@
 //! How a statement is made of its parts as they are written and performed, and how its outcome is written.
 use sno_pattern::{Name, Names, Pattern, Rules, RulesFault, Text, TextName};
 use sno_read::{Object, ReadFault, read_object, read_pattern};
-use sno_statement::{Bindings, Datum, Outcome, Statement, perform};
+use sno_statement::{BindingsRef, DatumRef, Outcome, Statement, perform};
 use std::alloc::Global;
 use std::sync::Arc;
 use std::test::Fail;
@@ -262,9 +262,12 @@ fn tell_bound(alloc: Global, outcome: &Outcome, line: &mut String) -> Result<(),
     match outcome {
         Outcome::Failed { bindings }
         | Outcome::Matched { bindings, .. }
-        | Outcome::Repeated { bindings, .. } => tell_bindings(alloc, bindings, line),
+        | Outcome::Repeated { bindings, .. } => tell_bindings(alloc, &bindings.lend(), line),
         Outcome::All { matches, .. } => {
-            for one in matches.as_slice() {
+            for place in 0..matches.len() {
+                let Some(one) = matches.get(place) else {
+                    continue;
+                };
                 let cursors = format!(in alloc; " {}..{}", one.start, one.end)?;
                 line.push_str(cursors.as_str())?;
                 tell_bindings(alloc, &one.bindings, line)?;
@@ -309,25 +312,29 @@ fn tell_name(name: &Name, line: &mut String) -> Result<(), Fail> {
     Ok(line.push_str("=")?)
 }
 
-fn tell_bindings(alloc: Global, bindings: &Bindings, line: &mut String) -> Result<(), Fail> {
+fn tell_bindings(alloc: Global, bindings: &BindingsRef<'_>, line: &mut String) -> Result<(), Fail> {
     for place in 0..bindings.len() {
         if let Some((name, value)) = bindings.get(place) {
             tell_name(name, line)?;
-            tell_value(alloc, value, line)?;
+            tell_value(alloc, &value, line)?;
         }
     }
     Ok(())
 }
 
-fn tell_value(alloc: Global, value: &Datum, line: &mut String) -> Result<(), Fail> {
+fn tell_value(alloc: Global, value: &DatumRef<'_>, line: &mut String) -> Result<(), Fail> {
     match value {
-        Datum::Str(text) => tell_text(alloc, text, line),
-        Datum::Int(number) => Ok(line.push_str(number.to_string(alloc)?.as_str())?),
+        DatumRef::Str(text) => tell_characters(alloc, text.bytes(), line),
+        DatumRef::Int(number) => Ok(line.push_str(number.to_string(alloc)?.as_str())?),
     }
 }
 
 pub(crate) fn tell_text(alloc: Global, text: &Text, line: &mut String) -> Result<(), Fail> {
-    let characters = str::from_utf8(text.bytes())?;
+    tell_characters(alloc, text.bytes(), line)
+}
+
+fn tell_characters(alloc: Global, characters: &[u8], line: &mut String) -> Result<(), Fail> {
+    let characters = str::from_utf8(characters)?;
     let told = if characters.len() > 64 {
         format!(in alloc; "{} characters", characters.len())?
     } else {

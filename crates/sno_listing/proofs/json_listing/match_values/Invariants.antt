@@ -4,5 +4,5 @@ use Rattle.serde_json.specs.View.{view}
 use Rattle.sno_listing.specs.JsonListing.{match_data}
 use Rattle.sno_listing.proofs.json_listing.match_values.Given as goal
 
-abbrev pub invariant-loop-one : goal.invariant-loop-one
-invariant-loop-one l = map view l.values.items ++ map match_data (drop l.one-index l.matches) ≡ map match_data l.matches
+abbrev pub invariant-loop-place : goal.invariant-loop-place
+invariant-loop-place l = map view l.values.items ++ map match_data (drop l.place l.matches) ≡ map match_data l.matches

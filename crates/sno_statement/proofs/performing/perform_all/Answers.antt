@@ -1,14 +1,13 @@
 -- The first search decides whether the statement fails; what follows is what is left of the pass.
-use Rattle.std.proofs.Common.{◌≡◌, ◌<◌, ◌≤◌, ◌+◌, ◌∷◌, [], ℕ, List, Option, Some, None, Result, Ok, Err, refl, ap, sym, subst, ◌∙◌, arith}
+use Rattle.std.proofs.Common.{◌≡◌, ◌<◌, ◌≤◌, ◌+◌, [], List, Option, refl, ap, sym, subst, ◌∙◌, arith}
 use Rattle.std.proofs.lemmas.Result.{err_from_is_err_and}
 use Rattle.sno_pattern.specs.declared.events.Assign.{Assign}
 use Rattle.sno_pattern.specs.declared.found.Found.{Found}
+use Rattle.sno_pattern.specs.declared.found.Hit.{Hit}
 use Rattle.sno_read.specs.declared.objects.Part.{Part}
-use Rattle.sno_statement.specs.declared.outcomes.StatementFault.{StatementFault}
-use Rattle.sno_statement.specs.declared.match_lists.Match.{Match}
-use Rattle.sno_statement.specs.Bindings.{bind_conds, bind_sets}
-use Rattle.sno_statement.specs.Passes.{Pass, begun, matches_left, match_of, moved, search, search_trials, trials_together}
-use Rattle.sno_statement.specs.Perform.{Outcome, Gives, finish_all, perform_all}
+use Rattle.sno_statement.specs.Bindings.{bind_conds, bind_sets, conds_of}
+use Rattle.sno_statement.specs.Passes.{Pass, begun, match_by, match_of, moved, search, search_trials}
+use Rattle.sno_statement.specs.Perform.{Gives, finish_all}
 use Rattle.sno_statement.proofs.WholePasses.{failed_all, first_over, gives_refused, matched_all, trials_from_first}
 use Rattle.sno_statement.proofs.performing.perform_all.Goals as goal
 
@@ -35,8 +34,8 @@ returns-in_err-matches-in-Some c =
     (gives_refused s t c.in_err-matches-in-Some.field-0.0
     (λ is. let over = c.in_err-matches-in-Some.ensures.refused is in omega (arith, over, trials, limit)) c.in_err-matches-in-Some.ensures.never)
 
-pub returns-in_ok-bindings-in-None : goal.returns-in_ok-bindings-in-None
-returns-in_ok-bindings-in-None c =
+pub returns-in-None : goal.returns-in-None
+returns-in-None c =
     let s = c.args.statement.now in
     let t = c.args.subject.now in
     let begin = c.new-pass.ensures in
@@ -45,17 +44,19 @@ returns-in_ok-bindings-in-None c =
     failed_all s t c.in_ok-found.found c.in_ok-bindings-in-None.bindings found c.in-None.is
     (c.in_ok-bindings-in-None.ensures ∙ ap (λ (z : List Assign). bind_conds t (bind_sets t [] z) []) c.as_slice.ensures) few
 
-pub returns-in_ok-matches-in-Some : goal.returns-in_ok-matches-in-Some
-returns-in_ok-matches-in-Some c =
+pub returns : goal.returns
+returns c =
     let s = c.args.statement.now in
     let t = c.args.subject.now in
     let begin = c.new-pass.ensures in
+    let hit = c.in-Some.hit in
     let found : c.in_ok-found.found ≡ search s t 0 = subst (λ (z : Pass). c.in_ok-found.found ≡ search z.statement z.text 0) begin c.in_ok-found.ensures.found in
     let now : c.search.new.self ≡ moved (begun s t) (search_trials s t 0) (search s t 0).end = subst (λ (z : Pass). c.search.new.self ≡ moved z (search_trials z.statement z.text 0) (search z.statement z.text 0).end) begin c.in_ok-found.ensures.moved in
     let limit : c.search.new.self.statement.limit ≡ s.limit = ap (λ (z : Pass). z.statement.limit) (now ∙ ap (moved (begun s t) (search_trials s t 0)) (ap (λ (z : Found). z.end) (sym found) ∙ c.in-Some.is)) in
+    let one : match_by t c.in_ok-found.found.sets hit ≡ match_of t c.in_ok-found.found hit = ap (λ (z : Option Hit). record { start = hit.start; end = hit.end; bindings = bind_conds t (bind_sets t [] c.in_ok-found.found.sets) (conds_of z) }) (sym c.in-Some.is) in
     let few = c.in_ok-matches-in-Some.ensures.within in
     let same =
-    matched_all s t c.in_ok-found.found c.in-Some.hit c.search.new.self c.in_ok-first-in-Some.first c.in_ok-matches-in-Some.matches found c.in-Some.is now c.in_ok-first-in-Some.ensures
+    matched_all s t c.in_ok-found.found hit c.search.new.self (match_by t c.in_ok-found.found.sets hit) c.in_ok-matches-in-Some.matches found c.in-Some.is now one
     c.in_ok-matches-in-Some.ensures.matches (omega (arith, few, limit)) in
     subst (Gives c.finish_all.result)
     (ap (λ (z : Option (List Part)). finish_all z t c.in_ok-matches-in-Some.matches) c.object.ensures ∙ sym same) c.finish_all.ensures

@@ -5,8 +5,8 @@ use Rattle.std.specs.Char.{is_ascii}
 use Rattle.sno_statement.specs.Passes.{replaced}
 use Rattle.sno_statement.proofs.values.replace_all.Given as goal
 
-abbrev pub invariant-loop-m : goal.invariant-loop-m
-invariant-loop-m l = record {
-  value : l.out.items ++ replaced l.parts l.subject l.cursor (drop l.m-index l.matches) ≡ replaced l.parts l.subject 0 l.matches;
+abbrev pub invariant-loop-place : goal.invariant-loop-place
+invariant-loop-place l = record {
+  value : l.out.items ++ replaced l.parts l.subject l.cursor (drop l.place l.matches) ≡ replaced l.parts l.subject 0 l.matches;
   ascii : IsTrue (list_all is_ascii l.out.items);
 }

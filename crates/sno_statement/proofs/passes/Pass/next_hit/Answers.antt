@@ -1,11 +1,13 @@
 -- Each search leaves of what is still to come all but the match that it found.
-use Rattle.std.proofs.Common.{◌≡◌, ◌≤◌, ◌<◌, ◌∷◌, ℕ, List, length, Option, Some, None, true, false, refl, ap, sym, subst, ◌∙◌, arith}
+use Rattle.std.proofs.Common.{◌≡◌, ◌≤◌, ◌∷◌, ℕ, List, [], length, Option, Some, None, true, false, ap, sym, subst, ◌∙◌, arith}
 use Rattle.std.proofs.lemmas.Result.{err_from_is_err_and}
 use Rattle.sno_pattern.specs.declared.found.Found.{Found}
+use Rattle.sno_pattern.specs.declared.found.Hit.{Hit}
 use Rattle.sno_statement.specs.declared.match_lists.Match.{Match}
-use Rattle.sno_statement.specs.Passes.{Pass, IsCursor, counts, cursors_left, match_of, matches_from, matches_left, most_searches, moved, search, search_trials, trials_together}
+use Rattle.sno_statement.specs.Bindings.{bind_conds, bind_sets, conds_of}
+use Rattle.sno_statement.specs.Passes.{Pass, IsCursor, counts, cursors_left, match_by, match_of, matches_from, matches_left, most_searches, moved, search, search_trials, trials_together}
 use Rattle.sno_statement.proofs.PassLaws.{counted, further, none_left, no_matches, skipped, statement_kept, text_kept, trials_kept, trials_over}
-use Rattle.sno_statement.proofs.passes.Pass.next.Goals as goal
+use Rattle.sno_statement.proofs.passes.Pass.next_hit.Goals as goal
 
 pub returns-in_err-found-clause-refused : goal.returns-in_err-found-clause-refused
 returns-in_err-found-clause-refused c =
@@ -64,12 +66,11 @@ returns-then-counts-clause-next c =
     let now : c.search.new.self ≡ moved p trials (Some hit) = c.in_ok-found.ensures.moved ∙ ap (moved p trials) some in
     let was : p.before ≡ c.self.inside.before = ap (λ (z : Pass). z.before) (sym c.self.view_is) in
     let held : counts p.before hit ≡ true = ap (λ (z : Option ℕ). counts z hit) was ∙ sym c.counts.ensures ∙ c.if-counts.true in
-    let same : c.give_back.new.self ≡ moved p trials (Some hit) = c.give_back.ensures ∙ now in
-    let made : c.in_ok-next.next ≡ match_of p.text (search p.statement p.text from) hit =
-    c.in_ok-next.ensures
-    ∙ ap (λ (z : List ℕ). match_of z c.in_ok-found.found hit) (c.text.ensures ∙ ap (λ (z : Pass). z.text) now)
-    ∙ ap (λ (z : Found). match_of p.text z hit) c.in_ok-found.ensures.found in
-    before.matches ∙ counted p from at inside trials hit some held ∙ ap (λ (z : Match). z ∷ matches_left (moved p trials (Some hit))) (sym made) ∙ ap (λ (z : Pass). c.in_ok-next.next ∷ matches_left z) (sym same)
+    let made : match_of p.text (search p.statement p.text from) hit ≡ match_by p.text c.in_ok-found.found.sets hit =
+    ap (λ (z : Found). match_of p.text z hit) (sym c.in_ok-found.ensures.found)
+    ∙ ap (λ (z : Option Hit). record { start = hit.start; end = hit.end; bindings = bind_conds p.text (bind_sets p.text [] c.in_ok-found.found.sets) (conds_of z) }) c.in-Some-end.is in
+    before.matches ∙ counted p from at inside trials hit some held ∙ ap (λ (z : Match). z ∷ matches_left (moved p trials (Some hit))) made ∙ ap (λ (z : Pass). match_by p.text c.in_ok-found.found.sets hit ∷ matches_left z) (sym now)
+    ∙ ap (λ (z : List ℕ). match_by z c.in_ok-found.found.sets hit ∷ matches_left c.search.new.self) before.text
 
 pub returns-then-counts-clause-ended : goal.returns-then-counts-clause-ended
 returns-then-counts-clause-ended c =
@@ -84,13 +85,8 @@ returns-then-counts-clause-ended c =
     let now : c.search.new.self ≡ moved p trials (Some hit) = c.in_ok-found.ensures.moved ∙ ap (moved p trials) some in
     let was : p.before ≡ c.self.inside.before = ap (λ (z : Pass). z.before) (sym c.self.view_is) in
     let held : counts p.before hit ≡ true = ap (λ (z : Option ℕ). counts z hit) was ∙ sym c.counts.ensures ∙ c.if-counts.true in
-    let same : c.give_back.new.self ≡ moved p trials (Some hit) = c.give_back.ensures ∙ now in
-    let made : c.in_ok-next.next ≡ match_of p.text (search p.statement p.text from) hit =
-    c.in_ok-next.ensures
-    ∙ ap (λ (z : List ℕ). match_of z c.in_ok-found.found hit) (c.text.ensures ∙ ap (λ (z : Pass). z.text) now)
-    ∙ ap (λ (z : Found). match_of p.text z hit) c.in_ok-found.ensures.found in
     let less = further p from at inside trials hit some in
-    let here = ap (λ (z : Pass). cursors_left z.text z.at) same in
+    let here = ap (λ (z : Pass). cursors_left z.text z.at) now in
     let few = before.fewer in
     omega (arith, less, here, few)
 
@@ -107,12 +103,7 @@ returns-then-counts-clause-trials c =
     let now : c.search.new.self ≡ moved p trials (Some hit) = c.in_ok-found.ensures.moved ∙ ap (moved p trials) some in
     let was : p.before ≡ c.self.inside.before = ap (λ (z : Pass). z.before) (sym c.self.view_is) in
     let held : counts p.before hit ≡ true = ap (λ (z : Option ℕ). counts z hit) was ∙ sym c.counts.ensures ∙ c.if-counts.true in
-    let same : c.give_back.new.self ≡ moved p trials (Some hit) = c.give_back.ensures ∙ now in
-    let made : c.in_ok-next.next ≡ match_of p.text (search p.statement p.text from) hit =
-    c.in_ok-next.ensures
-    ∙ ap (λ (z : List ℕ). match_of z c.in_ok-found.found hit) (c.text.ensures ∙ ap (λ (z : Pass). z.text) now)
-    ∙ ap (λ (z : Found). match_of p.text z hit) c.in_ok-found.ensures.found in
-    ap trials_together (c.give_back.ensures ∙ c.in_ok-found.ensures.moved) ∙ sym (trials_kept p from at inside) ∙ before.trials
+    ap trials_together c.in_ok-found.ensures.moved ∙ sym (trials_kept p from at inside) ∙ before.trials
 
 pub returns-then-counts-clause-same : goal.returns-then-counts-clause-same
 returns-then-counts-clause-same c =
@@ -127,15 +118,10 @@ returns-then-counts-clause-same c =
     let now : c.search.new.self ≡ moved p trials (Some hit) = c.in_ok-found.ensures.moved ∙ ap (moved p trials) some in
     let was : p.before ≡ c.self.inside.before = ap (λ (z : Pass). z.before) (sym c.self.view_is) in
     let held : counts p.before hit ≡ true = ap (λ (z : Option ℕ). counts z hit) was ∙ sym c.counts.ensures ∙ c.if-counts.true in
-    let same : c.give_back.new.self ≡ moved p trials (Some hit) = c.give_back.ensures ∙ now in
-    let made : c.in_ok-next.next ≡ match_of p.text (search p.statement p.text from) hit =
-    c.in_ok-next.ensures
-    ∙ ap (λ (z : List ℕ). match_of z c.in_ok-found.found hit) (c.text.ensures ∙ ap (λ (z : Pass). z.text) now)
-    ∙ ap (λ (z : Found). match_of p.text z hit) c.in_ok-found.ensures.found in
-    (ap (λ (z : Pass). z.statement) same ∙ before.statement, ap (λ (z : Pass). z.text) same ∙ before.text)
+    (ap (λ (z : Pass). z.statement) now ∙ before.statement, ap (λ (z : Pass). z.text) now ∙ before.text)
 
-pub loop-self-smaller-else-counts : goal.loop-self-smaller-else-counts
-loop-self-smaller-else-counts c =
+pub loop-self-smaller : goal.loop-self-smaller
+loop-self-smaller c =
     let p = c.loop-self.self in
     let from = c.in-Some.from in
     let before = c.loop-self.invariant in
@@ -150,8 +136,8 @@ loop-self-smaller-else-counts c =
     let here = ap (λ (z : Pass). cursors_left z.text z.at) now in
     omega (arith, less, here)
 
-pub loop-self-preserved-else-counts : goal.loop-self-preserved-else-counts
-loop-self-preserved-else-counts c =
+pub loop-self-preserved : goal.loop-self-preserved
+loop-self-preserved c =
     let p = c.loop-self.self in
     let from = c.in-Some.from in
     let before = c.loop-self.invariant in

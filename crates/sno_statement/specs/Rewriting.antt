@@ -1,0 +1,57 @@
+-- What a statement makes of a text, for whoever doesn't want its matches.
+use Rattle.std.specs.Prelude.{◌≡◌, ◌<◌, ◌≤◌, ◌+◌, ℕ, List, length, Option, None, Some, Result, Ok, Err, IsTrue, nat_eq, if◌then◌else◌}
+use Rattle.std.specs.List.{list_all}
+use Rattle.std.specs.Char.{is_ascii}
+use Rattle.std.proofs.Common.{Global, Vec}
+use Rattle.sno_pattern.specs.declared.texts.TheConstants.{MAX_TEXT}
+use Rattle.std.specs.Option.{option_map}
+use Rattle.std.specs.Arc.{arc_value}
+use Rattle.sno_statement.specs.Perform.{Outcome, Matched, Failed, Repeated, All, after_of}
+use Rattle.sno_statement.specs.declared.outcomes.StatementFault.{StatementFault}
+use Rattle.sno_statement.specs.declared.outcomes.StatementFault.TheVariants.{Memory, TextTooLong}
+use Rattle.sno_statement.specs.declared.rewriting.Rewritten.{Rewritten}
+
+-- how many matches an outcome has; of a repeated statement, one for each round that matched
+abbrev pub matches_of : Outcome → ℕ
+matches_of (Matched s e bound after) = 1
+matches_of (Failed bound) = 0
+matches_of (Repeated n bound after) = n
+matches_of (All matches after) = length matches
+
+-- a statement for all matches has at most one at each cursor of its text
+abbrev pub IsFew : Outcome → Type 0
+IsFew (All matches after) = length matches ≤ MAX_TEXT + 1
+IsFew done = Unit {0}
+
+-- the number of matches and the new text, by value
+pub record Rewriting : Type 0 where
+  pub matches : ℕ
+  pub after : Option (List ℕ)
+
+-- those of an outcome
+abbrev pub rewriting_of : Outcome → Rewriting
+rewriting_of done = record { matches = matches_of done; after = after_of done }
+
+-- those of a result; a refusal stays the same
+abbrev pub rewriting : Result Outcome StatementFault → Result Rewriting StatementFault
+rewriting (Ok done) = Ok (rewriting_of done)
+rewriting (Err fault) = Err fault
+
+abbrev pub rewritten_seen : Rewritten → Rewriting
+rewritten_seen r = record { matches = r.matches; after = option_map arc_value r.after }
+
+-- The characters are this text; there are none if it has more characters than a text can have.
+abbrev pub IsReplaced : List ℕ → Option (Vec ℕ Global) → Type 0
+IsReplaced text None = MAX_TEXT < length text
+IsReplaced text (Some v) = (v.items ≡ text) × (length text ≤ MAX_TEXT) × IsTrue (list_all is_ascii text)
+
+-- What n matches leave, with the text in which they are replaced. Without a match there is no new text; one that is too long is
+-- refused.
+abbrev pub finished : ℕ → Option (Vec ℕ Global) → Result Rewriting StatementFault
+finished n None = if nat_eq n 0 then Ok (record { matches = 0; after = None }) else Err TextTooLong
+finished n (Some v) = if nat_eq n 0 then Ok (record { matches = 0; after = None }) else Ok (record { matches = n; after = Some v.items })
+
+-- the result is the one wanted, by value, or `Memory`
+abbrev pub GivesRewritten : Result Rewritten StatementFault → Result Rewriting StatementFault → Type 0
+GivesRewritten (Ok r) wanted = wanted ≡ Ok (rewritten_seen r)
+GivesRewritten (Err fault) wanted = (fault ≡ Memory → ⊥) → wanted ≡ Err fault
