@@ -27,7 +27,7 @@ class Cases:
             self.passed += 1
             return
         self.failed += 1
-        if self.failed <= 500:
+        if self.failed <= 50:
             print(f"FAILED {what}", *details, sep="\n  ", flush=True)
 
     def expect(self, what, found, wanted, most=600):
