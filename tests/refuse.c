@@ -5,7 +5,7 @@
  *   REFUSE_COUNTS  a file of two numbers of 8 bytes: how many allocations were asked for, and how many of them were refused
  *
  * It counts from its constructor on, in all threads together, also what the C library asks for, as for a thread. A free is never refused.
- * It stands on names of the GNU C library. */
+ * It uses names of the GNU C library. */
 #include <errno.h>
 #include <fcntl.h>
 #include <stdatomic.h>
