@@ -125,7 +125,7 @@ fn put_text(
     put(out, b"|\n")
 }
 
-fn put_value(out: &mut Vec<u8>, value: &DatumRef<'_>Ref<'_>) -> Result<(), AllocError>
+fn put_value(out: &mut Vec<u8>, value: &DatumRef<'_>) -> Result<(), AllocError>
     ensures { OnOk result (out.new.items ≡ out.old.items ++ value_words (datum_lent value.now)) }
 {
     match value {
@@ -209,7 +209,11 @@ pub(crate) fn put_reason(out: &mut Vec<u8>, reason: Reason) -> Result<(), AllocE
 }
 
 #[tactic(auto, using(crate::proofs::ListingLemmas::row_there))]
-fn put_each_indented(out: &mut Vec<u8>, blanks: &str, bindings: &BindingsRef<'_>) -> Result<(), AllocError>
+fn put_each_indented(
+    out: &mut Vec<u8>,
+    blanks: &str,
+    bindings: &BindingsRef<'_>,
+) -> Result<(), AllocError>
     ensures { OnOk result (out.new.items ≡ out.old.items ++ flat_map (indented blanks.now) bindings.now) }
 {
     for place in 0..bindings.len() {

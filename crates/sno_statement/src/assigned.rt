@@ -1,5 +1,5 @@
 //! The variables of one match, each with its last assignment.
-ghost use Rattle.std.specs.Prelude.{◌≡◌, ℕ, List, [], OnOk};
+ghost use Rattle.std.specs.Prelude.{◌≡◌, ℕ, List, [], length, OnOk};
 ghost use Rattle.std.specs.List.{position};
 ghost use Rattle.sno_pattern.specs.Identifiers.{same};
 ghost use Rattle.sno_pattern.specs.CursorLaws.{SetsLie};
@@ -86,6 +86,17 @@ impl Assigned {
         Ok(())
     }
 
+    /// Assigns a single conditional assignment, before any other.
+    fn assign_only(&mut self, conds: &[(Name, usize, usize)]) -> Result<(), AllocError>
+        requires first { self.old ≡ [] }
+        requires single { length conds.now ≡ 1 }
+        ensures { OnOk result ((t : List ℕ) → values_of_last t self.new ≡ bind_conds t [] conds.now) }
+    {
+        let (name, from, to) = conds[0];
+        self.list.push((name, Last::Part(from, to)))?;
+        Ok(())
+    }
+
     /// Adds variables that are distinct, and none of those here.
     fn add(&mut self, lasts: &LastAssignments) -> Result<(), AllocError>
         ensures { OnOk result (self.old ≡ [] → self.new ≡ lasts.now) }
@@ -108,6 +119,11 @@ impl Assigned {
         ensures { OnOk result (values_of_last subject.now self.new ≡ bind_conds subject.now (bind_sets subject.now [] sets.now) conds.now) }
     {
         self.list.clear();
+        if sets.is_empty() && conds.len() == 1 {
+            // the most usual search: one conditional assignment
+            self.assign_only(conds)?;
+            return Ok(());
+        }
         if sets.len() < MANY && conds.len() < MANY {
             self.assign_at_once(subject, sets)?;
             self.assign_later(conds)?;
