@@ -8,8 +8,9 @@
 //!
 //! A statement that replaces may be repeated, each round on the new text of the round before. Any statement may be for all
 //! matches, in one pass over its text. [`perform`] performs it on one text and returns the [`Outcome`]: a new text beside the
-//! old one, which stays as it is. A [`Pass`] goes from match to match and keeps none. Nothing is shared or kept, and nothing is
-//! waited for. The newer versions of a text are not this crate's concern.
+//! old one, which stays as it is. [`perform_shared`] takes a shared text, which the matches of a statement for all matches then
+//! share. [`rewrite`] returns only the new text and the number of matches, and a [`Pass`] goes from match to match; both keep
+//! none. Nothing is waited for. The newer versions of a text are not this crate's concern.
 //!
 //! # What is promised, and where
 //!
@@ -46,12 +47,16 @@
 //! - `src/statement_patterns.rt`: the pattern of a statement, its own or one that statements share.
 //! - `src/performing.rt`: [`perform`], with the bindings and the rounds.
 //! - `src/passes.rt`: [`Pass`], the matches of a statement for all matches one after the other.
-//! - `src/match_lists.rt`: [`Match`] and [`Matches`]; `src/laws.rt`: what follows of matches, for callers' proofs.
+//! - `src/match_lists.rt`: [`Match`], [`Matches`] and [`MatchRef`]; `src/gathered.rt`: matches as they are found, and
+//!   `src/assigned.rt`: what one search assigned.
+//! - `src/rewriting.rt`: [`rewrite`]; `src/laws.rt`: what follows of matches, for callers' proofs.
 //! - `src/last_assignments.rt`: the last assignment of each variable, for a match that assigns often.
 //! - `src/lengths.rt`: how many characters the new text has, counted before any is copied.
 //! - `src/values.rt`: the object's value, and cutting and joining texts.
 //! - `src/binding.rt`: [`Bindings`], by value a list of distinct variables with their values, and [`Datum`].
+//! - `src/binding_refs.rt`: [`BindingsRef`], bindings that are lent, whether they are kept or are those of one of all matches.
 //! - `src/outcomes.rt`: [`Outcome`] and [`StatementFault`].
+//! - `specs/Rewriting.antt`: what `rewrite` leaves; `specs/MatchLists.antt` and `specs/BindingRefs.antt`: what is lent, by value.
 //! - `proofs/Ascii.antt`: what is joined from ASCII is ASCII, so a new text is refused for its length alone.
 //! - `proofs/Rounds.antt`: the result of one more round; `proofs/NotMemory.antt`: by its definition no statement runs out of memory.
 //!

@@ -3,14 +3,14 @@ ghost use Rattle.std.specs.Prelude.{IfErr};
 ghost use Rattle.sno_book.specs.Books.{view_of};
 ghost use Rattle.sno_book.specs.Views.{IsPrefix};
 
-use crate::answers::{Answer, check_eq, tell, tell_ready, tell_twice};
+use crate::call_ends::{CallEnd, check_bytes, check_eq, tell, tell_ready, tell_twice};
 use crate::jobs::{
     book, check_book, check_exchange, check_exchange_all, exchange, exchange_all, proposed, row,
 };
 use sno_book::{
     Book, BookFault, CommitFault, Proposal, Snapshot, StatementFault, Text, TextName, propose,
 };
-use sno_statement::{Statement, perform};
+use sno_statement::{Statement, perform, rewrite};
 use std::alloc::Global;
 use std::process::Abort;
 use std::sync::Arc;
@@ -20,15 +20,15 @@ const BEFORE: &[u8] = b"k=v";
 
 const AFTER: &[u8] = b"v=k";
 
-fn open(rt: &impl Abort, alloc: Global, texts: Vec<(TextName, Text)>) -> Answer {
+fn open(rt: &impl Abort, alloc: Global, texts: Vec<(TextName, Text)>) -> CallEnd {
     match Book::new(alloc, texts, 1_000_000) {
         Ok(book) => {
             check_book(rt, &book, BEFORE, 0, 0);
-            Answer::Given
+            CallEnd::Given
         }
         Err(fault) => {
             check_eq(rt, &fault, &BookFault::Memory);
-            Answer::Refused
+            CallEnd::Refused
         }
     }
 }
@@ -50,15 +50,15 @@ fn a_book(rt: HostRuntime) -> Result<(), Fail> {
     tell(&rt, open(&rt, alloc, second))
 }
 
-fn perform_once(rt: &impl Abort, alloc: Global, statement: &Statement, text: &Text) -> Answer {
+fn perform_once(rt: &impl Abort, alloc: Global, statement: &Statement, text: &Text) -> CallEnd {
     match perform(alloc, statement, text) {
         Ok(outcome) => {
             check_exchange(rt, &outcome);
-            Answer::Given
+            CallEnd::Given
         }
         Err(fault) => {
             check_eq(rt, &fault, &StatementFault::Memory);
-            Answer::Refused
+            CallEnd::Refused
         }
     }
 }
@@ -71,15 +71,15 @@ fn a_statement_is_performed(rt: HostRuntime) -> Result<(), Fail> {
     tell_twice(&rt, || perform_once(&rt, alloc, &statement, &text))
 }
 
-fn perform_all_once(rt: &impl Abort, alloc: Global, statement: &Statement, text: &Text) -> Answer {
+fn perform_all_once(rt: &impl Abort, alloc: Global, statement: &Statement, text: &Text) -> CallEnd {
     match perform(alloc, statement, text) {
         Ok(outcome) => {
             check_exchange_all(rt, &outcome);
-            Answer::Given
+            CallEnd::Given
         }
         Err(fault) => {
             check_eq(rt, &fault, &StatementFault::Memory);
-            Answer::Refused
+            CallEnd::Refused
         }
     }
 }
@@ -90,6 +90,29 @@ fn a_statement_for_all_matches_is_performed(rt: HostRuntime) -> Result<(), Fail>
     let statement = exchange_all(&rt, alloc)?;
     let text = Text::new(Vec::from_slice(alloc, b"k=v;m=n;")?)?;
     tell_twice(&rt, || perform_all_once(&rt, alloc, &statement, &text))
+}
+
+fn rewrite_once(rt: &impl Abort, alloc: Global, statement: &Statement, text: &Text) -> CallEnd {
+    match rewrite(alloc, statement, text) {
+        Ok(rewritten) => {
+            check_eq(rt, &rewritten.matches, &2);
+            let after = rewritten.after.as_ref().expect(rt, "there is a new text");
+            check_bytes(rt, after.bytes(), b"v=k;n=m;".as_slice());
+            CallEnd::Given
+        }
+        Err(fault) => {
+            check_eq(rt, &fault, &StatementFault::Memory);
+            CallEnd::Refused
+        }
+    }
+}
+
+#[test]
+fn a_text_is_rewritten(rt: HostRuntime) -> Result<(), Fail> {
+    let alloc = rt.alloc();
+    let statement = exchange_all(&rt, alloc)?;
+    let text = Text::new(Vec::from_slice(alloc, b"k=v;m=n;")?)?;
+    tell_twice(&rt, || rewrite_once(&rt, alloc, &statement, &text))
 }
 
 /// A share of a statement, and one of its text.
@@ -114,7 +137,7 @@ fn tasks(rt: &impl Abort, alloc: Global) -> Result<(Task, Task), Fail> {
     Ok((first, share(&book, &statement)?))
 }
 
-fn propose_once(rt: &impl Abort, alloc: Global, task: Task) -> Answer {
+fn propose_once(rt: &impl Abort, alloc: Global, task: Task) -> CallEnd {
     let Task {
         statement,
         snapshot,
@@ -123,11 +146,11 @@ fn propose_once(rt: &impl Abort, alloc: Global, task: Task) -> Answer {
         Ok(proposal) => {
             check_exchange(rt, proposal.outcome());
             check_eq(rt, &(proposal.place(), proposal.version()), &(0, 0));
-            Answer::Given
+            CallEnd::Given
         }
         Err(fault) => {
             check_eq(rt, &fault, &StatementFault::Memory);
-            Answer::Refused
+            CallEnd::Refused
         }
     }
 }
@@ -142,9 +165,9 @@ fn a_statement_is_proposed(rt: HostRuntime) -> Result<(), Fail> {
     tell(&rt, propose_once(&rt, alloc, second))
 }
 
-/// Prepares the proposal, and takes it back. The book is as it was, with both answers.
+/// Prepares the proposal, and takes it back. The book is as it was, whatever comes back.
 #[tactic(auto, using(sno_book::proofs::Kinship::is_kin, sno_book::proofs::Kinship::held, sno_book::proofs::Kinship::still))]
-fn prepare(rt: &impl Abort, book: &mut Book, proposal: Proposal) -> (Answer, Proposal)
+fn prepare(rt: &impl Abort, book: &mut Book, proposal: Proposal) -> (CallEnd, Proposal)
     requires { IsPrefix proposal.origin (view_of book.old) }
     ensures { IsPrefix result.1.origin (view_of book.new) }
 {
@@ -152,18 +175,18 @@ fn prepare(rt: &impl Abort, book: &mut Book, proposal: Proposal) -> (Answer, Pro
         Ok(ready) => {
             assert!(rt; book.has_spare());
             check_book(rt, book, BEFORE, 0, 0);
-            (Answer::Given, ready.back())
+            (CallEnd::Given, ready.back())
         }
         Err((fault, back)) => {
             check_eq(rt, &fault, &CommitFault::Memory);
             check_book(rt, book, BEFORE, 0, 0);
-            (Answer::Refused, back)
+            (CallEnd::Refused, back)
         }
     }
 }
 
 /// Prepares the proposal, and once more what came back.
-fn prepare_twice(rt: &impl Abort, mut book: Book, proposal: Proposal) -> (Answer, Answer)
+fn prepare_twice(rt: &impl Abort, mut book: Book, proposal: Proposal) -> (CallEnd, CallEnd)
     requires { IsPrefix proposal.origin (view_of book) }
 {
     let (first, back) = prepare(rt, &mut book, proposal);
@@ -203,21 +226,21 @@ fn commit(rt: &impl Abort, book: &mut Book, proposal: Proposal) -> Result<(), Pr
     }
 }
 
-/// Commits the proposal. Where it comes back it is committed once more, after the first answer was told.
+/// Commits the proposal. Where it comes back it is committed once more, after the first end was written.
 fn commit_again(
     rt: &(impl Abort + Print),
     mut book: Book,
     proposal: Proposal,
-) -> Result<Answer, Fail>
+) -> Result<CallEnd, Fail>
     requires { IsPrefix proposal.origin (view_of book) }
 {
     let Err(back) = commit(rt, &mut book, proposal) else {
-        return Ok(Answer::Given);
+        return Ok(CallEnd::Given);
     };
-    tell(rt, Answer::Refused)?;
+    tell(rt, CallEnd::Refused)?;
     Ok(match commit(rt, &mut book, back) {
-        Ok(()) => Answer::Given,
-        Err(_) => Answer::Refused,
+        Ok(()) => CallEnd::Given,
+        Err(_) => CallEnd::Refused,
     })
 }
 

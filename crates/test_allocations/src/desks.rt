@@ -1,7 +1,7 @@
 //! A desk that is opened, and one seat of it that commits and submits.
 ghost use Rattle.std.specs.Prelude.{◌≡◌, [], IfErr};
 
-use crate::answers::{Answer, check_bytes, check_eq, tell, tell_ready};
+use crate::call_ends::{CallEnd, check_bytes, check_eq, tell, tell_ready};
 use crate::jobs::{book, check_book, statement};
 use sno_book::{Book, Proposal, Receipt};
 use sno_desk::{Blank, CommitFault, Desk, DeskFault, Naming, OpenGate, Seat, SubmitFault, close};
@@ -55,14 +55,14 @@ fn a_desk(rt: HostRuntime) -> Result<(), Fail> {
     let book = book(alloc, &[("T", "x")])?;
     tell_ready(&rt)?;
     let Err(book) = open(&rt, alloc, book) else {
-        return tell(&rt, Answer::Given);
+        return tell(&rt, CallEnd::Given);
     };
-    tell(&rt, Answer::Refused)?;
+    tell(&rt, CallEnd::Refused)?;
     tell(
         &rt,
         match open(&rt, alloc, book) {
-            Ok(()) => Answer::Given,
-            Err(_) => Answer::Refused,
+            Ok(()) => CallEnd::Given,
+            Err(_) => CallEnd::Refused,
         },
     )
 }
@@ -76,7 +76,7 @@ trait Turn {
         alloc: Global,
         desk: &Desk<L>,
         seat: &mut Seat<L>,
-    ) -> Result<Answer, Fail>;
+    ) -> Result<CallEnd, Fail>;
 }
 
 /// That the seat has accepted so many, and sees its text so.
@@ -94,30 +94,30 @@ fn check_seat<L: Naming>(
 }
 
 /// What stands after the call, as it came out.
-fn check_answer<L: Naming>(
+fn check_end<L: Naming>(
     rt: &impl Abort,
     seat: &mut Seat<L>,
     job: &Statement,
-    answer: Answer,
-) -> Answer {
-    match answer {
-        Answer::Given => check_seat(rt, seat, job, 1, b"z".as_slice()),
-        Answer::Refused => check_seat(rt, seat, job, 0, b"x".as_slice()),
+    end: CallEnd,
+) -> CallEnd {
+    match end {
+        CallEnd::Given => check_seat(rt, seat, job, 1, b"z".as_slice()),
+        CallEnd::Refused => check_seat(rt, seat, job, 0, b"x".as_slice()),
     }
-    answer
+    end
 }
 
 /// What a commit came to.
-fn answer_of(rt: &impl Abort, committed: &Result<Receipt, (CommitFault, Proposal)>) -> Answer {
+fn end_of(rt: &impl Abort, committed: &Result<Receipt, (CommitFault, Proposal)>) -> CallEnd {
     match committed {
         Ok(receipt) => {
             check_eq(rt, &receipt.index, &0);
-            Answer::Given
+            CallEnd::Given
         }
         Err((fault, back)) => {
             check_eq(rt, fault, &CommitFault::Memory);
             check_eq(rt, &back.version(), &0);
-            Answer::Refused
+            CallEnd::Refused
         }
     }
 }
@@ -134,20 +134,20 @@ impl Turn for Commits {
         alloc: Global,
         desk: &Desk<L>,
         seat: &mut Seat<L>,
-    ) -> Result<Answer, Fail> {
+    ) -> Result<CallEnd, Fail> {
         let proposal = seat.propose(alloc, &self.0)?;
         tell_ready(rt)?;
-        let answer = answer_of(rt, &desk.commit(rt, seat, proposal));
-        let answer = check_answer(rt, seat, &self.0, answer);
-        if answer == Answer::Given {
-            return Ok(answer);
+        let end = end_of(rt, &desk.commit(rt, seat, proposal));
+        let end = check_end(rt, seat, &self.0, end);
+        if end == CallEnd::Given {
+            return Ok(end);
         }
-        tell(rt, answer)?;
+        tell(rt, end)?;
         let Ok(proposal) = seat.propose(alloc, &self.0) else {
-            return Ok(Answer::Refused);
+            return Ok(CallEnd::Refused);
         };
-        let again = answer_of(rt, &desk.commit(rt, seat, proposal));
-        Ok(check_answer(rt, seat, &self.0, again))
+        let again = end_of(rt, &desk.commit(rt, seat, proposal));
+        Ok(check_end(rt, seat, &self.0, again))
     }
 }
 
@@ -162,20 +162,20 @@ impl Turn for Submits {
         alloc: Global,
         desk: &Desk<L>,
         seat: &mut Seat<L>,
-    ) -> Result<Answer, Fail> {
+    ) -> Result<CallEnd, Fail> {
         let shared = Arc::try_clone(&self.0)?;
         tell_ready(rt)?;
-        let answer = match desk.submit(rt, alloc, seat, shared, 100, &OpenGate) {
+        let end = match desk.submit(rt, alloc, seat, shared, 100, &OpenGate) {
             Ok(receipt) => {
                 check_eq(rt, &receipt.index, &0);
-                Answer::Given
+                CallEnd::Given
             }
             Err(fault) => {
                 check_eq(rt, &fault, &SubmitFault::Memory);
-                Answer::Refused
+                CallEnd::Refused
             }
         };
-        Ok(check_answer(rt, seat, &self.0, answer))
+        Ok(check_end(rt, seat, &self.0, end))
     }
 }
 
@@ -185,7 +185,7 @@ fn at_seat<L: Naming, T: Turn, R: Wait + Abort + Print>(
     blank: Blank,
     book: Book,
     turn: &T,
-) -> Result<(Answer, Book), Fail>
+) -> Result<(CallEnd, Book), Fail>
     requires name { (blank.ledger.name ≡ L.name) × (blank.ledger.parts ≡ L.parts) }
     requires histories { (blank.history ≡ record { history = L.book; entries = [] }) × (blank.attempts.history ≡ L.tries) }
     requires opening { book.opening ≡ L.opening }
@@ -204,25 +204,25 @@ fn at_own_desk<T: Turn, R: Wait + Abort + Print>(
     alloc: Global,
     book: Book,
     turn: &T,
-) -> Result<(Answer, Book), Fail>
+) -> Result<(CallEnd, Book), Fail>
     requires { book.journal ≡ [] }
 {
     at_seat::<Brand, T, R>(rt, alloc, Blank::new(1), book, turn)
 }
 
-/// The turn at a seat. The closed journal has the entry where the answer is given, and none where it is refused.
+/// The turn at a seat. The closed journal has the entry if the call returned what it has to, and none if it was out of memory.
 fn check_turn<T: Turn, R: Wait + Abort + Print>(
     rt: &R,
     alloc: Global,
     turn: &T,
 ) -> Result<(), Fail> {
     let book = book(alloc, &[("T", "x")])?;
-    let (answer, book) = at_own_desk(rt, alloc, book, turn)?;
-    match answer {
-        Answer::Given => check_book(rt, &book, b"z".as_slice(), 1, 1),
-        Answer::Refused => check_book(rt, &book, b"x".as_slice(), 0, 0),
+    let (end, book) = at_own_desk(rt, alloc, book, turn)?;
+    match end {
+        CallEnd::Given => check_book(rt, &book, b"z".as_slice(), 1, 1),
+        CallEnd::Refused => check_book(rt, &book, b"x".as_slice(), 0, 0),
     }
-    tell(rt, answer)
+    tell(rt, end)
 }
 
 #[test]

@@ -3,7 +3,7 @@ ghost use Rattle.std.specs.Prelude.{◌≡◌, [], IfOk};
 ghost use Rattle.sno_book.specs.Books.{view_of};
 ghost use Rattle.sno_book.specs.Views.{IsPrefix};
 
-use crate::answers::{check_bytes, check_eq};
+use crate::call_ends::{check_bytes, check_eq};
 use sno_book::{Book, Proposal, Text, TextName, propose};
 use sno_pattern::{Names, Pattern, Rules};
 use sno_read::{Object, read_object, read_pattern};

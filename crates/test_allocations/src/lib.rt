@@ -1,13 +1,13 @@
-//! Calls to which memory is refused, tested: each answers that memory was refused or what it has to answer, and leaves what it was handed.
+//! Calls to which memory is refused, tested: each returns what it has to or is out of memory, and leaves its arguments as they were.
 //!
-//! `rt ci` runs these tests as they are, and then each call has its answer. `tests/refused_growths` runs them again and again, and refuses one
+//! `rt ci` runs these tests as they are, and then each call returns what it has to. `tests/refused_growths` runs them again and again, and refuses one
 //! growth after the other.
 #![tactic(auto)]
 
 #[cfg(test)]
-mod answers;
-#[cfg(test)]
 mod books;
+#[cfg(test)]
+mod call_ends;
 #[cfg(test)]
 mod desks;
 #[cfg(test)]

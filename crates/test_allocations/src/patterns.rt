@@ -1,7 +1,7 @@
 //! Names, definitions, patterns, objects, and what is compiled of them.
 ghost use Rattle.std.specs.Prelude.{IsTrue, length};
 
-use crate::answers::{Answer, check_bytes, check_eq, tell, tell_ready, tell_twice};
+use crate::call_ends::{CallEnd, check_bytes, check_eq, tell, tell_ready, tell_twice};
 use sno_machine::{Code, MatchFault, compile};
 use sno_pattern::{Name, NameFault, Names, NamesFault, Pattern, Rules, RulesFault, Text, TextName};
 use sno_read::{Part, ReadFault, read_object, read_pattern};
@@ -14,15 +14,15 @@ pub(crate) fn name(rt: &impl Abort, bytes: &[u8]) -> Name {
     Name::read(bytes).expect(rt, "it is a name")
 }
 
-fn make_text_name(rt: &impl Abort, alloc: Global) -> Answer {
+fn make_text_name(rt: &impl Abort, alloc: Global) -> CallEnd {
     match TextName::new(alloc, b"T".as_slice()) {
         Ok(name) => {
             check_bytes(rt, name.bytes(), b"T".as_slice());
-            Answer::Given
+            CallEnd::Given
         }
         Err(fault) => {
             check_eq(rt, &fault, &NameFault::Memory);
-            Answer::Refused
+            CallEnd::Refused
         }
     }
 }
@@ -32,16 +32,16 @@ fn a_name_of_a_text(rt: HostRuntime) -> Result<(), Fail> {
     tell_twice(&rt, || make_text_name(&rt, rt.alloc()))
 }
 
-fn make_names(rt: &impl Abort, alloc: Global, names: &[Name; 2]) -> Answer {
+fn make_names(rt: &impl Abort, alloc: Global, names: &[Name; 2]) -> CallEnd {
     match Names::new(alloc, names.as_slice()) {
         Ok(made) => {
             check_eq(rt, &made.len(), &2);
             check_eq(rt, &made.place(&names[1]), &Some(1));
-            Answer::Given
+            CallEnd::Given
         }
         Err(fault) => {
             check_eq(rt, &fault, &NamesFault::Memory);
-            Answer::Refused
+            CallEnd::Refused
         }
     }
 }
@@ -73,16 +73,16 @@ fn definitions(
 /// A row of digits, and two of them with a point between.
 static NUMBERS: [(&str, &str); 2] = [("D", "SPAN('0123456789')"), ("N", "D '.' D")];
 
-fn admit(rt: &impl Abort, alloc: Global, names: Names, bodies: Vec<Pattern>) -> Answer {
+fn admit(rt: &impl Abort, alloc: Global, names: Names, bodies: Vec<Pattern>) -> CallEnd {
     assert!(rt; names.len() == bodies.len());
     match Rules::admit(alloc, names, bodies) {
         Ok(rules) => {
             check_eq(rt, &rules.len(), &2);
-            Answer::Given
+            CallEnd::Given
         }
         Err(fault) => {
             assert!(rt; matches!(fault, RulesFault::Memory), "{fault}");
-            Answer::Refused
+            CallEnd::Refused
         }
     }
 }
@@ -97,15 +97,15 @@ fn definitions_are_admitted(rt: HostRuntime) -> Result<(), Fail> {
     tell(&rt, admit(&rt, alloc, same_names, same_bodies))
 }
 
-fn read_assigned(rt: &impl Abort, alloc: Global, names: &Names, expected: &Pattern) -> Answer {
+fn read_assigned(rt: &impl Abort, alloc: Global, names: &Names, expected: &Pattern) -> CallEnd {
     match read_pattern(alloc, names, 0, b"LEN( 007 ) . A $ B".as_slice()) {
         Ok(pattern) => {
             assert!(rt; pattern == *expected);
-            Answer::Given
+            CallEnd::Given
         }
         Err(fault) => {
             check_eq(rt, &fault, &ReadFault::Memory);
-            Answer::Refused
+            CallEnd::Refused
         }
     }
 }
@@ -126,15 +126,15 @@ fn a_pattern_is_read(rt: HostRuntime) -> Result<(), Fail> {
     tell_twice(&rt, || read_assigned(&rt, alloc, &names, &expected))
 }
 
-fn read_three_parts(rt: &impl Abort, alloc: Global, names: &Names, expected: &[Part]) -> Answer {
+fn read_three_parts(rt: &impl Abort, alloc: Global, names: &Names, expected: &[Part]) -> CallEnd {
     match read_object(alloc, names, b"V '=' K".as_slice()) {
         Ok(object) => {
             assert!(rt; object.parts() == expected);
-            Answer::Given
+            CallEnd::Given
         }
         Err(fault) => {
             check_eq(rt, &fault, &ReadFault::Memory);
-            Answer::Refused
+            CallEnd::Refused
         }
     }
 }
@@ -171,11 +171,11 @@ fn admitted_row(rt: &impl Abort, alloc: Global) -> Result<Rules, Fail> {
     Ok(Rules::admit(alloc, names, bodies)?)
 }
 
-fn compile_once(rt: &impl Abort, alloc: Global, rules: &Rules, pattern: &Pattern) -> Answer {
+fn compile_once(rt: &impl Abort, alloc: Global, rules: &Rules, pattern: &Pattern) -> CallEnd {
     assert!(rt; rules.covers(pattern));
     match compile(alloc, rules, pattern) {
-        Ok(_) => Answer::Given,
-        Err(_) => Answer::Refused,
+        Ok(_) => CallEnd::Given,
+        Err(_) => CallEnd::Refused,
     }
 }
 
@@ -203,7 +203,7 @@ fn a_pattern_is_compiled(rt: HostRuntime) -> Result<(), Fail> {
 }
 
 /// The first part matches `aa`, the second one nothing.
-fn match_once(rt: &impl Abort, alloc: Global, code: &Code<'_>, text: &Text) -> Answer {
+fn match_once(rt: &impl Abort, alloc: Global, code: &Code<'_>, text: &Text) -> CallEnd {
     match code.first(alloc, text, true, 1_000_000) {
         Ok(found) => {
             let hit = found.end.as_ref().expect(rt, "it matches");
@@ -213,11 +213,11 @@ fn match_once(rt: &impl Abort, alloc: Global, code: &Code<'_>, text: &Text) -> A
                 (name(rt, b"B".as_slice()), 3, 3),
             ];
             assert!(rt; hit.conds.as_slice() == expected.as_slice());
-            Answer::Given
+            CallEnd::Given
         }
         Err(fault) => {
             check_eq(rt, &fault, &MatchFault::Memory);
-            Answer::Refused
+            CallEnd::Refused
         }
     }
 }

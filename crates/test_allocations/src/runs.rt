@@ -2,7 +2,7 @@
 ghost use Rattle.std.specs.Prelude.{IfSome, ◌≤◌};
 ghost use Rattle.sno_rewrite.specs.Runs.{AreInLimits};
 
-use crate::answers::{Answer, check_bytes, check_eq, tell, tell_ready, tell_twice};
+use crate::call_ends::{CallEnd, check_bytes, check_eq, tell, tell_ready, tell_twice};
 use sno_rewrite::{
     Options, OptionsFault, Report, RunFault, options_of, run, run_serial, run_shared,
 };
@@ -44,7 +44,7 @@ const PLAIN: Options = Options {
     trials: 1_000_000,
 };
 
-fn read_words(rt: &impl Abort, alloc: Global, words: &[String]) -> Answer {
+fn read_words(rt: &impl Abort, alloc: Global, words: &[String]) -> CallEnd {
     match options_of(alloc, words) {
         Ok(options) => {
             check_eq(
@@ -56,11 +56,11 @@ fn read_words(rt: &impl Abort, alloc: Global, words: &[String]) -> Answer {
                     ..PLAIN
                 },
             );
-            Answer::Given
+            CallEnd::Given
         }
         Err(fault) => {
             assert!(rt; matches!(fault, OptionsFault::Memory));
-            Answer::Refused
+            CallEnd::Refused
         }
     }
 }
@@ -76,17 +76,17 @@ fn options_are_read(rt: HostRuntime) -> Result<(), Fail> {
 }
 
 /// What the run came to: a report that begins so, or that memory was refused.
-fn answer_of(rt: &impl Abort, report: Result<Report, RunFault>, beginning: &[u8]) -> Answer {
+fn end_of(rt: &impl Abort, report: Result<Report, RunFault>, beginning: &[u8]) -> CallEnd {
     match report {
         Ok(report) => {
             assert!(rt; report.bytes.starts_with(beginning));
             check_eq(rt, &report.bytes.len(), &listing().len());
             check_eq(rt, &report.refused, &1);
-            Answer::Given
+            CallEnd::Given
         }
         Err(fault) => {
             check_eq(rt, &fault, &RunFault::Memory);
-            Answer::Refused
+            CallEnd::Refused
         }
     }
 }
@@ -95,7 +95,7 @@ fn answer_of(rt: &impl Abort, report: Result<Report, RunFault>, beginning: &[u8]
 fn a_serial_run(rt: HostRuntime) -> Result<(), Fail> {
     let alloc = rt.alloc();
     tell_twice(&rt, || {
-        answer_of(&rt, run_serial(alloc, document(), &PLAIN), listing())
+        end_of(&rt, run_serial(alloc, document(), &PLAIN), listing())
     })
 }
 
@@ -107,7 +107,7 @@ fn a_run_shared_by_workers(rt: HostRuntime) -> Result<(), Fail> {
     };
     tell_ready(&rt)?;
     let report = run_shared(&rt, rt.alloc(), document(), &options);
-    tell(&rt, answer_of(&rt, report, beginning()))
+    tell(&rt, end_of(&rt, report, beginning()))
 }
 
 /// The run between a reader and a writer that has room for the listing. Where memory is refused nothing is written.
@@ -115,18 +115,18 @@ fn run_once<R: Threads + Wait + Abort + Sync>(
     rt: &R,
     alloc: Global,
     mut written: Vec<u8>,
-) -> Answer {
+) -> CallEnd {
     let mut reader = document();
     match run(rt, alloc, &mut reader, &mut written, &PLAIN) {
         Ok(status) => {
             check_eq(rt, &status, &1);
             check_bytes(rt, written.as_slice(), listing());
-            Answer::Given
+            CallEnd::Given
         }
         Err(fault) => {
             check_eq(rt, &fault, &RunFault::Memory);
             assert!(rt; written.is_empty());
-            Answer::Refused
+            CallEnd::Refused
         }
     }
 }

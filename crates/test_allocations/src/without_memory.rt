@@ -1,7 +1,7 @@
-//! Calls that take no memory, and so have their answer whatever is refused.
+//! Calls that take no memory, and so return what they have to, whichever allocation fails.
 ghost use Rattle.std.specs.Prelude.{◌≡◌, []};
 
-use crate::answers::{Answer, check_bytes, check_eq, tell, tell_ready};
+use crate::call_ends::{CallEnd, check_bytes, check_eq, tell, tell_ready};
 use crate::jobs::{book, check_book, proposed, rules};
 use crate::patterns::name;
 use sno_book::{Book, Ready};
@@ -25,7 +25,7 @@ fn names_without_memory(rt: HostRuntime) -> Result<(), Fail> {
     assert!(rt; word.is_reserved() && Name::read(b"1A".as_slice()).is_none());
     check_eq(&rt, &names.place(&name(&rt, b"D".as_slice())), &Some(0));
     check_eq(&rt, &names.place(&word), &None);
-    tell(&rt, Answer::Given)
+    tell(&rt, CallEnd::Given)
 }
 
 #[test]
@@ -34,7 +34,7 @@ fn a_set_without_memory(rt: HostRuntime) -> Result<(), Fail> {
     tell_ready(&rt)?;
     let class = Class::new(members).expect(&rt, "it is a set");
     assert!(rt; class.has(b'b') && !class.has(b'c') && Class::new(Vec::new(rt.alloc())).is_none());
-    tell(&rt, Answer::Given)
+    tell(&rt, CallEnd::Given)
 }
 
 #[test]
@@ -43,7 +43,7 @@ fn a_text_without_memory(rt: HostRuntime) -> Result<(), Fail> {
     tell_ready(&rt)?;
     let text = Text::new(characters)?;
     check_bytes(&rt, text.bytes(), b"xyz".as_slice());
-    tell(&rt, Answer::Given)
+    tell(&rt, CallEnd::Given)
 }
 
 #[test]
@@ -54,7 +54,7 @@ fn a_status_without_memory(rt: HostRuntime) -> Result<(), Fail> {
         &status_of(&RunFault::Document(DocumentFault::NotJson)),
         &2,
     );
-    tell(&rt, Answer::Given)
+    tell(&rt, CallEnd::Given)
 }
 
 /// What a statement is made of, but its pattern.
@@ -100,7 +100,7 @@ fn a_statement_without_memory(rt: HostRuntime) -> Result<(), Fail> {
     let parts = make_parts(rt.alloc())?;
     tell_ready(&rt)?;
     check_statement(&rt, parts);
-    tell(&rt, Answer::Given)
+    tell(&rt, CallEnd::Given)
 }
 
 /// Takes back a proposal that is ready.
@@ -121,7 +121,7 @@ fn a_book_without_memory(rt: HostRuntime) -> Result<(), Fail> {
     let ready = book.prepare(proposal).map_err(|(fault, _)| fault)?;
     tell_ready(&rt)?;
     check_book_with_ready(&rt, &book, ready, &name);
-    tell(&rt, Answer::Given)
+    tell(&rt, CallEnd::Given)
 }
 
 /// A proposal that is ready is accepted, and the receipt audited.
@@ -136,7 +136,7 @@ fn a_commit_is_finished_without_memory(rt: HostRuntime) -> Result<(), Fail> {
     let receipt = book.finish(ready);
     check_book(&rt, &book, b"v=k".as_slice(), 1, 1);
     check_eq(&rt, &book.audit(slice::from_ref(&receipt)), &Ok(()));
-    tell(&rt, Answer::Given)
+    tell(&rt, CallEnd::Given)
 }
 
 /// The seats have accepted and seen nothing.
@@ -166,7 +166,7 @@ fn count_and_close<L: Naming, R: Wait + Abort + Print>(
     let book = closed.ok().expect(rt, "it is closed");
     check_book(rt, &book, b"x".as_slice(), 0, 0);
     told?;
-    tell(rt, Answer::Given)
+    tell(rt, CallEnd::Given)
 }
 
 fn count_and_close_one<R: Wait + Abort + Print>(

@@ -1,7 +1,10 @@
 //! The matcher compared with the plain evaluator.
 use sno_machine::{Code, Found, MatchFault, compile};
 use sno_pattern::{Name, Text};
-use sno_statement::{Outcome, Statement, StatementFault, perform};
+use sno_statement::{
+    BindingsRef, DatumRef, Match, MatchRef, Outcome, Pass, Statement, StatementFault, perform,
+    rewrite,
+};
 use std::alloc::Global;
 use std::test::Fail;
 
@@ -175,6 +178,92 @@ fn check_pass(alloc: Global, statement: &Statement, text: &Text) -> Result<(), F
     Err("the pass doesn't find what searches of the plain evaluator do".into())
 }
 
+/// How many matches an outcome has.
+fn count_in(outcome: &Outcome) -> u64 {
+    match outcome {
+        Outcome::Matched { .. } => 1,
+        Outcome::Failed { .. } => 0,
+        Outcome::Repeated { matches, .. } => u64::from(*matches),
+        Outcome::All { matches, .. } => matches.len() as u64,
+    }
+}
+
+/// Compares what rewriting a text leaves with the statement's outcome: the number of matches and the new text, or the refusal.
+fn check_rewriting(alloc: Global, statement: &Statement, text: &Text) -> Result<(), Fail> {
+    match (
+        perform(alloc, statement, text),
+        rewrite(alloc, statement, text),
+    ) {
+        (Ok(outcome), Ok(rewritten)) => {
+            let after = rewritten.after.as_ref();
+            if rewritten.matches == count_in(&outcome) && after == outcome.after() {
+                return Ok(());
+            }
+        }
+        (Err(fault), Err(other)) if fault == other => return Ok(()),
+        _ => {}
+    }
+    Err("rewriting the text leaves something else than performing the statement".into())
+}
+
+/// Whether a value that is lent is the other one.
+fn is_same_value(value: &DatumRef<'_>, other: &DatumRef<'_>) -> bool {
+    match (value, other) {
+        (DatumRef::Str(text), DatumRef::Str(other)) => text.bytes() == other.bytes(),
+        (DatumRef::Int(number), DatumRef::Int(other)) => number == other,
+        _ => false,
+    }
+}
+
+/// Whether bindings are the same, place by place and by each name.
+fn are_same_bindings(bindings: &BindingsRef<'_>, others: &BindingsRef<'_>) -> bool {
+    for place in 0..bindings.len() {
+        let (Some((name, value)), Some((other, other_value))) = (
+            bindings.get(place),
+            others.get(place),
+        ) else {
+            return false;
+        };
+        let Some(by_name) = others.value(name) else {
+            return false;
+        };
+        if name != other
+            || !is_same_value(&value, &other_value)
+            || !is_same_value(&value, &by_name)
+        {
+            return false;
+        }
+    }
+    bindings.len() == others.len() && bindings.is_empty() == others.is_empty()
+}
+
+fn is_same_match(one: &Match, other: &MatchRef<'_>) -> bool {
+    one.start == other.start
+        && one.end == other.end
+        && are_same_bindings(&one.bindings.lend(), &other.bindings)
+}
+
+/// Compares the matches that a pass gives one after the other with those of the outcome.
+fn check_each_match(alloc: Global, statement: &Statement, text: &Text) -> Result<(), Fail> {
+    let Ok(Outcome::All { matches, .. }) = perform(alloc, statement, text) else {
+        return Ok(());
+    };
+    let code = compile(alloc, statement.rules(), statement.pattern())?;
+    let mut pass = Pass::new(alloc, statement, &code, text);
+    for place in 0..matches.len() {
+        let (Ok(Some(next)), Some(kept)) = (pass.next(alloc), matches.get(place)) else {
+            return Err("the pass has fewer matches than the outcome".into());
+        };
+        if !is_same_match(&next, &kept) {
+            return Err("a match of the pass is another than that of the outcome".into());
+        }
+    }
+    match pass.next(alloc) {
+        Ok(None) if matches.get(matches.len()).is_none() => Ok(()),
+        _ => Err("the pass has more matches than the outcome".into()),
+    }
+}
+
 /// Compares the matcher with the evaluator, anchored and not. If the statement is for one match, and a number of trials is
 /// expected, compares that too.
 pub(crate) fn check_beside(
@@ -184,8 +273,10 @@ pub(crate) fn check_beside(
     expected: Option<u32>,
 ) -> Result<(), Fail> {
     let trials = trials_beside(alloc, statement, text)?;
+    check_rewriting(alloc, statement, text)?;
     if statement.is_for_all() {
         check_pass(alloc, statement, text)?;
+        check_each_match(alloc, statement, text)?;
     }
     if statement.repeat().is_some()
         || statement.is_for_all()

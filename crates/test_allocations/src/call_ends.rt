@@ -5,18 +5,18 @@ use std::test::Fail;
 
 /// What a call came to.
 #[derive(Clone, Copy, Debug, PartialEq, Eq)]
-pub(crate) enum Answer {
-    /// What it has to answer.
+pub(crate) enum CallEnd {
+    /// What it has to return.
     Given,
     /// That memory was refused.
     Refused,
 }
 
-impl fmt::Display for Answer {
+impl fmt::Display for CallEnd {
     fn fmt<W: fmt::Write>(&self, f: &mut fmt::Formatter<W>) -> fmt::Result {
         f.write_str(match self {
-            Answer::Given => "given",
-            Answer::Refused => "refused",
+            CallEnd::Given => "given",
+            CallEnd::Refused => "refused",
         })
     }
 }
@@ -38,13 +38,13 @@ pub(crate) fn tell_ready(rt: &impl Print) -> Result<(), Fail> {
 }
 
 /// Tells what a call came to.
-pub(crate) fn tell(rt: &impl Print, answer: Answer) -> Result<(), Fail> {
-    println!(rt; "{answer}")?;
+pub(crate) fn tell(rt: &impl Print, end: CallEnd) -> Result<(), Fail> {
+    println!(rt; "{end}")?;
     Ok(())
 }
 
 /// Tells that all is made that the call needs, and what it comes to each of two times.
-pub(crate) fn tell_twice<F: Fn() -> Answer>(rt: &impl Print, call: F) -> Result<(), Fail>
+pub(crate) fn tell_twice<F: Fn() -> CallEnd>(rt: &impl Print, call: F) -> Result<(), Fail>
     requires { F.IsAlwaysCallable call }
 {
     tell_ready(rt)?;
