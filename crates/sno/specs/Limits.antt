@@ -1,0 +1,7 @@
+-- The limits of the program that are in no library, as numbers.
+use Rattle.std.specs.Prelude.{◌≡◌, refl}
+use Rattle.sno.specs.declared.disk.TheConstants.{NAMES}
+
+-- how many names are tried for a new file
+most_names : NAMES ≡ 1000
+most_names = refl
