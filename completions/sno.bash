@@ -14,14 +14,14 @@ _sno() {
         case "${COMP_WORDS[1]}" in
             check) options=" --json --strict --help -h " ;;
             edit) options=" --diff --check --sync --anchor --trials --help -h " ;;
-            trace) options=" --statement --lines --html --help -h " ;;
+            trace) options=" --statement --match --lines --html --help -h " ;;
             serve) options=" --seats --tries --trials --listing --help -h " ;;
             *) options="" ;;
         esac
     fi
     case "$previous" in
         --trials) options="1000 1000000 1000000000" ;;
-        --statement) options="1 2 3 4 5 6 7 8 9" ;;
+        --statement|--match) options="1 2 3 4 5 6 7 8 9" ;;
         --lines) options="100 1000 10000" ;;
         --seats) options="1 2 4 8 16" ;;
         --tries) options="1 10 100 1000" ;;

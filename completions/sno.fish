@@ -15,6 +15,7 @@ complete -c sno -n '__fish_seen_subcommand_from edit' -l sync -d 'Wait until eac
 complete -c sno -n '__fish_seen_subcommand_from edit' -l anchor -d 'Anchor each statement that does not say itself whether it is anchored'
 complete -c sno -n '__fish_seen_subcommand_from edit' -l trials -x -a '1000 1000000 1000000000' -d 'How many trials a match may take'
 complete -c sno -n '__fish_seen_subcommand_from trace' -l statement -x -a '(seq 9)' -d 'The number of the statement'
+complete -c sno -n '__fish_seen_subcommand_from trace' -l match -x -a '(seq 9)' -d 'The number of the match'
 complete -c sno -n '__fish_seen_subcommand_from trace' -l lines -x -a '100 1000 10000' -d 'How many lines are shown'
 complete -c sno -n '__fish_seen_subcommand_from trace' -l html -d 'Write a page of HTML'
 complete -c sno -n '__fish_seen_subcommand_from serve' -l seats -x -a '1 2 4 8 16' -d 'How many threads take lines'

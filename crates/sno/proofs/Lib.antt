@@ -1,1 +1,3 @@
 pub mod DiskLemmas
+mod SearchSteps
+mod RoundSteps

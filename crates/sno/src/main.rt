@@ -10,7 +10,9 @@
 //! | `checks` | `sno check`: a document is checked by `sno_check`, and its report written |
 //! | `edit_options`, `edits` | `sno edit`: its arguments; files are edited by `sno_edit` |
 //! | `disk`, `synced` | the files of the system; new files that have to be on the disk |
-//! | `trace_command`, `traces` | `sno trace`: its arguments; a statement is matched by `sno_trace`, and the lines written |
+//! | `trace_command`, `traces` | `sno trace`: its arguments; the statements before the one that is traced are performed |
+//! | `searches`, `rounds` | the search of a pass, or the round of a repeated statement, that a number asks for |
+//! | `trace_lines`, `trace_faults` | the lines of a trace, which `sno_trace` makes; why there are none |
 //! | `serve_command`, `serves` | `sno serve`: its arguments; a document is served by `sno_serve`, and the listing written |
 //! | `program` | from the arguments and the streams to the status |
 #![tactic(auto)]
@@ -23,11 +25,15 @@ mod edit_options;
 mod edits;
 mod faults;
 mod program;
+mod rounds;
+mod searches;
 mod serve_command;
 mod serves;
 mod streams;
 mod synced;
 mod trace_command;
+mod trace_faults;
+mod trace_lines;
 mod traces;
 
 use std::env;

@@ -4,12 +4,13 @@ use crate::checks::document_bytes;
 use crate::faults::{FAILED, MISUSED, ProgramFault};
 use crate::streams::write_all;
 use crate::trace_command::TraceOptions;
-use sno_book::{Book, CommitFault, Snapshot, SnapshotFault, fresh_is_kin, propose};
+use crate::trace_faults::NoTrace;
+use crate::trace_lines::{TraceLines, match_lines, pass_lines, round_lines};
+use sno_book::{Book, CommitFault, SnapshotFault, fresh_is_kin, propose};
 use sno_document::{Document, DocumentFault, Mode, read_document};
-use sno_machine::{MatchFault, compile};
 use sno_pattern::Text;
 use sno_statement::{Statement, StatementFault, USUAL_TRIALS};
-use sno_trace::{MatchTrace, Noted, TraceFault, lines_of, page_of, trace};
+use sno_trace::page_of;
 use std::alloc::{AllocError, Global};
 use std::io::{Read, Write};
 use std::rt::Files;
@@ -18,13 +19,13 @@ use std::sync::Arc;
 /// The status after a document that is refused.
 const INVALID: u8 = 2;
 
-/// What is written if calls would nest too deep.
-const TOO_DEEP: &str = "too deep: with fewer --lines less is nested";
+/// What is written if the text of the statement isn't there.
+const NO_TEXT: &[u8] = b"no text\n";
 
 /// What is written, and the status after it.
 #[derive(Drop)]
-struct TraceLines {
-    lines: Vec<u8>,
+struct Written {
+    bytes: Vec<u8>,
     status: u8,
 }
 
@@ -61,108 +62,109 @@ fn advance_all(
     Ok(())
 }
 
-/// Whether the match of the statement succeeds; of a repeated one, the first match. A match that takes too many trials doesn't.
-fn succeeds(alloc: Global, statement: &Statement, text: &Text) -> Result<bool, AllocError> {
-    let code = compile(alloc, statement.rules(), statement.pattern())?;
-    match code.first(alloc, text, statement.anchored(), statement.limit()) {
-        Ok(found) => Ok(found.end.is_some()),
-        Err(MatchFault::TooManyTrials) => Ok(false),
-        Err(MatchFault::Memory) => Err(AllocError),
+/// The statement in one round, if it is repeated; otherwise as it is.
+fn in_one_round(statement: Statement) -> Statement {
+    match statement.repeat() {
+        None => statement,
+        Some(_) => statement.repeated(1),
     }
 }
 
-/// What the trace says of the match; `None` if it was cut off.
-fn outcome_in(trace: &MatchTrace<'_>, is_refused: bool) -> Option<bool> {
-    match trace.events.last() {
-        Some((_, Noted::End(_, _))) => Some(true),
-        Some((_, Noted::Stop)) => { if is_refused { Some(false) } else { None } }
-        _ => Some(false),
+/// Refused with `NoMatch` if the statement can't have a match with this number, whatever its text.
+fn check_number(statement: &Statement, number: u32) -> Result<(), NoTrace> {
+    let most = statement.repeat().unwrap_or(1);
+    if !statement.is_for_all() && number > most {
+        return Err(NoTrace::NoMatch(most));
     }
+    Ok(())
 }
 
-/// The trace of the statement on a text.
-fn show(
+/// The lines of the match with this number, on this text.
+fn lines_on(
     alloc: Global,
-    statement: &Arc<Statement>,
-    snapshot: Snapshot,
+    statement: Arc<Statement>,
+    text: Arc<Text>,
     options: &TraceOptions<'_>,
-) -> Result<TraceLines, TraceFault> {
+) -> Result<TraceLines, NoTrace> {
+    let earlier = options.number.saturating_sub(1);
     let most = options.lines;
-    let is_refused = statement.limit() <= most;
-    let limit = if is_refused { statement.limit() } else { most };
-    let found = trace(
-        alloc,
-        statement.rules(),
-        statement.pattern(),
-        &snapshot.text,
-        statement.anchored(),
-        limit as usize,
-    )?;
-    let lines = if options.html {
-        page_of(
-            alloc,
-            statement.rules(),
-            &snapshot.text,
-            &found,
-            most as usize,
-            is_refused,
-        )?
-    } else {
-        lines_of(
-            alloc,
-            statement.rules(),
-            &snapshot.text,
-            &found,
-            most as usize,
-            is_refused,
-        )?
+    if statement.is_for_all() {
+        return Ok(pass_lines(alloc, &statement, text, earlier, most)?);
+    }
+    if statement.repeat().is_none() {
+        return Ok(match_lines(alloc, &statement, text, most)?);
+    }
+    // No one else has a statement of the document that wasn't performed.
+    let Ok(statement) = Arc::try_unwrap(statement) else {
+        return Err(NoTrace::Memory);
     };
-    let matched = match outcome_in(&found, is_refused) {
-        Some(matched) => matched,
-        None => succeeds(alloc, statement, &snapshot.text)?,
-    };
-    Ok(TraceLines {
-        lines,
-        status: if matched { 0 } else { 1 },
-    })
+    let once = in_one_round(statement);
+    Ok(round_lines(alloc, &once, text, earlier, most)?)
 }
 
-/// The trace of the statement with this number, on the text as the statements before it leave it; `None` if there is no such
-/// statement.
+/// What is written of a trace.
+fn bytes_of(alloc: Global, shown: TraceLines, html: bool) -> Result<Written, AllocError> {
+    let TraceLines {
+        text,
+        lines,
+        matched,
+    } = shown;
+    let status = if matched { 0 } else { 1 };
+    let bytes = if html {
+        page_of(alloc, &text, &lines)?
+    } else {
+        lines
+    };
+    Ok(Written { bytes, status })
+}
+
+/// The trace of the statement with this number, on the text as the statements before it leave it.
 fn shown(
     alloc: Global,
     document: Document,
     options: &TraceOptions<'_>,
-) -> Result<Option<TraceLines>, TraceFault> {
+) -> Result<Written, NoTrace> {
     let Document {
         mut book,
-        statements,
+        mut statements,
         ..
     } = document;
-    let place = options.statement.saturating_sub(1) as usize;
-    if place >= statements.len() {
-        return Ok(None);
+    statements.truncate(options.statement as usize);
+    if statements.len() < options.statement as usize {
+        return Err(NoTrace::NoStatement);
     }
-    let (before, rest) = statements.split_at(place);
-    advance_all(alloc, &mut book, before)?;
-    let Some(statement) = rest.first() else {
-        return Ok(None);
+    let Some(statement) = statements.pop() else {
+        return Err(NoTrace::NoStatement);
     };
+    check_number(&statement, options.number)?;
+    advance_all(alloc, &mut book, &statements)?;
     match book.snapshot(statement.text()) {
-        Ok(snapshot) => Ok(Some(show(alloc, statement, snapshot, options)?)),
-        Err(SnapshotFault::NoText) => Ok(Some(TraceLines {
-            lines: Vec::from_slice(alloc, b"no text\n")?,
+        Ok(snapshot) => {
+            let text = Arc::try_clone(&snapshot.text)?;
+            let shown = lines_on(alloc, statement, text, options)?;
+            Ok(bytes_of(alloc, shown, options.html)?)
+        }
+        Err(SnapshotFault::NoText) => Ok(Written {
+            bytes: Vec::from_slice(alloc, NO_TEXT)?,
             status: 1,
-        })),
-        Err(SnapshotFault::Memory) => Err(TraceFault::Memory),
+        }),
+        Err(SnapshotFault::Memory) => Err(NoTrace::Memory),
     }
 }
 
-/// Shows how the match of a statement goes, and returns the status:
+/// The status after this fault.
+fn status_of(fault: NoTrace) -> u8 {
+    match fault {
+        NoTrace::NoStatement | NoTrace::NoMatch(_) => MISUSED,
+        NoTrace::TooDeep | NoTrace::Memory => FAILED,
+    }
+}
+
+/// Shows how a match of a statement goes, and returns the status:
 ///
-/// - 0 if it succeeds, and 1 if it fails or is refused;
+/// - 0 if the match that is asked for is there, and 1 if it isn't, or is refused;
 /// - 2 if the document is refused, after the line of its fault in `errors`;
-/// - 3 if the document has no such statement, which `errors` says;
+/// - 3 if the document has no such statement, or the statement can't have such a match, which `errors` says;
 /// - 4 if calls would nest too deep, which `errors` says.
 ///
 /// Refused with `Read`, `Memory` or `Write`. Unless it is `Write`, nothing was written to `output`.
@@ -188,18 +190,14 @@ pub(crate) fn run_trace<R: Files, I: Read, W: Write, E: Write>(
         }
     };
     match shown(alloc, document, options) {
-        Ok(Some(shown)) => {
-            write_all(output, &shown.lines)?;
-            Ok(shown.status)
+        Ok(written) => {
+            write_all(output, &written.bytes)?;
+            Ok(written.status)
         }
-        Ok(None) => {
-            let _printed = errors.writeln("error: the document has no such statement");
-            Ok(MISUSED)
+        Err(NoTrace::Memory) => Err(ProgramFault::Memory),
+        Err(fault) => {
+            let _printed = errors.writeln(fault);
+            Ok(status_of(fault))
         }
-        Err(TraceFault::TooDeep) => {
-            let _printed = errors.writeln(TOO_DEEP);
-            Ok(FAILED)
-        }
-        Err(TraceFault::Memory) => Err(ProgramFault::Memory),
     }
 }

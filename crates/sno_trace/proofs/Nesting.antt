@@ -1,5 +1,5 @@
 -- How deep calls are nested, from how deep they are within.
-use Rattle.std.proofs.Common.{◌≡◌, ℕ, zero, suc, ◌+◌, ◌-◌, ◌<◌, ◌⊎◌, inl, inr, List, [], ◌∷◌, Some, Result, Ok, Err, drop, slice_get, refl, ap, sym, subst, ◌∙◌, arith}
+use Rattle.std.proofs.Common.{◌≡◌, ◌≤◌, ℕ, zero, suc, ◌+◌, ◌-◌, ◌<◌, ◌⊎◌, inl, inr, List, [], ◌∷◌, Some, Result, Ok, Err, drop, slice_get, refl, ap, sym, subst, ◌∙◌, arith}
 use Rattle.std.proofs.Math.Numerals.{sub-one}
 use Rattle.std.specs.List.{Contains, range_with_len}
 use Rattle.std.specs.Result.{IfErr, IsErrAnd}
@@ -119,5 +119,7 @@ in_range a (suc n) (suc d) h =
     let there : Contains (range_with_len (a + 1) n) (a + suc d) = subst (Contains (range_with_len (a + 1) n)) (omega arith) one in
     (suc there.0, omega (arith, there.1), there.2)
 
-pub in_starts : (s last : ℕ) (l : List ℕ) → s < last + 1 → range_with_len 0 (last + 1) ≡ l → Contains l s
-in_starts s last l h is = subst (λ m. Contains m s) is (subst (Contains (range_with_len 0 (last + 1))) (omega arith) (in_range 0 (last + 1) s h))
+pub in_starts : (s c last : ℕ) (l : List ℕ) → c ≤ s → s < last + 1 → range_with_len c (last + 1 - c) ≡ l → Contains l s
+in_starts s c last l past h is =
+    let there : c + (s - c) ≡ s = omega (arith, past) in
+    subst (λ m. Contains m s) is (subst (Contains (range_with_len c (last + 1 - c))) there (in_range c (last + 1 - c) (s - c) (omega (arith, past, h))))

@@ -1,15 +1,15 @@
 -- The starts of a match, one after the other, within a limit of trials.
-use Rattle.std.proofs.Common.{◌≡◌, ℕ, zero, suc, ◌+◌, ◌-◌, ◌≤◌, ◌<◌, Bool, true, false, List, [], ◌∷◌, ◌++◌, map, ap, sym, ◌∙◌, arith, refl, append_assoc}
+use Rattle.std.proofs.Common.{◌≡◌, ℕ, zero, suc, ◌+◌, ◌-◌, ◌≤◌, ◌<◌, Bool, true, false, List, [], ◌∷◌, ◌++◌, length, map, ap, sym, ◌∙◌, arith, refl, append_assoc}
 use Rattle.std.proofs.lemmas.List.{append-nil}
 use Rattle.std.specs.List.{flat_map, range_with_len, list_any}
 use Rattle.sno_pattern.specs.Tree.{Tree}
 use Rattle.sno_pattern.specs.Results.{enough_depth}
-use Rattle.sno_pattern.specs.Outcome.{starts}
+use Rattle.sno_pattern.specs.Outcome.{starts, starts_from}
 use Rattle.sno_trace.specs.declared.events.Noted.{Noted}
 use Rattle.sno_trace.specs.declared.events.Noted.TheVariants.{Try, Set, End, Halt, Stop}
 use Rattle.sno_trace.specs.Noted.{noted, upto}
 use Rattle.sno_trace.specs.Steps.{is_ending, trials_of}
-use Rattle.sno_trace.specs.Promise.{Shown, IsShown, is_stop, until_ended, first_shown, shown_from, noted_match}
+use Rattle.sno_trace.specs.Promise.{Shown, IsShown, IsShownFrom, is_stop, until_ended, first_shown, shown_from, noted_search}
 use Rattle.sno_trace.proofs.Ranges.{up_to, up_to_more}
 
 -- a start whose events end nothing is shown whole
@@ -83,14 +83,30 @@ module _ (t : List ℕ) (bodies : List Tree) (k : ℕ) (p : Tree) (total : List 
       ∙ e
 
 -- all starts are still to be tried
-pub all_starts : (t : List ℕ) (bodies : List Tree) (k : ℕ) (p : Tree) (anchored : Bool) (limit last : ℕ) (all : List Shown) → all ≡ [] → k ≡ enough_depth t bodies → range_with_len 0 (last + 1) ≡ starts t anchored
-    → all ++ first_shown limit (until_ended (flat_map (shown_from t bodies k p) (up_to 0 last))) ≡ first_shown limit (noted_match t bodies (enough_depth t bodies) p anchored)
-all_starts t bodies k p anchored limit last all none deep are =
-    let same : suc last - 0 ≡ last + 1 = omega arith in
-    ap (λ m. m ++ first_shown limit (until_ended (flat_map (shown_from t bodies k p) (up_to 0 last)))) none
-    ∙ ap (λ j. first_shown limit (until_ended (flat_map (shown_from t bodies k p) (range_with_len 0 j)))) same
+pub all_starts : (t : List ℕ) (bodies : List Tree) (k : ℕ) (p : Tree) (anchored : Bool) (c limit last : ℕ) (all : List Shown) → all ≡ [] → k ≡ enough_depth t bodies → range_with_len c (last + 1 - c) ≡ starts_from t anchored c
+    → all ++ first_shown limit (until_ended (flat_map (shown_from t bodies k p) (up_to c last))) ≡ first_shown limit (noted_search t bodies (enough_depth t bodies) p anchored c)
+all_starts t bodies k p anchored c limit last all none deep are =
+    let same : suc last - c ≡ last + 1 - c = omega arith in
+    ap (λ m. m ++ first_shown limit (until_ended (flat_map (shown_from t bodies k p) (up_to c last)))) none
+    ∙ ap (λ j. first_shown limit (until_ended (flat_map (shown_from t bodies k p) (range_with_len c j)))) same
     ∙ ap (λ m. first_shown limit (until_ended (flat_map (shown_from t bodies k p) m))) are
-    ∙ ap (λ j. first_shown limit (noted_match t bodies j p anchored)) deep
+    ∙ ap (λ j. first_shown limit (noted_search t bodies j p anchored c)) deep
+
+-- the starts of a search from a cursor on
+pub single_start : (t : List ℕ) (c : ℕ) → range_with_len c (c + 1 - c) ≡ starts_from t true c
+single_start t c = let one : c + 1 - c ≡ 1 = omega arith in ap (range_with_len c) one
+
+pub each_start : (t : List ℕ) (c : ℕ) → range_with_len c (length t + 1 - c) ≡ starts_from t false c
+each_start t c = refl
+
+-- the starts of a search from cursor 0 are those of a match
+pub starts_same : (t : List ℕ) (anchored : Bool) → starts_from t anchored 0 ≡ starts t anchored
+starts_same t true = refl
+starts_same t false = let same : length t + 1 - 0 ≡ length t + 1 = omega arith in ap (range_with_len 0) same
+
+-- what is shown of a search from cursor 0 is shown of a match
+pub shown_from_first : (t : List ℕ) (bodies : List Tree) (p : Tree) (anchored : Bool) (n : ℕ) (shown : List Shown) → IsShownFrom t bodies p anchored 0 n shown → IsShown t bodies p anchored n shown
+shown_from_first t bodies p anchored n shown is = is ∙ ap (λ m. first_shown n (until_ended (flat_map (shown_from t bodies (enough_depth t bodies) p) m))) (starts_same t anchored)
 
 -- What shows no Stop within a limit is the same within a higher one.
 pub settled : (m n : ℕ) (l : List Shown) → m ≤ n → list_any is_stop (first_shown m (until_ended l)) ≡ false → first_shown m (until_ended l) ≡ first_shown n (until_ended l)
@@ -103,9 +119,9 @@ settled m n ((s, End e a) ∷ l) h none = refl
 settled m n ((s, Halt) ∷ l) h none = refl
 settled m n ((s, Stop) ∷ l) h none = cc
 
--- the same, of a match
-pub settled_match : (t : List ℕ) (bodies : List Tree) (p : Tree) (anchored : Bool) (m n : ℕ) (shown same : List Shown) → m ≤ n → false ≡ list_any is_stop same → same ≡ shown
-    → IsShown t bodies p anchored m shown → IsShown t bodies p anchored n shown
-settled_match t bodies p anchored m n shown same h none are is =
-    let all : List Shown = flat_map (shown_from t bodies (enough_depth t bodies) p) (starts t anchored) in
+-- the same, of a search
+pub settled_search : (t : List ℕ) (bodies : List Tree) (p : Tree) (anchored : Bool) (c m n : ℕ) (shown same : List Shown) → m ≤ n → false ≡ list_any is_stop same → same ≡ shown
+    → IsShownFrom t bodies p anchored c m shown → IsShownFrom t bodies p anchored c n shown
+settled_search t bodies p anchored c m n shown same h none are is =
+    let all : List Shown = flat_map (shown_from t bodies (enough_depth t bodies) p) (starts_from t anchored c) in
     is ∙ settled m n all h (ap (list_any is_stop) (sym (are ∙ is)) ∙ sym none)

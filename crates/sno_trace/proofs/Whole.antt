@@ -3,13 +3,13 @@ use Rattle.std.proofs.Common.{◌≡◌, ◌≤◌, ◌<◌, ℕ, zero, suc, Boo
 use Rattle.std.specs.List.{flat_map}
 use Rattle.sno_pattern.specs.Tree.{Tree}
 use Rattle.sno_pattern.specs.Results.{enough_depth}
-use Rattle.sno_pattern.specs.Outcome.{Tried, starts, tried_from, cut_scan, scan, found_in, trials_in, outcome_at, trials_at}
+use Rattle.sno_pattern.specs.Outcome.{Tried, starts, starts_from, tried_from, cut_scan, found_in, trials_in, outcome_at, outcome_at_from, trials_at, trials_at_from, trials_from}
 use Rattle.sno_pattern.specs.declared.events.Assign.{Assign}
 use Rattle.sno_pattern.specs.declared.events.Event.TheVariants as event
 use Rattle.sno_trace.specs.declared.events.Noted.{Noted}
 use Rattle.sno_trace.specs.declared.events.Noted.TheVariants.{Try, Set, End, Halt, Stop}
 use Rattle.sno_trace.specs.Noted.{erase, noted}
-use Rattle.sno_trace.specs.Promise.{Shown, until_ended, first_shown, shown_from, noted_match, off, until_end, before_stop, ShownIsTheMatch, ShownIsAFront, ShownIsFull}
+use Rattle.sno_trace.specs.Promise.{Shown, until_ended, first_shown, shown_from, off, until_end, before_stop, IsShownFrom, IsWholeSearch, IsFrontFrom, ShownIsTheMatch, ShownIsAFront, ShownIsFull}
 use Rattle.sno_trace.proofs.Erasing.{notes_off}
 
 off-append : (l m : List Shown) → off (l ++ m) ≡ off l ++ off m
@@ -66,32 +66,6 @@ all_first ((s, End e a) ∷ l) n h = refl
 all_first ((s, Halt) ∷ l) n h = refl
 all_first ((s, Stop) ∷ l) n h = refl
 
-module _ (t : List ℕ) (bodies : List Tree) (k : ℕ) (p : Tree) where
-  off-starts : (ss : List ℕ) → off (flat_map (shown_from t bodies k p) ss) ≡ flat_map (tried_from t bodies k p) ss
-  off-starts [] = refl
-  off-starts (s ∷ ss) =
-      off-append (shown_from t bodies k p s) (flat_map (shown_from t bodies k p) ss)
-      ∙ ap (λ r. r ++ off (flat_map (shown_from t bodies k p) ss)) (off-map s (noted t bodies k p s) ∙ ap (map (λ x. (s, x))) (notes_off t bodies k p s))
-      ∙ ap (λ r. tried_from t bodies k p s ++ r) (off-starts ss)
-
-  pub off-match : (anchored : Bool) → off (noted_match t bodies k p anchored) ≡ until_end (scan t bodies k p anchored)
-  off-match anchored =
-      off-until (flat_map (shown_from t bodies k p) (starts t anchored))
-      ∙ ap until_end (off-starts (starts t anchored))
-      ∙ until-cut (flat_map (tried_from t bodies k p) (starts t anchored))
-
-pub shown_is_the_match : ShownIsTheMatch
-unfolding outcome_at trials_at
-shown_is_the_match t bodies p anchored n shown is few =
-    let k : ℕ = enough_depth t bodies in
-    let same : off (noted_match t bodies k p anchored) ≡ until_end (scan t bodies k p anchored) = off-match t bodies k p anchored in
-    let count : trials_in (off (noted_match t bodies k p anchored)) ≡ trials_in (scan t bodies k p anchored) = ap trials_in same ∙ trials-until (scan t bodies k p anchored) in
-    let all : shown ≡ noted_match t bodies k p anchored = is ∙ all_first (flat_map (shown_from t bodies k p) (starts t anchored)) n (omega (arith, count, few)) in (
-      ap off all ∙ same,
-      ap (found_in []) (ap off all ∙ same) ∙ found-until [] (scan t bodies k p anchored),
-      ap trials_in (ap off all) ∙ count,
-    )
-
 -- what comes before a Stop is a front
 front_off : (l : List Shown) (n : ℕ) → (rest : List Tried) × (off (before_stop (first_shown n l)) ++ rest ≡ off l)
 front_off [] n = ([], refl)
@@ -101,12 +75,6 @@ front_off ((s, Set a) ∷ l) n = let r = front_off l n in (r.0, ap (λ m. (s, ev
 front_off ((s, End e a) ∷ l) n = let r = front_off l n in (r.0, ap (λ m. (s, event.End e a) ∷ m) r.1)
 front_off ((s, Halt) ∷ l) n = let r = front_off l n in (r.0, ap (λ m. (s, event.Halt) ∷ m) r.1)
 front_off ((s, Stop) ∷ l) n = (off ((s, Stop) ∷ l), refl)
-
-pub shown_is_a_front : ShownIsAFront
-shown_is_a_front t bodies p anchored n shown is =
-    let k : ℕ = enough_depth t bodies in
-    let r = front_off (noted_match t bodies k p anchored) n in
-    (r.0, ap (λ m. off (before_stop m) ++ r.0) is ∙ r.1 ∙ off-match t bodies k p anchored)
 
 -- a Stop comes after as many trials as the limit allows
 full : (l : List Shown) (n : ℕ) → n < trials_in (off (until_ended l)) → trials_in (off (before_stop (first_shown n (until_ended l)))) ≡ n
@@ -118,9 +86,63 @@ full ((s, End e a) ∷ l) n h = absurd (omega (arith, h))
 full ((s, Halt) ∷ l) n h = absurd (omega (arith, h))
 full ((s, Stop) ∷ l) n h = absurd (omega (arith, h))
 
+module _ (t : List ℕ) (bodies : List Tree) (k : ℕ) (p : Tree) where
+  off-starts : (ss : List ℕ) → off (flat_map (shown_from t bodies k p) ss) ≡ flat_map (tried_from t bodies k p) ss
+  off-starts [] = refl
+  off-starts (s ∷ ss) =
+      off-append (shown_from t bodies k p s) (flat_map (shown_from t bodies k p) ss)
+      ∙ ap (λ r. r ++ off (flat_map (shown_from t bodies k p) ss)) (off-map s (noted t bodies k p s) ∙ ap (map (λ x. (s, x))) (notes_off t bodies k p s))
+      ∙ ap (λ r. tried_from t bodies k p s ++ r) (off-starts ss)
+
+  off-until-starts : (ss : List ℕ) → off (until_ended (flat_map (shown_from t bodies k p) ss)) ≡ until_end (cut_scan (flat_map (tried_from t bodies k p) ss))
+  off-until-starts ss = off-until (flat_map (shown_from t bodies k p) ss) ∙ ap until_end (off-starts ss) ∙ until-cut (flat_map (tried_from t bodies k p) ss)
+
+  trials-of-starts : (ss : List ℕ) → trials_in (off (until_ended (flat_map (shown_from t bodies k p) ss))) ≡ trials_in (cut_scan (flat_map (tried_from t bodies k p) ss))
+  trials-of-starts ss = ap trials_in (off-until-starts ss) ∙ trials-until (cut_scan (flat_map (tried_from t bodies k p) ss))
+
+  -- what is shown of these starts, if the limit holds their trials
+  whole_starts : (ss : List ℕ) (n : ℕ) (shown : List Shown) → shown ≡ first_shown n (until_ended (flat_map (shown_from t bodies k p) ss)) → trials_in (cut_scan (flat_map (tried_from t bodies k p) ss)) ≤ n
+      → (off shown ≡ until_end (cut_scan (flat_map (tried_from t bodies k p) ss))) × (found_in [] (off shown) ≡ found_in [] (cut_scan (flat_map (tried_from t bodies k p) ss))) × (trials_in (off shown) ≡ trials_in (cut_scan (flat_map (tried_from t bodies k p) ss)))
+  whole_starts ss n shown is few =
+      let all : shown ≡ until_ended (flat_map (shown_from t bodies k p) ss) = is ∙ all_first (flat_map (shown_from t bodies k p) ss) n (omega (arith, trials-of-starts ss, few)) in (
+        ap off all ∙ off-until-starts ss,
+        ap (found_in []) (ap off all ∙ off-until-starts ss) ∙ found-until [] (cut_scan (flat_map (tried_from t bodies k p) ss)),
+        ap trials_in (ap off all) ∙ trials-of-starts ss,
+      )
+
+  -- what is shown of them before a Stop
+  front_starts : (ss : List ℕ) (n : ℕ) (shown : List Shown) → shown ≡ first_shown n (until_ended (flat_map (shown_from t bodies k p) ss))
+      → (rest : List Tried) × (off (before_stop shown) ++ rest ≡ until_end (cut_scan (flat_map (tried_from t bodies k p) ss)))
+  front_starts ss n shown is =
+      let r = front_off (until_ended (flat_map (shown_from t bodies k p) ss)) n in
+      (r.0, ap (λ m. off (before_stop m) ++ r.0) is ∙ r.1 ∙ off-until-starts ss)
+
+  -- what is shown of them, if the limit doesn't hold their trials
+  full_starts : (ss : List ℕ) (n : ℕ) (shown : List Shown) → shown ≡ first_shown n (until_ended (flat_map (shown_from t bodies k p) ss)) → n < trials_in (cut_scan (flat_map (tried_from t bodies k p) ss))
+      → trials_in (off (before_stop shown)) ≡ n
+  full_starts ss n shown is more = ap (λ m. trials_in (off (before_stop m))) is ∙ full (flat_map (shown_from t bodies k p) ss) n (omega (arith, trials-of-starts ss, more))
+
+pub shown_is_the_match : ShownIsTheMatch
+unfolding outcome_at trials_at
+shown_is_the_match t bodies p anchored n shown is few = whole_starts t bodies (enough_depth t bodies) p (starts t anchored) n shown is few
+
+pub shown_is_a_front : ShownIsAFront
+shown_is_a_front t bodies p anchored n shown is = front_starts t bodies (enough_depth t bodies) p (starts t anchored) n shown is
+
 pub shown_is_full : ShownIsFull
 unfolding trials_at
-shown_is_full t bodies p anchored n shown is more =
-    let k : ℕ = enough_depth t bodies in
-    let count : trials_in (off (noted_match t bodies k p anchored)) ≡ trials_in (scan t bodies k p anchored) = ap trials_in (off-match t bodies k p anchored) ∙ trials-until (scan t bodies k p anchored) in
-    ap (λ m. trials_in (off (before_stop m))) is ∙ full (flat_map (shown_from t bodies k p) (starts t anchored)) n (omega (arith, count, more))
+shown_is_full t bodies p anchored n shown is more = full_starts t bodies (enough_depth t bodies) p (starts t anchored) n shown is more
+
+-- the same, of a search from a cursor on
+pub shown_is_the_search : (t : List ℕ) (bodies : List Tree) (p : Tree) (anchored : Bool) (c n : ℕ) (shown : List Shown)
+    → IsShownFrom t bodies p anchored c n shown → trials_from t bodies p anchored c ≤ n → IsWholeSearch t bodies p anchored c shown
+unfolding outcome_at_from trials_at_from
+shown_is_the_search t bodies p anchored c n shown is few = whole_starts t bodies (enough_depth t bodies) p (starts_from t anchored c) n shown is few
+
+pub shown_begins_the_search : (t : List ℕ) (bodies : List Tree) (p : Tree) (anchored : Bool) (c n : ℕ) (shown : List Shown) → IsShownFrom t bodies p anchored c n shown → IsFrontFrom t bodies p anchored c shown
+shown_begins_the_search t bodies p anchored c n shown is = front_starts t bodies (enough_depth t bodies) p (starts_from t anchored c) n shown is
+
+pub search_is_full : (t : List ℕ) (bodies : List Tree) (p : Tree) (anchored : Bool) (c n : ℕ) (shown : List Shown)
+    → IsShownFrom t bodies p anchored c n shown → n < trials_from t bodies p anchored c → trials_in (off (before_stop shown)) ≡ n
+unfolding trials_at_from
+search_is_full t bodies p anchored c n shown is more = full_starts t bodies (enough_depth t bodies) p (starts_from t anchored c) n shown is more

@@ -4,7 +4,7 @@ use Rattle.std.specs.List.{Contains}
 use Rattle.sno_pattern.specs.Tree as tree
 use Rattle.sno_pattern.specs.Tree.{Tree}
 use Rattle.sno_pattern.specs.Results.{enough_depth}
-use Rattle.sno_pattern.specs.Outcome.{starts}
+use Rattle.sno_pattern.specs.Outcome.{starts, starts_from}
 use Rattle.sno_trace.specs.declared.events.Noted.{Noted}
 use Rattle.sno_trace.specs.declared.events.Noted.TheVariants.{Try, Set, End, Halt, Stop}
 use Rattle.sno_trace.specs.Noted.{noted}
@@ -33,3 +33,7 @@ Nests t bodies (suc n) k p c = ⊥
 -- A match is nested deeper than n, from one of its starts.
 abbrev pub IsDeeper : List ℕ → List Tree → Tree → Bool → ℕ → Type 0
 IsDeeper t bodies p anchored n = (s : ℕ) × Contains (starts t anchored) s × Nests t bodies n (enough_depth t bodies) p s
+
+-- A search from cursor c on is nested deeper than n, from one of its starts.
+abbrev pub IsDeeperFrom : List ℕ → List Tree → Tree → Bool → ℕ → ℕ → Type 0
+IsDeeperFrom t bodies p anchored c n = (s : ℕ) × Contains (starts_from t anchored c) s × Nests t bodies n (enough_depth t bodies) p s

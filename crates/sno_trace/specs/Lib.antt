@@ -2,3 +2,4 @@ pub mod Noted
 pub mod Steps
 pub mod Depth
 pub mod Promise
+pub mod Limits

@@ -4,7 +4,7 @@ use Rattle.std.specs.List.{flat_map}
 use Rattle.sno_pattern.specs.Tree as tree
 use Rattle.sno_pattern.specs.Tree.{Tree}
 use Rattle.sno_pattern.specs.Results.{results, enough_depth}
-use Rattle.sno_pattern.specs.Outcome.{Tried, starts, scan, found_in, trials_in, outcome, trials}
+use Rattle.sno_pattern.specs.Outcome.{Tried, starts, starts_from, scan, scan_from, found_in, trials_in, outcome, outcome_from, trials, trials_from}
 use Rattle.sno_pattern.specs.declared.events.Event.TheVariants as event
 use Rattle.sno_primitives.specs.Leaves.{leaf_ends}
 use Rattle.sno_trace.specs.declared.events.Trial.{Trial}
@@ -143,3 +143,26 @@ ShownIsAFront = (t : List ℕ) (bodies : List Tree) (p : Tree) (anchored : Bool)
 abbrev pub ShownIsFull : Type 0
 ShownIsFull = (t : List ℕ) (bodies : List Tree) (p : Tree) (anchored : Bool) (n : ℕ) (shown : List Shown)
     → IsShown t bodies p anchored n shown → n < trials t bodies p anchored → trials_in (off (before_stop shown)) ≡ n
+
+-- ---- Searches from a cursor on. What stands above is a search from cursor 0.
+-- all that happens in a search from cursor c on, noted, up to the event that ends it
+abbrev pub noted_search : List ℕ → List Tree → ℕ → Tree → Bool → ℕ → List Shown
+noted_search t bodies k p anchored c = until_ended (flat_map (shown_from t bodies k p) (starts_from t anchored c))
+
+-- What is shown of a search from cursor c on under a limit of n trials.
+abbrev pub IsShownFrom : List ℕ → List Tree → Tree → Bool → ℕ → ℕ → List Shown → Type 0
+IsShownFrom t bodies p anchored c n shown = shown ≡ first_shown n (noted_search t bodies (enough_depth t bodies) p anchored c)
+
+-- the events of a search from cursor c on, up to the one that ends it
+abbrev pub search_events : List ℕ → List Tree → Tree → Bool → ℕ → List Tried
+search_events t bodies p anchored c = until_end (scan_from t bodies (enough_depth t bodies) p anchored c)
+
+-- What is shown is, with its notes taken off, the definition's list up to the event that ends the search. So it has the outcome of
+-- the search, and its trials.
+abbrev pub IsWholeSearch : List ℕ → List Tree → Tree → Bool → ℕ → List Shown → Type 0
+IsWholeSearch t bodies p anchored c shown =
+    (off shown ≡ search_events t bodies p anchored c) × (found_in [] (off shown) ≡ outcome_from t bodies p anchored c) × (trials_in (off shown) ≡ trials_from t bodies p anchored c)
+
+-- What is shown before a Stop is, with its notes taken off, a front of that list.
+abbrev pub IsFrontFrom : List ℕ → List Tree → Tree → Bool → ℕ → List Shown → Type 0
+IsFrontFrom t bodies p anchored c shown = (rest : List Tried) × (off (before_stop shown) ++ rest ≡ search_events t bodies p anchored c)

@@ -13,7 +13,8 @@
 //! - [`what_is_shown_begins_the_match`], [`a_limit_is_used_up`]: if they don't fit, what is shown is a front of the match, with as many
 //!   trials as the limit.
 //!
-//! The clauses of [`trace`] are these promises of its result.
+//! The clauses of [`trace`] are these promises of its result. [`trace_from`] is the trace of a search from a cursor on, with the same
+//! promises by the definitions from that cursor on; `trace` is one from cursor 0.
 //!
 //! # What is not promised
 //!
@@ -28,9 +29,9 @@
 //! | `leaves` | what a leaf does |
 //! | `walking` | what a pattern does from a cursor |
 //! | `scanning` | the starts, one after the other |
-//! | `tracing` | `trace` |
+//! | `tracing` | `trace`, `trace_from` |
 //! | `laws` | laws, each the contract of a function that does nothing |
-//! | `spelling`, `lines`, `pages` | a trace in lines, and as a page of HTML |
+//! | `spelling`, `lines`, `pages` | a trace in lines with the numbers of lines that may be asked for, and a page of HTML |
 #![tactic(auto)]
 
 mod events;
@@ -51,6 +52,6 @@ pub use laws::{
     a_limit_is_used_up, notes_are_honest, notes_come_off, what_is_shown_begins_the_match,
     what_is_shown_is_the_match,
 };
-pub use lines::lines_of;
+pub use lines::{MAX_LINES, USUAL_LINES, lines_of};
 pub use pages::page_of;
-pub use tracing::{MatchTrace, trace};
+pub use tracing::{MatchTrace, trace, trace_from};

@@ -7,6 +7,12 @@ use crate::tracing::MatchTrace;
 use sno_pattern::{Assign, Rules, Text, What};
 use std::alloc::{AllocError, Global};
 
+/// The most lines of a trace that may be asked for.
+pub const MAX_LINES: u32 = 10_000;
+
+/// How many lines of a trace are shown if no number is given. A trace that nests too deep is refused, and few trials nest less.
+pub const USUAL_LINES: u32 = 1_000;
+
 /// The most references for which a line is moved to the right.
 const DEEPEST: usize = 30;
 

@@ -1,9 +1,7 @@
 //! A trace as a page of HTML.
 
-use crate::lines::lines_of;
 use crate::spelling::{put, put_escaped, put_number};
-use crate::tracing::MatchTrace;
-use sno_pattern::{Rules, Text};
+use sno_pattern::Text;
 use std::alloc::{AllocError, Global};
 
 const HEAD: &str = "<!DOCTYPE html>
@@ -154,24 +152,17 @@ fn put_rows(out: &mut Vec<u8>, lines: &[u8]) -> Result<(), AllocError> {
     Ok(())
 }
 
-/// A page of HTML with the text as a row of cells, and a row for each line of `lines_of`, in order. The arrow keys go from row to
-/// row, and the cells from the start of the match to the cursor are marked. The page loads nothing, and is read without its script too.
+/// A page of HTML with the text as a row of cells, and a row for each of the lines, in order: those of `lines_of`, and what the caller
+/// puts before and after them. The arrow keys go from row to row, and the cells from the start of the match to the cursor are marked.
+/// The page loads nothing, and is read without its script too.
 ///
 /// Refused only if out of memory.
-pub fn page_of(
-    alloc: Global,
-    rules: &Rules,
-    text: &Text,
-    trace: &MatchTrace<'_>,
-    most: usize,
-    is_refused: bool,
-) -> Result<Vec<u8>, AllocError> {
-    let lines = lines_of(alloc, rules, text, trace, most, is_refused)?;
+pub fn page_of(alloc: Global, text: &Text, lines: &[u8]) -> Result<Vec<u8>, AllocError> {
     let mut out = Vec::new(alloc);
     put(&mut out, HEAD.as_bytes())?;
     put_cells(alloc, &mut out, text.bytes())?;
     put(&mut out, MIDDLE.as_bytes())?;
-    put_rows(&mut out, &lines)?;
+    put_rows(&mut out, lines)?;
     put(&mut out, TAIL.as_bytes())?;
     Ok(out)
 }

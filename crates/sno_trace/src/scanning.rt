@@ -1,12 +1,12 @@
-//! A match, noted: the starts in turn, up to the event that ends it.
-ghost use Rattle.std.specs.Prelude.{◌≡◌, ◌+◌, ◌≤◌, ◌++◌, ℕ, length, map, IfOk, IfErr, OnOk};
+//! A search, noted: the starts in turn, up to the event that ends it.
+ghost use Rattle.std.specs.Prelude.{◌≡◌, ◌+◌, ◌-◌, ◌≤◌, ◌++◌, ℕ, length, map, IfOk, IfErr, OnOk};
 ghost use Rattle.std.specs.List.{list_any, range_with_len};
 ghost use Rattle.sno_pattern.specs.Tree.{tree_of};
 ghost use Rattle.sno_pattern.specs.Results.{enough_depth};
-ghost use Rattle.sno_pattern.specs.Outcome.{starts};
+ghost use Rattle.sno_pattern.specs.Outcome.{starts_from};
 ghost use Rattle.sno_trace.specs.Steps.{is_ending};
-ghost use Rattle.sno_trace.specs.Promise.{IsShown, until_ended};
-ghost use Rattle.sno_trace.specs.Depth.{IsDeeper};
+ghost use Rattle.sno_trace.specs.Promise.{IsShownFrom, until_ended};
+ghost use Rattle.sno_trace.specs.Depth.{IsDeeperFrom};
 ghost use Rattle.sno_trace.specs.declared.faults.TraceFault.TheVariants.{TooDeep};
 
 use crate::events::Noted;
@@ -54,32 +54,37 @@ pub fn enough_depth(text: &Text, rules: &Rules) -> u128
     (text.bytes().len() as u128 + 1) * rules.len() as u128
 }
 
-// The last cursor at which a match may begin.
-fn last_start(text: &Text, anchored: bool) -> usize
-    ensures starts { range_with_len 0 (result + 1) ≡ starts text.now anchored }
+// The last cursor at which a match may begin that is sought from this cursor on.
+#[tactic(auto, using(crate::proofs::Starts::single_start, crate::proofs::Starts::each_start))]
+fn last_start(text: &Text, anchored: bool, from: usize) -> usize
+    requires { from ≤ length text.now }
+    ensures starts { range_with_len from (result + 1 - from) ≡ starts_from text.now anchored from }
     ensures within { result ≤ length text.now }
     ensures short { result ≤ 65536 }
 {
-    if anchored { 0 } else { text.bytes().len() }
+    let length = text.bytes().len();
+    if anchored { from } else { length }
 }
 
-// The events of the match within the limit, each with its start.
+// The events of the search from this cursor on, within the limit, each with its start.
 pub fn scan<'a>(
     alloc: Global,
     rules: &'a Rules,
     pattern: &'a Pattern,
     text: &Text,
     anchored: bool,
+    from: usize,
     limit: usize,
 ) -> Result<Vec<(usize, Noted<'a>)>, TraceFault>
-    ensures shown { IfOk result (λ v. IsShown text.now rules.now.bodies (tree_of pattern.now) anchored limit v.items) }
-    ensures deep { IfErr result (λ e. e ≡ TooDeep → IsDeeper text.now rules.now.bodies (tree_of pattern.now) anchored MAX_DEPTH) }
+    requires { from ≤ length text.now }
+    ensures shown { IfOk result (λ v. IsShownFrom text.now rules.now.bodies (tree_of pattern.now) anchored from limit v.items) }
+    ensures deep { IfErr result (λ e. e ≡ TooDeep → IsDeeperFrom text.now rules.now.bodies (tree_of pattern.now) anchored from MAX_DEPTH) }
 {
     let most = enough_depth(text, rules);
-    let last = last_start(text, anchored);
+    let last = last_start(text, anchored, from);
     let mut all = Vec::new(alloc);
     let mut left = limit;
-    for start in 0..last + 1 {
+    for start in from..last + 1 {
         let events = walk(alloc, text, rules, most, MAX_DEPTH, left, pattern, start)?;
         if add_start(alloc, start, &events, &mut all)? {
             return Ok(all);

@@ -1,10 +1,10 @@
 //! The trace of a match.
-ghost use Rattle.std.specs.Prelude.{◌≡◌, ◌<◌, ◌≤◌, IfOk, IfErr};
+ghost use Rattle.std.specs.Prelude.{◌≡◌, ◌<◌, ◌≤◌, length, IfOk, IfErr};
 ghost use Rattle.std.specs.List.{list_any};
 ghost use Rattle.sno_pattern.specs.Tree.{tree_of};
-ghost use Rattle.sno_pattern.specs.Outcome.{trials, trials_in};
-ghost use Rattle.sno_trace.specs.Promise.{IsShown, IsWholeMatch, IsFront, is_stop, off, before_stop};
-ghost use Rattle.sno_trace.specs.Depth.{IsDeeper};
+ghost use Rattle.sno_pattern.specs.Outcome.{trials, trials_from, trials_in};
+ghost use Rattle.sno_trace.specs.Promise.{IsShown, IsShownFrom, IsWholeMatch, IsWholeSearch, IsFront, IsFrontFrom, is_stop, off, before_stop};
+ghost use Rattle.sno_trace.specs.Depth.{IsDeeper, IsDeeperFrom};
 ghost use Rattle.sno_trace.specs.declared.faults.TraceFault.TheVariants.{TooDeep};
 
 use crate::events::Noted;
@@ -17,7 +17,7 @@ use std::alloc::Global;
 // How many trials are shown at first.
 const FEW: usize = 64;
 
-/// What happened in a match, in order.
+/// What happened in a match or a search, in order.
 #[derive(Debug, Drop)]
 pub struct MatchTrace<'a> {
     /// Each event with the cursor from which the match was tried. The last one is the End or the Halt that ended the match, or a
@@ -38,27 +38,29 @@ fn has_stop(events: &[(usize, Noted<'_>)]) -> bool
     events.iter().any(|shown| is_stop(shown))
 }
 
-// What is shown within the limit. Fewer trials are tried first, since a match mostly ends early.
+// What is shown within the limit. Fewer trials are tried first, since a search mostly ends early.
 fn shown<'a>(
     alloc: Global,
     rules: &'a Rules,
     pattern: &'a Pattern,
     text: &Text,
     anchored: bool,
+    from: usize,
     limit: usize,
 ) -> Result<Vec<(usize, Noted<'a>)>, TraceFault>
-    ensures shown { IfOk result (λ v. IsShown text.now rules.now.bodies (tree_of pattern.now) anchored limit v.items) }
-    ensures deep { IfErr result (λ e. e ≡ TooDeep → IsDeeper text.now rules.now.bodies (tree_of pattern.now) anchored MAX_DEPTH) }
+    requires { from ≤ length text.now }
+    ensures shown { IfOk result (λ v. IsShownFrom text.now rules.now.bodies (tree_of pattern.now) anchored from limit v.items) }
+    ensures deep { IfErr result (λ e. e ≡ TooDeep → IsDeeperFrom text.now rules.now.bodies (tree_of pattern.now) anchored from MAX_DEPTH) }
 {
     let mut most = FEW;
     while most < limit {
-        let events = scan(alloc, rules, pattern, text, anchored, most)?;
+        let events = scan(alloc, rules, pattern, text, anchored, from, most)?;
         if !has_stop(&events) {
             return Ok(events);
         }
         most = most.saturating_mul(2);
     }
-    let events = scan(alloc, rules, pattern, text, anchored, limit)?;
+    let events = scan(alloc, rules, pattern, text, anchored, from, limit)?;
     Ok(events)
 }
 
@@ -96,6 +98,35 @@ pub fn trace<'a>(
     what_is_shown_is_the_match();
     a_limit_is_used_up();
     what_is_shown_begins_the_match();
-    let events = shown(alloc, rules, pattern, text, anchored, limit)?;
+    let trace = trace_from(alloc, rules, pattern, text, anchored, 0, limit)?;
+    Ok(trace)
+}
+
+/// What happens in a search from a cursor of the text on: a match whose starts are this cursor and each later one, or if anchored
+/// this cursor alone. All else is as in [`trace`], and the leaves look at the whole text.
+///
+/// Refused as [`trace`] is, with `TooDeep` only for a start of this search.
+pub fn trace_from<'a>(
+    alloc: Global,
+    rules: &'a Rules,
+    pattern: &'a Pattern,
+    text: &Text,
+    anchored: bool,
+    from: usize,
+    limit: usize,
+) -> Result<MatchTrace<'a>, TraceFault>
+    requires { from ≤ length text.now }
+    // The noted events of the search, within the limit.
+    ensures shown { IfOk result (λ trace. IsShownFrom text.now rules.now.bodies (tree_of pattern.now) anchored from limit trace.events.items) }
+    // If its trials fit, the trace is the search up to the event that ends it, with its outcome and its trials ..
+    ensures whole { IfOk result (λ trace. trials_from text.now rules.now.bodies (tree_of pattern.now) anchored from ≤ limit → IsWholeSearch text.now rules.now.bodies (tree_of pattern.now) anchored from trace.events.items) }
+    // .. and if they don't, it has as many as the limit.
+    ensures full { IfOk result (λ trace. limit < trials_from text.now rules.now.bodies (tree_of pattern.now) anchored from → trials_in (off (before_stop trace.events.items)) ≡ limit) }
+    // In any case it begins the search.
+    ensures front { IfOk result (λ trace. IsFrontFrom text.now rules.now.bodies (tree_of pattern.now) anchored from trace.events.items) }
+    // It is refused as too deep only if the search is nested deeper than the most.
+    ensures deep { IfErr result (λ e. e ≡ TooDeep → IsDeeperFrom text.now rules.now.bodies (tree_of pattern.now) anchored from MAX_DEPTH) }
+{
+    let events = shown(alloc, rules, pattern, text, anchored, from, limit)?;
     Ok(MatchTrace { events })
 }

@@ -12,7 +12,7 @@ use Rattle.sno_trace.proofs.scanning.scan.Goals as goal
 
 pub loop-start-init : goal.loop-start-init
 loop-start-init c =
-    all_starts c.args.text.now c.args.rules.now.bodies c.enough_depth-most.result (tree_of c.args.pattern.now) c.args.anchored c.args.limit c.last_start-last.result _ c.new-all.ensures.items c.enough_depth-most.ensures c.last_start-last.ensures.starts
+    all_starts c.args.text.now c.args.rules.now.bodies c.enough_depth-most.result (tree_of c.args.pattern.now) c.args.anchored c.args.from c.args.limit c.last_start-last.result _ c.new-all.ensures.items c.enough_depth-most.ensures c.last_start-last.ensures.starts
 
 pub returns-then-branch-clause-shown : goal.returns-then-branch-clause-shown
 returns-then-branch-clause-shown c =
@@ -37,6 +37,6 @@ pub returns-in_err-events-clause-deep : goal.returns-in_err-events-clause-deep
 returns-in_err-events-clause-deep c =
     passed_on _ _ _ c.from_residual.ensures.1 (λ is. (
       c.loop-start.start,
-      in_starts c.loop-start.start c.last_start-last.result _ (omega arith) c.last_start-last.ensures.starts,
+      in_starts c.loop-start.start c.args.from c.last_start-last.result _ (omega arith) (omega arith) c.last_start-last.ensures.starts,
       subst (λ k. Nests c.args.text.now c.args.rules.now.bodies MAX_DEPTH k (tree_of c.args.pattern.now) c.loop-start.start) c.enough_depth-most.ensures (c.in_err-events.ensures.deep is),
     ))

@@ -3,11 +3,11 @@ use Rattle.std.proofs.Common.{◌≡◌, ◌++◌}
 use Rattle.std.specs.List.{flat_map}
 use Rattle.sno_pattern.specs.Tree.{tree_of}
 use Rattle.sno_pattern.specs.Results.{enough_depth}
-use Rattle.sno_trace.specs.Promise.{until_ended, first_shown, shown_from, noted_match}
+use Rattle.sno_trace.specs.Promise.{until_ended, first_shown, shown_from, noted_search}
 use Rattle.sno_trace.proofs.Ranges.{up_to}
 use Rattle.sno_trace.proofs.scanning.scan.Given as goal
 
 abbrev pub invariant-loop-start : goal.invariant-loop-start
 invariant-loop-start l =
     l.all.items ++ first_shown l.left (until_ended (flat_map (shown_from l.text l.rules.bodies l.most (tree_of l.pattern)) (up_to l.start l.last)))
-    ≡ first_shown l.limit (noted_match l.text l.rules.bodies (enough_depth l.text l.rules.bodies) (tree_of l.pattern) l.anchored)
+    ≡ first_shown l.limit (noted_search l.text l.rules.bodies (enough_depth l.text l.rules.bodies) (tree_of l.pattern) l.anchored l.from)
