@@ -3,6 +3,7 @@ use Rattle.std.specs.Prelude.{◌≡◌, ◌≢◌, ◌<◌, ◌≤◌, ◌+◌,
 use Rattle.std.specs.List.{list_all}
 use Rattle.std.specs.Char.{is_ascii}
 use mathlib.Core.List.{IsPrefix as Begins}
+use Rattle.sno_pattern.specs.declared.texts.TheConstants.{MAX_TEXT}
 use Rattle.sno_statement.specs.Statement.{Statement}
 use Rattle.sno_statement.specs.Perform.{Outcome, perform}
 use Rattle.sno_statement.specs.declared.outcomes.StatementFault.{StatementFault}
@@ -32,7 +33,7 @@ pub record MayShut (shuts : ℕ → ℕ → Type 0) (number tries : ℕ) : Type 
 -- refusal
 pub record IsRefusedOnSome (s : Statement) (refused : StatementFault) : Type 0 where
   pub text : List ℕ
-  pub short : length text ≤ 65536
+  pub short : length text ≤ MAX_TEXT
   pub ascii : IsTrue (list_all is_ascii text)
   pub performed : perform s text ≡ Err refused
 

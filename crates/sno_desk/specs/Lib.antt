@@ -7,3 +7,4 @@ pub mod Receipts
 pub mod Seen
 pub mod Turns
 pub mod Worked
+pub mod Limits

@@ -4,6 +4,7 @@ use Rattle.sno_book.specs.Commits.{refusal}
 use Rattle.sno_book.specs.Origins.{Stands}
 use Rattle.sno_book.specs.Proposals.{Proposal, Receipt, entry_of}
 use Rattle.sno_book.specs.Views.{View}
+use Rattle.sno_book.specs.declared.openings.TheConstants.{MAX_ENTRIES}
 use Rattle.sno_book.specs.declared.faults.CommitFault.TheVariants as book
 use Rattle.sno_desk.specs.declared.faults.CommitFault.{CommitFault}
 use Rattle.sno_desk.specs.declared.faults.CommitFault.TheVariants as commit
@@ -19,7 +20,7 @@ pub record IsFor (receipt : Receipt) (p : Proposal) : Type 0 where
 pub record StandsAfter (seats accepted : ℕ) (receipt : Receipt) : Type 0 where
   pub after : accepted ≤ receipt.index
   pub alone : seats ≡ 1 → receipt.index ≡ accepted
-  pub within : receipt.index < 1000000
+  pub within : receipt.index < MAX_ENTRIES
   pub version : receipt.entry.version ≤ receipt.index
 
 -- why a commit is refused, at the view that its seat has now: the book's own refusal is the first that holds; `Memory`
@@ -34,7 +35,7 @@ IsCause commit.Stopped view p = Unit {0}
 -- a text can have this version: a version rises only with an entry, so it is at most the number of entries that a
 -- journal may hold. If the desk has no other seat, it is also at most the number that the seat has accepted
 pub record CanStandAt (seats accepted version : ℕ) : Type 0 where
-  pub within : version ≤ 1000000
+  pub within : version ≤ MAX_ENTRIES
   pub alone : seats ≡ 1 → version ≤ accepted
 
 -- the version that a text is said to have now is one that it can have

@@ -21,6 +21,12 @@ use std::alloc::{AllocError, Global};
 use std::sync::ledger::{self, Share};
 use std::sync::{Arc, Mutex, MutexGuard, Wait};
 
+/// The most seats of a desk.
+pub const MAX_SEATS: u32 = 16;
+
+/// How many times a statement may be tried at most.
+pub const MAX_TRIES: u32 = 1_000;
+
 /// A book behind one lock, for the seats of one ledger. By the type of what is under the lock, the journal has as many
 /// entries as all seats together have accepted. It is not `Drop`: end it by [`close`] or [`Desk::end`].
 pub struct Desk<L: Naming> {
@@ -75,7 +81,7 @@ fn screen_of<L: Naming>(
 ) -> Result<(Screen<L>, ledger::Book<L>, Share<L>), AllocError>
     requires name { (blank.ledger.name ≡ L.name) × (blank.ledger.parts ≡ L.parts) }
     requires histories { (blank.history ≡ record { history = L.book; entries = [] }) × (blank.attempts.history ≡ L.tries) }
-    requires few { (1 ≤ seats) × (seats ≤ 16) }
+    requires few { (1 ≤ seats) × (seats ≤ MAX_SEATS) }
     requires opening { arc_value opening.now ≡ L.opening }
     ensures screen { IfOk result (λ d. d.0.shown ≡ []) }
     ensures total { IfOk result (λ d. d.1.total ≡ 0) }
@@ -106,7 +112,7 @@ impl<L: Naming> Desk<L> {
         requires histories { (blank.history ≡ record { history = L.book; entries = [] }) × (blank.attempts.history ≡ L.tries) }
         requires opening { book.opening ≡ L.opening }
         requires one_each { blank.ledger.parts ≡ seats }
-        requires few { (1 ≤ seats) × (seats ≤ 16) }
+        requires few { (1 ≤ seats) × (seats ≤ MAX_SEATS) }
         requires empty { book.journal ≡ [] }
         ensures opening { IfOk result (λ d. arc_value d.0.opening ≡ book.opening) }
         ensures count { IfOk result (λ d. length d.1.items ≡ seats) }
@@ -232,7 +238,7 @@ impl<L: Naming> Desk<L> {
         tries: u32,
         gate: &G,
     ) -> Result<Receipt, SubmitFault>
-        requires { (1 ≤ tries) × (tries ≤ 1000) }
+        requires { (1 ≤ tries) × (tries ≤ MAX_TRIES) }
         ensures answer { Answers (G.shuts gate.now) tries L.opening (arc_value statement) result }
         ensures at { AnswersAt tries L.opening seat.old.viewer.seen seat.new.viewer.seen (arc_value statement) result }
         ensures begins { Begins seat.old.viewer.seen seat.new.viewer.seen }

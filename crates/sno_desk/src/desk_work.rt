@@ -5,6 +5,7 @@ ghost use Rattle.sno_book.specs.Books.{view_of};
 ghost use Rattle.sno_book.specs.Views.{IsLawful};
 ghost use Rattle.sno_desk.specs.Turns.{Position, position};
 ghost use Rattle.sno_desk.specs.Worked.{HasWorkedAt, IsBackWith};
+ghost use Rattle.sno_desk.specs.declared.desk.TheConstants.{MAX_SEATS};
 
 use crate::workers::may_cross;
 use crate::{AtDeskFault, Blank, Desk, Seat, close};
@@ -71,7 +72,7 @@ fn at_named_desk<L: Naming + Send + Sync, W: DeskWork + Sync, R: Threads + Wait 
     requires histories { (blank.history ≡ record { history = L.book; entries = [] }) × (blank.attempts.history ≡ L.tries) }
     requires opening { book.opening ≡ L.opening }
     requires one_each { blank.ledger.parts ≡ seats }
-    requires few { (1 ≤ seats) × (seats ≤ 16) }
+    requires few { (1 ≤ seats) × (seats ≤ MAX_SEATS) }
     requires empty { book.journal ≡ [] }
     ensures opening { IfOk result (λ left. left.opening ≡ book.opening) }
     ensures lawful { IfOk result (λ left. IsLawful (view_of left)) }
@@ -110,7 +111,7 @@ pub fn at_desk<W: DeskWork + Sync, R: Threads + Wait + Sync>(
     seats: usize,
     work: &W,
 ) -> Result<Book, (AtDeskFault, Book)>
-    requires few { (1 ≤ seats) × (seats ≤ 16) }
+    requires few { (1 ≤ seats) × (seats ≤ MAX_SEATS) }
     requires empty { book.journal ≡ [] }
     ensures opening { IfOk result (λ left. left.opening ≡ book.opening) }
     ensures lawful { IfOk result (λ left. IsLawful (view_of left)) }

@@ -84,7 +84,7 @@ mod submissions;
 mod workers;
 
 pub use blanks::Blank;
-pub use desk::{Desk, close};
+pub use desk::{Desk, MAX_SEATS, MAX_TRIES, close};
 pub use desk_work::{DeskWork, at_desk};
 pub use faults::{
     AtDeskFault, CloseFault, CommitFault, DeskFault, LookFault, SinceFault, SnapshotFault,

@@ -6,6 +6,7 @@ ghost use Rattle.std.specs.Arc.{arc_value};
 ghost use Rattle.sno_statement.specs.Statement.{Statement as Job};
 ghost use Rattle.sno_desk.specs.Answers.{Answers, receipts_in};
 ghost use Rattle.sno_desk.specs.Turns.{AllAnswer, Goes, HasGrown, HasWorked, InTurn, IsSubmitted, Position, every, position, shares_after};
+ghost use Rattle.sno_desk.specs.declared.desk.TheConstants.{MAX_SEATS, MAX_TRIES};
 
 use crate::reply_queues::{collect, in_order};
 use crate::submissions::Submission;
@@ -28,7 +29,7 @@ struct Shift<'a, L: Naming, G: Gate> {
     tries: u32,
     gate: &'a G,
     ghost some: { 1 ≤ workers },
-    ghost lawful: { (1 ≤ tries) × (tries ≤ 1000) },
+    ghost lawful: { (1 ≤ tries) × (tries ≤ MAX_TRIES) },
 }
 
 impl<L: Naming, G: Gate> Shift<'_, L, G> {
@@ -115,7 +116,7 @@ fn work_all<L: Naming + Send + Sync, G: Gate + Sync, R: Threads + Wait + Sync>(
     gate: &G,
 )
     requires some { 1 ≤ length seats.old }
-    requires lawful { (1 ≤ tries) × (tries ≤ 1000) }
+    requires lawful { (1 ≤ tries) × (tries ≤ MAX_TRIES) }
     ensures worked { (k : ℕ) (d : Seat L) → k < length seats.old → HasWorked (IsSubmitted (G.shuts gate.now) tries L.opening L.parts) (every (length seats.old) k (map arc_value jobs.now))
         (position (slice_index_or seats.old k d).accepted (slice_index_or seats.old k d).viewer.seen) (position (slice_index_or seats.new k d).accepted (slice_index_or seats.new k d).viewer.seen)
         (option_map (λ q. q.items) (slice_index_or seats.new k d).replies) }
@@ -127,7 +128,7 @@ fn work_all<L: Naming + Send + Sync, G: Gate + Sync, R: Threads + Wait + Sync>(
     may_cross::<Receipt>();
     let workers = seats.len();
     let worker = |first: usize, seat: &mut Seat<L>|
-        requires { (1 ≤ workers) × (1 ≤ tries) × (tries ≤ 1000) }
+        requires { (1 ≤ workers) × (1 ≤ tries) × (tries ≤ MAX_TRIES) }
         ensures worked { HasWorked (IsSubmitted (G.shuts gate.entry.now) tries L.opening L.parts) (every workers first (map arc_value jobs.entry.now))
             (position seat.old.accepted seat.old.viewer.seen) (position seat.new.accepted seat.new.viewer.seen) (option_map (λ q. q.items) seat.new.replies) }
         ensures grown { HasGrown (position seat.old.accepted seat.old.viewer.seen) (position seat.new.accepted seat.new.viewer.seen) }
@@ -170,8 +171,8 @@ pub fn run_workers<L: Naming + Send + Sync, G: Gate + Sync, R: Threads + Wait + 
     tries: u32,
     gate: &G,
 ) -> Result<Vec<Reply>, WorkersFault>
-    requires few { (1 ≤ length seats.old) × (length seats.old ≤ 16) }
-    requires lawful { (1 ≤ tries) × (tries ≤ 1000) }
+    requires few { (1 ≤ length seats.old) × (length seats.old ≤ MAX_SEATS) }
+    requires lawful { (1 ≤ tries) × (tries ≤ MAX_TRIES) }
     ensures answers { IfOk result (λ replies. AllAnswer (Answers (G.shuts gate.now) tries L.opening) (map arc_value jobs.now) replies.items) }
     ensures total { IfOk result (λ replies. sum_by (λ s. s.accepted) seats.new ≡ sum_by (λ s. s.accepted) seats.old + sum_by receipts_in replies.items) }
     ensures in_turn { IfOk result (λ replies. (k : ℕ) (d : Seat L) → k < length seats.old → InTurn (IsSubmitted (G.shuts gate.now) tries L.opening L.parts)

@@ -10,6 +10,7 @@ use Rattle.sno_pattern.specs.Texts.{text_of}
 use Rattle.sno_pattern.specs.Definitions.{Definitions}
 use Rattle.sno_pattern.specs.Guard.{Guarded}
 use Rattle.sno_pattern.specs.Admission.{IsFirstCycle}
+use Rattle.sno_pattern.specs.declared.name_list.TheConstants.{MAX_DEFINITIONS}
 use Rattle.sno_pattern.specs.declared.name_list.NamesFault.{NamesFault}
 use Rattle.sno_pattern.specs.declared.name_list.NamesFault.TheVariants as names
 use Rattle.sno_pattern.specs.declared.texts.TextFault.{TextFault}
@@ -19,14 +20,12 @@ use Rattle.sno_read.specs.Objects.{object_of}
 use Rattle.sno_read.specs.declared.faults.ReadFault.{ReadFault}
 use Rattle.sno_read.specs.declared.objects.Part.{Part}
 use Rattle.sno_statement.specs.Statement.{Statement, with_all, with_limit, with_repeat}
-use Rattle.sno_statement.specs.declared.statements.TheConstants.{USUAL_TRIALS}
+use Rattle.sno_statement.specs.declared.statements.TheConstants.{MAX_ROUNDS, USUAL_TRIALS}
+use Rattle.sno_book.specs.declared.openings.TheConstants.{MAX_ENTRIES, MAX_TEXTS}
 use Rattle.sno_document.specs.Json.{json_of}
 use Rattle.sno_document.specs.Shape.{Rows, StatementRow, rows_of}
 use Rattle.sno_document.specs.Faults.{◌>>=◌}
-use Rattle.sno_document.specs.declared.definitions.TheConstants.{MAX_DEFINITIONS}
-use Rattle.sno_document.specs.declared.texts.TheConstants.{MAX_TEXTS, ROOM}
 use Rattle.sno_document.specs.declared.statements.TheConstants.{MAX_STATEMENTS}
-use Rattle.sno_document.specs.declared.rounds.TheConstants.{MAX_ROUNDS}
 use Rattle.sno_document.specs.declared.documents.TheConstants.{MAX_DOCUMENT}
 use Rattle.sno_document.specs.declared.modes.Mode.{Mode}
 use Rattle.sno_document.specs.declared.faults.DocumentFault.{DocumentFault}
@@ -44,7 +43,7 @@ pub record Document : Type 0 where
 
 -- how many entries the journal of a run may hold; no document has more statements
 abbrev pub room : ℕ
-room = ROOM
+room = MAX_ENTRIES
 
 -- the value that is there, or the fault if there is no value
 abbrev pub or_fault : {A : Type 0} → DocumentFault → Option A → Result A DocumentFault

@@ -10,3 +10,4 @@ pub mod Drafts
 pub mod Reads
 pub mod Laws
 pub mod Rules
+pub mod Limits

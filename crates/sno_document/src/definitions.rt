@@ -12,11 +12,9 @@ ghost use Rattle.sno_document.specs.declared.faults.DocumentFault.TheVariants.{P
 
 use crate::DocumentFault;
 use crate::document_rows::PairRow;
-use sno_pattern::{Name, Names, NamesFault, Pattern, Rules, RulesFault};
+use sno_pattern::{MAX_DEFINITIONS, Name, Names, NamesFault, Pattern, Rules, RulesFault};
 use sno_read::{ReadFault, read_pattern};
 use std::alloc::Global;
-
-const MAX_DEFINITIONS: usize = 64;
 
 fn names_in(alloc: Global, rows: &[PairRow<'_>]) -> Result<Vec<Name>, DocumentFault>
     ensures names { Gives (λ v. v.items) result (names_from 1 [] (map pair_seen rows.now)) }

@@ -46,3 +46,5 @@ pub use sno_book::Book;
 pub use sno_pattern::{Name, Rules};
 pub use sno_read::ReadFault;
 pub use sno_statement::Statement;
+pub use statements::MAX_STATEMENTS;
+pub use trees::MAX_DEPTH;

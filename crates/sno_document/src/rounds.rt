@@ -7,16 +7,14 @@ ghost use Rattle.sno_document.specs.Trees.{number_seen};
 
 use crate::trees::has_minus;
 use fast_float::Numeral;
-
-/// The most rounds of a repeated statement.
-const MAX_ROUNDS: u64 = 1_000;
+use sno_statement::MAX_ROUNDS;
 
 /// How many rounds an unsigned number says.
 fn unsigned_rounds(numeral: &Numeral<'_>) -> Option<u32>
     ensures { result ≡ rounds_in (unwrap_or (number_from false numeral.now) (unsigned 0)) }
 {
     match numeral.to_u64() {
-        Some(rounds) if 1 <= rounds && rounds <= MAX_ROUNDS => Some(rounds as u32),
+        Some(rounds) if 1 <= rounds && rounds <= MAX_ROUNDS as u64 => Some(rounds as u32),
         _ => None,
     }
 }

@@ -19,7 +19,8 @@ use sno_statement::Statement;
 use std::alloc::Global;
 use std::sync::Arc;
 
-const MAX_STATEMENTS: usize = 1_000_000;
+/// The most statements of a document.
+pub const MAX_STATEMENTS: usize = 1_000_000;
 
 /// The object of statement number `number`, if it has one.
 fn object(

@@ -6,14 +6,9 @@ ghost use Rattle.sno_document.specs.Document.{room, text_row, texts_from, distin
 
 use crate::DocumentFault;
 use crate::document_rows::PairRow;
-use sno_book::{Book, BookFault};
+use sno_book::{Book, BookFault, MAX_ENTRIES, MAX_TEXTS};
 use sno_pattern::{NameFault, Text, TextFault, TextName};
 use std::alloc::Global;
-
-const MAX_TEXTS: usize = 1_024;
-
-/// How many entries the journal of a run may hold.
-const ROOM: u32 = 1_000_000;
 
 /// Text number `number`.
 #[tactic(auto, unfolding(crate::specs::Document::text_row))]
@@ -48,7 +43,7 @@ fn text_rows(alloc: Global, rows: &[PairRow<'_>]) -> Result<Vec<(TextName, Text)
     Ok(texts)
 }
 
-/// A book of the texts. `TextDuplicate` if a text has the name of an earlier one.
+/// A book of the texts, whose journal may have as many entries as any. `TextDuplicate` if a text has the name of an earlier one.
 #[tactic(auto, using(crate::proofs::BookLemmas::book_texts, crate::proofs::BookLemmas::book_duplicate, crate::proofs::BookLemmas::duplicate_small, crate::proofs::BookLemmas::never_many))]
 fn book_of(alloc: Global, texts: Vec<(TextName, Text)>) -> Result<Book, DocumentFault>
     requires { length texts.items ≤ MAX_TEXTS }
@@ -56,7 +51,7 @@ fn book_of(alloc: Global, texts: Vec<(TextName, Text)>) -> Result<Book, Document
     ensures empty { IfOk result (λ b. b.journal ≡ []) }
     ensures room { IfOk result (λ b. b.opening.room ≡ room) }
 {
-    match Book::new(alloc, texts, ROOM) {
+    match Book::new(alloc, texts, MAX_ENTRIES) {
         Ok(book) => Ok(book),
         Err(BookFault::TooMany) => unreachable!(),
         Err(BookFault::Duplicate(place)) => Err(DocumentFault::TextDuplicate(place + 1)),

@@ -15,8 +15,8 @@ use fast_float::Numeral;
 use json::{Error, Reader, Scratch, Value};
 use std::alloc::Global;
 
-/// How deep arrays and objects may nest.
-const MAX_DEPTH: usize = 127;
+/// How deep arrays and objects of a document may nest.
+pub const MAX_DEPTH: usize = 127;
 
 /// The JSON tree of a text.
 fn tree_of<'t>(

@@ -1,10 +1,8 @@
 //! The grammar of JSON, token by token: which token may come next.
 
 use json::{Token, Value};
+use sno_document::MAX_DEPTH;
 use std::alloc::{AllocError, Global};
-
-/// How deep arrays and objects may nest.
-const MAX_DEPTH: usize = 127;
 
 /// What is open at a place of the document.
 #[derive(Clone, Copy, Debug, PartialEq, Eq)]

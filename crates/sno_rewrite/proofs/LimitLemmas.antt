@@ -6,7 +6,9 @@ use Rattle.std.proofs.lemmas.Bool.{and_parts, leb-true}
 use Rattle.sno_rewrite.specs.CommandLine.{are_valid, is_up_to}
 use Rattle.sno_rewrite.specs.Runs.{AreInLimits}
 use Rattle.sno_rewrite.specs.declared.options.Options.{Options}
-use Rattle.sno_rewrite.specs.declared.options.TheConstants.{MAX_TRIALS, MAX_TRIES, MAX_WORKERS}
+use Rattle.sno_statement.specs.declared.statements.TheConstants.{MAX_TRIALS}
+use Rattle.sno_desk.specs.declared.desk.TheConstants.{MAX_TRIES}
+use Rattle.sno_rewrite.specs.declared.options.TheConstants.{MAX_WORKERS}
 
 up_to : (most n : ℕ) → is_up_to most n ≡ true → (1 ≤ n) × (n ≤ most)
 up_to most n h = let p = and_parts (nat_le 1 n) (nat_le n most) h in (leb-true 1 n p.0, leb-true n most p.1)

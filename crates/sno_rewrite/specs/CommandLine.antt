@@ -12,8 +12,10 @@ use Rattle.clap.specs.declared.builder.value_parser.ValueParser.TheVariants.{Sig
 use Rattle.clap.specs.declared.error.kind.ErrorKind.{ErrorKind}
 use Rattle.clap.specs.declared.error.kind.ErrorKind.TheVariants.{DisplayHelp, DisplayVersion, OutOfMemory}
 use Rattle.sno_rewrite.specs.declared.options.Options.{Options}
-use Rattle.sno_rewrite.specs.declared.options.TheConstants.{MAX_TRIALS, MAX_TRIES, MAX_WORKERS}
-use Rattle.sno_rewrite.specs.declared.command_line.TheConstants.{DEFAULT_TRIALS, DEFAULT_TRIES}
+use Rattle.sno_statement.specs.declared.statements.TheConstants.{MAX_TRIALS, USUAL_TRIALS}
+use Rattle.sno_desk.specs.declared.desk.TheConstants.{MAX_TRIES}
+use Rattle.sno_rewrite.specs.declared.options.TheConstants.{MAX_WORKERS}
+use Rattle.sno_rewrite.specs.declared.command_line.TheConstants.{USUAL_TRIES}
 use Rattle.sno_rewrite.specs.declared.command_line.OptionsFault.{OptionsFault}
 use Rattle.sno_rewrite.specs.declared.command_line.OptionsFault.TheVariants.{Help, Usage, Memory}
 
@@ -61,9 +63,9 @@ abbrev pub options_in : List Row → Options
 options_in rows = record {
   anchor = flag_in (codes "anchor") rows;
   workers = number_in (codes "workers") rows;
-  tries = unwrap_or (number_in (codes "tries") rows) DEFAULT_TRIES;
+  tries = unwrap_or (number_in (codes "tries") rows) USUAL_TRIES;
   json = flag_in (codes "json") rows;
-  trials = unwrap_or (number_in (codes "trials") rows) DEFAULT_TRIALS;
+  trials = unwrap_or (number_in (codes "trials") rows) USUAL_TRIALS;
 }
 
 abbrev pub is_up_to : ℕ → ℕ → Bool
@@ -114,4 +116,4 @@ IsChecked options (Err Memory) = Unit {0}
 
 -- the options without any argument
 abbrev pub plain_options : Options
-plain_options = record { anchor = false; workers = None; tries = DEFAULT_TRIES; json = false; trials = DEFAULT_TRIALS }
+plain_options = record { anchor = false; workers = None; tries = USUAL_TRIES; json = false; trials = USUAL_TRIALS }

@@ -10,3 +10,4 @@ pub mod Runs
 pub mod Streams
 pub mod Program
 pub mod Examples
+pub mod Limits

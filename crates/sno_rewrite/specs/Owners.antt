@@ -59,7 +59,10 @@ reason_in submit.NoText = Some NoText
 reason_in submit.TextTooLong = Some TextTooLong
 reason_in (submit.TriesSpent seen now) = Some (TriesSpent seen now)
 reason_in submit.TooManyTrials = Some TooManyTrials
-reason_in _ = None
+reason_in submit.GateShut = None
+reason_in submit.Stopped = None
+reason_in submit.Full = None
+reason_in submit.Memory = None
 
 -- what a reply says of its statement: that it is accepted, that it is refused for a reason, or nothing
 abbrev pub answer_in : Result Receipt SubmitFault → Option (Option Reason)
@@ -89,10 +92,24 @@ pub record IsListed (s : Statement) (reply : Result Receipt SubmitFault) (old ne
 
 -- whether memory ran out for a statement
 abbrev pub is_short : Result Receipt SubmitFault → Bool
+is_short (Ok receipt) = false
+is_short (Err submit.NoText) = false
+is_short (Err submit.GateShut) = false
+is_short (Err submit.TextTooLong) = false
+is_short (Err submit.Stopped) = false
+is_short (Err submit.Full) = false
 is_short (Err submit.Memory) = true
-is_short _ = false
+is_short (Err (submit.TriesSpent seen now)) = false
+is_short (Err submit.TooManyTrials) = false
 
 -- whether nothing more was shown to a statement's seat
 abbrev pub is_stopped : Result Receipt SubmitFault → Bool
+is_stopped (Ok receipt) = false
+is_stopped (Err submit.NoText) = false
+is_stopped (Err submit.GateShut) = false
+is_stopped (Err submit.TextTooLong) = false
 is_stopped (Err submit.Stopped) = true
-is_stopped _ = false
+is_stopped (Err submit.Full) = false
+is_stopped (Err submit.Memory) = false
+is_stopped (Err (submit.TriesSpent seen now)) = false
+is_stopped (Err submit.TooManyTrials) = false

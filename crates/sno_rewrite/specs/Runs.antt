@@ -10,7 +10,8 @@ use Rattle.sno_rewrite.specs.Modes.{mode_of}
 use Rattle.sno_rewrite.specs.Reports.{IsReport, status_of_run}
 use Rattle.sno_rewrite.specs.Shared.{IsSharedReport}
 use Rattle.sno_rewrite.specs.declared.options.Options.{Options}
-use Rattle.sno_rewrite.specs.declared.options.TheConstants.{MAX_TRIES, MAX_WORKERS}
+use Rattle.sno_desk.specs.declared.desk.TheConstants.{MAX_TRIES}
+use Rattle.sno_rewrite.specs.declared.options.TheConstants.{MAX_WORKERS}
 use Rattle.sno_rewrite.specs.declared.faults.RunFault.{RunFault}
 use Rattle.sno_rewrite.specs.declared.faults.RunFault.TheVariants.{Memory, Stopped, NoReader, Audit, Closing}
 

@@ -57,14 +57,18 @@ pub record IsOvertaken (tries : ℕ) (v : View) (s : Statement) (seen now : ℕ)
 -- `NoText` is the reason exactly if there is no text of the statement's name
 abbrev pub IsNoTextIfMissing : State → Statement → Option Reason → Type 0
 IsNoTextIfMissing state s (Some NoText) = find s.text state ≡ None
-IsNoTextIfMissing state s _ = find s.text state ≢ None
+IsNoTextIfMissing state s (Some TextTooLong) = find s.text state ≢ None
+IsNoTextIfMissing state s (Some (TriesSpent seen now)) = find s.text state ≢ None
+IsNoTextIfMissing state s (Some TooManyTrials) = find s.text state ≢ None
+IsNoTextIfMissing state s None = find s.text state ≢ None
 
 -- the other reasons have their causes in the journal
 abbrev pub HasCause : ℕ → View → Statement → Option Reason → Type 0
 HasCause tries v s (Some TextTooLong) = IsRefusedThen v s statement.TextTooLong
 HasCause tries v s (Some TooManyTrials) = IsRefusedThen v s statement.TooManyTrials
 HasCause tries v s (Some (TriesSpent seen now)) = IsOvertaken tries v s seen now
-HasCause tries v s _ = Unit {0}
+HasCause tries v s (Some NoText) = Unit {0}
+HasCause tries v s None = Unit {0}
 
 -- a statement without a reason is accepted
 abbrev pub MayAnswer : ℕ → View → Statement → Option Reason → Type 0

@@ -5,14 +5,15 @@ ghost use Rattle.sno_rewrite.specs.CommandLine.{are_valid, bare_program, faults,
 ghost use Rattle.sno_rewrite.specs.Runs.{AreInLimits};
 
 use crate::Options;
-use crate::options::{MAX_TRIALS, MAX_TRIES, MAX_WORKERS};
+use crate::options::MAX_WORKERS;
 use clap::error::ErrorKind;
 use clap::{Arg, ArgAction, ArgMatches, Command, Error};
+use sno_desk::MAX_TRIES;
+use sno_statement::{MAX_TRIALS, USUAL_TRIALS};
 use std::alloc::{AllocError, Global};
 
-const DEFAULT_TRIES: u32 = 100;
-
-const DEFAULT_TRIALS: u32 = 1_000_000;
+/// How many times a worker tries a statement, if the arguments do not say it.
+const USUAL_TRIES: u32 = 100;
 
 const ABOUT: &str =
     "Reads a document of texts and statements on standard input, performs the statements, and writes the listing of what they did";
@@ -133,9 +134,9 @@ fn options_in(matches: &ArgMatches<'_>) -> Options
     Options {
         anchor: flag_in(matches, "anchor"),
         workers: number_in(matches, "workers"),
-        tries: number_in(matches, "tries").unwrap_or(DEFAULT_TRIES),
+        tries: number_in(matches, "tries").unwrap_or(USUAL_TRIES),
         json: flag_in(matches, "json"),
-        trials: number_in(matches, "trials").unwrap_or(DEFAULT_TRIALS),
+        trials: number_in(matches, "trials").unwrap_or(USUAL_TRIALS),
     }
 }
 

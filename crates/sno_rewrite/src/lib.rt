@@ -17,7 +17,8 @@
 //! | `laws` | what follows from the definitions |
 //!
 //! `Mode` and `DocumentFault` are those of `sno_document`, `Reason` and `Refusal` those of `sno_listing`, `Name` that of
-//! `sno_pattern` and `ReadFault` that of `sno_read`.
+//! `sno_pattern`, `ReadFault` that of `sno_read`, `MAX_TRIES` that of `sno_desk` and `MAX_TRIALS` that of
+//! `sno_statement`.
 #![tactic(auto)]
 
 mod command_line;
@@ -35,10 +36,12 @@ mod streams;
 pub use command_line::{OptionsFault, options_of};
 pub use faults::{RunFault, status_of};
 pub use laws::each_document_has_a_serial_run;
-pub use options::{MAX_TRIALS, MAX_TRIES, MAX_WORKERS, Options};
+pub use options::{MAX_WORKERS, Options};
 pub use program::run_program;
 pub use runs::{Report, run, run_serial, run_shared};
+pub use sno_desk::MAX_TRIES;
 pub use sno_document::{DocumentFault, Mode};
 pub use sno_listing::{Reason, Refusal};
 pub use sno_pattern::Name;
 pub use sno_read::ReadFault;
+pub use sno_statement::MAX_TRIALS;

@@ -1,15 +1,10 @@
 //! What a caller chooses for a run.
 
+use sno_desk::MAX_SEATS;
 use sno_document::Mode;
 
 /// The most workers of a run.
-pub const MAX_WORKERS: u32 = 16;
-
-/// How many times a worker may try a statement at most.
-pub const MAX_TRIES: u32 = 1_000;
-
-/// How many trials a match may take at most.
-pub const MAX_TRIALS: u32 = 1_000_000_000;
+pub const MAX_WORKERS: u32 = MAX_SEATS;
 
 /// What a caller chooses for a run.
 #[derive(Clone, Copy, Debug, PartialEq, Eq)]

@@ -1,7 +1,8 @@
 //! The program: from its arguments and its streams to its status.
-ghost use Rattle.std.specs.Prelude.{◌≡◌, ℕ, drop, map, string_bytes, IfOk, IsErrAnd, MatchResult, Result};
+ghost use Rattle.std.specs.Prelude.{◌≡◌, ◌+◌, ℕ, drop, map, string_bytes, IfOk, IsErrAnd, MatchResult, Result};
 ghost use Rattle.std.specs.IoError.{error_kind};
 ghost use Rattle.std.specs.Vec.Iter.{into_iter_items};
+ghost use Rattle.sno_document.specs.declared.documents.TheConstants.{MAX_DOCUMENT};
 ghost use Rattle.sno_rewrite.specs.Faults.{status};
 ghost use Rattle.sno_rewrite.specs.CommandLine.{IsAnswer};
 ghost use Rattle.sno_rewrite.specs.Program.{EndsBy, IsWordsFault, RunsTo, status_by};
@@ -109,7 +110,7 @@ pub fn run_program<T: Threads + Wait + Sync, R: Read, W: Write, E: Write>(
         × RunsTo options (R.remaining reader.old) writer.old writer.new (W.contents writer.old) (W.contents writer.new) outcome)
         (λ fault. (reader.new ≡ reader.old)
         × EndsBy writer.old writer.new (W.contents writer.old) (W.contents writer.new) errors.old errors.new (E.contents errors.old) (E.contents errors.new) fault result) }
-    ensures taken { TakesAtMost 16777217 (R.remaining reader.old) (R.remaining reader.new) }
+    ensures taken { TakesAtMost (MAX_DOCUMENT + 1) (R.remaining reader.old) (R.remaining reader.new) }
 {
     let options = match options_after_name(alloc, words) {
         Ok(options) => options,

@@ -1,16 +1,18 @@
 //! Runs over bytes, and over readers and writers.
-ghost use Rattle.std.specs.Prelude.{◌≡◌, ◌≢◌, ◌≤◌, ◌⊎◌, ℕ, List, Err, Ok, IfOk, IfErr, IfSome, OnOk};
+ghost use Rattle.std.specs.Prelude.{◌≡◌, ◌≢◌, ◌≤◌, ◌+◌, ◌⊎◌, ℕ, List, Err, Ok, IfOk, IfErr, IfSome, OnOk};
 ghost use Rattle.sno_rewrite.specs.declared.faults.RunFault.TheVariants.{Memory, Write as WriteFailed};
 ghost use Rattle.sno_statement.specs.Statement.{IsLimit};
 ghost use Rattle.sno_document.specs.Document.{Document, IsDocument};
 ghost use Rattle.sno_document.specs.Reads.{document_seen, IsReady};
+ghost use Rattle.sno_document.specs.declared.documents.TheConstants.{MAX_DOCUMENT};
 ghost use Rattle.sno_document.specs.declared.modes.Mode.{Mode};
 ghost use Rattle.sno_rewrite.specs.Faults.{IsFirstFault};
 ghost use Rattle.sno_rewrite.specs.Modes.{mode_of, workers_in};
 ghost use Rattle.sno_rewrite.specs.Reports.{IsReport, IsOutside};
 ghost use Rattle.sno_rewrite.specs.Runs.{AreInLimits, FailsBy, FailsShared, IsBegun, IsOwn, IsRun, Reports};
 ghost use Rattle.sno_rewrite.specs.Shared.{IsSharedReport};
-ghost use Rattle.sno_rewrite.specs.declared.options.TheConstants.{MAX_TRIES, MAX_WORKERS};
+ghost use Rattle.sno_desk.specs.declared.desk.TheConstants.{MAX_TRIES};
+ghost use Rattle.sno_rewrite.specs.declared.options.TheConstants.{MAX_WORKERS};
 ghost use Rattle.sno_rewrite.specs.Histories.{history_seen};
 ghost use Rattle.sno_rewrite.specs.Streams.{RefusesLonger, TakesAtMost};
 ghost use Rattle.std.specs.Io.KnownBytes.{IsAtEnd};
@@ -210,7 +212,7 @@ pub fn run<T: Threads + Wait + Sync, R: Read, W: Write>(
     ensures nothing { IfErr result (λ e. (writer.new ≡ writer.old) ⊎ ((e ≡ WriteFailed) × IfSome (R.remaining reader.old) (λ bytes.
         IsBegun options.now bytes (W.contents writer.old) (W.contents writer.new)))) }
     // At most one byte more than a document may have was taken from the reader.
-    ensures taken { TakesAtMost 16777217 (R.remaining reader.old) (R.remaining reader.new) }
+    ensures taken { TakesAtMost (MAX_DOCUMENT + 1) (R.remaining reader.old) (R.remaining reader.new) }
     // Of an input longer than a document may be, exactly one byte more than a document may have was taken, unless
     // memory ran out or a read failed first.
     ensures longer { RefusesLonger (R.remaining reader.old) (R.remaining reader.new) result }

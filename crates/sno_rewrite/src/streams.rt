@@ -35,7 +35,7 @@ fn read_piece<R: Read>(reader: &mut R, bytes: &mut Vec<u8>, room: usize) -> Resu
 /// if there are more than 16,777,216 bytes, and one more than that is read; `Memory`.
 pub(crate) fn read_all<R: Read>(alloc: Global, reader: &mut R) -> Result<Vec<u8>, RunFault>
     ensures whole { IfOk result (λ v. IsWholeInput (R.remaining reader.old) (R.remaining reader.new) v.items) }
-    ensures taken { TakesAtMost 16777217 (R.remaining reader.old) (R.remaining reader.new) }
+    ensures taken { TakesAtMost (MAX_DOCUMENT + 1) (R.remaining reader.old) (R.remaining reader.new) }
     ensures fault { IfErr result (IsReadFault (R.remaining reader.old) (R.remaining reader.new)) }
 {
     let mut bytes = Vec::new(alloc);

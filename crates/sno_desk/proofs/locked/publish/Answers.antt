@@ -1,5 +1,5 @@
 -- One entry more. It is shown first.
-use Rattle.std.proofs.Common.{rules, ◌≡◌, ◌≤◌, ◌+◌, ℕ, Some, List, [], ◌∷◌, ◌++◌, length, ap, sym, subst, ◌∙◌, arith}
+use Rattle.std.proofs.Common.{◌≡◌, ◌≤◌, ◌+◌, ℕ, Some, List, [], ◌∷◌, ◌++◌, length, ap, sym, subst, ◌∙◌, arith}
 use mathlib.Core.List.{IsPrefix as Begins}
 use Rattle.sno_book.specs.Books.{view_of}
 use Rattle.sno_book.specs.Entries.{Entry}
@@ -39,9 +39,9 @@ returns-clause-committed g c =
     subst (λ (v : Viewing). Begins (book.journal ++ given.entry ∷ []) v.seen) (sym c.count.ensures.viewer) (subst (λ (l : List Entry). Begins l c.learn.new.self.viewer.seen) shown c.learn.ensures.told) in
     let level : length c.args.seat.now.viewer.seen ≡ length book.journal = ap length c.requires.level.1 in
     let at_end : given.index ≡ length book.journal = accepted.index in
-    let counted : c.count.new.self.accepted ≡ c.args.seat.now.accepted + 1 = search rules in
+    let counted : c.count.new.self.accepted ≡ c.args.seat.now.accepted + 1 = c.count.ensures.accepted ∙ ap (λ (n : ℕ). n + 1) c.learn.ensures.accepted in
     record {
-      receipt = search rules;
+      receipt = record { entry = accepted.entry; text = accepted.seen };
       index = stands (view_of book) (view_of c.finish-receipt.new.self) c.args.ready given g.L.Ledger.parts c.args.seat.now.accepted c.args.total.now.total
           accepted c.versions_count_entries.ensures c.requires.backed c.requires.alone c.requires.total c.requires.fits.room few;
       later = omega (arith, level, at_end);

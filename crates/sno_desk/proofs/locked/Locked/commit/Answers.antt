@@ -1,5 +1,5 @@
 -- What the book refuses, and what the publish returns.
-use Rattle.std.proofs.Common.{◌≡◌, ◌≤◌, rules, length, ap, sym, subst, ◌∙◌, arith}
+use Rattle.std.proofs.Common.{◌≡◌, ◌≤◌, length, ap, sym, subst, ◌∙◌, arith}
 use Rattle.sno_book.specs.Books.{view_of}
 use Rattle.sno_published.specs.Viewings.{Viewing}
 use Rattle.sno_published.proofs.Prefixes.{prefix_length}
@@ -23,7 +23,7 @@ returns-in-Err-clause-refused g c =
       version = subst (λ (e : CommitFault). NamesVersion g.L.Ledger.parts c.args.seat.now.accepted e) (sym c.from.ensures)
           (named (view_of book) (view_of c.prepare.new.self) c.args.proposal c.in-Err.proposal c.in-Err.fault g.L.Ledger.parts c.args.seat.now.accepted c.self.inside.total.total
           c.in-Err.ensures.refused c.journal.ensures.lawful c.versions_count_entries.ensures (λ one. sym c.see_all.ensures.accepted ∙ c.audit.ensures.alone one) c.self.invariant.2);
-      same = search rules;
+      same = c.audit.ensures.accepted ∙ c.see_all.ensures.accepted;
     }
 
 pub returns-clause-committed : goal.returns-clause-committed
