@@ -1,12 +1,12 @@
 //! The search of a pass that finds the match with a number.
 ghost use Rattle.std.specs.Prelude.{◌≡◌, ◌<◌, ◌≤◌, ◌-◌, length, Some, IfOk};
-ghost use Rattle.sno_statement.specs.Passes.{counts, next_search, search_trials};
+ghost use Rattle.sno_statement.specs.Passes.{search_trials};
 ghost use Rattle.sno_statement.specs.Perform.{IsCodeOf};
 ghost use Rattle.sno.specs.Searches.{GoesOn, after_found, after_search, first_search, next_after, sought_in};
 
 use sno_machine::{Code, MatchFault, SearchOutcome, Searched, compile};
 use sno_pattern::{Hit, Text, searches_lie_within_the_text};
-use sno_statement::Statement;
+use sno_statement::{Statement, counts, next_search};
 use std::alloc::{AllocError, Global};
 
 /// One search of a pass over a text.
@@ -40,31 +40,7 @@ pub(crate) struct Sought {
     pub(crate) counts: bool,
 }
 
-/// Whether a match counts: it does unless it is the null string at the end of the match before.
-fn counts(before: Option<usize>, hit: &Hit) -> bool
-    ensures { result ≡ counts before hit.now }
-{
-    match before {
-        None => true,
-        Some(before) => hit.start != before || hit.end != before,
-    }
-}
-
-/// Where the search after a match begins, if there is one.
-fn next_search(anchored: bool, text: &Text, hit: &Hit) -> Option<usize>
-    requires { hit.now.end ≤ length text.now }
-    ensures { result ≡ next_search anchored text.now hit.now }
-{
-    if hit.start != hit.end {
-        Some(hit.end)
-    } else if anchored || hit.end == text.bytes().len() {
-        None
-    } else {
-        Some(hit.end + 1)
-    }
-}
-
-/// What comes after a search that found this match with so many trials.
+/// What comes after a search that found this match with this number of trials.
 fn after_hit(
     statement: &Statement,
     text: &Text,

@@ -10,7 +10,7 @@ pub(crate) enum NoTrace {
     /// The document has no statement with the number.
     #[error("error: the document has no such statement")]
     NoStatement,
-    /// The statement can't have so many matches; this is the most.
+    /// The statement can't have that many matches; this is the most.
     #[error("error: '--match' is too high: it is at most {0} for this statement")]
     NoMatch(u32),
     /// Calls would nest too deep.

@@ -88,7 +88,7 @@ pub use binding_refs::{BindingsRef, DatumRef, TextPart};
 pub use laws::{kept_matches_keep_the_text, matches_are_in_order, the_first_is_the_plain_match};
 pub use match_lists::{Match, MatchRef, Matches};
 pub use outcomes::{Outcome, StatementFault};
-pub use passes::Pass;
+pub use passes::{Pass, counts, next_search};
 pub use performing::{perform, perform_shared};
 pub use rewriting::{Rewritten, rewrite};
 pub use sno_machine::MatchFault;

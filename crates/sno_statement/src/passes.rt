@@ -155,8 +155,9 @@ impl<'c, 't, 'a> Pass<'c, 't, 'a> {
     }
 }
 
-/// Where the search after a match begins, if there is one.
-fn next_search(anchored: bool, text: &Text, hit: &Hit) -> Option<usize>
+/// Where the search of a pass after a match begins: at the match's end, or one further if the match is the null string. `None` if no
+/// cursor is left, or if the null string ends an anchored pass. The match has to lie in the text.
+pub fn next_search(anchored: bool, text: &Text, hit: &Hit) -> Option<usize>
     requires { hit.now.end ≤ length text.now }
     ensures { result ≡ next_search anchored text.now hit.now }
 {
@@ -169,8 +170,8 @@ fn next_search(anchored: bool, text: &Text, hit: &Hit) -> Option<usize>
     }
 }
 
-/// Whether a match counts: it does unless it is the null string at the end of the match before.
-fn counts(before: Option<usize>, hit: &Hit) -> bool
+/// Whether a match of a pass counts: it does unless it is the null string at the end of the match before.
+pub fn counts(before: Option<usize>, hit: &Hit) -> bool
     ensures { result ≡ counts before hit.now }
 {
     match before {

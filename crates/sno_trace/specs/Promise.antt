@@ -144,7 +144,7 @@ abbrev pub ShownIsFull : Type 0
 ShownIsFull = (t : List ℕ) (bodies : List Tree) (p : Tree) (anchored : Bool) (n : ℕ) (shown : List Shown)
     → IsShown t bodies p anchored n shown → n < trials t bodies p anchored → trials_in (off (before_stop shown)) ≡ n
 
--- ---- Searches from a cursor on. What stands above is a search from cursor 0.
+-- ---- Searches from a cursor on. What is above is a search from cursor 0.
 -- all that happens in a search from cursor c on, noted, up to the event that ends it
 abbrev pub noted_search : List ℕ → List Tree → ℕ → Tree → Bool → ℕ → List Shown
 noted_search t bodies k p anchored c = until_ended (flat_map (shown_from t bodies k p) (starts_from t anchored c))
