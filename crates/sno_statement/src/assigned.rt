@@ -87,6 +87,7 @@ impl Assigned {
     }
 
     /// Assigns a single conditional assignment, before any other.
+    #[inline(always)]
     fn assign_only(&mut self, conds: &[(Name, usize, usize)]) -> Result<(), AllocError>
         requires first { self.old ≡ [] }
         requires single { length conds.now ≡ 1 }
@@ -108,6 +109,7 @@ impl Assigned {
     }
 
     /// What one match assigned: first at once, then conditionally. What was assigned before is dropped.
+    #[inline(always)]
     pub(crate) fn replace(
         &mut self,
         alloc: Global,

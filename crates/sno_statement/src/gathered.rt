@@ -34,6 +34,7 @@ impl Gathered {
     }
 
     /// Adds the match of a search, with what the search assigned. If out of memory, what was gathered can't be used any more.
+    #[inline(always)]
     pub(crate) fn add(
         &mut self,
         alloc: Global,

@@ -62,6 +62,7 @@ impl<'c, 't, 'a> Pass<'c, 't, 'a> {
     }
 
     /// The next search, from this cursor on. Then the pass is past it.
+    #[inline(always)]
     pub(crate) fn search(&mut self, alloc: Global, from: usize) -> Result<Found, StatementFault>
         requires { self.old.at ≡ Some from }
         ensures found { IfOk result (λ found. found ≡ search self.old.statement self.old.text from) }
