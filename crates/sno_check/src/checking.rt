@@ -14,12 +14,13 @@ use crate::texts::check_texts;
 use json::{Scratch, Value};
 use sno_document::{DocumentFault, MAX_DOCUMENT, Mode, read_document};
 use sno_findings::{Collector, Mistake, Place, Report, advice_of, json_mistake};
+use sno_statement::USUAL_TRIALS;
 use std::alloc::{AllocError, Global};
 
 /// How `sno_rewrite` performs statements without any option. No fault depends on it.
 pub const USUAL: Mode = Mode {
     anchor: false,
-    trials: 1_000_000,
+    trials: USUAL_TRIALS,
 };
 
 /// The first fault of the bytes, if they are not a document.

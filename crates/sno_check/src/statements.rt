@@ -5,18 +5,15 @@ use crate::expressions::{object_in, pattern_in};
 use crate::reach::{Reach, has};
 use crate::rows::{Row, Rows};
 use crate::texts::{is_name, refuse_name};
-use sno_document::DocumentFault;
+use sno_document::{DocumentFault, MAX_STATEMENTS};
 use sno_findings::{
     Collector, Facts, Place, Whose, advice_of, facts_of, warn_of_facts, warn_of_growth,
     warn_of_literals, warn_of_missing_text, warn_of_variables,
 };
-use sno_pattern::Pattern;
+use sno_pattern::{MAX_DEFINITIONS, Pattern};
 use sno_read::Object;
+use sno_statement::MAX_ROUNDS;
 use std::alloc::AllocError;
-
-const MAX_STATEMENTS: usize = 1_000_000;
-
-const MAX_ROUNDS: u32 = 1_000;
 
 /// What the statements are checked against.
 #[derive(Drop)]
@@ -185,7 +182,7 @@ fn warn_of_unused<'t>(
     used: u64,
 ) -> Result<(), AllocError> {
     let reached = surroundings.reach.from(used);
-    for (place, row) in rows.patterns.iter().take(64).enumerate() {
+    for (place, row) in rows.patterns.iter().take(MAX_DEFINITIONS).enumerate() {
         if let Some(name) = row.name {
             if !has(reached, place) {
                 let message = format!(in findings.alloc; "no statement uses '{name}'")?;

@@ -1,12 +1,11 @@
 //! The texts of a document.
 
 use crate::rows::Pair;
+use sno_book::MAX_TEXTS;
 use sno_document::DocumentFault;
 use sno_findings::{Collector, Place, advice_of, around, position_of};
 use sno_pattern::{MAX_TEXT, NameFault, TextName};
 use std::alloc::{AllocError, Global};
-
-const MAX_TEXTS: usize = 1_024;
 
 /// Whether the name of a text is one, as `TextName` has it.
 pub(crate) fn is_name(alloc: Global, name: &str) -> Result<bool, AllocError> {
