@@ -82,8 +82,8 @@ class AsyncDesk:
         return entries(await self._ask({"since": index}))
 
     async def close(self) -> int:
-        """Ends the input, waits for all replies, and returns the status of the program. If it doesn't end in time, it is
-        killed, and DeskTimeout is raised."""
+        """Ends the input, waits for all replies, and returns the status of the program. If it doesn't end in time, it
+        is killed, and DeskTimeout is raised."""
         service, input, replies = self._parts()
         try:
             async with asyncio.timeout(self.timeout):

@@ -86,8 +86,8 @@ class Desk:
         return entries(self._ask({"since": index}))
 
     def close(self) -> int:
-        """Ends the input, waits for all replies, and returns the status of the program. If it doesn't end in time, it is
-        killed, and DeskTimeout is raised."""
+        """Ends the input, waits for all replies, and returns the status of the program. If it doesn't end in time, it
+        is killed, and DeskTimeout is raised."""
         deadline = _Deadline(self.timeout)
         try:
             with self._lock_to_write(deadline), suppress(BrokenPipeError):

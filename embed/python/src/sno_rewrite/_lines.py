@@ -32,7 +32,8 @@ class DeskTimeout(DeskError, TimeoutError):
 
 
 class NamelessError(DeskError):
-    """The program reported an error without an id. Any line that waited may be at fault, so each such call raises this."""
+    """The program reported an error without an id. Any line that waited may be at fault, so each call that waited
+    raises this."""
 
 
 def statement(text: str, pattern: str, object: str | None, **members: Any) -> Reply:
