@@ -7,7 +7,7 @@ from cases import EMBED, SHARED, TOP, environment, expect, has, made, run
 
 PAGE = TOP / "docs/LIBRARY.md"
 FILES = {"C": "first.c", "C++": "first.cpp", "Rust": "src/main.rs", "Python": "first.py"}
-LANGUAGES = {"C": "c", "C++": "cpp", "Rust": "rust", "Python": "python"}
+LANGUAGES = {"C": "c", "C++": "cpp", "Rust": "rs", "Python": "python"}
 TOOLS = {"C": ("cc", "pkg-config"), "C++": ("g++", "pkg-config"), "Rust": ("cargo",), "Python": ()}
 # A section begins with its program.
 MOST_LINES = 14
