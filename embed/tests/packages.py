@@ -1,6 +1,7 @@
 """Installs each package into a clean folder, without a network, and makes a call by it."""
 
 import os
+import re
 import shutil
 import sys
 
@@ -37,6 +38,9 @@ target_link_libraries(list_cpp PRIVATE sno_rewrite::static)
 
 
 def try_all(folder):
+    for name in "python/pyproject.toml", "rust/Cargo.toml":
+        found = re.findall(r'^version = "(.*)"$', (EMBED / name).read_text(), re.MULTILINE)
+        expect(f"the version in {name}", found, [VERSION])
     try_python(folder)
     if has("make", "cc", "g++"):
         root = folder / "root"

@@ -10,6 +10,8 @@ Reply: TypeAlias = dict[str, Any]
 # A longer line would get an error without an id.
 LONGEST_LINE = 16_777_216
 
+_JSON = json.JSONEncoder(ensure_ascii=False, allow_nan=False, separators=(",", ":"))
+
 
 class DeskError(Exception):
     """A call of a desk that has no result. Each of the classes below is one, too."""
@@ -44,8 +46,7 @@ def statement(text: str, pattern: str, object: str | None, **members: Any) -> Re
 
 def written(members: Reply, number: int) -> bytes:
     """The line with this id. ValueError is raised for what the program couldn't read as JSON: its reply has no id."""
-    text = json.dumps({**members, "id": number}, ensure_ascii=False, allow_nan=False, separators=(",", ":"))
-    line = text.encode()
+    line = _JSON.encode({**members, "id": number}).encode()
     if len(line) > LONGEST_LINE:
         raise ValueError(f"the line is longer than {LONGEST_LINE} bytes")
     return line + b"\n"
