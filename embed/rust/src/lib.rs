@@ -3,10 +3,13 @@
 //! ```
 //! use sno_rewrite::{rewrite, Options};
 //!
-//! let document = br#"{"texts":[{"name":"T","text":"abc"}],"statements":[{"text":"T","pattern":"'b'"}]}"#;
-//! let listing = rewrite(document, &Options::default())?;
-//! assert!(listing.bytes.starts_with(b"texts 1\nT 0 |abc|\n"));
-//! # Ok::<(), sno_rewrite::Error>(())
+//! fn main() -> Result<(), sno_rewrite::Error> {
+//!     let document = br#"{"texts":[{"name":"T","text":"abc"}],"statements":[{"text":"T","pattern":"'b'"}]}"#;
+//!     let listing = rewrite(document, &Options::default())?;
+//!     assert_eq!(listing.status(), 0);
+//!     assert!(listing.to_string().starts_with("texts 1\nT 0 |abc|\n"));
+//!     Ok(())
+//! }
 //! ```
 //!
 //! `build.rs` links the static library `libsno_rewrite.a`, which it takes from the folder in the environment variable
@@ -81,6 +84,13 @@ impl Listing {
     /// The status with which the program `sno_rewrite` ends: 0, or 1 if a statement was refused.
     pub fn status(&self) -> u8 {
         u8::from(self.some_refused)
+    }
+}
+
+/// The listing as text.
+impl fmt::Display for Listing {
+    fn fmt(&self, formatter: &mut fmt::Formatter<'_>) -> fmt::Result {
+        formatter.write_str(&String::from_utf8_lossy(&self.bytes))
     }
 }
 

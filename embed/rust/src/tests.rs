@@ -20,6 +20,12 @@ fn lists_a_document() {
 }
 
 #[test]
+fn shows_a_listing() {
+    let listing = rewrite(DOCUMENT, &Options::default()).expect("a listing");
+    assert_eq!(listing.to_string().as_bytes(), LISTING);
+}
+
+#[test]
 fn lists_as_json() {
     let options = Options {
         json: true,
@@ -106,9 +112,9 @@ fn a_stack_of_two_mebibytes_is_enough_for_a_deep_pattern() {
         format!("({}", "A | ".repeat(9)).repeat(100),
         ")".repeat(100)
     );
+    let statement = format!(r#"{{"text":"T","pattern":"{pattern}"}}"#);
     let document = format!(
-        r#"{{"texts":[{{"name":"T","text":"a"}}],"patterns":[{{"name":"A","pattern":"'a'"}}],"statements":[{}]}}"#,
-        format!(r#"{{"text":"T","pattern":"{pattern}"}}"#)
+        r#"{{"texts":[{{"name":"T","text":"a"}}],"patterns":[{{"name":"A","pattern":"'a'"}}],"statements":[{statement}]}}"#
     );
     let wanted = "texts 1\nT 0 |a|\nentries 1\n0 statement 1 T 0 matched 0 1\nrefused 0\n";
     let thread = std::thread::Builder::new()
