@@ -14,8 +14,10 @@ INSTALL_DATA = $(INSTALL) -m 644
 PROGRAM ?= crates/sno_rewrite_main/out/sno_rewrite_main
 SNO ?= crates/sno/out/sno
 LIBRARY_DIR ?= embed/out
+DEB_DIR ?= embed/out
 
 VERSION := $(shell cat VERSION)
+MAJOR = $(firstword $(subst ., ,$(VERSION)))
 PAGE = $(MANDIR)/man1/sno_rewrite.1
 SNO_PAGE = $(MANDIR)/man1/sno.1
 BASH_COMPLETION = $(DATADIR)/bash-completion/completions/sno_rewrite
@@ -25,10 +27,18 @@ SNO_BASH_COMPLETION = $(DATADIR)/bash-completion/completions/sno
 SNO_ZSH_COMPLETION = $(DATADIR)/zsh/site-functions/_sno
 SNO_FISH_COMPLETION = $(DATADIR)/fish/vendor_completions.d/sno.fish
 HEADER = $(INCLUDEDIR)/sno_rewrite.h
+CPP_HEADER = $(INCLUDEDIR)/sno_rewrite.hpp
 ARCHIVE = $(LIBDIR)/libsno_rewrite.a
-SHARED = $(LIBDIR)/libsno_rewrite.so.1
+SHARED = $(LIBDIR)/libsno_rewrite.so.$(VERSION)
+SONAME = $(LIBDIR)/libsno_rewrite.so.$(MAJOR)
 LINK = $(LIBDIR)/libsno_rewrite.so
 PKG_CONFIG_FILE = $(LIBDIR)/pkgconfig/sno_rewrite.pc
+CMAKE_DIR = $(LIBDIR)/cmake/sno_rewrite
+CMAKE_CONFIG = $(CMAKE_DIR)/sno_rewrite-config.cmake
+CMAKE_VERSION = $(CMAKE_DIR)/sno_rewrite-config-version.cmake
+# CMake finds the headers from the folder of its own files, so the whole can be moved.
+CMAKE_INCLUDE = $(shell realpath -ms --relative-to="$(CMAKE_DIR)" "$(INCLUDEDIR)")
+for_cmake = sed 's|@VERSION@|$(VERSION)|g; s|@MAJOR@|$(MAJOR)|g; s|@INCLUDE@|$(CMAKE_INCLUDE)|g'
 
 # What is below PREFIX is named by it, so that pkg-config can move the whole.
 below_prefix = $(patsubst $(PREFIX)/%,$${prefix}/%,$(1))
@@ -46,7 +56,8 @@ Cflags: -I$${includedir}
 endef
 export PKG_CONFIG_TEXT
 
-.PHONY: all program library install install-program install-sno install-library uninstall check help need-program need-library
+.PHONY: all program library install install-program install-sno install-library deb uninstall check help \
+    need-program need-library
 
 all: program library
 
@@ -103,19 +114,30 @@ install-sno:
 	$(INSTALL_DATA) completions/sno.fish "$(DESTDIR)$(SNO_FISH_COMPLETION)"
 
 install-library: need-library
-	$(INSTALL) -d "$(DESTDIR)$(INCLUDEDIR)" "$(DESTDIR)$(LIBDIR)" "$(DESTDIR)$(dir $(PKG_CONFIG_FILE))"
+	$(INSTALL) -d "$(DESTDIR)$(INCLUDEDIR)" "$(DESTDIR)$(LIBDIR)" "$(DESTDIR)$(dir $(PKG_CONFIG_FILE))" \
+	    "$(DESTDIR)$(CMAKE_DIR)"
 	$(INSTALL_DATA) embed/sno_rewrite.h "$(DESTDIR)$(HEADER)"
+	$(INSTALL_DATA) embed/sno_rewrite.hpp "$(DESTDIR)$(CPP_HEADER)"
 	$(INSTALL_DATA) "$(LIBRARY_DIR)/libsno_rewrite.a" "$(DESTDIR)$(ARCHIVE)"
 	$(INSTALL_DATA) "$(LIBRARY_DIR)/libsno_rewrite.so" "$(DESTDIR)$(SHARED)"
-	ln -sf libsno_rewrite.so.1 "$(DESTDIR)$(LINK)"
+	ln -sf libsno_rewrite.so.$(VERSION) "$(DESTDIR)$(SONAME)"
+	ln -sf libsno_rewrite.so.$(MAJOR) "$(DESTDIR)$(LINK)"
 	printf '%s\n' "$$PKG_CONFIG_TEXT" > "$(DESTDIR)$(PKG_CONFIG_FILE)"
-	chmod 644 "$(DESTDIR)$(PKG_CONFIG_FILE)"
+	$(for_cmake) embed/cmake/config.cmake.in > "$(DESTDIR)$(CMAKE_CONFIG)"
+	$(for_cmake) embed/cmake/version.cmake.in > "$(DESTDIR)$(CMAKE_VERSION)"
+	chmod 644 "$(DESTDIR)$(PKG_CONFIG_FILE)" "$(DESTDIR)$(CMAKE_CONFIG)" "$(DESTDIR)$(CMAKE_VERSION)"
+
+# A package for Debian, of what `make install` puts into an empty folder.
+deb: need-program need-library
+	embed/deb "$(abspath $(PROGRAM))" "$(abspath $(SNO))" "$(abspath $(LIBRARY_DIR))" "$(DEB_DIR)"
 
 uninstall:
 	rm -f "$(DESTDIR)$(BINDIR)/sno_rewrite" "$(DESTDIR)$(BINDIR)/sno" "$(DESTDIR)$(PAGE)" "$(DESTDIR)$(SNO_PAGE)" "$(DESTDIR)$(BASH_COMPLETION)" \
 	    "$(DESTDIR)$(ZSH_COMPLETION)" "$(DESTDIR)$(FISH_COMPLETION)" "$(DESTDIR)$(SNO_BASH_COMPLETION)" \
 	    "$(DESTDIR)$(SNO_ZSH_COMPLETION)" "$(DESTDIR)$(SNO_FISH_COMPLETION)" "$(DESTDIR)$(HEADER)" "$(DESTDIR)$(ARCHIVE)" \
-	    "$(DESTDIR)$(SHARED)" "$(DESTDIR)$(LINK)" "$(DESTDIR)$(PKG_CONFIG_FILE)"
+	    "$(DESTDIR)$(CPP_HEADER)" "$(DESTDIR)$(SHARED)" "$(DESTDIR)$(SONAME)" "$(DESTDIR)$(LINK)" \
+	    "$(DESTDIR)$(PKG_CONFIG_FILE)" "$(DESTDIR)$(CMAKE_CONFIG)" "$(DESTDIR)$(CMAKE_VERSION)"
+	@rmdir "$(DESTDIR)$(CMAKE_DIR)" 2> /dev/null || true
 
 check: need-program
 	examples/run "$(abspath $(PROGRAM))"
@@ -129,10 +151,11 @@ help:
 	@echo "make install          installs the program, and sno and the library if they are built"
 	@echo "make install-program  the program, its manual page and its completions; sno if it is built"
 	@echo "make install-sno      sno, its manual page and its completions"
-	@echo "make install-library  the header, the static and the shared library and the file for pkg-config"
+	@echo "make install-library  the headers, the static and the shared library, and the files for pkg-config and CMake"
+	@echo "make deb              a package for Debian of all that make install installs, in DEB_DIR"
 	@echo "make uninstall        removes all of that again"
 	@echo "make check            runs the examples and the tests of the schema and of the installed files"
 	@echo
 	@echo "Variables: PREFIX=$(PREFIX), DESTDIR, BINDIR, LIBDIR, INCLUDEDIR, DATADIR, MANDIR, INSTALL,"
 	@echo "PROGRAM=$(PROGRAM), SNO=$(SNO),"
-	@echo "LIBRARY_DIR=$(LIBRARY_DIR)"
+	@echo "LIBRARY_DIR=$(LIBRARY_DIR), DEB_DIR=$(DEB_DIR)"

@@ -1,12 +1,11 @@
 // Lists the document of a file or of standard input, in C++17. What it reads, writes and ends with is as in list.c.
-#include "sno_rewrite.h"
+#include "sno_rewrite.hpp"
 
 #include <cerrno>
 #include <cstdio>
 #include <iostream>
 #include <memory>
 #include <new>
-#include <stdexcept>
 #include <string>
 #include <system_error>
 
@@ -15,54 +14,6 @@ namespace {
 // Statuses that no call returned.
 constexpr int wrong_use = 3;
 constexpr int stream_failed = 4;
-
-struct Options {
-    bool anchor = false;
-    bool json = false;
-    std::uint32_t trials = SNO_USUAL_TRIALS;
-};
-
-struct Listing {
-    std::string text;
-    bool some_refused;
-};
-
-class Fault : public std::runtime_error {
-public:
-    Fault(int status, const std::string &line) : std::runtime_error(line), status(status) {}
-    const int status;
-};
-
-// Calls once with a usual buffer, and again only if the listing is longer.
-Listing rewrite(const std::string &document, const Options &options = {}) {
-    std::string output(64 * 1024, '\0');
-    std::size_t length = 0;
-    const auto call = [&] {
-        return sno_rewrite(reinterpret_cast<const std::uint8_t *>(document.data()), document.size(), options.anchor,
-                           options.json, options.trials, reinterpret_cast<std::uint8_t *>(output.data()), output.size(),
-                           &length);
-    };
-    auto status = call();
-    if (status == SNO_TOO_SHORT) {
-        output.resize(length);
-        status = call();
-    }
-    switch (status) {
-    case SNO_ALL_ACCEPTED:
-    case SNO_SOME_REFUSED:
-        output.resize(length);
-        return {std::move(output), status == SNO_SOME_REFUSED};
-    case SNO_NO_DOCUMENT:
-        output.resize(length);
-        throw Fault(status, length ? output : "not a document");
-    case SNO_BAD_LIMIT:
-        throw Fault(status, "the limit of trials isn't from 1 to 1000000000");
-    case SNO_NO_MEMORY:
-        throw std::bad_alloc();
-    default:
-        throw Fault(status, "unexpected status " + std::to_string(status));
-    }
-}
 
 using File = std::unique_ptr<std::FILE, int (*)(std::FILE *)>;
 
@@ -109,13 +60,13 @@ int main(int count, char **arguments) {
     const std::string path = count == 2 ? arguments[1] : "-";
     const std::string name = path == "-" ? "standard input" : path;
     try {
-        const auto listing = rewrite(read_document(path));
-        const auto &text = listing.text;
+        const auto result = sno::rewrite(read_document(path));
+        const auto text = result.listing();
         if (std::fwrite(text.data(), 1, text.size(), stdout) != text.size() || std::fflush(stdout))
             return report("standard output", last_fault().code().message(), stream_failed);
-        return listing.some_refused ? SNO_SOME_REFUSED : SNO_ALL_ACCEPTED;
-    } catch (const Fault &fault) {
-        return report(name, fault.what(), fault.status);
+        return result.status();
+    } catch (const sno::Fault &fault) {
+        return report(name, fault.what(), fault.status());
     } catch (const std::system_error &fault) {
         return report(name, fault.code().message(), stream_failed);
     } catch (const std::bad_alloc &) {

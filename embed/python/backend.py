@@ -1,8 +1,8 @@
 """The build backend of this package: makes the wheel for pip, by the standard library alone.
 
 The package is a few files of Python, so pip needs neither setuptools nor a network to install it. The description of
-the package is in pyproject.toml. If libsno_rewrite.so is in the package's folder, the wheel has it, too. The tag of the
-wheel then names the kind of machine.
+the package is in pyproject.toml. The wheel has libsno_rewrite.so, too, if it is in the package's folder or in embed/out
+of the repository. The tag of the wheel then names the kind of machine. A source distribution never has it.
 """
 
 from __future__ import annotations
@@ -19,9 +19,18 @@ from pathlib import Path
 from typing import Any
 
 HERE = Path(__file__).resolve().parent
-PACKAGE = HERE / "src/sno_rewrite"
-SHARED = PACKAGE / "libsno_rewrite.so"
+SOURCES = HERE / "src"
+PACKAGE = SOURCES / "sno_rewrite"
+FILE_NAME = "libsno_rewrite.so"
 FIRST_TIME = (1980, 1, 1, 0, 0, 0)
+
+
+def _shared() -> Path | None:
+    """The shared object, if it is built."""
+    places = [PACKAGE]
+    if (HERE.parent / "sno_rewrite.h").is_file():
+        places.append(HERE.parent / "out")
+    return next((place / FILE_NAME for place in places if (place / FILE_NAME).is_file()), None)
 
 
 def _project() -> dict[str, Any]:
@@ -33,8 +42,8 @@ def _stem() -> str:
     return f"{project['name'].replace('-', '_')}-{project['version']}"
 
 
-def _tag() -> str:
-    if not SHARED.is_file():
+def _tag(is_pure: bool) -> str:
+    if is_pure:
         return "py3-none-any"
     return f"py3-none-{sysconfig.get_platform().replace('-', '_').replace('.', '_')}"
 
@@ -56,30 +65,30 @@ def _metadata() -> str:
     return "\n".join(lines)
 
 
-def _information() -> dict[str, bytes]:
+def _information(is_pure: bool) -> dict[str, bytes]:
     """The files of the wheel that describe it, but for the list of all files."""
-    pure = str(not SHARED.is_file()).lower()
-    wheel = f"Wheel-Version: 1.0\nGenerator: sno_rewrite\nRoot-Is-Purelib: {pure}\nTag: {_tag()}\n"
+    pure = str(is_pure).lower()
+    wheel = f"Wheel-Version: 1.0\nGenerator: sno_rewrite\nRoot-Is-Purelib: {pure}\nTag: {_tag(is_pure)}\n"
     return {"METADATA": _metadata().encode(), "WHEEL": wheel.encode()}
 
 
 def _package_files() -> Iterator[Path]:
     for path in sorted(PACKAGE.iterdir()):
-        if path.suffix in (".py", ".so") or path.name == "py.typed":
+        if path.suffix == ".py" or path.name == "py.typed":
             yield path
 
 
-def build_wheel(wheel_directory: str, config_settings: object = None, metadata_directory: str | None = None) -> str:
-    folder = f"{_stem()}.dist-info"
-    files = {f"sno_rewrite/{path.name}": path.read_bytes() for path in _package_files()}
-    files |= {f"{folder}/{name}": content for name, content in _information().items()}
+def _write_wheel(folder: str, files: dict[str, bytes], is_pure: bool) -> str:
+    """Writes a wheel with these files, its description and the list of all, and returns its name."""
+    information = f"{_stem()}.dist-info"
+    files = files | {f"{information}/{name}": content for name, content in _information(is_pure).items()}
     record = ""
     for name, content in files.items():
         digest = base64.urlsafe_b64encode(hashlib.sha256(content).digest()).rstrip(b"=").decode()
         record += f"{name},sha256={digest},{len(content)}\n"
-    files[f"{folder}/RECORD"] = f"{record}{folder}/RECORD,,\n".encode()
-    wheel_name = f"{_stem()}-{_tag()}.whl"
-    with zipfile.ZipFile(Path(wheel_directory) / wheel_name, "w", zipfile.ZIP_DEFLATED) as wheel:
+    files[f"{information}/RECORD"] = f"{record}{information}/RECORD,,\n".encode()
+    wheel_name = f"{_stem()}-{_tag(is_pure)}.whl"
+    with zipfile.ZipFile(Path(folder) / wheel_name, "w", zipfile.ZIP_DEFLATED) as wheel:
         for name, content in files.items():
             # A fixed time, so that the same files give the same wheel.
             member = zipfile.ZipInfo(name, FIRST_TIME)
@@ -89,15 +98,36 @@ def build_wheel(wheel_directory: str, config_settings: object = None, metadata_d
     return wheel_name
 
 
+def build_wheel(wheel_directory: str, config_settings: object = None, metadata_directory: str | None = None) -> str:
+    files = {f"sno_rewrite/{path.name}": path.read_bytes() for path in _package_files()}
+    shared = _shared()
+    if shared:
+        files[f"sno_rewrite/{FILE_NAME}"] = shared.read_bytes()
+    return _write_wheel(wheel_directory, files, is_pure=not shared)
+
+
+def build_editable(wheel_directory: str, config_settings: object = None, metadata_directory: str | None = None) -> str:
+    """A wheel that only names the folder of the sources. The library is found there, or in embed/out."""
+    return _write_wheel(wheel_directory, {"sno_rewrite.pth": f"{SOURCES}\n".encode()}, is_pure=True)
+
+
 def build_sdist(sdist_directory: str, config_settings: object = None) -> str:
     sdist_name = f"{_stem()}.tar.gz"
     names = ["pyproject.toml", "README.md", "backend.py"]
     paths = [HERE / name for name in names] + list(_package_files()) + sorted((HERE / "tests").glob("*.py"))
-    with tarfile.open(Path(sdist_directory) / sdist_name, "w:gz") as archive:
+    with tarfile.open(Path(sdist_directory) / sdist_name, "w:gz", format=tarfile.PAX_FORMAT) as archive:
         for path in paths:
-            archive.add(path, f"{_stem()}/{path.relative_to(HERE)}")
+            archive.add(path, f"{_stem()}/{path.relative_to(HERE)}", filter=_plain)
         metadata = _metadata().encode()
         member = tarfile.TarInfo(f"{_stem()}/PKG-INFO")
         member.size = len(metadata)
-        archive.addfile(member, io.BytesIO(metadata))
+        archive.addfile(_plain(member), io.BytesIO(metadata))
     return sdist_name
+
+
+def _plain(member: tarfile.TarInfo) -> tarfile.TarInfo:
+    """Without what is known of the builder's machine."""
+    member.uid = member.gid = 0
+    member.uname = member.gname = "root"
+    member.mode = 0o755 if member.name.endswith("stand_in.py") else 0o644
+    return member

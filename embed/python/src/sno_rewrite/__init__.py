@@ -6,20 +6,26 @@
     'aXc'
 """
 
-from ._desk import Desk, DeskError
+from ._async_desk import AsyncDesk
+from ._desk import Desk
 from ._documents import Patterns, Statement, Statements, Texts
 from ._library import USUAL_TRIALS
+from ._lines import DeskEnded, DeskError, DeskTimeout, NamelessError
 from ._listings import Entry, Fault, Listing, Match, Refusal, Text
 from ._rewrite import rewrite, rewrite_document
 
 __all__ = [
     "USUAL_TRIALS",
+    "AsyncDesk",
     "Desk",
+    "DeskEnded",
     "DeskError",
+    "DeskTimeout",
     "Entry",
     "Fault",
     "Listing",
     "Match",
+    "NamelessError",
     "Patterns",
     "Refusal",
     "Statement",

@@ -1,6 +1,6 @@
-//! Lists the document of a file or of standard input, in Rust. What it reads, writes and ends with is as in list.c.
+//! Lists the document of a file or of standard input, in Rust. What it reads, writes and ends with is as in embed/list.c.
 
-use sno_rewrite::{rewrite, Fault, Options, LONGEST_DOCUMENT};
+use sno_rewrite::{rewrite, Options, LONGEST_DOCUMENT};
 use std::env;
 use std::ffi::OsStr;
 use std::fs::File;
@@ -40,7 +40,7 @@ fn list(path: Option<&Path>) -> Result<u8, (u8, String)> {
     let document =
         read_document(path).map_err(|fault| (STREAM_FAILED, format!("{name}: {fault}")))?;
     let listing = rewrite(&document, &Options::default())
-        .map_err(|fault: Fault| (fault.status(), format!("{name}: {fault}")))?;
+        .map_err(|fault| (fault.status(), format!("{name}: {fault}")))?;
     write_listing(&listing.bytes)
         .map_err(|fault| (STREAM_FAILED, format!("standard output: {fault}")))?;
     Ok(listing.status())
