@@ -15,6 +15,7 @@ PROGRAM ?= crates/sno_rewrite_main/out/sno_rewrite_main
 SNO ?= crates/sno/out/sno
 LIBRARY_DIR ?= embed/out
 DEB_DIR ?= embed/out
+DIST_DIR ?= dist
 
 VERSION := $(shell cat VERSION)
 MAJOR = $(firstword $(subst ., ,$(VERSION)))
@@ -56,7 +57,7 @@ Cflags: -I$${includedir}
 endef
 export PKG_CONFIG_TEXT
 
-.PHONY: all program library install install-program install-sno install-library deb uninstall check help \
+.PHONY: all program library install install-program install-sno install-library deb dist uninstall check help \
     need-program need-library
 
 all: program library
@@ -131,6 +132,10 @@ install-library: need-library
 deb: need-program need-library
 	embed/deb "$(abspath $(PROGRAM))" "$(abspath $(SNO))" "$(abspath $(LIBRARY_DIR))" "$(DEB_DIR)"
 
+# The archive of a release, with the sums of its files.
+dist: need-program need-library
+	tools/dist "$(abspath $(PROGRAM))" "$(abspath $(SNO))" "$(abspath $(LIBRARY_DIR))" "$(DIST_DIR)"
+
 uninstall:
 	rm -f "$(DESTDIR)$(BINDIR)/sno_rewrite" "$(DESTDIR)$(BINDIR)/sno" "$(DESTDIR)$(PAGE)" "$(DESTDIR)$(SNO_PAGE)" "$(DESTDIR)$(BASH_COMPLETION)" \
 	    "$(DESTDIR)$(ZSH_COMPLETION)" "$(DESTDIR)$(FISH_COMPLETION)" "$(DESTDIR)$(SNO_BASH_COMPLETION)" \
@@ -153,9 +158,10 @@ help:
 	@echo "make install-sno      sno, its manual page and its completions"
 	@echo "make install-library  the headers, the static and the shared library, and the files for pkg-config and CMake"
 	@echo "make deb              a package for Debian of all that make install installs, in DEB_DIR"
+	@echo "make dist             an archive of the same files with their sums, for a release, in DIST_DIR"
 	@echo "make uninstall        removes all of that again"
 	@echo "make check            runs the examples and the tests of the schema and of the installed files"
 	@echo
 	@echo "Variables: PREFIX=$(PREFIX), DESTDIR, BINDIR, LIBDIR, INCLUDEDIR, DATADIR, MANDIR, INSTALL,"
 	@echo "PROGRAM=$(PROGRAM), SNO=$(SNO),"
-	@echo "LIBRARY_DIR=$(LIBRARY_DIR), DEB_DIR=$(DEB_DIR)"
+	@echo "LIBRARY_DIR=$(LIBRARY_DIR), DEB_DIR=$(DEB_DIR), DIST_DIR=$(DIST_DIR)"
