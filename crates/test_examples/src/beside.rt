@@ -190,18 +190,17 @@ fn count_in(outcome: &Outcome) -> u64 {
 
 /// Compares what rewriting a text leaves with the statement's outcome: the number of matches and the new text, or the refusal.
 fn check_rewriting(alloc: Global, statement: &Statement, text: &Text) -> Result<(), Fail> {
-    match (
-        perform(alloc, statement, text),
-        rewrite(alloc, statement, text),
-    ) {
+    let performed = perform(alloc, statement, text);
+    let rewritten = rewrite(alloc, statement, text);
+    let is_same = match (&performed, &rewritten) {
         (Ok(outcome), Ok(rewritten)) => {
-            let after = rewritten.after.as_ref();
-            if rewritten.matches == count_in(&outcome) && after == outcome.after() {
-                return Ok(());
-            }
+            rewritten.matches == count_in(outcome) && rewritten.after.as_ref() == outcome.after()
         }
-        (Err(fault), Err(other)) if fault == other => return Ok(()),
-        _ => {}
+        (Err(fault), Err(other)) => fault == other,
+        _ => false,
+    };
+    if is_same {
+        return Ok(());
     }
     Err("rewriting the text leaves something else than performing the statement".into())
 }
