@@ -2,6 +2,7 @@
 ghost use Rattle.std.specs.Prelude.{◌≡◌, ◌<◌, ◌≤◌, ℕ, length, IfOk, IfErr, IsTrue};
 ghost use Rattle.sno_pattern.specs.Tree.{tree_of, refs_below};
 ghost use Rattle.sno_pattern.specs.Results.{enough_depth};
+ghost use Rattle.sno_pattern.specs.declared.byte_texts.TheConstants.{MAX_BYTES};
 ghost use Rattle.sno_pattern.specs.Outcome.{outcome, outcome_at, outcome_from, trials, trials_from};
 ghost use Rattle.sno_machine.specs.declared.faults.MatchFault.TheVariants.{TooManyTrials};
 
@@ -15,7 +16,7 @@ use crate::starts::beginnings::Beginnings;
 use crate::starts::run_starts::RunStart;
 use crate::workspace::Workspace;
 use sno_pattern::{
-    Found, Pattern, Rules, Text, a_greater_depth_changes_no_outcome,
+    ByteText, Found, Pattern, Rules, Text, a_greater_depth_changes_no_outcome,
     a_search_from_the_first_cursor_is_a_match,
 };
 use std::alloc::{AllocError, Global};
@@ -122,8 +123,45 @@ impl<'a> Code<'a> {
         ensures within { IfOk result (λ _. trials text.now self.now.bodies self.now.pattern anchored ≤ limit) }
         ensures refused { IfErr result (λ e. e ≡ TooManyTrials → limit < trials text.now self.now.bodies self.now.pattern anchored) }
     {
+        let found = self.first_of(alloc, workspace, text.bytes(), anchored, limit)?;
+        Ok(found)
+    }
+
+    /// As [`Code::first_in`], in a text of bytes.
+    pub fn first_in_bytes(
+        &self,
+        alloc: Global,
+        workspace: &mut Workspace<'a>,
+        text: &ByteText,
+        anchored: bool,
+        limit: u32,
+    ) -> Result<Found, MatchFault>
+        ensures found { IfOk result (λ found. found ≡ outcome text.now self.now.bodies self.now.pattern anchored) }
+        ensures deep { IfOk result (λ found. (k : ℕ) → enough_depth text.now self.now.bodies ≤ k → found ≡ outcome_at text.now self.now.bodies k self.now.pattern anchored) }
+        ensures within { IfOk result (λ _. trials text.now self.now.bodies self.now.pattern anchored ≤ limit) }
+        ensures refused { IfErr result (λ e. e ≡ TooManyTrials → limit < trials text.now self.now.bodies self.now.pattern anchored) }
+    {
+        let found = self.first_of(alloc, workspace, text.bytes(), anchored, limit)?;
+        Ok(found)
+    }
+
+    // The outcome of a match with these characters.
+    fn first_of(
+        &self,
+        alloc: Global,
+        workspace: &mut Workspace<'a>,
+        text: &[u8],
+        anchored: bool,
+        limit: u32,
+    ) -> Result<Found, MatchFault>
+        requires short { length text.now ≤ MAX_BYTES }
+        ensures found { IfOk result (λ found. found ≡ outcome text.now self.now.bodies self.now.pattern anchored) }
+        ensures deep { IfOk result (λ found. (k : ℕ) → enough_depth text.now self.now.bodies ≤ k → found ≡ outcome_at text.now self.now.bodies k self.now.pattern anchored) }
+        ensures within { IfOk result (λ _. trials text.now self.now.bodies self.now.pattern anchored ≤ limit) }
+        ensures refused { IfErr result (λ e. e ≡ TooManyTrials → limit < trials text.now self.now.bodies self.now.pattern anchored) }
+    {
         let history = &mut workspace.history;
-        let mut learnt = Learnt::nothing_of(text.bytes());
+        let mut learnt = Learnt::nothing_of(text);
         // for the proof
         self.compiled.rules.bodies();
         a_greater_depth_changes_no_outcome();

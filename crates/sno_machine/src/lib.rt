@@ -138,7 +138,7 @@
 //! |---|---|
 //! | `workspace` | memory that matches use one after the other |
 //! | `searched` | a text that is searched more than once |
-//! | `code` | [`compile`], [`Code::first`], [`Code::first_in`] and [`Code::first_from`] |
+//! | `code` | [`compile`], [`Code::first`], [`Code::first_in`], [`Code::first_in_bytes`] and [`Code::first_from`] |
 //! | `compiling/nodes` | nodes and their operations |
 //! | `compiling/builder` | a pattern is compiled |
 //! | `compiling/lookaheads` | the primitives that a branch tries itself |
@@ -196,5 +196,7 @@ pub use code::{Code, compile};
 pub use faults::MatchFault;
 pub use run::search::SearchOutcome;
 pub use searched::Searched;
-pub use sno_pattern::{Assign, Assigns, Conds, Found, Hit, Name, Pattern, Rules, Text, What};
+pub use sno_pattern::{
+    Assign, Assigns, ByteText, Conds, Found, Hit, Name, Pattern, Rules, Text, What,
+};
 pub use workspace::Workspace;

@@ -1,9 +1,10 @@
 //! A text that is searched more than once.
 ghost use Rattle.std.specs.Prelude.{◌≡◌, ◌≤◌, length};
+ghost use Rattle.sno_pattern.specs.declared.byte_texts.TheConstants.{MAX_BYTES};
 
 use crate::run::learnt::Learnt;
 use crate::workspace::Workspace;
-use sno_pattern::{Found, Text};
+use sno_pattern::{ByteText, Found, Text};
 use std::alloc::Global;
 use std::marker::Model;
 
@@ -11,19 +12,20 @@ use std::marker::Model;
 /// one after the other. So what one search learnt serves the next, and none of it changes a result.
 #[derive(Drop)]
 pub struct Searched<'t, 'a> {
-    pub(crate) text: &'t Text,
+    pub(crate) text: &'t [u8],
     pub(crate) learnt: Learnt<'t, 'a>,
     pub(crate) workspace: Workspace<'a>,
 }
 
 impl<'t, 'a> Model for Searched<'t, 'a> {
-    ghost use Rattle.std.specs.Prelude.{ℕ, ◌≡◌, List};
+    ghost use Rattle.std.specs.Prelude.{ℕ, ◌≡◌, ◌≤◌, List, length};
+    ghost use Rattle.sno_pattern.specs.declared.byte_texts.TheConstants.{MAX_BYTES};
 
     ghost Value = { List ℕ };
 
     ghost view = { λ s. s.text.now };
 
-    ghost invariant = { λ s. s.learnt ≡ s.text.now };
+    ghost invariant = { λ s. (length s.text.now ≤ MAX_BYTES) × (s.learnt ≡ s.text.now) };
 }
 
 impl<'t, 'a> Searched<'t, 'a> {
@@ -31,17 +33,31 @@ impl<'t, 'a> Searched<'t, 'a> {
     pub fn new(alloc: Global, text: &'t Text) -> Searched<'t, 'a>
         ensures { result ≡ text.now }
     {
-        let learnt = Learnt::nothing_of(text.bytes());
+        Searched::of(alloc, text.bytes())
+    }
+
+    /// As [`Searched::new`], of a text of bytes.
+    pub fn of_bytes(alloc: Global, text: &'t ByteText) -> Searched<'t, 'a>
+        ensures { result ≡ text.now }
+    {
+        Searched::of(alloc, text.bytes())
+    }
+
+    fn of(alloc: Global, text: &'t [u8]) -> Searched<'t, 'a>
+        requires { length text.now ≤ MAX_BYTES }
+        ensures { result ≡ text.now }
+    {
         Searched {
             text,
-            learnt,
+            learnt: Learnt::nothing_of(text),
             workspace: Workspace::new(alloc),
         }
     }
 
-    /// The text.
-    pub fn text(&self) -> &'t Text
-        ensures { result.now ≡ self.now }
+    /// The characters of the text.
+    pub fn characters(&self) -> &'t [u8]
+        ensures value { result.now ≡ self.now }
+        ensures short { length self.now ≤ MAX_BYTES }
     {
         self.text
     }

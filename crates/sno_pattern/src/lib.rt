@@ -16,6 +16,7 @@
 //! | `identifiers` | `Name`: read exactly if bytes are a name; the sixteen reserved words |
 //! | `text_names` | `TextName`: made exactly if bytes are 1 to 255 characters from `!` to `~` |
 //! | `texts` | `Text`: made exactly if bytes are at most 65,536 ASCII characters; otherwise the first fault |
+//! | `byte_texts` | `ByteText`: made exactly if bytes are at most 16,777,216 |
 //! | `classes`, `tables` | `Class`: made exactly if a list is not empty and all ASCII; membership, by a table |
 //! | `tree` | `Pattern`: the tree, with 23 variants |
 //! | `name_list` | `Names`: at most 64, none reserved, none repeated; the place of a name |
@@ -25,6 +26,7 @@
 #![tactic(auto)]
 
 mod admission;
+mod byte_texts;
 mod classes;
 mod cursor_laws;
 mod definitions;
@@ -39,6 +41,7 @@ mod text_names;
 mod texts;
 mod tree;
 
+pub use byte_texts::{ByteText, ByteTextFault, MAX_BYTES};
 pub use classes::Class;
 pub use cursor_laws::cursors_lie_within_the_text;
 pub use definitions::{Rules, RulesFault};

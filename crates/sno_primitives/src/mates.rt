@@ -2,6 +2,7 @@
 ghost use Rattle.std.specs.Prelude.{◌≡◌, ◌+◌, ◌<◌, ◌≤◌, ◌∷◌, ℕ, List, [], length, reverse, IfOk, IfSome, MatchOption};
 ghost use Rattle.std.proofs.Math.ListN.{get_or};
 ghost use Rattle.sno_pattern.specs.Ends.{bal_ends};
+ghost use Rattle.sno_pattern.specs.declared.byte_texts.TheConstants.{MAX_BYTES};
 ghost use Rattle.sno_primitives.specs.Mates.{ends_from};
 ghost use Rattle.sno_primitives.specs.Walks.{IsStack};
 ghost use Rattle.sno_primitives.specs.MateTables.{AreOfText};
@@ -18,9 +19,9 @@ pub struct Mates {
 }
 
 impl Mates {
-    /// Goes once through the text, which has at most 65,536 characters, from its end. Refused only if out of memory.
+    /// Goes once through the text, which has at most 16,777,216 characters, from its end. Refused only if out of memory.
     pub fn of(alloc: Global, text: &[u8]) -> Result<Mates, AllocError>
-        requires { length text.now ≤ 65536 }
+        requires { length text.now ≤ MAX_BYTES }
         ensures { IfOk result (AreOfText text.now) }
     {
         let mut ends = vec![in alloc; 0; text.len()]?;
@@ -49,7 +50,7 @@ impl Mates {
 // The first end from the character at `c`, or 0. Each `)` that is still without its `(` has left the cursor past it: a `(` takes
 // the nearest one.
 fn end_before(character: u8, c: usize, closed: &mut Vec<u32>) -> Result<u32, AllocError>
-    requires { c < 65536 }
+    requires { c < MAX_BYTES }
     ensures stack { (t : List ℕ) → c < length t → get_or t c 0 ≡ character → IsStack t (c + 1) (reverse closed.old.items)
         → IfOk result (λ _. IsStack t c (reverse closed.new.items)) }
     ensures exact { (t : List ℕ) → c < length t → get_or t c 0 ≡ character → IsStack t (c + 1) (reverse closed.old.items)

@@ -1,6 +1,7 @@
 //! Where the runs of a set end in a text, found once for all cursors.
 ghost use Rattle.std.specs.Prelude.{◌≡◌, ◌+◌, ◌/◌, ◌≤◌, take, length, IfOk, IfNone, IfSome};
 ghost use Rattle.std.specs.List.{take_while};
+ghost use Rattle.sno_pattern.specs.declared.byte_texts.TheConstants.{MAX_BYTES};
 ghost use Rattle.sno_primitives.specs.Runs.{goes_through, run_end, AreRunEnds};
 ghost use Rattle.sno_primitives.specs.Rows.{goes_by_rows, AreRowsOf};
 ghost use Rattle.sno_primitives.specs.RunTables.{IsOfText};
@@ -26,14 +27,14 @@ pub struct RunEnds<'s> {
 }
 
 impl<'s> RunEnds<'s> {
-    /// Goes once through the text, which has at most 65,536 characters. Refused only if out of memory.
+    /// Goes once through the text, which has at most 16,777,216 characters. Refused only if out of memory.
     pub fn of(
         alloc: Global,
         text: &[u8],
         set: &'s Class,
         inside: bool,
     ) -> Result<RunEnds<'s>, AllocError>
-        requires { length text.now ≤ 65536 }
+        requires { length text.now ≤ MAX_BYTES }
         ensures right { IfOk result (IsOfText text.now) }
         ensures set { IfOk result (λ runs. runs.set.now ≡ set.now) }
         ensures inside { IfOk result (λ runs. runs.inside ≡ inside) }

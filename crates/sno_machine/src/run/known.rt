@@ -1,5 +1,6 @@
 //! What was learnt of a text.
 ghost use Rattle.std.specs.Prelude.{◌≡◌, ◌≤◌, true, length, IfSome};
+ghost use Rattle.sno_pattern.specs.declared.byte_texts.TheConstants.{MAX_BYTES};
 ghost use Rattle.sno_primitives.specs.MateTables.{AreOfText};
 ghost use Rattle.sno_primitives.specs.RunTables.{IsOfText};
 
@@ -31,18 +32,19 @@ impl<'t, 'a> Model for Known<'t, 'a> {
     ghost use Rattle.std.specs.Prelude.{ℕ, ◌≤◌, List, length, All, IfSome};
     ghost use Rattle.sno_primitives.specs.RunTables.{IsOfText};
     ghost use Rattle.sno_primitives.specs.MateTables.{AreOfText};
+    ghost use Rattle.sno_pattern.specs.declared.byte_texts.TheConstants.{MAX_BYTES};
 
     ghost Value = { List ℕ };
 
     ghost view = { λ s. s.text.now };
 
-    ghost invariant = { λ s. (length s.text.now ≤ 65536) × All (IsOfText s.text.now) s.runs.items × IfSome s.mates (AreOfText s.text.now) };
+    ghost invariant = { λ s. (length s.text.now ≤ MAX_BYTES) × All (IsOfText s.text.now) s.runs.items × IfSome s.mates (AreOfText s.text.now) };
 }
 
 impl<'t, 'a> Known<'t, 'a> {
     /// Nothing is known yet of the text.
     pub fn nothing_of(alloc: Global, text: &'t [u8]) -> Known<'t, 'a>
-        requires { length text.now ≤ 65536 }
+        requires { length text.now ≤ MAX_BYTES }
         ensures { result ≡ text.now }
     {
         Known {

@@ -1,6 +1,7 @@
 //! What a match has learnt of its text.
 ghost use Rattle.std.specs.Prelude.{◌≡◌, ◌+◌, ◌<◌, ◌≤◌, ◌∷◌, [], length, IfSome, MatchOption};
 ghost use Rattle.sno_pattern.specs.Ends.{bal_ends};
+ghost use Rattle.sno_pattern.specs.declared.byte_texts.TheConstants.{MAX_BYTES};
 ghost use Rattle.sno_primitives.specs.MateTables.{AreOfText};
 ghost use Rattle.sno_primitives.specs.RunTables.{IsOfText};
 ghost use Rattle.sno_primitives.specs.Runs.{run_end};
@@ -39,19 +40,20 @@ pub struct Learnt<'t, 'a> {
 
 impl<'t, 'a> Model for Learnt<'t, 'a> {
     ghost use Rattle.std.specs.Prelude.{ℕ, ◌≡◌, ◌≤◌, List, length, IfSome};
+    ghost use Rattle.sno_pattern.specs.declared.byte_texts.TheConstants.{MAX_BYTES};
 
     ghost Value = { List ℕ };
 
     ghost view = { λ s. s.text.now };
 
-    ghost invariant = { λ s. (length s.text.now ≤ 65536) × IfSome s.known (λ k. k.value ≡ s.text.now) };
+    ghost invariant = { λ s. (length s.text.now ≤ MAX_BYTES) × IfSome s.known (λ k. k.value ≡ s.text.now) };
 }
 
 impl<'t, 'a> Learnt<'t, 'a> {
     /// Nothing was learnt yet of the text.
     #[inline(always)]
     pub fn nothing_of(text: &'t [u8]) -> Learnt<'t, 'a>
-        requires { length text.now ≤ 65536 }
+        requires { length text.now ≤ MAX_BYTES }
         ensures { result ≡ text.now }
     {
         Learnt {

@@ -3,6 +3,7 @@ ghost use Rattle.std.specs.Prelude.{◌≡◌, ◌+◌, ◌≤◌, [], length, I
 ghost use Rattle.std.specs.List.{flat_map};
 ghost use Rattle.sno_pattern.specs.Tree.{tree_of};
 ghost use Rattle.sno_pattern.specs.Outcome.{tried_from};
+ghost use Rattle.sno_pattern.specs.declared.byte_texts.TheConstants.{MAX_BYTES};
 ghost use Rattle.sno_machine.specs.Beginnings.{AreBeginnings, IsRunStart, cost};
 ghost use Rattle.sno_machine.specs.Code.{IsCompiled};
 ghost use Rattle.sno_machine.specs.Endings.{match_by, up_to, Overspent};
@@ -23,7 +24,7 @@ use std::mem;
 // The place of the match when it begins at this start.
 #[inline(always)]
 fn first_place(nodes: &Nodes, most: u32, start: usize) -> Place
-    requires { start ≤ 65536 }
+    requires { start ≤ MAX_BYTES }
     ensures { result ≡ record { node = nodes.now.start; cursor = start; depth = most; frame = 0; pending = 0 } }
 {
     Place {
@@ -53,7 +54,7 @@ pub fn try_starts<'a>(
     requires compiled { IsCompiled code.now.rules.now.bodies (tree_of code.now.pattern.now) code.now.nodes }
     requires inside { first ≤ last + 1 }
     requires within { last ≤ length text.now }
-    requires short { length text.now ≤ 65536 }
+    requires short { length text.now ≤ MAX_BYTES }
     requires known { learnt.old ≡ text.now }
     requires deep { length code.now.rules.now.bodies ≤ most }
     requires begin { AreBeginnings code.now.rules.now.bodies (tree_of code.now.pattern.now) code.now.beginnings }

@@ -4,6 +4,7 @@ ghost use Rattle.std.specs.List.{flat_map};
 ghost use Rattle.sno_pattern.specs.Tree.{tree_of, refs_below};
 ghost use Rattle.sno_pattern.specs.Results.{enough_depth};
 ghost use Rattle.sno_pattern.specs.Outcome.{outcome_from, starts_from, tried_from, trials_from};
+ghost use Rattle.sno_pattern.specs.declared.byte_texts.TheConstants.{MAX_BYTES};
 ghost use Rattle.sno_machine.specs.Beginnings.{AreBeginnings, IsRunStart, cost};
 ghost use Rattle.sno_machine.specs.Code.{IsCompiled};
 ghost use Rattle.sno_machine.specs.Endings.{found_of, match_by, up_to, Overspent};
@@ -15,7 +16,7 @@ use crate::run::entries::History;
 use crate::run::learnt::Learnt;
 use crate::run::progress::Progress;
 use crate::run::running::try_starts;
-use sno_pattern::{Assigns, Found, Hit, Rules, Text};
+use sno_pattern::{Assigns, Found, Hit, Rules};
 use std::alloc::{AllocError, Global};
 
 /// What a search has found, and how many trials it took.
@@ -31,12 +32,13 @@ pub fn search<'a>(
     alloc: Global,
     code: &Compiled<'a>,
     history: &mut History<'a>,
-    text: &Text,
+    text: &[u8],
     learnt: &mut Learnt<'_, 'a>,
     anchored: bool,
     from: usize,
     limit: u32,
 ) -> Result<SearchOutcome, MatchFault>
+    requires short { length text.now ≤ MAX_BYTES }
     requires inside { from ≤ length text.now }
     requires known { learnt.old ≡ text.now }
     requires compiled { IsCompiled code.now.rules.now.bodies (tree_of code.now.pattern.now) code.now.nodes }
@@ -54,7 +56,7 @@ pub fn search<'a>(
     let hit = try_all(
         alloc,
         code,
-        text.bytes(),
+        text,
         most,
         anchored,
         from,
@@ -84,11 +86,12 @@ fn report(alloc: Global, progress: &Progress, hit: Option<Hit>) -> Result<Search
 }
 
 // A depth that is always enough.
-fn depth(text: &Text, rules: &Rules) -> u32
+fn depth(text: &[u8], rules: &Rules) -> u32
+    requires short { length text.now ≤ MAX_BYTES }
     ensures enough { result ≡ enough_depth text.now rules.now.bodies }
     ensures deep { length rules.now.bodies ≤ result }
 {
-    ((text.bytes().len() + 1) * rules.len()) as u32
+    ((text.len() + 1) * rules.len()) as u32
 }
 
 // Tries each start at which a match may begin, until one of them ends the match: this cursor alone if the match is anchored.
@@ -108,7 +111,7 @@ fn try_all<'a>(
     requires cheap { cost code.now.beginnings ≤ 64 }
     requires run { IfSome code.now.run (IsRunStart code.now.rules.now.bodies (tree_of code.now.pattern.now)) }
     requires inside { from ≤ length text.now }
-    requires short { length text.now ≤ 65536 }
+    requires short { length text.now ≤ MAX_BYTES }
     requires known { learnt.old ≡ text.now }
     requires deep { length code.now.rules.now.bodies ≤ most }
     ensures known { learnt.new ≡ text.now }
@@ -127,7 +130,7 @@ fn try_all<'a>(
 #[tactic(auto, using(crate::proofs::Ranges::single_start, crate::proofs::Ranges::each_start))]
 fn last_start(text: &[u8], anchored: bool, from: usize) -> usize
     requires inside { from ≤ length text.now }
-    requires short { length text.now ≤ 65536 }
+    requires short { length text.now ≤ MAX_BYTES }
     ensures starts { starts_from text.now anchored from ≡ up_to from result }
     ensures within { (from ≤ result) × (result ≤ length text.now) }
 {

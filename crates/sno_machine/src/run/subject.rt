@@ -1,6 +1,7 @@
 //! The text that a match goes through, beside what was learnt of it.
 ghost use Rattle.std.specs.Prelude.{◌≡◌, ◌+◌, ◌<◌, ◌≤◌, ◌∷◌, [], drop, length, option_to_list, IfSome, MatchOption};
 ghost use Rattle.sno_pattern.specs.Ends.{bal_ends, break_ends, span_ends};
+ghost use Rattle.sno_pattern.specs.declared.byte_texts.TheConstants.{MAX_BYTES};
 ghost use Rattle.sno_primitives.specs.Runs.{run_end};
 
 use crate::run::learnt::Learnt;
@@ -24,19 +25,20 @@ pub struct Subject<'s, 't, 'a> {
 
 impl<'s, 't, 'a> Model for Subject<'s, 't, 'a> {
     ghost use Rattle.std.specs.Prelude.{ℕ, ◌≡◌, ◌≤◌, List, length};
+    ghost use Rattle.sno_pattern.specs.declared.byte_texts.TheConstants.{MAX_BYTES};
 
     ghost Value = { List ℕ };
 
     ghost view = { λ s. s.text.now };
 
-    ghost invariant = { λ s. (length s.text.now ≤ 65536) × (s.learnt.now ≡ s.text.now) };
+    ghost invariant = { λ s. (length s.text.now ≤ MAX_BYTES) × (s.learnt.now ≡ s.text.now) };
 }
 
 impl<'s, 't, 'a> Subject<'s, 't, 'a> {
     /// The text, of which this was learnt.
     #[inline(always)]
     pub fn of(text: &'s [u8], learnt: &'s Learnt<'t, 'a>) -> Subject<'s, 't, 'a>
-        requires short { length text.now ≤ 65536 }
+        requires short { length text.now ≤ MAX_BYTES }
         requires same { learnt.now ≡ text.now }
         ensures { result ≡ text.now }
     {
@@ -47,7 +49,7 @@ impl<'s, 't, 'a> Subject<'s, 't, 'a> {
     #[inline(always)]
     pub fn again(&self) -> Subject<'s, 't, 'a>
         ensures value { result ≡ self.now }
-        ensures short { length self.now ≤ 65536 }
+        ensures short { length self.now ≤ MAX_BYTES }
     {
         Subject {
             text: self.text,
@@ -59,7 +61,7 @@ impl<'s, 't, 'a> Subject<'s, 't, 'a> {
     #[inline(always)]
     pub fn bytes(&self) -> &[u8]
         ensures value { result.now ≡ self.now }
-        ensures short { length self.now ≤ 65536 }
+        ensures short { length self.now ≤ MAX_BYTES }
     {
         self.text
     }
@@ -68,7 +70,7 @@ impl<'s, 't, 'a> Subject<'s, 't, 'a> {
     #[inline(always)]
     pub fn len(&self) -> usize
         ensures value { result ≡ length self.now }
-        ensures short { length self.now ≤ 65536 }
+        ensures short { length self.now ≤ MAX_BYTES }
     {
         self.text.len()
     }
@@ -78,7 +80,7 @@ impl<'s, 't, 'a> Subject<'s, 't, 'a> {
     pub fn after(&self, c: usize) -> &[u8]
         requires { c ≤ length self.now }
         ensures value { result.now ≡ drop c self.now }
-        ensures short { length self.now ≤ 65536 }
+        ensures short { length self.now ≤ MAX_BYTES }
     {
         let (_, rest) = self.text.split_at(c);
         rest
@@ -129,7 +131,7 @@ impl<'s, 't, 'a> Subject<'s, 't, 'a> {
         requires { c ≤ length self.now }
         ensures exact { MatchOption result (bal_ends self.now c ≡ []) (λ e. bal_ends self.now c ≡ e ∷ bal_ends self.now e) }
         ensures past { IfSome result (λ e. (c < e) × (e ≤ length self.now)) }
-        ensures short { length self.now ≤ 65536 }
+        ensures short { length self.now ≤ MAX_BYTES }
     {
         match walk_balanced(self.text, c, NEAR_BALANCE) {
             Walk::Ended(end) => Some(end),

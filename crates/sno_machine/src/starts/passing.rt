@@ -3,6 +3,7 @@ ghost use Rattle.std.specs.Prelude.{◌≡◌, ◌*◌, ◌+◌, ◌≤◌, ℕ,
 ghost use Rattle.std.specs.List.{flat_map};
 ghost use Rattle.sno_pattern.specs.Tree.{Tree};
 ghost use Rattle.sno_pattern.specs.Outcome.{tried_from};
+ghost use Rattle.sno_pattern.specs.declared.byte_texts.TheConstants.{MAX_BYTES};
 ghost use Rattle.sno_machine.specs.Beginnings.{AreBeginnings, IsRunStart, NoneBegin, cost};
 ghost use Rattle.sno_machine.specs.Endings.{up_to, Overspent, PassesTo};
 
@@ -15,7 +16,7 @@ use crate::starts::run_starts::RunStart;
 
 // How many trials it costs to pass over `starts` starts.
 fn price(starts: usize, cost: usize) -> usize
-    requires few { starts ≤ 65537 }
+    requires few { starts ≤ MAX_BYTES + 1 }
     requires cheap { cost ≤ 64 }
     ensures { result ≡ starts * cost }
 {
@@ -38,7 +39,7 @@ pub fn next_start<'a>(
 ) -> Result<usize, MatchFault>
     requires inside { start ≤ last + 1 }
     requires within { last ≤ length text.now }
-    requires short { length text.now ≤ 65536 }
+    requires short { length text.now ≤ MAX_BYTES }
     requires same { learnt.now ≡ text.now }
     requires cheap { cost beginnings.now ≤ 64 }
     ensures inside { IfOk result (λ next. (start ≤ next) × (next ≤ last + 1)) }
@@ -67,7 +68,7 @@ fn pass_runs<'a>(
 ) -> Result<usize, MatchFault>
     requires inside { start ≤ last + 1 }
     requires within { last ≤ length text.now }
-    requires short { length text.now ≤ 65536 }
+    requires short { length text.now ≤ MAX_BYTES }
     requires same { learnt.now ≡ text.now }
     requires cheap { cost beginnings.now ≤ 64 }
     ensures inside { IfOk result (λ next. (start ≤ next) × (next ≤ last + 1)) }
@@ -105,7 +106,7 @@ pub fn first_start(
 ) -> Result<usize, MatchFault>
     requires inside { start ≤ last + 1 }
     requires within { last ≤ length text.now }
-    requires short { length text.now ≤ 65536 }
+    requires short { length text.now ≤ MAX_BYTES }
     requires cheap { cost beginnings.now ≤ 64 }
     ensures inside { IfOk result (λ next. (start ≤ next) × (next ≤ last + 1)) }
     ensures passed { (bodies : List Tree) (p : Tree) (k : ℕ) → length bodies ≤ k → AreBeginnings bodies p beginnings.now → IfOk result (PassesTo text.now bodies k p start last progress.old progress.new) }
@@ -129,7 +130,7 @@ fn pass_over(
 ) -> Result<usize, MatchFault>
     requires inside { start ≤ last + 1 }
     requires within { last ≤ length text.now }
-    requires short { length text.now ≤ 65536 }
+    requires short { length text.now ≤ MAX_BYTES }
     requires cheap { cost beginnings.now ≤ 64 }
     ensures inside { IfOk result (λ next. (start ≤ next) × (next ≤ last + 1)) }
     ensures passed { (bodies : List Tree) (p : Tree) (k : ℕ) → length bodies ≤ k → AreBeginnings bodies p beginnings.now → IfOk result (PassesTo text.now bodies k p start last progress.old progress.new) }
