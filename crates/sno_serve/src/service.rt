@@ -8,6 +8,7 @@ ghost use Rattle.sno_statement.specs.Statement.{IsLimit};
 ghost use Rattle.sno_document.specs.Reads.{IsReady};
 ghost use Rattle.std.specs.Thread.{IsSend, IsSync};
 ghost use Rattle.std.specs.Arc.{arc_value};
+ghost use Rattle.sno_desk.specs.declared.desk.TheConstants.{MAX_SEATS, MAX_TRIES};
 ghost use Rattle.sno_desk.specs.Turns.{position};
 ghost use Rattle.sno_desk.specs.Worked.{HasWorkedAt};
 ghost use Rattle.sno_serve.specs.Asked.{asked_in};
@@ -41,7 +42,7 @@ struct Service<I: Read, W: Write> {
     intake: Mutex<Intake<I>>,
     outlet: Mutex<Outlet<W>>,
     ghost limit: { IsLimit mode.trials },
-    ghost valid: { (1 ≤ tries) × (tries ≤ 1000) },
+    ghost valid: { (1 ≤ tries) × (tries ≤ MAX_TRIES) },
 }
 
 /// What a service leaves.
@@ -228,8 +229,8 @@ pub fn serve<I: Read + Send + Drop, W: Write + Send + Drop, R: Threads + Wait + 
     writer: W,
 ) -> Result<Served, ServeFault>
     requires limit { IsLimit mode.trials }
-    requires few { (1 ≤ seats) × (seats ≤ 16) }
-    requires lawful { (1 ≤ tries) × (tries ≤ 1000) }
+    requires few { (1 ≤ seats) × (seats ≤ MAX_SEATS) }
+    requires valid { (1 ≤ tries) × (tries ≤ MAX_TRIES) }
     requires ready { IsReady document }
     ensures opening { IfOk result (λ s. s.book.opening ≡ document.book.opening) }
     ensures lawful { IfOk result (λ s. IsLawful (view_of s.book)) }
