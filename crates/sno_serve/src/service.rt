@@ -3,7 +3,7 @@ ghost use Rattle.std.specs.Prelude.{◌≡◌, ◌≤◌, ◌⊎◌, ℕ, [], If
 ghost use Rattle.std.specs.List.Sorted.{IsNonDecreasingBy};
 ghost use mathlib.Core.List.{IsPrefix as Begins};
 ghost use Rattle.sno_book.specs.Books.{view_of};
-ghost use Rattle.sno_book.specs.Views.{IsLawful};
+ghost use Rattle.sno_book.specs.Views.{IsValid};
 ghost use Rattle.sno_statement.specs.Statement.{IsLimit};
 ghost use Rattle.sno_document.specs.Reads.{IsReady};
 ghost use Rattle.std.specs.Thread.{IsSend, IsSync};
@@ -233,7 +233,7 @@ pub fn serve<I: Read + Send + Drop, W: Write + Send + Drop, R: Threads + Wait + 
     requires valid { (1 ≤ tries) × (tries ≤ MAX_TRIES) }
     requires ready { IsReady document }
     ensures opening { IfOk result (λ s. s.book.opening ≡ document.book.opening) }
-    ensures lawful { IfOk result (λ s. IsLawful (view_of s.book)) }
+    ensures valid { IfOk result (λ s. IsValid (view_of s.book)) }
     ensures worked { IfOk result (λ s. HasWorkedAt (λ before after. Begins before.seen after.seen) seats s.book.journal) }
     ensures given { IfOk result (λ s. HasWorkedAt (HasServed (IsGiven (arc_value document.rules) (map arc_value document.statements.items) mode)) seats s.book.journal) }
     ensures rising { IfOk result (λ s. IsNonDecreasingBy (λ r. r.number) s.refused.items) }
