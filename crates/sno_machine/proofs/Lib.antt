@@ -16,6 +16,7 @@ pub mod RoundLaws
 pub mod PairLaws
 pub mod ScanLaws
 pub mod StartLaws
+pub mod FarLaws
 pub mod TableLaws
 pub mod SizeLaws
 pub mod WritingLaws
