@@ -4,6 +4,7 @@ pub mod Told
 pub mod Meaning
 pub mod Steps
 pub mod Leaves
+pub mod Limits
 pub mod Plans
 pub mod Code
 pub mod Sources

@@ -195,7 +195,7 @@ mod workspace;
 pub use code::{Code, compile};
 pub use faults::MatchFault;
 pub use run::search::SearchOutcome;
-pub use searched::Searched;
+pub use searched::{MAX_KEPT, Searched};
 pub use sno_pattern::{
     Assign, Assigns, ByteText, Conds, Found, Hit, Name, Pattern, Rules, Text, What,
 };

@@ -16,8 +16,13 @@ pub struct Workspace<'a> {
 impl<'a> Workspace<'a> {
     /// A workspace without any memory yet.
     pub fn new(alloc: Global) -> Workspace<'a> {
+        Workspace::bounded(alloc, u32::MAX)
+    }
+
+    // A workspace without any memory yet, for matches that have at most this many entries in their history.
+    pub(crate) fn bounded(alloc: Global, most: u32) -> Workspace<'a> {
         Workspace {
-            history: History::new(alloc),
+            history: History::of(alloc, most),
         }
     }
 
