@@ -5,6 +5,7 @@ pub mod PlanLaws
 pub mod HistoryLaws
 pub mod PrimitiveLaws
 pub mod BranchLaws
+pub mod RowLaws
 pub mod ReferenceLaws
 pub mod TakingLaws
 pub mod EndingLaws

@@ -10,6 +10,7 @@ pub mod Code
 pub mod Sources
 pub mod Compiling
 pub mod History
+pub mod Rows
 pub mod Endings
 pub mod Beginnings
 pub mod Scanning

@@ -66,6 +66,7 @@ impl<'a> Progress<'a> {
     pub fn try_spend(&mut self, count: usize) -> bool
         ensures spent { result ≡ true → self.new ≡ spend count self.old }
         ensures refused { result ≡ false → self.old.limit < self.old.trials + count }
+        ensures within { self.new.trials ≤ self.new.limit }
     {
         if (self.left as usize) < count {
             return false;
