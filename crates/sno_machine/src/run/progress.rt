@@ -87,6 +87,9 @@ impl<'a> Progress<'a> {
         ensures sets { IfOk result (λ sets. sets.items ≡ self.now.sets) }
         ensures within { self.now.trials ≤ self.now.limit }
     {
+        if self.sets.is_empty() {
+            return Ok(Vec::new(alloc));
+        }
         let mut sets = Vec::with_capacity(alloc, self.sets.len())?;
         for told in &self.sets {
             sets.push_reserved(Assign {
