@@ -8,8 +8,7 @@ use sno_pattern::{ByteText, Found, Text};
 use std::alloc::Global;
 use std::marker::Model;
 
-/// How many entries the history of a search in a text of bytes may have: a search for which more than these would have to be kept
-/// is refused. They take at most 128 MiB.
+/// How many entries the history of a match in a text of bytes should have at most: they take up to 128 MiB.
 pub const MAX_KEPT: u32 = 4_194_304;
 
 /// A text that is searched more than once. It has beside the text what searches have learnt of it, and the memory that they use
@@ -50,7 +49,7 @@ impl<'t, 'a> Searched<'t, 'a> {
 
     /// Whether a search was refused since its history would have had too many entries, and not because memory ran out.
     pub fn is_full(&self) -> bool {
-        self.workspace.history.is_full
+        self.workspace.is_full()
     }
 
     fn of(workspace: Workspace<'a>, text: &'t [u8]) -> Searched<'t, 'a>
