@@ -50,7 +50,7 @@ pub use findings::{Excerpt, Mistake, Place, Report, Warning};
 pub use habits::habit_advice;
 pub use json_lines::json_of;
 pub use json_places::json_mistake;
-pub use lines::lines_of;
+pub use lines::{lines_of, put_mistake, put_pointed};
 pub use reading::{place_of, reading_advice};
 pub use sno_document::DocumentFault;
 pub use spelling::nearest;
