@@ -7,7 +7,7 @@ use Rattle.sno_statement.specs.declared.match_lists.Match.{Match}
 use Rattle.sno_statement.specs.Bindings.{bind_conds, bind_sets, conds_of}
 use Rattle.sno_statement.specs.Passes.{Pass, IsCursor, counts, cursors_left, match_by, match_of, matches_from, matches_left, most_searches, moved, search, search_trials, trials_together}
 use Rattle.sno_statement.proofs.PassLaws.{counted, further, none_left, no_matches, skipped, statement_kept, text_kept, trials_kept, trials_over}
-use Rattle.sno_statement.proofs.passes.Pass.next_hit.Goals as goal
+use Rattle.sno_statement.proofs.searches.Searches.next_hit.Goals as goal
 
 pub returns-in_err-found-clause-refused : goal.returns-in_err-found-clause-refused
 returns-in_err-found-clause-refused c =
@@ -20,6 +20,9 @@ returns-in_err-found-clause-refused c =
     let e = err_from_is_err_and c.from_residual.result c.from_residual.ensures.1 in
     let limit : p.statement.limit ≡ c.args.self.now.statement.limit = ap (λ z. z.limit) before.statement in
     rw (e.1, e.2) (λ is. let over = trials_over p from at inside p.statement.limit (c.in_err-found.ensures.refused is) in let kept = before.trials in omega (arith, limit, over, kept))
+
+pub returns-in_err-found-clause-text : goal.returns-in_err-found-clause-text
+returns-in_err-found-clause-text c = c.search.ensures.text ∙ c.loop-self.invariant.text
 
 pub returns-in_default-end-clause-next : goal.returns-in_default-end-clause-next
 returns-in_default-end-clause-next c =
