@@ -2,7 +2,7 @@
 use Rattle.std.specs.Prelude.{◌≡◌, ℕ, true, false, List, [], ◌∷◌, ◌++◌, codes, refl}
 use lib.Utf8.{encode}
 use Rattle.std.specs.Fmt.{digits}
-use Rattle.std.specs.Str.{chars, is_utf8}
+use Rattle.std.specs.Str.{chars}
 use Rattle.sno_edit.specs.declared.scripts.DiffLine.{DiffLine}
 use Rattle.sno_edit.specs.declared.scripts.Mark.{Mark}
 use Rattle.sno_edit.specs.declared.scripts.Mark.TheVariants.{Kept, Removed, Added}
@@ -54,12 +54,11 @@ new_of_changed = refl
 
 changed_is_written : hunk_text false changed
     ≡ ended (codes "@@ -1,2 +1,2 @@") ++ (ended (codes " a") ++ (ended (codes "-b") ++ (ended (codes "+c") ++ (92 ∷ ended (codes " No newline at end of file")))))
-unfolding digits is_utf8 chars encode
+unfolding digits
 changed_is_written = refl
 
 -- on a terminal a removed line is red
 removed_in_colour : line_text true (marked Removed (ended (codes "b"))) ≡ (27 ∷ codes "[31m") ++ (codes "-b" ++ ended (27 ∷ codes "[m"))
-unfolding is_utf8 chars encode
 removed_in_colour = refl
 
 -- ---- What hunks make of lines: the second of three lines is taken away, and one comes after the third
