@@ -261,62 +261,62 @@ at start end bindings = record { start = start; end = end; bindings = bindings }
 
 -- '&', object '&amp;', on a&b&c: what is put in isn't searched
 each_replaced : perform (for_all (Lit (codes "&")) (Some (Quoted (codes "&amp;") ∷ []))) (codes "a&b&c") ≡ Ok (All (at 1 2 [] ∷ at 3 4 [] ∷ []) (Some (codes "a&amp;b&amp;c")))
-unfolding outcome_at trials_at outcome_at_from trials_at_from results_of matches_from trials_onward perform_all
+unfolding outcome_at trials_at outcome_at_from trials_at_from results_of matches_from trials_onward perform_all_within
 each_replaced = refl
 
 -- 'a', object 'aa', on aaa
 none_between : perform (for_all (Lit (codes "a")) (Some (Quoted (codes "aa") ∷ []))) (codes "aaa") ≡ Ok (All (at 0 1 [] ∷ at 1 2 [] ∷ at 2 3 [] ∷ []) (Some (codes "aaaaaa")))
-unfolding outcome_at trials_at outcome_at_from trials_at_from results_of matches_from trials_onward perform_all
+unfolding outcome_at trials_at outcome_at_from trials_at_from results_of matches_from trials_onward perform_all_within
 none_between = refl
 
 -- LEN(1) $ L ANY('12') . D on a1b2: each match has its own bindings
 own_bindings : perform (for_all (Seq (Imm (Len 1) (codes "L")) (Cond (AnyOf (codes "12")) (codes "D"))) None) (codes "a1b2") ≡ Ok (All (at 0 2 ((codes "L", Str (codes "a")) ∷ (codes "D", Str (codes "1")) ∷ []) ∷ at 2 4 ((codes "L", Str (codes "b")) ∷ (codes "D", Str (codes "2")) ∷ []) ∷ []) None)
-unfolding outcome_at trials_at outcome_at_from trials_at_from results_of matches_from trials_onward perform_all
+unfolding outcome_at trials_at outcome_at_from trials_at_from results_of matches_from trials_onward perform_all_within
 own_bindings = refl
 
 -- SPAN('a') | '', object 'x', on baaac: the null string at cursor 4 doesn't count
 null_at_end_of_match : perform (for_all (Alt (Span (codes "a")) (Lit [])) (Some (Quoted (codes "x") ∷ []))) (codes "baaac") ≡ Ok (All (at 0 0 [] ∷ at 1 4 [] ∷ at 5 5 [] ∷ []) (Some (codes "xbxcx")))
-unfolding outcome_at trials_at outcome_at_from trials_at_from results_of matches_from trials_onward perform_all
+unfolding outcome_at trials_at outcome_at_from trials_at_from results_of matches_from trials_onward perform_all_within
 null_at_end_of_match = refl
 
 -- '', object '-', on abc
 null_everywhere : perform (for_all (Lit []) (Some (Quoted (codes "-") ∷ []))) (codes "abc") ≡ Ok (All (at 0 0 [] ∷ at 1 1 [] ∷ at 2 2 [] ∷ at 3 3 [] ∷ []) (Some (codes "-a-b-c-")))
-unfolding outcome_at trials_at outcome_at_from trials_at_from results_of matches_from trials_onward perform_all
+unfolding outcome_at trials_at outcome_at_from trials_at_from results_of matches_from trials_onward perform_all_within
 null_everywhere = refl
 
 -- '', object 'z', on the empty text
 null_on_empty : perform (for_all (Lit []) (Some (Quoted (codes "z") ∷ []))) [] ≡ Ok (All (at 0 0 [] ∷ []) (Some (codes "z")))
-unfolding outcome_at trials_at outcome_at_from trials_at_from results_of matches_from trials_onward perform_all
+unfolding outcome_at trials_at outcome_at_from trials_at_from results_of matches_from trials_onward perform_all_within
 null_on_empty = refl
 
 -- anchored, 'a', object 'x', on aab
 anchored_run : perform (anchored (for_all (Lit (codes "a")) (Some (Quoted (codes "x") ∷ [])))) (codes "aab") ≡ Ok (All (at 0 1 [] ∷ at 1 2 [] ∷ []) (Some (codes "xxb")))
-unfolding outcome_at trials_at outcome_at_from trials_at_from results_of matches_from trials_onward perform_all
+unfolding outcome_at trials_at outcome_at_from trials_at_from results_of matches_from trials_onward perform_all_within
 anchored_run = refl
 
 -- anchored, 'a', on baa
 anchored_none : perform (anchored (for_all (Lit (codes "a")) None)) (codes "baa") ≡ Ok (Failed [])
-unfolding outcome_at trials_at outcome_at_from trials_at_from results_of matches_from trials_onward perform_all
+unfolding outcome_at trials_at outcome_at_from trials_at_from results_of matches_from trials_onward perform_all_within
 anchored_none = refl
 
 -- POS(2) 'a', object 'x', on abab: a primitive looks at the whole text
 whole_text_seen : perform (for_all (Seq (Pos 2) (Lit (codes "a"))) (Some (Quoted (codes "x") ∷ []))) (codes "abab") ≡ Ok (All (at 2 3 [] ∷ []) (Some (codes "abxb")))
-unfolding outcome_at trials_at outcome_at_from trials_at_from results_of matches_from trials_onward perform_all
+unfolding outcome_at trials_at outcome_at_from trials_at_from results_of matches_from trials_onward perform_all_within
 whole_text_seen = refl
 
 -- 'a' | ABORT, object 'x', on ab: a search that is aborted ends the pass
 abort_ends : perform (for_all (Alt (Lit (codes "a")) Abort) (Some (Quoted (codes "x") ∷ []))) (codes "ab") ≡ Ok (All (at 0 1 [] ∷ []) (Some (codes "xb")))
-unfolding outcome_at trials_at outcome_at_from trials_at_from results_of matches_from trials_onward perform_all
+unfolding outcome_at trials_at outcome_at_from trials_at_from results_of matches_from trials_onward perform_all_within
 abort_ends = refl
 
 -- 'a', object 'x', on aab: three searches take 1, 1 and 2 trials, more than three together ..
 together_refused : perform (with_limit (for_all (Lit (codes "a")) (Some (Quoted (codes "x") ∷ []))) 3) (codes "aab") ≡ Err fault.TooManyTrials
-unfolding outcome_at trials_at outcome_at_from trials_at_from results_of matches_from trials_onward perform_all
+unfolding outcome_at trials_at outcome_at_from trials_at_from results_of matches_from trials_onward perform_all_within
 together_refused = refl
 
 -- .. but no more than four
 together_within : perform (with_limit (for_all (Lit (codes "a")) (Some (Quoted (codes "x") ∷ []))) 4) (codes "aab") ≡ Ok (All (at 0 1 [] ∷ at 1 2 [] ∷ []) (Some (codes "xxb")))
-unfolding outcome_at trials_at outcome_at_from trials_at_from results_of matches_from trials_onward perform_all
+unfolding outcome_at trials_at outcome_at_from trials_at_from results_of matches_from trials_onward perform_all_within
 together_within = refl
 
 -- the new text may have 65,536 characters, and no more

@@ -45,26 +45,26 @@ after_of (Failed bound) = None
 after_of (Repeated n bound after) = Some after
 after_of (All matches after) = after
 
--- a new text is refused if it has more than 65,536 characters
-abbrev pub with_text : ℕ → ℕ → Bindings → List ℕ → Result Outcome StatementFault
-with_text s e bound after = if nat_lt MAX_TEXT (length after) then Err fault.TextTooLong else Ok (Matched s e bound (Some after))
+-- a new text is refused if it has more characters than the longest that is allowed
+abbrev pub with_text_within : ℕ → ℕ → ℕ → Bindings → List ℕ → Result Outcome StatementFault
+with_text_within longest s e bound after = if nat_lt longest (length after) then Err fault.TextTooLong else Ok (Matched s e bound (Some after))
 
 -- after a failed match nothing is replaced and the object isn't evaluated; without an object nothing is replaced
-abbrev pub finish : Option (List Part) → List ℕ → Bindings → Option Hit → Result Outcome StatementFault
-finish object t bound None = Ok (Failed bound)
-finish None t bound (Some hit) = Ok (Matched hit.start hit.end bound None)
-finish (Some parts) t bound (Some hit) = with_text hit.start hit.end bound (new_text t hit.start hit.end (value_of bound parts))
+abbrev pub finish_within : ℕ → Option (List Part) → List ℕ → Bindings → Option Hit → Result Outcome StatementFault
+finish_within longest object t bound None = Ok (Failed bound)
+finish_within longest None t bound (Some hit) = Ok (Matched hit.start hit.end bound None)
+finish_within longest (Some parts) t bound (Some hit) = with_text_within longest hit.start hit.end bound (new_text t hit.start hit.end (value_of bound parts))
 
 -- what a match with this outcome does
-abbrev pub finish_found : Option (List Part) → List ℕ → Found → Result Outcome StatementFault
-finish_found object t found = finish object t (bindings_of t found) found.end
+abbrev pub finish_found_within : ℕ → Option (List Part) → List ℕ → Found → Result Outcome StatementFault
+finish_found_within longest object t found = finish_within longest object t (bindings_of t found) found.end
 
 -- What the statement does once to the text t. It is refused if the match takes more trials than its limit, which is checked
 -- before the new text's length.
-abbrev pub perform_once : Statement → List ℕ → Result Outcome StatementFault
-perform_once s t =
+abbrev pub perform_once_within : ℕ → Statement → List ℕ → Result Outcome StatementFault
+perform_once_within longest s t =
     if nat_lt s.limit (trials t s.rules.bodies s.pattern s.anchored) then Err fault.TooManyTrials
-    else finish_found s.object t (outcome t s.rules.bodies s.pattern s.anchored)
+    else finish_found_within longest s.object t (outcome t s.rules.bodies s.pattern s.anchored)
 
 -- what a round that matched leaves to the next one: its bindings and its new text
 abbrev pub left_by : Outcome → Option (Bindings × List ℕ)
@@ -83,34 +83,67 @@ follow (Ok (Matched s e bound (Some after))) ended go_on = go_on bound after
 follow round ended go_on = round
 
 -- the rounds that are left after n matches, the last of which left these bindings and the text t
-abbrev pub rounds : Statement → ℕ → ℕ → Bindings → List ℕ → Result Outcome StatementFault
-rounds s zero n bound t = Ok (Repeated n bound t)
-rounds s (suc left) n bound t = follow (perform_once s t) (λ _. Repeated n bound t) (rounds s left (n + 1))
+abbrev pub rounds_within : ℕ → Statement → ℕ → ℕ → Bindings → List ℕ → Result Outcome StatementFault
+rounds_within longest s zero n bound t = Ok (Repeated n bound t)
+rounds_within longest s (suc left) n bound t = follow (perform_once_within longest s t) (λ _. Repeated n bound t) (rounds_within longest s left (n + 1))
 
 -- What the given number of rounds does to the text t: each later round is performed on the new text of the round before. If the
 -- first round fails, the statement fails.
-abbrev pub perform_times : Statement → Option ℕ → List ℕ → Result Outcome StatementFault
-perform_times s None t = perform_once s t
-perform_times s (Some r) t = follow (perform_once s t) Failed (rounds s (r - 1) 1)
+abbrev pub perform_times_within : ℕ → Statement → Option ℕ → List ℕ → Result Outcome StatementFault
+perform_times_within longest s None t = perform_once_within longest s t
+perform_times_within longest s (Some r) t = follow (perform_once_within longest s t) Failed (rounds_within longest s (r - 1) 1)
 
--- what all these matches do to the text t; a new text is refused if it has more than 65,536 characters
-abbrev pub finish_all : Option (List Part) → List ℕ → List Match → Result Outcome StatementFault
-finish_all None t matches = Ok (All matches None)
-finish_all (Some parts) t matches = if nat_lt MAX_TEXT (length (replaced parts t 0 matches)) then Err fault.TextTooLong else Ok (All matches (Some (replaced parts t 0 matches)))
+-- what all these matches do to the text t; a new text is refused if it has more characters than the longest that is allowed
+abbrev pub finish_all_within : ℕ → Option (List Part) → List ℕ → List Match → Result Outcome StatementFault
+finish_all_within longest None t matches = Ok (All matches None)
+finish_all_within longest (Some parts) t matches =
+    if nat_lt longest (length (replaced parts t 0 matches)) then Err fault.TextTooLong else Ok (All matches (Some (replaced parts t 0 matches)))
 
 -- If no match counts, the statement has failed as if it were not for all matches.
-abbrev pub all_or_failed : Statement → List ℕ → List Match → Result Outcome StatementFault
-all_or_failed s t [] = Ok (Failed (bindings_of t (outcome t s.rules.bodies s.pattern s.anchored)))
-all_or_failed s t (m ∷ ms) = finish_all s.object t (m ∷ ms)
+abbrev pub all_or_failed_within : ℕ → Statement → List ℕ → List Match → Result Outcome StatementFault
+all_or_failed_within longest s t [] = Ok (Failed (bindings_of t (outcome t s.rules.bodies s.pattern s.anchored)))
+all_or_failed_within longest s t (m ∷ ms) = finish_all_within longest s.object t (m ∷ ms)
 
 -- What the statement does to the text t in one pass. It is refused if all searches together take more trials than its limit,
 -- which is checked before the new text's length.
-unfoldable pub perform_all : Statement → List ℕ → Result Outcome StatementFault
-perform_all s t = if nat_lt s.limit (all_trials s t) then Err fault.TooManyTrials else all_or_failed s t (all_matches s t)
+unfoldable pub perform_all_within : ℕ → Statement → List ℕ → Result Outcome StatementFault
+perform_all_within longest s t = if nat_lt s.limit (all_trials s t) then Err fault.TooManyTrials else all_or_failed_within longest s t (all_matches s t)
 
--- what the statement does to the text t
+-- what the statement does to the text t, if no new text may have more characters than the longest that is allowed
+abbrev pub perform_within : ℕ → Statement → List ℕ → Result Outcome StatementFault
+perform_within longest s t = if s.all then perform_all_within longest s t else perform_times_within longest s s.repeat t
+
+-- Of a text of documents and books, the longest that is allowed has 65,536 characters.
+abbrev pub with_text : ℕ → ℕ → Bindings → List ℕ → Result Outcome StatementFault
+with_text s e bound after = with_text_within MAX_TEXT s e bound after
+
+abbrev pub finish : Option (List Part) → List ℕ → Bindings → Option Hit → Result Outcome StatementFault
+finish object t bound end = finish_within MAX_TEXT object t bound end
+
+abbrev pub finish_found : Option (List Part) → List ℕ → Found → Result Outcome StatementFault
+finish_found object t found = finish_found_within MAX_TEXT object t found
+
+abbrev pub perform_once : Statement → List ℕ → Result Outcome StatementFault
+perform_once s t = perform_once_within MAX_TEXT s t
+
+abbrev pub rounds : Statement → ℕ → ℕ → Bindings → List ℕ → Result Outcome StatementFault
+rounds s left n bound t = rounds_within MAX_TEXT s left n bound t
+
+abbrev pub perform_times : Statement → Option ℕ → List ℕ → Result Outcome StatementFault
+perform_times s repeat t = perform_times_within MAX_TEXT s repeat t
+
+abbrev pub finish_all : Option (List Part) → List ℕ → List Match → Result Outcome StatementFault
+finish_all object t matches = finish_all_within MAX_TEXT object t matches
+
+abbrev pub all_or_failed : Statement → List ℕ → List Match → Result Outcome StatementFault
+all_or_failed s t matches = all_or_failed_within MAX_TEXT s t matches
+
+abbrev pub perform_all : Statement → List ℕ → Result Outcome StatementFault
+perform_all s t = perform_all_within MAX_TEXT s t
+
+-- what the statement does to the text t, of a document or a book
 abbrev pub perform : Statement → List ℕ → Result Outcome StatementFault
-perform s t = if s.all then perform_all s t else perform_times s s.repeat t
+perform s t = perform_within MAX_TEXT s t
 
 -- an outcome of the program, by value
 abbrev pub outcome_seen : StoredOutcome → Outcome

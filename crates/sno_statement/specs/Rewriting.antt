@@ -1,14 +1,13 @@
 -- What a statement makes of a text, for whoever doesn't want its matches.
-use Rattle.std.specs.Prelude.{◌≡◌, ◌<◌, ◌≤◌, ◌+◌, ℕ, List, length, Option, None, Some, Result, Ok, Err, IsTrue, nat_eq, if◌then◌else◌}
-use Rattle.std.specs.List.{list_all}
-use Rattle.std.specs.Char.{is_ascii}
+use Rattle.std.specs.Prelude.{◌≡◌, ◌<◌, ◌≤◌, ℕ, List, length, Option, None, Some, Result, Ok, Err, nat_eq, if◌then◌else◌}
 use Rattle.std.proofs.Common.{Global, Vec}
-use Rattle.sno_pattern.specs.declared.texts.TheConstants.{MAX_TEXT}
+use Rattle.sno_pattern.specs.declared.byte_texts.TheConstants.{MAX_BYTES}
 use Rattle.std.specs.Option.{option_map}
 use Rattle.std.specs.Arc.{arc_value}
+use Rattle.sno_statement.specs.Bindings.{Bindings}
 use Rattle.sno_statement.specs.Perform.{Outcome, Matched, Failed, Repeated, All, after_of}
 use Rattle.sno_statement.specs.declared.outcomes.StatementFault.{StatementFault}
-use Rattle.sno_statement.specs.declared.outcomes.StatementFault.TheVariants.{Memory, TextTooLong}
+use Rattle.sno_statement.specs.declared.outcomes.StatementFault.TheVariants.{Memory, TextTooLong, TooManyTrials}
 use Rattle.sno_statement.specs.declared.rewriting.Rewritten.{Rewritten}
 
 -- how many matches an outcome has; of a repeated statement, one for each round that matched
@@ -17,11 +16,6 @@ matches_of (Matched s e bound after) = 1
 matches_of (Failed bound) = 0
 matches_of (Repeated n bound after) = n
 matches_of (All matches after) = length matches
-
--- a statement for all matches has at most one at each cursor of its text
-abbrev pub IsFew : Outcome → Type 0
-IsFew (All matches after) = length matches ≤ MAX_TEXT + 1
-IsFew done = Unit {0}
 
 -- the number of matches and the new text, by value
 pub record Rewriting : Type 0 where
@@ -40,10 +34,28 @@ rewriting (Err fault) = Err fault
 abbrev pub rewritten_seen : Rewritten → Rewriting
 rewritten_seen r = record { matches = r.matches; after = option_map arc_value r.after }
 
--- The characters are this text; there are none if it has more characters than a text can have.
+-- The bytes are this text; there are none if it has more bytes than a text of bytes can have.
 abbrev pub IsReplaced : List ℕ → Option (Vec ℕ Global) → Type 0
-IsReplaced text None = MAX_TEXT < length text
-IsReplaced text (Some v) = (v.items ≡ text) × (length text ≤ MAX_TEXT) × IsTrue (list_all is_ascii text)
+IsReplaced text None = MAX_BYTES < length text
+IsReplaced text (Some v) = (v.items ≡ text) × (length text ≤ MAX_BYTES)
+
+-- The bytes returned are the text wanted; `TextTooLong` if that is too long; or `Memory`.
+abbrev pub GivesBytes : Result (List ℕ) StatementFault → List ℕ → Type 0
+GivesBytes (Ok text) wanted = (text ≡ wanted) × (length wanted ≤ MAX_BYTES)
+GivesBytes (Err TextTooLong) wanted = MAX_BYTES < length wanted
+GivesBytes (Err Memory) wanted = Unit {0}
+GivesBytes (Err TooManyTrials) wanted = ⊥
+
+-- What a round with an object leaves: the new text of its match, or nothing if it failed. It is refused as the one wanted is, or
+-- for `Memory`.
+abbrev pub GivesRound : Result (Option (List ℕ)) StatementFault → Result Outcome StatementFault → Type 0
+GivesRound (Ok None) wanted = (bound : Bindings) × (wanted ≡ Ok (Failed bound))
+GivesRound (Ok (Some after)) wanted = (s e : ℕ) × (bound : Bindings) × (wanted ≡ Ok (Matched s e bound (Some after)))
+GivesRound (Err fault) wanted = (fault ≡ Memory → ⊥) → wanted ≡ Err fault
+
+-- What n rounds leave, with the new text of the last one. Without a match there is no new text.
+abbrev pub left_by : ℕ → Option (List ℕ) → Result Rewriting StatementFault
+left_by n last = Ok (record { matches = n; after = last })
 
 -- What n matches leave, with the text in which they are replaced. Without a match there is no new text; one that is too long is
 -- refused.

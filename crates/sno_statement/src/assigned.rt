@@ -1,13 +1,14 @@
 //! The variables of one match, each with its last assignment.
-ghost use Rattle.std.specs.Prelude.{◌≡◌, ℕ, List, [], length, OnOk};
+ghost use Rattle.std.specs.Prelude.{◌≡◌, ◌≤◌, ℕ, List, [], length, OnOk};
 ghost use Rattle.std.specs.List.{position};
 ghost use Rattle.sno_pattern.specs.Identifiers.{same};
+ghost use Rattle.sno_pattern.specs.declared.byte_texts.TheConstants.{MAX_BYTES};
 ghost use Rattle.sno_pattern.specs.CursorLaws.{SetsLie};
 ghost use Rattle.sno_statement.specs.Bindings.{bind, bind_sets, bind_conds};
 ghost use Rattle.sno_statement.specs.LastAssignments.{value_of_last, values_of_last};
 
 use crate::last_assignments::{Last, LastAssignments};
-use sno_pattern::{Assign, Name, Text};
+use sno_pattern::{Assign, Name};
 use std::alloc::{AllocError, Global};
 use std::marker::Model;
 
@@ -66,8 +67,9 @@ impl Assigned {
     }
 
     /// Assigns what was assigned at once.
-    fn assign_at_once(&mut self, subject: &Text, sets: &[Assign]) -> Result<(), AllocError>
-        requires { SetsLie subject.now sets.now }
+    fn assign_at_once(&mut self, subject: &[u8], sets: &[Assign]) -> Result<(), AllocError>
+        requires short { length subject.now ≤ MAX_BYTES }
+        requires lie { SetsLie subject.now sets.now }
         ensures { OnOk result (values_of_last subject.now self.new ≡ bind_sets subject.now (values_of_last subject.now self.old) sets.now) }
     {
         for set in sets {
@@ -113,11 +115,12 @@ impl Assigned {
     pub(crate) fn replace(
         &mut self,
         alloc: Global,
-        subject: &Text,
+        subject: &[u8],
         sets: &[Assign],
         conds: &[(Name, usize, usize)],
     ) -> Result<(), AllocError>
-        requires { SetsLie subject.now sets.now }
+        requires short { length subject.now ≤ MAX_BYTES }
+        requires lie { SetsLie subject.now sets.now }
         ensures { OnOk result (values_of_last subject.now self.new ≡ bind_conds subject.now (bind_sets subject.now [] sets.now) conds.now) }
     {
         self.list.clear();

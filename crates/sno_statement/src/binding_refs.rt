@@ -1,5 +1,5 @@
 //! Variables and their values, lent.
-ghost use Rattle.std.specs.Prelude.{◌≡◌, ◌≤◌, ◌↔◌, [], drop, length, slice_get, IsTrue};
+ghost use Rattle.std.specs.Prelude.{◌≡◌, ◌≤◌, ◌↔◌, [], length, slice_get, IsTrue};
 ghost use Rattle.std.specs.Option.{option_map};
 ghost use Rattle.std.specs.List.{list_all};
 ghost use Rattle.std.specs.Char.{is_ascii};
@@ -10,7 +10,7 @@ ghost use Rattle.sno_statement.specs.BindingRefs.{datum_lent};
 ghost use Rattle.sno_statement.specs.LastAssignments.{values_of_last};
 
 use crate::last_assignments::Last;
-use crate::values::{back, between};
+use crate::values::between;
 use crate::{Bindings, Datum};
 use sno_pattern::{Name, Text};
 use std::marker::Model;
@@ -50,15 +50,6 @@ impl<'t> TextPart<'t> {
     {
         TextPart {
             characters: between(text.bytes(), from, to),
-        }
-    }
-
-    /// The part of a text from a cursor on.
-    pub(crate) fn onward(text: &'t Text, from: usize) -> TextPart<'t>
-        ensures { result ≡ drop from text.now }
-    {
-        TextPart {
-            characters: back(text.bytes(), from),
         }
     }
 
@@ -188,7 +179,7 @@ impl<'t> BindingsRef<'t> {
 }
 
 /// The last assignment of the variable with this name.
-fn last_of(assigned: &[(Name, Last)], name: &Name) -> Option<Last>
+pub(crate) fn last_of(assigned: &[(Name, Last)], name: &Name) -> Option<Last>
     ensures { result ≡ lookup name.now assigned.now }
 {
     for (known, last) in assigned {

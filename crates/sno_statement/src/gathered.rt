@@ -46,7 +46,8 @@ impl Gathered {
         ensures { OnOk result ((ms : List Match) → AreGathered subject.now self.old ms → AreGathered subject.now self.new (ms ++ match_by subject.now sets.now hit.now ∷ [])) }
     {
         let conds = hit.conds.as_slice();
-        self.one.replace(alloc, subject, sets.as_slice(), conds)?;
+        self.one
+            .replace(alloc, subject.bytes(), sets.as_slice(), conds)?;
         let from = self.assigned.len();
         self.assigned.extend_from_slice(self.one.as_slice())?;
         self.spans.push(Span {

@@ -1,7 +1,8 @@
 //! The last assignment of each variable, before any string is cut.
-ghost use Rattle.std.specs.Prelude.{◌≡◌, ◌<◌, ℕ, List, [], Some, length, map, slice_get, IfOk, OnOk};
+ghost use Rattle.std.specs.Prelude.{◌≡◌, ◌<◌, ◌≤◌, ℕ, List, [], Some, length, map, slice_get, IfOk, OnOk};
 ghost use Rattle.std.specs.List.{IsDistinct};
 ghost use Rattle.sno_pattern.specs.Identifiers.{same};
+ghost use Rattle.sno_pattern.specs.declared.byte_texts.TheConstants.{MAX_BYTES};
 ghost use Rattle.sno_pattern.specs.CursorLaws.{SetsLie, CursorLies};
 ghost use Rattle.sno_statement.specs.Bindings.{bind, bind_sets, bind_conds, datum_of};
 ghost use Rattle.sno_statement.specs.BindingRefs.{datum_lent};
@@ -25,17 +26,16 @@ pub(crate) enum Last {
 
 impl Last {
     /// What an immediate assignment assigns.
-    pub(crate) fn of(subject: &Text, what: What) -> Last
-        requires { CursorLies subject.now what }
+    pub(crate) fn of(subject: &[u8], what: What) -> Last
+        requires short { length subject.now ≤ MAX_BYTES }
+        requires lies { CursorLies subject.now what }
         ensures { value_of_last subject.now result ≡ datum_of subject.now what }
     {
+        // for the proof: the cursor lies in the subject
+        let _length = subject.len();
         match what {
             What::Part(from, to) => Last::Part(from, to),
-            What::Cursor(cursor) => {
-                // for the proof
-                let _short = subject.bytes();
-                Last::Cursor(cursor as u32)
-            }
+            What::Cursor(cursor) => Last::Cursor(cursor as u32),
         }
     }
 
@@ -99,8 +99,9 @@ impl LastAssignments {
     }
 
     /// Notes the immediate assignments, after what was noted already.
-    pub(crate) fn note_at_once(&mut self, subject: &Text, sets: &[Assign]) -> Result<(), AllocError>
-        requires { SetsLie subject.now sets.now }
+    pub(crate) fn note_at_once(&mut self, subject: &[u8], sets: &[Assign]) -> Result<(), AllocError>
+        requires short { length subject.now ≤ MAX_BYTES }
+        requires lie { SetsLie subject.now sets.now }
         ensures { OnOk result (values_of_last subject.now self.new ≡ bind_sets subject.now (values_of_last subject.now self.old) sets.now) }
     {
         for set in sets {

@@ -12,7 +12,7 @@ use sno_read::Part;
 
 /// How many digits a number has.
 #[tactic(auto, using(crate::proofs::Decimals::one_digit, crate::proofs::Decimals::one_digit_more))]
-fn decimal_length(number: u32) -> usize
+pub(crate) fn decimal_length(number: u32) -> usize
     ensures { result ≡ length (decimal number) }
 {
     if number < 10 {

@@ -1,15 +1,17 @@
 //! One pass over a text: all matches of a statement, from left to right.
-ghost use Rattle.std.specs.Prelude.{◌≡◌, ◌+◌, ◌<◌, ◌≤◌, ◌∷◌, [], ◌++◌, length, Some, None, IfOk, IfErr, IfSome, OnOk, MatchOption};
+ghost use Rattle.std.specs.Prelude.{◌≡◌, ◌+◌, ◌<◌, ◌≤◌, ◌∷◌, [], length, Some, None, IfOk, IfErr, OnOk, MatchOption};
 ghost use Rattle.sno_pattern.specs.CursorLaws.{SetsLie};
+ghost use Rattle.sno_pattern.specs.declared.byte_texts.TheConstants.{MAX_BYTES};
 ghost use Rattle.sno_statement.specs.declared.outcomes.StatementFault.TheVariants.{TooManyTrials, TextTooLong};
-ghost use Rattle.sno_statement.specs.Passes.{begun, counts, cursors_left, match_by, matches_left, moved, next_search, search, search_trials, trials_together};
+ghost use Rattle.sno_statement.specs.Passes.{begun, counts, cursors_left, match_by, matches_left, next_search, trials_together};
 ghost use Rattle.sno_statement.specs.Perform.{IsCodeOf};
 
 use crate::match_lists::Match;
 use crate::performing::bindings_of;
+use crate::searches::Searches;
 use crate::{Statement, StatementFault};
-use sno_machine::{Code, SearchOutcome, Searched};
-use sno_pattern::{Assigns, Found, Hit, Text, searches_lie_within_the_text};
+use sno_machine::Code;
+use sno_pattern::{Assigns, Hit, Text};
 use std::alloc::{AllocError, Global};
 use std::marker::Model;
 
@@ -17,26 +19,21 @@ use std::marker::Model;
 /// no more than one is held at a time. The object isn't looked at.
 #[derive(Drop)]
 pub struct Pass<'c, 't, 'a> {
-    statement: &'c Statement,
-    code: &'c Code<'a>,
-    searched: Searched<'t, 'a>,
-    before: Option<usize>,
-    at: Option<usize>,
-    left: u32,
+    searches: Searches<'c, 't, 'a>,
+    text: &'t Text,
 }
 
 impl<'c, 't, 'a> Model for Pass<'c, 't, 'a> {
-    ghost use Rattle.std.specs.Prelude.{◌-◌, ◌≤◌};
-    ghost use Rattle.sno_statement.specs.Passes.{Pass, IsCursor, pass_code};
-    ghost use Rattle.sno_statement.specs.Perform.{IsCodeOf};
+    ghost use Rattle.std.specs.Prelude.{◌≡◌};
+    ghost use Rattle.sno_statement.specs.Passes.{Pass, pass_code};
 
     ghost Value = { Pass };
 
     ghost coded = { pass_code };
 
-    ghost view = { λ s. record { statement = s.statement.now; text = s.searched; before = s.before; at = s.at; spent = s.statement.now.limit - s.left } };
+    ghost view = { λ s. s.searches };
 
-    ghost invariant = { λ s. IsCodeOf s.code.now s.statement.now × IsCursor s.searched s.at × (s.left ≤ s.statement.now.limit) };
+    ghost invariant = { λ s. s.searches.text ≡ s.text.now };
 }
 
 impl<'c, 't, 'a> Pass<'c, 't, 'a> {
@@ -52,81 +49,9 @@ impl<'c, 't, 'a> Pass<'c, 't, 'a> {
         ensures { result ≡ begun statement.now text.now }
     {
         Pass {
-            statement,
-            code,
-            searched: Searched::new(alloc, text),
-            before: None,
-            at: Some(0),
-            left: statement.limit(),
+            searches: Searches::in_text(alloc, statement, code, text),
+            text,
         }
-    }
-
-    /// The next search, from this cursor on. Then the pass is past it.
-    #[inline(always)]
-    pub(crate) fn search(&mut self, alloc: Global, from: usize) -> Result<Found, StatementFault>
-        requires { self.old.at ≡ Some from }
-        ensures found { IfOk result (λ found. found ≡ search self.old.statement self.old.text from) }
-        ensures lies { IfOk result (λ found. SetsLie self.old.text found.sets) }
-        ensures moved { OnOk result (self.new ≡ moved self.old (search_trials self.old.statement self.old.text from) (search self.old.statement self.old.text from).end) }
-        ensures within { IfOk result (λ _. self.old.spent + search_trials self.old.statement self.old.text from ≤ self.old.statement.limit) }
-        ensures refused { IfErr result (λ e. e ≡ TooManyTrials → self.old.statement.limit < self.old.spent + search_trials self.old.statement self.old.text from) }
-        ensures never { IfErr result (λ e. e ≡ TextTooLong → ⊥) }
-    {
-        let anchored = self.statement.anchored();
-        let searched = &mut self.searched;
-        let search = self
-            .code
-            .first_from(alloc, searched, anchored, from, self.left)?;
-        // for the proof
-        searches_lie_within_the_text();
-        let SearchOutcome { found, trials } = search;
-        self.left -= trials;
-        match &found.end {
-            None => self.at = None,
-            Some(hit) => {
-                self.before = Some(hit.end);
-                self.at = next_search(anchored, self.searched.text(), hit);
-            }
-        }
-        Ok(found)
-    }
-
-    /// Takes the memory of a result back.
-    pub(crate) fn give_back(&mut self, sets: Assigns, hit: Hit)
-        ensures { self.new ≡ self.old }
-    {
-        self.searched.give_back(Found {
-            sets,
-            end: Some(hit),
-        });
-    }
-
-    /// The next match, with what its search assigned at once; `None` if there is none left. Refused as [`Pass::next`] is.
-    pub(crate) fn next_hit(
-        &mut self,
-        alloc: Global,
-    ) -> Result<Option<(Assigns, Hit)>, StatementFault>
-        ensures next { IfOk result (λ next. MatchOption next (matches_left self.old ≡ []) (λ h. matches_left self.old ≡ match_by self.old.text h.0 h.1 ∷ matches_left self.new)) }
-        ensures lies { IfOk result (λ next. IfSome next (λ h. SetsLie self.old.text h.0)) }
-        ensures ended { IfOk result (λ next. MatchOption next (self.new.at ≡ None) (λ _. cursors_left self.new.text self.new.at < cursors_left self.old.text self.old.at)) }
-        ensures trials { OnOk result (trials_together self.new ≡ trials_together self.old) }
-        ensures same { OnOk result ((self.new.statement ≡ self.old.statement) × (self.new.text ≡ self.old.text)) }
-        ensures within { OnOk result (self.new.spent ≤ self.new.statement.limit) }
-        ensures refused { IfErr result (λ e. e ≡ TooManyTrials → self.old.statement.limit < trials_together self.old) }
-        ensures never { IfErr result (λ e. e ≡ TextTooLong → ⊥) }
-    {
-        while let Some(from) = self.at {
-            let before = self.before;
-            let found = self.search(alloc, from)?;
-            let Found { sets, end } = found;
-            let Some(hit) = end else {
-                return Ok(None);
-            };
-            if counts(before, &hit) {
-                return Ok(Some((sets, hit)));
-            }
-        }
-        Ok(None)
     }
 
     /// The next match with its bindings; `None` if there is none left. The limit is for the trials of all searches of the pass
@@ -145,11 +70,11 @@ impl<'c, 't, 'a> Pass<'c, 't, 'a> {
         ensures refused { IfErr result (λ e. e ≡ TooManyTrials → self.old.statement.limit < trials_together self.old) }
         ensures never { IfErr result (λ e. e ≡ TextTooLong → ⊥) }
     {
-        match self.next_hit(alloc)? {
+        match self.searches.next_hit(alloc)? {
             None => Ok(None),
             Some((sets, hit)) => {
-                let next = match_by(alloc, self.searched.text(), &sets, &hit)?;
-                self.give_back(sets, hit);
+                let next = match_by(alloc, self.text, &sets, &hit)?;
+                self.searches.give_back(sets, hit);
                 Ok(Some(next))
             }
         }
@@ -162,9 +87,18 @@ pub fn next_search(anchored: bool, text: &Text, hit: &Hit) -> Option<usize>
     requires { hit.now.end ≤ length text.now }
     ensures { result ≡ next_search anchored text.now hit.now }
 {
+    next_cursor(anchored, text.bytes(), hit)
+}
+
+/// As [`next_search`], of the characters of a text.
+pub(crate) fn next_cursor(anchored: bool, characters: &[u8], hit: &Hit) -> Option<usize>
+    requires inside { hit.now.end ≤ length characters.now }
+    requires short { length characters.now ≤ MAX_BYTES }
+    ensures { result ≡ next_search anchored characters.now hit.now }
+{
     if hit.start != hit.end {
         Some(hit.end)
-    } else if anchored || hit.end == text.bytes().len() {
+    } else if anchored || hit.end == characters.len() {
         None
     } else {
         Some(hit.end + 1)

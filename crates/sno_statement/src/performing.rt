@@ -17,7 +17,7 @@ use crate::gathered::Gathered;
 use crate::last_assignments::{Last, LastAssignments};
 use crate::lengths::{new_length, replaced_length};
 use crate::match_lists::Matches;
-use crate::passes::Pass;
+use crate::searches::Searches;
 use crate::values::{copy_of, part, replace, replace_all, text_of};
 use crate::{Bindings, Datum, Outcome, Statement, StatementFault};
 use sno_machine::{Code, Workspace, compile};
@@ -37,7 +37,7 @@ fn bind_at_once(
     ensures { OnOk result (bindings.new ≡ bind_sets subject.now bindings.old sets.now) }
 {
     for set in sets {
-        let value = Last::of(subject, set.what).value(alloc, subject)?;
+        let value = Last::of(subject.bytes(), set.what).value(alloc, subject)?;
         bindings.set(set.name, value)?;
     }
     Ok(())
@@ -76,7 +76,7 @@ pub(crate) fn bindings_of(
         return Ok(bindings);
     }
     let mut lasts = LastAssignments::new(alloc);
-    lasts.note_at_once(subject, sets)?;
+    lasts.note_at_once(subject.bytes(), sets)?;
     lasts.note_later(conds)?;
     lasts.into_bindings(alloc, subject)
 }
@@ -289,7 +289,7 @@ fn finish_all(
 fn gather(
     alloc: Global,
     subject: &Text,
-    pass: &mut Pass<'_, '_, '_>,
+    pass: &mut Searches<'_, '_, '_>,
     gathered: &mut Gathered,
 ) -> Result<(), StatementFault>
     requires { pass.old.text ≡ subject.now }
@@ -310,7 +310,7 @@ fn gathered(
     alloc: Global,
     subject: &Text,
     shared: &Arc<Text>,
-    pass: &mut Pass<'_, '_, '_>,
+    pass: &mut Searches<'_, '_, '_>,
     sets: &Assigns,
     hit: &Hit,
 ) -> Result<Matches, StatementFault>
@@ -341,7 +341,7 @@ fn perform_all(
     requires same { arc_value shared.now ≡ subject.now }
     ensures { Gives result (perform_all statement.now subject.now) }
 {
-    let mut pass = Pass::new(alloc, statement, code, subject);
+    let mut pass = Searches::in_text(alloc, statement, code, subject);
     let found = pass.search(alloc, 0)?;
     match &found.end {
         None => {
@@ -357,7 +357,7 @@ fn perform_all(
 }
 
 /// Performs a statement that is not for all matches: once, or in rounds.
-pub(crate) fn perform_rounds(
+fn perform_rounds(
     alloc: Global,
     statement: &Statement,
     subject: &Text,

@@ -1,59 +1,181 @@
-//! What a statement makes of a text, without its matches.
-ghost use Rattle.std.specs.Prelude.{◌≡◌, ◌<◌, ◌≤◌, ◌+◌, ◌^◌, ◌++◌, ℕ, List, length, IfOk, IfErr, IfSome, MatchOption, OnOk, IsTrue, None, Some};
-ghost use Rattle.std.specs.List.{list_all};
-ghost use Rattle.std.specs.Char.{is_ascii};
-ghost use Rattle.std.specs.Option.{option_copied};
-ghost use Rattle.sno_pattern.specs.declared.texts.TheConstants.{MAX_TEXT};
-ghost use Rattle.sno_statement.specs.declared.outcomes.StatementFault.TheVariants.{TooManyTrials, TextTooLong};
+//! What a statement makes of the content of a file, without its matches.
+ghost use Rattle.std.specs.Prelude.{◌≡◌, ◌<◌, ◌≤◌, ◌+◌, ◌^◌, ◌++◌, length, IfOk, IfErr, IfSome, MatchOption, None, Some};
 ghost use Rattle.sno_pattern.specs.CursorLaws.{SetsLie};
 ghost use Rattle.sno_pattern.specs.Ends.{part};
+ghost use Rattle.sno_pattern.specs.declared.byte_texts.TheConstants.{MAX_BYTES};
+ghost use Rattle.sno_statement.specs.declared.outcomes.StatementFault.TheVariants.{TooManyTrials, TextTooLong};
 ghost use Rattle.sno_statement.specs.Passes.{match_by, matches_left, replaced, trials_together};
-ghost use Rattle.sno_statement.specs.Perform.{IsCodeOf, outcome_seen, perform, perform_all};
-ghost use Rattle.sno_statement.specs.Rewriting.{GivesRewritten, IsFew, IsReplaced, finished, rewriting, rewriting_of, rewritten_seen};
-ghost use Rattle.sno_statement.specs.Value.{value_of};
+ghost use Rattle.sno_statement.specs.Perform.{IsCodeOf, finish_found_within, perform_all_within, perform_once_within, perform_times_within, perform_within};
+ghost use Rattle.sno_statement.specs.Rewriting.{GivesBytes, GivesRewritten, GivesRound, IsReplaced, finished, left_by, rewriting};
+ghost use Rattle.sno_statement.specs.Statement.{with_limit};
+ghost use Rattle.sno_statement.specs.Value.{new_text, value_of};
 
 use crate::assigned::Assigned;
-use crate::lengths::with_value;
-use crate::passes::Pass;
-use crate::performing::perform_rounds;
-use crate::values::{put_parts, text_of};
-use crate::{BindingsRef, Outcome, Statement, StatementFault, TextPart};
-use sno_machine::{Code, compile};
-use sno_pattern::{Assigns, Hit, MAX_TEXT, Text};
+use crate::searches::Searches;
+use crate::spans::Spans;
+use crate::values::{back, between, front};
+use crate::{Statement, StatementFault};
+use sno_machine::{Code, Workspace, compile};
+use sno_pattern::{Assigns, ByteText, Found, Hit, MAX_BYTES, cursors_lie_within_the_text};
 use sno_read::Part;
 use std::alloc::{AllocError, Global};
 use std::sync::Arc;
 
-/// What a statement made of a text.
+/// What a statement made of a text of bytes.
 #[derive(Drop)]
 pub struct Rewritten {
     /// How many matches there were, fewer than 4,294,967,296. A repeated statement has one for each round that matched.
     pub matches: u64,
     /// The new text, if there is one.
-    pub after: Option<Arc<Text>>,
+    pub after: Option<Arc<ByteText>>,
 }
 
-/// What an outcome leaves without its matches.
-fn left_of(outcome: Outcome) -> Rewritten
-    requires { IsFew (outcome_seen outcome) }
-    ensures left { rewritten_seen result ≡ rewriting_of (outcome_seen outcome) }
-    ensures few { result.matches < 2 ^ 32 }
+/// The text of these bytes. They are no more than a text can have.
+fn text_of(bytes: Vec<u8>) -> ByteText
+    requires { length bytes.items ≤ MAX_BYTES }
+    ensures { result ≡ bytes.items }
 {
-    match outcome {
-        Outcome::Matched { after, .. } => Rewritten { matches: 1, after },
-        Outcome::Failed { .. } => Rewritten {
-            matches: 0,
-            after: None,
-        },
-        Outcome::Repeated { matches, after, .. } => Rewritten {
-            matches: u64::from(matches),
-            after: Some(after),
-        },
-        Outcome::All { matches, after } => Rewritten {
-            matches: matches.len() as u64,
-            after,
-        },
+    match ByteText::new(bytes) {
+        Ok(text) => text,
+        Err(_) => unreachable!(),
     }
+}
+
+/// The text in which the object's value replaces the match of a search. Its length is known before any of it is written.
+fn new_text(
+    alloc: Global,
+    parts: &[Part],
+    subject: &[u8],
+    sets: &Assigns,
+    hit: &Hit,
+) -> Result<ByteText, StatementFault>
+    requires short { length subject.now ≤ MAX_BYTES }
+    requires lies { SetsLie subject.now sets.now }
+    ensures { GivesBytes result (new_text subject.now hit.now.start hit.now.end (value_of (match_by subject.now sets.now hit.now).bindings parts.now)) }
+{
+    let mut one = Assigned::new(alloc);
+    one.replace(alloc, subject, sets.as_slice(), hit.conds.as_slice())?;
+    let values = Spans::of(subject, one.as_slice());
+    let before = front(subject, hit.start);
+    let after = back(subject, hit.end);
+    let Some(length) = values.length_with(before.len() + after.len(), parts) else {
+        return Err(StatementFault::TextTooLong);
+    };
+    let mut bytes = Vec::with_capacity(alloc, length)?;
+    bytes.extend_from_slice(before)?;
+    values.put(alloc, parts, &mut bytes)?;
+    bytes.extend_from_slice(after)?;
+    Ok(text_of(bytes))
+}
+
+/// What is done to the text after a search of a statement with an object: the new text, or `None` if the search failed.
+fn finish(
+    alloc: Global,
+    parts: &[Part],
+    subject: &ByteText,
+    found: &Found,
+) -> Result<Option<ByteText>, StatementFault>
+    requires { SetsLie subject.now found.now.sets }
+    ensures { GivesRound result (finish_found_within MAX_BYTES (Some parts.now) subject.now found.now) }
+{
+    match &found.end {
+        None => Ok(None),
+        Some(hit) => {
+            let after = new_text(alloc, parts, subject.bytes(), &found.sets, hit)?;
+            Ok(Some(after))
+        }
+    }
+}
+
+/// One round of a statement with an object: the new text, or `None` if the round failed. The code is that of the statement's
+/// pattern.
+fn round<'a>(
+    alloc: Global,
+    code: &Code<'a>,
+    workspace: &mut Workspace<'a>,
+    statement: &Statement,
+    parts: &[Part],
+    subject: &ByteText,
+    trials: u32,
+) -> Result<Option<ByteText>, StatementFault>
+    requires code { IsCodeOf code.now statement.now }
+    requires object { statement.now.object ≡ Some parts.now }
+    ensures { GivesRound result (perform_once_within MAX_BYTES (with_limit statement.now trials) subject.now) }
+{
+    // for the proof
+    cursors_lie_within_the_text();
+    let anchored = statement.anchored();
+    let found = code.first_in_bytes(alloc, workspace, subject, anchored, trials)?;
+    let after = finish(alloc, parts, subject, &found);
+    workspace.give_back(found);
+    after
+}
+
+/// What this many rounds leave, with the new text of the last one; `None` if none matched.
+fn left_by(alloc: Global, matches: u32, last: Option<ByteText>) -> Result<Rewritten, StatementFault>
+    ensures rewritten { GivesRewritten result (left_by matches last) }
+    ensures few { IfOk result (λ r. r.matches < 2 ^ 32) }
+{
+    let after = match last {
+        None => None,
+        Some(text) => Some(Arc::new(alloc, text)?),
+    };
+    Ok(Rewritten {
+        matches: u64::from(matches),
+        after,
+    })
+}
+
+/// As [`rewrite`], of a statement with an object that is not for all matches: in rounds, up to `times`. One text and its new text
+/// are held at a time, beside the subject.
+fn rewrite_rounds(
+    alloc: Global,
+    code: &Code<'_>,
+    statement: &Statement,
+    parts: &[Part],
+    subject: &ByteText,
+    trials: u32,
+    times: u32,
+) -> Result<Rewritten, StatementFault>
+    requires code { IsCodeOf code.now statement.now }
+    requires object { statement.now.object ≡ Some parts.now }
+    requires some { 1 ≤ times }
+    ensures rewritten { GivesRewritten result (rewriting (perform_times_within MAX_BYTES (with_limit statement.now trials) (Some times) subject.now)) }
+    ensures few { IfOk result (λ r. r.matches < 2 ^ 32) }
+{
+    let mut workspace = Workspace::new(alloc);
+    let mut last = None;
+    for matches in 0..times {
+        let text = last.as_ref().unwrap_or(subject);
+        match round(alloc, code, &mut workspace, statement, parts, text, trials)? {
+            None => return left_by(alloc, matches, last),
+            Some(next) => last = Some(next),
+        }
+    }
+    left_by(alloc, times, last)
+}
+
+/// As [`rewrite`], of a statement without an object that is not for all matches.
+fn match_once(
+    alloc: Global,
+    code: &Code<'_>,
+    statement: &Statement,
+    subject: &ByteText,
+    trials: u32,
+) -> Result<Rewritten, StatementFault>
+    requires code { IsCodeOf code.now statement.now }
+    requires object { statement.now.object ≡ None }
+    ensures rewritten { GivesRewritten result (rewriting (perform_once_within MAX_BYTES (with_limit statement.now trials) subject.now)) }
+    ensures few { IfOk result (λ r. r.matches < 2 ^ 32) }
+{
+    let mut workspace = Workspace::new(alloc);
+    let anchored = statement.anchored();
+    let found = code.first_in_bytes(alloc, &mut workspace, subject, anchored, trials)?;
+    let matches = if found.end.is_some() { 1 } else { 0 };
+    Ok(Rewritten {
+        matches,
+        after: None,
+    })
 }
 
 /// Adds what comes before a match, and the object's value for it, to a text; `None` if the text is too long then.
@@ -62,28 +184,28 @@ fn with_match(
     text: Option<Vec<u8>>,
     kept: &[u8],
     parts: &[Part],
-    bindings: &BindingsRef<'_>,
+    values: &Spans<'_>,
 ) -> Result<Option<Vec<u8>>, AllocError>
-    requires text { IfSome text (λ v. (length v.items ≤ MAX_TEXT) × IsTrue (list_all is_ascii v.items)) }
-    requires kept { (length kept.now ≤ MAX_TEXT) × IsTrue (list_all is_ascii kept.now) }
-    ensures added { IfOk result (λ new. MatchOption text (new ≡ None) (λ v. MatchOption new (MAX_TEXT < length ((v.items ++ kept.now) ++ value_of bindings.now parts.now)) (λ w. w.items ≡ (v.items ++ kept.now) ++ value_of bindings.now parts.now))) }
-    ensures valid { IfOk result (λ new. IfSome new (λ v. (length v.items ≤ MAX_TEXT) × IsTrue (list_all is_ascii v.items))) }
+    requires text { IfSome text (λ v. length v.items ≤ MAX_BYTES) }
+    requires kept { length kept.now ≤ MAX_BYTES }
+    ensures added { IfOk result (λ new. MatchOption text (new ≡ None) (λ v. MatchOption new (MAX_BYTES < length ((v.items ++ kept.now) ++ value_of values.now parts.now)) (λ w. w.items ≡ (v.items ++ kept.now) ++ value_of values.now parts.now))) }
+    ensures short { IfOk result (λ new. IfSome new (λ v. length v.items ≤ MAX_BYTES)) }
 {
     let Some(mut text) = text else {
         return Ok(None);
     };
-    if with_value(text.len() + kept.len(), parts, bindings).is_none() {
+    if values.length_with(text.len() + kept.len(), parts).is_none() {
         return Ok(None);
     }
     text.extend_from_slice(kept)?;
-    put_parts(alloc, parts, bindings, &mut text)?;
+    values.put(alloc, parts, &mut text)?;
     Ok(Some(text))
 }
 
 /// Adds what lies between a cursor and the match of a search, and the object's value for it; `None` if the text is too long then.
 fn with_hit(
     alloc: Global,
-    subject: &Text,
+    subject: &[u8],
     text: Option<Vec<u8>>,
     cursor: usize,
     parts: &[Part],
@@ -91,29 +213,30 @@ fn with_hit(
     sets: &Assigns,
     hit: &Hit,
 ) -> Result<Option<Vec<u8>>, AllocError>
+    requires subject { length subject.now ≤ MAX_BYTES }
     requires lies { SetsLie subject.now sets.now }
-    requires text { IfSome text (λ v. (length v.items ≤ MAX_TEXT) × IsTrue (list_all is_ascii v.items)) }
-    ensures added { IfOk result (λ new. MatchOption text (new ≡ None) (λ v. MatchOption new (MAX_TEXT < length ((v.items ++ part subject.now cursor hit.now.start) ++ value_of (match_by subject.now sets.now hit.now).bindings parts.now)) (λ w. w.items ≡ (v.items ++ part subject.now cursor hit.now.start) ++ value_of (match_by subject.now sets.now hit.now).bindings parts.now))) }
-    ensures valid { IfOk result (λ new. IfSome new (λ v. (length v.items ≤ MAX_TEXT) × IsTrue (list_all is_ascii v.items))) }
+    requires text { IfSome text (λ v. length v.items ≤ MAX_BYTES) }
+    ensures added { IfOk result (λ new. MatchOption text (new ≡ None) (λ v. MatchOption new (MAX_BYTES < length ((v.items ++ part subject.now cursor hit.now.start) ++ value_of (match_by subject.now sets.now hit.now).bindings parts.now)) (λ w. w.items ≡ (v.items ++ part subject.now cursor hit.now.start) ++ value_of (match_by subject.now sets.now hit.now).bindings parts.now))) }
+    ensures short { IfOk result (λ new. IfSome new (λ v. length v.items ≤ MAX_BYTES)) }
 {
     one.replace(alloc, subject, sets.as_slice(), hit.conds.as_slice())?;
-    let bindings = BindingsRef::assigned(subject, one.as_slice());
-    let kept = TextPart::between(subject, cursor, hit.start);
-    let new = with_match(alloc, text, kept.bytes(), parts, &bindings)?;
+    let values = Spans::of(subject, one.as_slice());
+    let kept = between(subject, cursor, hit.start);
+    let new = with_match(alloc, text, kept, parts, &values)?;
     Ok(new)
 }
 
 /// Adds the end of a text; `None` if the text is too long then.
 fn with_end(text: Option<Vec<u8>>, end: &[u8]) -> Result<Option<Vec<u8>>, AllocError>
-    requires text { IfSome text (λ v. (length v.items ≤ MAX_TEXT) × IsTrue (list_all is_ascii v.items)) }
-    requires end { (length end.now ≤ MAX_TEXT) × IsTrue (list_all is_ascii end.now) }
-    ensures added { IfOk result (λ new. MatchOption text (new ≡ None) (λ v. MatchOption new (MAX_TEXT < length (v.items ++ end.now)) (λ w. w.items ≡ v.items ++ end.now))) }
-    ensures valid { IfOk result (λ new. IfSome new (λ v. (length v.items ≤ MAX_TEXT) × IsTrue (list_all is_ascii v.items))) }
+    requires text { IfSome text (λ v. length v.items ≤ MAX_BYTES) }
+    requires end { length end.now ≤ MAX_BYTES }
+    ensures added { IfOk result (λ new. MatchOption text (new ≡ None) (λ v. MatchOption new (MAX_BYTES < length (v.items ++ end.now)) (λ w. w.items ≡ v.items ++ end.now))) }
+    ensures short { IfOk result (λ new. IfSome new (λ v. length v.items ≤ MAX_BYTES)) }
 {
     let Some(mut text) = text else {
         return Ok(None);
     };
-    if text.len() + end.len() > MAX_TEXT {
+    if text.len() + end.len() > MAX_BYTES {
         return Ok(None);
     }
     text.extend_from_slice(end)?;
@@ -121,8 +244,8 @@ fn with_end(text: Option<Vec<u8>>, end: &[u8]) -> Result<Option<Vec<u8>>, AllocE
 }
 
 /// How many matches are left of a pass.
-fn count(alloc: Global, pass: &mut Pass<'_, '_, '_>) -> Result<u64, StatementFault>
-    requires { length (matches_left pass.old) ≤ MAX_TEXT + 1 }
+fn count(alloc: Global, pass: &mut Searches<'_, '_, '_>) -> Result<u64, StatementFault>
+    requires { length (matches_left pass.old) ≤ MAX_BYTES + 1 }
     ensures counted { IfOk result (λ n. n ≡ length (matches_left pass.old)) }
     ensures within { IfOk result (λ _. trials_together pass.old ≤ pass.old.statement.limit) }
     ensures refused { IfErr result (λ e. e ≡ TooManyTrials → pass.old.statement.limit < trials_together pass.old) }
@@ -140,11 +263,12 @@ fn count(alloc: Global, pass: &mut Pass<'_, '_, '_>) -> Result<u64, StatementFau
 /// kept.
 fn replace_left(
     alloc: Global,
-    subject: &Text,
-    pass: &mut Pass<'_, '_, '_>,
+    subject: &[u8],
+    pass: &mut Searches<'_, '_, '_>,
     parts: &[Part],
 ) -> Result<(u64, Option<Vec<u8>>), StatementFault>
-    requires few { length (matches_left pass.old) ≤ MAX_TEXT + 1 }
+    requires few { length (matches_left pass.old) ≤ MAX_BYTES + 1 }
+    requires short { length subject.now ≤ MAX_BYTES }
     requires text { pass.old.text ≡ subject.now }
     ensures replaced { IfOk result (λ left. IsReplaced (replaced parts.now subject.now 0 (matches_left pass.old)) left.1) }
     ensures counted { IfOk result (λ left. left.0 ≡ length (matches_left pass.old)) }
@@ -162,43 +286,14 @@ fn replace_left(
         matches += 1;
         pass.give_back(sets, hit);
     }
-    let end = TextPart::onward(subject, cursor);
-    let text = with_end(text, end.bytes())?;
+    let end = back(subject, cursor);
+    let text = with_end(text, end)?;
     Ok((matches, text))
-}
-
-/// As [`rewrite`], of a statement for all matches. The code is that of the statement's pattern.
-fn rewrite_all(
-    alloc: Global,
-    code: &Code<'_>,
-    statement: &Statement,
-    subject: &Text,
-) -> Result<Rewritten, StatementFault>
-    requires { IsCodeOf code.now statement.now }
-    ensures rewritten { GivesRewritten result (rewriting (perform_all statement.now subject.now)) }
-    ensures few { IfOk result (λ r. r.matches < 2 ^ 32) }
-{
-    let mut pass = Pass::new(alloc, statement, code, subject);
-    // for the proof: the text's length bounds how many matches there are
-    let _characters = subject.bytes();
-    match statement.object() {
-        None => {
-            let matches = count(alloc, &mut pass)?;
-            Ok(Rewritten {
-                matches,
-                after: None,
-            })
-        }
-        Some(object) => {
-            let (matches, text) = replace_left(alloc, subject, &mut pass, object.parts())?;
-            finished(alloc, matches, text)
-        }
-    }
 }
 
 /// What this number of matches leaves, with the text in which they are replaced. Without a match there is no new text.
 fn finished(alloc: Global, matches: u64, text: Option<Vec<u8>>) -> Result<Rewritten, StatementFault>
-    requires text { IfSome text (λ v. (length v.items ≤ MAX_TEXT) × IsTrue (list_all is_ascii v.items)) }
+    requires text { IfSome text (λ v. length v.items ≤ MAX_BYTES) }
     requires few { matches < 2 ^ 32 }
     ensures rewritten { GivesRewritten result (finished matches text) }
     ensures few { IfOk result (λ r. r.matches < 2 ^ 32) }
@@ -218,24 +313,73 @@ fn finished(alloc: Global, matches: u64, text: Option<Vec<u8>>) -> Result<Rewrit
     }
 }
 
-/// Performs a statement on a text, as [`crate::perform`] does, and returns only how many matches there were and the new text.
+/// As [`rewrite`], of a statement for all matches. The code is that of the statement's pattern.
+fn rewrite_all(
+    alloc: Global,
+    code: &Code<'_>,
+    statement: &Statement,
+    subject: &ByteText,
+    trials: u32,
+) -> Result<Rewritten, StatementFault>
+    requires { IsCodeOf code.now statement.now }
+    ensures rewritten { GivesRewritten result (rewriting (perform_all_within MAX_BYTES (with_limit statement.now trials) subject.now)) }
+    ensures few { IfOk result (λ r. r.matches < 2 ^ 32) }
+{
+    let mut pass = Searches::in_bytes(alloc, statement, code, subject, trials);
+    let bytes = subject.bytes();
+    match statement.object() {
+        None => {
+            let matches = count(alloc, &mut pass)?;
+            Ok(Rewritten {
+                matches,
+                after: None,
+            })
+        }
+        Some(object) => {
+            let (matches, text) = replace_left(alloc, bytes, &mut pass, object.parts())?;
+            finished(alloc, matches, text)
+        }
+    }
+}
+
+/// Performs a statement on the content of a file, as [`crate::perform`] does on a text, and returns only how many matches there
+/// were and the new text. `trials` is the limit in place of the statement's own: of the trials of each round's match, or of all
+/// searches together if the statement is for all matches.
 ///
-/// Of a statement for all matches no match is kept, and the new text is written as they are found. So beside the text and the new
-/// one it needs only the memory of one match, however many there are.
+/// No match and no binding is kept, and the new text is written as matches are found. So beside the text and the new one (of a
+/// repeated statement, also that of the round before) it needs only the memory of one match, however many there are.
 ///
-/// Refused as `perform` is, in the same order.
+/// Refused, in each round:
+/// - `TooManyTrials` exactly if the match takes more trials than the limit; of a statement for all matches, if all searches
+///   together do;
+/// - then `TextTooLong` exactly if the new text would have more than 16,777,216 bytes;
+/// - `Memory` at any allocation that fails, and so instead of any refusal that would have come later.
 pub fn rewrite(
     alloc: Global,
     statement: &Statement,
-    subject: &Text,
+    subject: &ByteText,
+    trials: u32,
 ) -> Result<Rewritten, StatementFault>
-    ensures rewritten { GivesRewritten result (rewriting (perform statement.now subject.now)) }
+    ensures rewritten { GivesRewritten result (rewriting (perform_within MAX_BYTES (with_limit statement.now trials) subject.now)) }
     ensures few { IfOk result (λ r. r.matches < 2 ^ 32) }
 {
+    let code = compile(alloc, statement.rules(), statement.pattern())?;
     if statement.is_for_all() {
-        let code = compile(alloc, statement.rules(), statement.pattern())?;
-        return rewrite_all(alloc, &code, statement, subject);
+        return rewrite_all(alloc, &code, statement, subject, trials);
     }
-    let outcome = perform_rounds(alloc, statement, subject)?;
-    Ok(left_of(outcome))
+    match statement.object() {
+        None => match_once(alloc, &code, statement, subject, trials),
+        Some(object) => {
+            let times = statement.repeat().unwrap_or(1);
+            rewrite_rounds(
+                alloc,
+                &code,
+                statement,
+                object.parts(),
+                subject,
+                trials,
+                times,
+            )
+        }
+    }
 }

@@ -81,7 +81,7 @@ pub(crate) fn copy_of(alloc: Global, text: &Text) -> Result<Text, AllocError>
 
 /// Appends a number in decimal digits.
 #[tactic(auto, using(crate::proofs::Ascii::ascii_decimal))]
-fn put_number(alloc: Global, number: u32, out: &mut Vec<u8>) -> Result<(), AllocError>
+pub(crate) fn put_number(alloc: Global, number: u32, out: &mut Vec<u8>) -> Result<(), AllocError>
     ensures value { OnOk result (out.new.items ≡ out.old.items ++ decimal number) }
     ensures ascii { IsTrue (list_all is_ascii (decimal number)) }
 {

@@ -10,7 +10,7 @@ use crate::jobs::{
 use sno_book::{
     Book, BookFault, CommitFault, Proposal, Snapshot, StatementFault, Text, TextName, propose,
 };
-use sno_statement::{Statement, perform, rewrite};
+use sno_statement::{ByteText, Statement, perform, rewrite};
 use std::alloc::Global;
 use std::process::Abort;
 use std::sync::Arc;
@@ -92,8 +92,8 @@ fn a_statement_for_all_matches_is_performed(rt: HostRuntime) -> Result<(), Fail>
     tell_twice(&rt, || perform_all_once(&rt, alloc, &statement, &text))
 }
 
-fn rewrite_once(rt: &impl Abort, alloc: Global, statement: &Statement, text: &Text) -> CallEnd {
-    match rewrite(alloc, statement, text) {
+fn rewrite_once(rt: &impl Abort, alloc: Global, statement: &Statement, text: &ByteText) -> CallEnd {
+    match rewrite(alloc, statement, text, 1_000) {
         Ok(rewritten) => {
             check_eq(rt, &rewritten.matches, &2);
             let after = rewritten.after.as_ref().expect(rt, "there is a new text");
@@ -111,7 +111,7 @@ fn rewrite_once(rt: &impl Abort, alloc: Global, statement: &Statement, text: &Te
 fn a_text_is_rewritten(rt: HostRuntime) -> Result<(), Fail> {
     let alloc = rt.alloc();
     let statement = exchange_all(&rt, alloc)?;
-    let text = Text::new(Vec::from_slice(alloc, b"k=v;m=n;")?)?;
+    let text = ByteText::new(Vec::from_slice(alloc, b"k=v;m=n;")?)?;
     tell_twice(&rt, || rewrite_once(&rt, alloc, &statement, &text))
 }
 

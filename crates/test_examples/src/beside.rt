@@ -1,11 +1,12 @@
 //! The matcher compared with the plain evaluator.
 use sno_machine::{Code, Found, MatchFault, compile};
-use sno_pattern::{Name, Text};
+use sno_pattern::{ByteText, MAX_TEXT, Name, Text};
 use sno_statement::{
     BindingsRef, DatumRef, Match, MatchRef, Outcome, Pass, Statement, StatementFault, perform,
     rewrite,
 };
 use std::alloc::Global;
+use std::sync::Arc;
 use std::test::Fail;
 
 /// The cursors where the match begins and ends, if there is one.
@@ -188,14 +189,30 @@ fn count_in(outcome: &Outcome) -> u64 {
     }
 }
 
-/// Compares what rewriting a text leaves with the statement's outcome: the number of matches and the new text, or the refusal.
+/// Whether a text of bytes has the characters of a text; or whether both are missing.
+fn is_same_text(bytes: Option<&Arc<ByteText>>, text: Option<&Arc<Text>>) -> bool {
+    match (bytes, text) {
+        (Some(bytes), Some(text)) => bytes.bytes() == text.bytes(),
+        (None, None) => true,
+        _ => false,
+    }
+}
+
+/// Compares what rewriting a text's bytes leaves with the statement's outcome: the number of matches and the new text, or the
+/// refusal. A new text that is too long for a text is none for bytes.
 fn check_rewriting(alloc: Global, statement: &Statement, text: &Text) -> Result<(), Fail> {
     let performed = perform(alloc, statement, text);
-    let rewritten = rewrite(alloc, statement, text);
+    let bytes = ByteText::new(Vec::from_slice(alloc, text.bytes())?)?;
+    let rewritten = rewrite(alloc, statement, &bytes, statement.limit());
     let is_same = match (&performed, &rewritten) {
         (Ok(outcome), Ok(rewritten)) => {
-            rewritten.matches == count_in(outcome) && rewritten.after.as_ref() == outcome.after()
+            rewritten.matches == count_in(outcome)
+                && is_same_text(rewritten.after.as_ref(), outcome.after())
         }
+        (Err(StatementFault::TextTooLong), Ok(rewritten)) => match &rewritten.after {
+            Some(after) => after.bytes().len() > MAX_TEXT || statement.repeat().is_some(),
+            None => false,
+        },
         (Err(fault), Err(other)) => fault == other,
         _ => false,
     };

@@ -7,7 +7,7 @@ use Rattle.sno_statement.specs.declared.match_lists.Match.{Match}
 use Rattle.sno_statement.specs.Bindings.{bind_conds, bind_sets, conds_of}
 use Rattle.sno_statement.specs.Passes.{Pass, IsCursor, counts, cursors_left, match_by, match_of, matches_from, matches_left, most_searches, moved, search, search_trials, trials_together}
 use Rattle.sno_statement.proofs.PassLaws.{counted, further, none_left, no_matches, skipped, statement_kept, text_kept, trials_kept, trials_over}
-use Rattle.sno_statement.proofs.passes.Pass.next_hit.Goals as goal
+use Rattle.sno_statement.proofs.searches.Searches.next_hit.Goals as goal
 
 pub returns-in_err-found-clause-refused : goal.returns-in_err-found-clause-refused
 returns-in_err-found-clause-refused c =

@@ -1,7 +1,7 @@
 -- What is still to come is what was still to come before the call.
 use Rattle.std.proofs.Common.{◌≡◌, ◌≤◌}
 use Rattle.sno_statement.specs.Passes.{cursors_left, matches_left, trials_together}
-use Rattle.sno_statement.proofs.passes.Pass.next_hit.Given as goal
+use Rattle.sno_statement.proofs.searches.Searches.next_hit.Given as goal
 
 abbrev pub invariant-loop-self : goal.invariant-loop-self
 invariant-loop-self l = record {

@@ -1,0 +1,121 @@
+//! What a search assigned, as spans of the bytes that were searched: nothing is cut from them.
+ghost use Rattle.std.specs.Prelude.{◌≡◌, ◌+◌, ◌*◌, ◌≤◌, ◌<◌, ◌++◌, IfSome, IfNone, OnOk, length};
+ghost use Rattle.sno_pattern.specs.declared.byte_texts.TheConstants.{MAX_BYTES};
+ghost use Rattle.sno_statement.specs.Bindings.{lookup};
+ghost use Rattle.sno_statement.specs.LastAssignments.{values_of_last};
+ghost use Rattle.sno_statement.specs.Value.{part_value, string_of, value_of};
+
+use crate::binding_refs::last_of;
+use crate::last_assignments::Last;
+use crate::lengths::decimal_length;
+use crate::values::{between, put_number};
+use sno_pattern::{MAX_BYTES, Name};
+use sno_read::Part;
+use std::alloc::{AllocError, Global};
+use std::marker::Model;
+
+/// The variables that one search assigned. Their strings are spans of the bytes that were searched.
+#[derive(Drop)]
+pub(crate) struct Spans<'t> {
+    subject: &'t [u8],
+    assigned: &'t [(Name, Last)],
+}
+
+impl<'t> Model for Spans<'t> {
+    ghost use Rattle.std.specs.Prelude.{List, ℕ, ◌≤◌, length};
+    ghost use Rattle.sno_pattern.specs.declared.byte_texts.TheConstants.{MAX_BYTES};
+    ghost use Rattle.sno_statement.specs.declared.binding.Datum.{Datum};
+    ghost use Rattle.sno_statement.specs.LastAssignments.{values_of_last};
+
+    ghost Value = { List (List ℕ × Datum) };
+
+    ghost view = { λ s. values_of_last s.subject.now s.assigned.now };
+
+    ghost invariant = { λ s. length s.subject.now ≤ MAX_BYTES };
+}
+
+impl<'t> Spans<'t> {
+    /// The values of these last assignments, whose strings are spans of these bytes.
+    pub(crate) fn of(subject: &'t [u8], assigned: &'t [(Name, Last)]) -> Spans<'t>
+        requires { length subject.now ≤ MAX_BYTES }
+        ensures { result ≡ values_of_last subject.now assigned.now }
+    {
+        Spans { subject, assigned }
+    }
+
+    /// How many bytes a variable's value has.
+    fn variable_length(&self, name: &Name) -> usize
+        ensures value { result ≡ length (string_of (lookup name.now self.now)) }
+        ensures short { result ≤ MAX_BYTES }
+    {
+        match last_of(self.assigned, name) {
+            None => 0,
+            Some(Last::Part(from, to)) => between(self.subject, from, to).len(),
+            Some(Last::Cursor(cursor)) => decimal_length(cursor),
+        }
+    }
+
+    /// How many bytes a part's value has.
+    fn part_length(&self, part: &Part) -> usize
+        ensures value { result ≡ length (part_value self.now part.now) }
+        ensures short { result ≤ MAX_BYTES }
+    {
+        match part {
+            Part::Quoted(text) => text.bytes().len(),
+            Part::Var(name) => self.variable_length(name),
+        }
+    }
+
+    /// This many bytes and those of the object's value; `None` if they are more than a text of bytes can have.
+    pub(crate) fn length_with(&self, already: usize, parts: &[Part]) -> Option<usize>
+        requires { already ≤ 2 * MAX_BYTES }
+        ensures value { IfSome result (λ n. n ≡ already + length (value_of self.now parts.now)) }
+        ensures short { IfSome result (λ n. n ≤ MAX_BYTES) }
+        ensures long { IfNone result (MAX_BYTES < already + length (value_of self.now parts.now)) }
+    {
+        let mut total = already;
+        for part in parts {
+            if total > MAX_BYTES {
+                return None;
+            }
+            total += self.part_length(part);
+        }
+        if total > MAX_BYTES { None } else { Some(total) }
+    }
+
+    /// Appends a variable's value.
+    fn put_variable(&self, alloc: Global, name: &Name, out: &mut Vec<u8>) -> Result<(), AllocError>
+        ensures { OnOk result (out.new.items ≡ out.old.items ++ string_of (lookup name.now self.now)) }
+    {
+        match last_of(self.assigned, name) {
+            None => Ok(()),
+            Some(Last::Part(from, to)) => out.extend_from_slice(between(self.subject, from, to)),
+            Some(Last::Cursor(cursor)) => put_number(alloc, cursor, out),
+        }
+    }
+
+    /// Appends a part's value.
+    fn put_part(&self, alloc: Global, part: &Part, out: &mut Vec<u8>) -> Result<(), AllocError>
+        ensures { OnOk result (out.new.items ≡ out.old.items ++ part_value self.now part.now) }
+    {
+        match part {
+            Part::Quoted(text) => out.extend_from_slice(text.bytes()),
+            Part::Var(name) => self.put_variable(alloc, name, out),
+        }
+    }
+
+    /// Appends the object's value: those of its parts, in order.
+    pub(crate) fn put(
+        &self,
+        alloc: Global,
+        parts: &[Part],
+        out: &mut Vec<u8>,
+    ) -> Result<(), AllocError>
+        ensures { OnOk result (out.new.items ≡ out.old.items ++ value_of self.now parts.now) }
+    {
+        for part in parts {
+            self.put_part(alloc, part, out)?;
+        }
+        Ok(())
+    }
+}
