@@ -2,6 +2,7 @@
 use Rattle.std.proofs.Common.{◌≡◌, ◌≢◌, ℕ, zero, suc, ◌+◌, ◌<◌, ◌≤◌, Bool, true, false, List, [], ◌∷◌, ◌++◌, length, take, drop, get_or, map, not, ◌&&◌, Result, Ok, Err, refl, true≢false, arith, ap, sym, subst, ◌∙◌}
 use Rattle.std.proofs.lemmas.Bool.{eq-eqb, or_parts}
 use Rattle.std.specs.List.{list_any}
+use Rattle.std.specs.Result.{IsErrAnd}
 use Rattle.std.specs.Borrow.{Bor}
 use Rattle.std.specs.Arc.{arc_value}
 use Rattle.std.proofs.lemmas.List.{append_assoc, append-nil, drop_more, take_more}
@@ -123,6 +124,14 @@ pub unwritten_cause : (rules : FileRules) (path : List ℕ) (before : Held) (e :
     → IsEdit rules path before old (record { text = new; matches = matches }) → same old new ≡ false → HasCause rules path before (of_write e)
 unwritten_cause rules path before (writing.Failed kind) old new matches edit other = (old, record { text = new; matches = matches }, edit, other)
 unwritten_cause rules path before writing.Memory old new matches edit other = tt
+
+-- a write that was refused alone
+pub write_refused : (rules : FileRules) (path : List ℕ) (before after : Held) (r : Result Done FileFault) (e : WriteFault) (old new : List ℕ) (matches : ℕ)
+    → IsErrAnd r (λ y. y ≡ of_write e) → IsEdit rules path before old (record { text = new; matches = matches }) → same old new ≡ false → Kept before after
+    → IsFileEnd rules path before after r
+write_refused rules path before after (Ok done) e old new matches is edit other kept = elim is [ ]
+write_refused rules path before after (Err y) e old new matches is edit other kept =
+    (subst (λ x. HasCause rules path before x) (sym is) (unwritten_cause rules path before e old new matches edit other), kept)
 
 -- the paths that references lead to
 abbrev pub paths_at : List (Bor (List ℕ)) → List (List ℕ)

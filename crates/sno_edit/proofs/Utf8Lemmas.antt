@@ -1,5 +1,5 @@
 -- What rules leave of UTF-8 is UTF-8, and why a statement cuts a character.
-use Rattle.std.proofs.Common.{◌≡◌, ℕ, Bool, true, false, List, [], ◌∷◌, ◌++◌, Option, None, Some, Result, Ok, Err, IsUtf8, if◌then◌else◌, unwrap_or, refl, true≢false, ap, sym, subst, ◌∙◌}
+use Rattle.std.proofs.Common.{◌≡◌, ◌≢◌, ℕ, Bool, true, false, List, [], ◌∷◌, ◌++◌, Option, None, Some, Result, Ok, Err, IsUtf8, if◌then◌else◌, unwrap_or, refl, true≢false, ap, sym, subst, ◌∙◌}
 use Rattle.std.proofs.lemmas.Str.{IsUtf8-from_is_utf8, is_utf8-from_IsUtf8}
 use Rattle.std.specs.Str.{is_utf8}
 use Rattle.std.specs.Str.Lossy.{utf8_valid_len}
@@ -14,6 +14,10 @@ use Rattle.sno_edit.specs.Rules.{FileRules}
 use Rattle.sno_edit.specs.declared.edits.CutCharacter.{CutCharacter}
 use Rattle.sno_edit.specs.declared.faults.FileFault.{FileFault}
 use Rattle.sno_edit.specs.declared.faults.FileFault.TheVariants.{Cut}
+use Rattle.sno_edit.specs.declared.faults.FileFault.TheVariants as fault
+use Rattle.sno_edit.specs.Files.{HasCause}
+use Rattle.sno_edit.specs.Held.{Held}
+use Rattle.sno_pattern.specs.Texts.{byte_text_of}
 use Rattle.sno_edit.specs.declared.trials.Trials.{Trials}
 
 -- the place at which a character is cut, by what is known of the two texts
@@ -191,3 +195,52 @@ edited_cut rules path old cut h =
       never = λ is. true≢false (sym (is_utf8-from_IsUtf8 (unwrap_or by.done.after by.e.text) is) ∙ by.is);
       valid = by.valid;
     }
+
+-- ---- Which refusals there are
+-- a statement is refused, or it cuts a character; else memory ran out
+abbrev IsRefusal : FileFault → Type 0
+IsRefusal fault.TooLong = ⊥
+IsRefusal (fault.Refused refused) = Unit {0}
+IsRefusal (fault.Cut cut) = Unit {0}
+IsRefusal (fault.Unread kind) = ⊥
+IsRefusal (fault.Unwritten kind) = ⊥
+IsRefusal fault.Memory = Unit {0}
+
+unless_refusal : (s : Statement) (at : Option ℕ) (left : Edited) (e : FileFault) → unless_cut s at left ≡ Err e → IsRefusal e
+unless_refusal s None left e h = cc
+unless_refusal s (Some place) left e h = subst IsRefusal (err_is _ e h) tt
+
+fault_refusal : (number : ℕ) (f : StatementFault) → IsRefusal (of_refused (record { statement = number; fault = f }))
+fault_refusal number statement.Memory = tt
+fault_refusal number statement.TextTooLong = tt
+fault_refusal number statement.TooManyTrials = tt
+
+left_refusal : (s : Statement) (e : Edited) (r : Result Rewriting StatementFault) (f : FileFault) → left_by s e r ≡ Err f → IsRefusal f
+left_refusal s e (Ok done) f h = unless_refusal s _ _ f h
+left_refusal s e (Err fault) f h = subst IsRefusal (err_is _ f h) (fault_refusal s.number fault)
+
+turn_refusal : (for_it : Bool) (s : Statement) (e : Edited) (r : Result Rewriting StatementFault) (f : FileFault) → (if for_it then left_by s e r else Ok e) ≡ Err f → IsRefusal f
+turn_refusal true s e r f h = left_refusal s e r f h
+turn_refusal false s e r f h = cc
+
+then_refusal : (first : Result Edited FileFault) (go_on : Edited → Result Edited FileFault) (f : FileFault) → then_on first go_on ≡ Err f
+    → (first ≡ Err f → IsRefusal f) → ((e : Edited) → go_on e ≡ Err f → IsRefusal f) → IsRefusal f
+then_refusal (Ok e) go_on f h now later = later e h
+then_refusal (Err fault) go_on f h now later = now h
+
+in_turn_refusal : (path : List ℕ) (trials : Trials) (statements : List Statement) (e : Edited) (f : FileFault) → in_turn path trials statements e ≡ Err f → IsRefusal f
+in_turn_refusal path trials [] e f h = cc
+in_turn_refusal path trials (s ∷ statements) e f h =
+    then_refusal (turn path trials s e) (in_turn path trials statements) f h
+    (λ is. turn_refusal (is_for path s) s e (rewriting_of trials s e.text) f is)
+    (λ next so. in_turn_refusal path trials statements next f so)
+
+-- why the file is not edited
+pub refusal_cause : (rules : FileRules) (path : List ℕ) (before : Held) (old : List ℕ) (e : FileFault) → before path old → byte_text_of old ≡ Ok old
+    → (e ≢ fault.Memory → edited rules path old ≡ Err e) → HasCause rules path before e
+refusal_cause rules path before old fault.TooLong held text h = absurd (in_turn_refusal path rules.trials rules.statements _ _ (h (λ is. cc)))
+refusal_cause rules path before old (fault.Refused refused) held text h = (old, held, text, h (λ is. cc))
+refusal_cause rules path before old (fault.Cut cut) held text h = (old, held, text, h (λ is. cc), edited_cut rules path old cut (h (λ is. cc)))
+refusal_cause rules path before old (fault.Unread kind) held text h = tt
+refusal_cause rules path before old (fault.Unwritten kind) held text h = absurd (in_turn_refusal path rules.trials rules.statements _ _ (h (λ is. cc)))
+refusal_cause rules path before old fault.Memory held text h = tt

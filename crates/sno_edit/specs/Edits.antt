@@ -1,6 +1,7 @@
 -- What rules do to the text of a file: each statement is performed on the text that those before it left.
-use Rattle.std.specs.Prelude.{◌≡◌, ◌≢◌, ◌+◌, ℕ, Bool, List, [], ◌∷◌, ◌++◌, ◌||◌, not, false, Option, Some, None, Result, Ok, Err, IsUtf8, codes, length, unwrap_or, if◌then◌else◌}
+use Rattle.std.specs.Prelude.{◌≡◌, ◌≢◌, ◌+◌, ℕ, Bool, List, [], ◌∷◌, ◌++◌, ◌||◌, not, false, Option, Some, None, Result, Ok, Err, IfSome, IsUtf8, codes, length, unwrap_or, if◌then◌else◌}
 use Rattle.std.specs.Arc.{arc_value}
+use Rattle.std.specs.Str.{is_utf8}
 use Rattle.std.specs.Str.Lossy.{utf8_valid_len}
 use Rattle.sno_pattern.specs.Identifiers.{same}
 use Rattle.sno_pattern.specs.declared.byte_texts.TheConstants.{MAX_BYTES}
@@ -14,7 +15,7 @@ use Rattle.sno_edit.specs.Rules.{FileRules}
 use Rattle.sno_edit.specs.Trials.{trials_for}
 use Rattle.sno_edit.specs.Utf8.{cut_at}
 use Rattle.sno_edit.specs.declared.edits.CutCharacter.{CutCharacter}
-use Rattle.sno_edit.specs.declared.edited_texts.EditedText.{EditedText}
+use Rattle.sno_edit.specs.declared.edits.EditedText.{EditedText}
 use Rattle.sno_edit.specs.declared.faults.FileFault.{FileFault}
 use Rattle.sno_edit.specs.declared.faults.FileFault.TheVariants.{Cut, Memory}
 use Rattle.sno_edit.specs.declared.trials.Trials.{Trials}
@@ -79,6 +80,10 @@ pub record IsCut (rules : FileRules) (path old : List ℕ) (cut : CutCharacter) 
   pub was : IsUtf8 e.text
   pub never : IsUtf8 (unwrap_or done.after e.text) → ⊥
   pub valid : cut.position ≡ position_of (unwrap_or done.after e.text) (utf8_valid_len (unwrap_or done.after e.text))
+
+-- what is said of a text is so
+abbrev pub IsKnown : EditedText → Type 0
+IsKnown e = IfSome e.utf8 (λ known. known ≡ is_utf8 (arc_value e.text))
 
 abbrev pub edited_seen : EditedText → Edited
 edited_seen e = record { text = arc_value e.text; matches = e.matches }

@@ -16,11 +16,10 @@ use Rattle.sno_edit.specs.declared.faults.FileFault.TheVariants as fault
 abbrev pub IsEdit : FileRules → List ℕ → Held → List ℕ → Edited → Type 0
 IsEdit rules path before old e = before path old × (byte_text_of old ≡ Ok old) × (edited rules path old ≡ Ok e)
 
--- what is planned for a file: of UTF-8 it makes UTF-8
+-- what is planned for a file
 abbrev pub IsPlan : FileRules → List ℕ → Held → Plan → Type 0
 IsPlan rules path before plan =
     IsEdit rules path before (arc_value plan.before) (record { text = arc_value plan.after; matches = plan.matches })
-    × (IsUtf8 (arc_value plan.before) → IsUtf8 (arc_value plan.after))
 
 -- The file was edited: it holds the text that the rules make of what it held. If that is the same text, nothing
 -- was written. UTF-8 stays UTF-8.

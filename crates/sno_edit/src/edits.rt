@@ -1,17 +1,28 @@
 //! Statements on the text of one file.
 ghost use Rattle.std.specs.Prelude.{◌≡◌, ◌≤◌, ◌<◌, ◌+◌, ◌^◌, Ok, IfOk};
 ghost use Rattle.std.specs.Arc.{arc_value};
+ghost use Rattle.std.specs.Str.{is_utf8};
 ghost use Rattle.sno_statement.specs.Rewriting.{rewritten_seen};
-ghost use Rattle.sno_edit.specs.Edits.{GivesEdited, edited, edited_seen, is_for, left_by, turn};
+ghost use Rattle.sno_edit.specs.Edits.{GivesEdited, IsKnown, edited, edited_seen, is_for, left_by, turn};
 ghost use Rattle.sno_edit.specs.Rules.{rules_seen};
 
-use crate::edited_texts::EditedText;
 use crate::utf8::first_non_utf8;
-use crate::{EditRules, FileFault, Position, Trials};
+use crate::{EditRules, FileFault, Position};
 use sno_pattern::ByteText;
 use sno_statement::{Rewritten, Statement, StatementFault, rewrite};
 use std::alloc::{AllocError, Global};
 use std::sync::Arc;
+
+/// A text that statements left.
+#[derive(Drop)]
+pub(crate) struct EditedText {
+    /// The text.
+    pub(crate) text: Arc<ByteText>,
+    /// How many matches the statements had. A repeated statement has one for each round that matched.
+    pub(crate) matches: u64,
+    /// Whether the text is UTF-8, if that was found out.
+    utf8: Option<bool>,
+}
 
 /// A statement that was refused, with the reason.
 #[derive(Clone, Copy, Debug, PartialEq, Eq)]
@@ -39,15 +50,28 @@ fn is_for(statement: &Statement, path: &str) -> bool
     name == b"*".as_slice() || name == path.as_bytes()
 }
 
+/// Whether a text is UTF-8.
+fn is_utf8(edited: &EditedText) -> bool
+    requires { IsKnown edited.now }
+    ensures { result ≡ is_utf8 (arc_value edited.now.text) }
+{
+    match edited.utf8 {
+        Some(known) => known,
+        None => first_non_utf8(edited.text.bytes()).is_none(),
+    }
+}
+
 /// What is left of a text that this statement has rewritten. Refused with `Cut` if that cuts a character.
 fn left_by(
     statement: &Statement,
     rewritten: Rewritten,
     before: EditedText,
 ) -> Result<EditedText, FileFault>
+    requires known { IsKnown before }
     requires matches { before.matches < 2 ^ 63 }
     requires few { rewritten.matches < 2 ^ 32 }
     ensures left { GivesEdited result (left_by statement.now (edited_seen before) (Ok (rewritten_seen rewritten))) }
+    ensures known { IfOk result (λ e. IsKnown e) }
     ensures few { IfOk result (λ e. e.matches ≤ before.matches + 2 ^ 32) }
 {
     let matches = before.matches + rewritten.matches;
@@ -58,7 +82,7 @@ fn left_by(
             utf8: before.utf8,
         });
     };
-    if !before.is_utf8() {
+    if !is_utf8(&before) {
         let utf8 = None;
         return Ok(EditedText {
             text,
@@ -79,23 +103,25 @@ fn left_by(
     }
 }
 
-/// Performs a statement on a text, if it is for the file with this path.
+/// Performs a statement of these rules on a text, if it is for the file with this path.
 fn turn(
     alloc: Global,
+    rules: &EditRules,
     statement: &Statement,
-    trials: Trials,
     path: &str,
     before: EditedText,
 ) -> Result<EditedText, FileFault>
-    requires { before.matches < 2 ^ 63 }
-    ensures turned { GivesEdited result (turn path.now trials statement.now (edited_seen before)) }
+    requires known { IsKnown before }
+    requires matches { before.matches < 2 ^ 63 }
+    ensures turned { GivesEdited result (turn path.now (rules_seen rules.now).trials statement.now (edited_seen before)) }
+    ensures known { IfOk result (λ e. IsKnown e) }
     ensures few { IfOk result (λ e. e.matches ≤ before.matches + 2 ^ 32) }
 {
     if !is_for(statement, path) {
         return Ok(before);
     }
-    let most = trials.on(before.text.bytes().len());
-    match rewrite(alloc, statement, &before.text, most) {
+    let trials = rules.trials().on(before.text.bytes().len());
+    match rewrite(alloc, statement, &before.text, trials) {
         Ok(rewritten) => left_by(statement, rewritten, before),
         Err(fault) => {
             let statement = statement.number();
@@ -119,10 +145,9 @@ pub(crate) fn edited(
         matches: 0,
         utf8: None,
     };
-    let trials = rules.trials();
     let statements = rules.statements();
     for statement in statements {
-        edited = turn(alloc, statement, trials, path, edited)?;
+        edited = turn(alloc, rules, statement, path, edited)?;
     }
     Ok(edited)
 }

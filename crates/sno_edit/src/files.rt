@@ -1,5 +1,5 @@
 //! Files, edited.
-ghost use Rattle.std.specs.Prelude.{◌≡◌, map, not, IfOk, IfErr, OnErr, Ok};
+ghost use Rattle.std.specs.Prelude.{◌≡◌, map, not, IsUtf8, IfOk, IfErr, OnErr, Ok};
 ghost use Rattle.std.specs.Arc.{arc_value};
 ghost use Rattle.sno_pattern.specs.Identifiers.{same};
 ghost use Rattle.sno_pattern.specs.Texts.{byte_text_of};
@@ -71,16 +71,20 @@ pub fn plan_file<F: Folder>(
     path: &str,
 ) -> Result<Plan, FileFault>
     ensures planned { IfOk result (λ plan. IsPlan (rules_seen rules.now) path.now (F.holds folder.now) plan) }
+    ensures utf8 { IfOk result (λ plan. IsUtf8 (arc_value plan.before) → IsUtf8 (arc_value plan.after)) }
     ensures cause { IfErr result (λ e. HasCause (rules_seen rules.now) path.now (F.holds folder.now) e) }
 {
     let bytes = folder.read(alloc, path, MAX_BYTES)?;
     let before = text_in(alloc, bytes)?;
-    let edited = edited(alloc, rules, path, Arc::try_clone(&before)?)?;
-    Ok(Plan {
-        before,
-        after: edited.text,
-        matches: edited.matches,
-    })
+    let text = Arc::try_clone(&before)?;
+    match edited(alloc, rules, path, text) {
+        Ok(edited) => Ok(Plan {
+            before,
+            after: edited.text,
+            matches: edited.matches,
+        }),
+        Err(fault) => Err(fault),
+    }
 }
 
 /// Edits the file with this path by the rules. It is written only if its text changes.

@@ -18,7 +18,6 @@
 //! | `rules` | `EditRules`: the statements, read from JSON |
 //! | `trials` | `Trials`: how many trials a statement may take on a text |
 //! | `edits` | the statements on one text |
-//! | `edited_texts` | a text with what statements did to it |
 //! | `utf8` | whether a text is UTF-8 |
 //! | `positions` | `Position`: the line and the column of a place |
 //! | `folders` | `Folder`, and why a file is not read or written |
@@ -31,7 +30,6 @@
 #![tactic(auto)]
 
 mod batches;
-mod edited_texts;
 mod edits;
 mod faults;
 mod files;

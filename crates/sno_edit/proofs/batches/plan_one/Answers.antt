@@ -12,7 +12,7 @@ returns-then-not-changed g c = (
   (
     arc_value c.in_ok-plan.plan.before,
     arc_value c.in_ok-plan.plan.after,
-    c.in_ok-plan.ensures.planned.0,
+    c.in_ok-plan.ensures.planned,
     c.changes-changed.ensures,
     subst (λ b. TakesWrite b c.args.path.now (arc_value c.in_ok-plan.plan.after) [] (λ x3. x3 ≡ [])) (sym c.if-not-changed.true) refl,
   ),
