@@ -1,12 +1,13 @@
 //! The search of a pass that finds the match with a number.
 ghost use Rattle.std.specs.Prelude.{◌≡◌, ◌<◌, ◌≤◌, ◌-◌, length, Some, IfOk};
+ghost use Rattle.sno_pattern.specs.declared.byte_texts.TheConstants.{MAX_BYTES};
 ghost use Rattle.sno_statement.specs.Passes.{search_trials};
 ghost use Rattle.sno_statement.specs.Perform.{IsCodeOf};
 ghost use Rattle.sno.specs.Searches.{GoesOn, after_found, after_search, first_search, next_after, sought_in};
 
 use sno_machine::{Code, MatchFault, SearchOutcome, Searched, compile};
 use sno_pattern::{Hit, Text, searches_lie_within_the_text};
-use sno_statement::{Statement, counts, next_search};
+use sno_statement::{Statement, counts, next_cursor};
 use std::alloc::{AllocError, Global};
 
 /// One search of a pass over a text.
@@ -43,7 +44,7 @@ pub(crate) struct Sought {
 /// What comes after a search that found this match with this number of trials.
 fn after_hit(
     statement: &Statement,
-    text: &Text,
+    text: &[u8],
     search: PassSearch,
     earlier: u32,
     trials: u32,
@@ -53,6 +54,7 @@ fn after_hit(
     requires trials { trials ≡ search_trials statement.now text.now search.from }
     requires left { trials ≤ search.left }
     requires inside { hit.now.end ≤ length text.now }
+    requires short { length text.now ≤ MAX_BYTES }
     ensures after { result ≡ after_found statement.now text.now earlier search (Some hit.now) }
     ensures goes_on { GoesOn text.now earlier result }
 {
@@ -60,7 +62,7 @@ fn after_hit(
     if found && search.matches == earlier {
         return AfterSearch::Done(true);
     }
-    let Some(from) = next_search(statement.anchored(), text, hit) else {
+    let Some(from) = next_cursor(statement.anchored(), text, hit) else {
         return AfterSearch::Done(found);
     };
     AfterSearch::Next(PassSearch {
@@ -97,7 +99,7 @@ fn after_search<'a>(
     match searched {
         Ok(SearchOutcome { found, trials }) => match &found.end {
             None => Ok(AfterSearch::Done(false)),
-            Some(hit) => Ok(after_hit(statement, text.text(), search, earlier, trials, hit)),
+            Some(hit) => Ok(after_hit(statement, text.characters(), search, earlier, trials, hit)),
         },
         Err(MatchFault::TooManyTrials) => Ok(AfterSearch::Done(false)),
         Err(MatchFault::Memory) => Err(AllocError),

@@ -2,7 +2,6 @@ pub mod Ascii
 pub mod Assigning
 pub mod Decimals
 pub mod Entries
-pub mod FewMatches
 pub mod Gathering
 pub mod LastValues
 pub mod NotMemory
@@ -10,5 +9,6 @@ pub mod PassLaws
 pub mod PassOrder
 pub mod Replacing
 pub mod RewritingLaws
+pub mod RewritingRounds
 pub mod Rounds
 pub mod WholePasses

@@ -8,7 +8,7 @@ use Rattle.sno_statement.specs.declared.outcomes.StatementFault.TheVariants as f
 use Rattle.sno_statement.specs.Statement.{Statement}
 use Rattle.sno_statement.specs.Bindings.{Bindings, bindings_of}
 use Rattle.sno_statement.specs.Value.{value_of, new_text}
-use Rattle.sno_statement.specs.Perform.{Outcome, Matched, Failed, Repeated, All, all_or_failed, finish, finish_all, follow, rounds, perform_all, perform_once, perform_times, perform}
+use Rattle.sno_statement.specs.Perform.{Outcome, Matched, Failed, Repeated, All, all_or_failed, finish, finish_all, follow, rounds, perform_all, perform_all_within, perform_once, perform_times, perform}
 use Rattle.sno_statement.specs.Passes.{all_matches, all_trials, replaced}
 use Rattle.sno_statement.specs.declared.match_lists.Match.{Match}
 
@@ -67,7 +67,7 @@ of_matches s t [] = tt
 of_matches s t (m ∷ ms) = of_finish_all s.object t (m ∷ ms)
 
 of_all : (s : Statement) (t : List ℕ) → IsNotMemory (perform_all s t)
-unfolding perform_all
+unfolding perform_all_within
 of_all s t = of_trials (nat_lt s.limit (all_trials s t)) (all_or_failed s t (all_matches s t)) (of_matches s t (all_matches s t))
 
 of_either : (all : Bool) (pass rounds : Result Outcome StatementFault) → IsNotMemory pass → IsNotMemory rounds → IsNotMemory (cond all pass rounds)

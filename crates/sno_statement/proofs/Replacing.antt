@@ -1,14 +1,12 @@
 -- The text with one more match replaced.
-use Rattle.std.proofs.Common.{◌≡◌, ℕ, ◌+◌, ◌≤◌, ◌<◌, List, ◌∷◌, ◌++◌, length, drop, ap, sym, ◌∙◌, append_assoc, arith, length-append, Some, None, Option, slice_get, refl, subst, MatchOption, IfSome, IsTrue, Vec, Global}
+use Rattle.std.proofs.Common.{◌≡◌, ℕ, ◌+◌, ◌≤◌, ◌<◌, List, ◌∷◌, ◌++◌, length, drop, ap, sym, ◌∙◌, append_assoc, arith, length-append, Some, None, Option, slice_get, refl, subst, MatchOption, IfSome, Vec, Global}
 use Rattle.std.proofs.Common.{get_or}
 use Rattle.std.proofs.lemmas.List.{drop_more}
 use Rattle.std.proofs.lemmas.Option.{get_or_from_slice_get, slice_get_within}
 use Rattle.sno_pattern.specs.Ends.{part}
 use Rattle.sno_read.specs.declared.objects.Part.{Part}
 use Rattle.sno_statement.specs.declared.match_lists.Match.{Match}
-use Rattle.std.specs.List.{list_all}
-use Rattle.std.specs.Char.{is_ascii}
-use Rattle.sno_pattern.specs.declared.texts.TheConstants.{MAX_TEXT}
+use Rattle.sno_pattern.specs.declared.byte_texts.TheConstants.{MAX_BYTES}
 use Rattle.sno_statement.specs.Rewriting.{IsReplaced}
 use Rattle.sno_statement.specs.Value.{value_of}
 use Rattle.sno_statement.specs.Passes.{replaced}
@@ -43,24 +41,24 @@ longer xs ys all n is long = let both = length-append xs ys in let here : length
 
 -- what was written, and what is written with one more match; nothing is written any more once the text is too long
 pub match_written : (parts : List Part) (t kept all : List ℕ) (c : ℕ) (m : Match) (ms : List Match) (old new : Option (Vec ℕ Global)) → kept ≡ part t c m.start
-    → MatchOption old (MAX_TEXT < length all) (λ v. v.items ++ replaced parts t c (m ∷ ms) ≡ all)
-    → MatchOption old (new ≡ None) (λ v. MatchOption new (MAX_TEXT < length ((v.items ++ kept) ++ value_of m.bindings parts)) (λ w. w.items ≡ (v.items ++ kept) ++ value_of m.bindings parts))
-    → MatchOption new (MAX_TEXT < length all) (λ w. w.items ++ replaced parts t m.end ms ≡ all)
+    → MatchOption old (MAX_BYTES < length all) (λ v. v.items ++ replaced parts t c (m ∷ ms) ≡ all)
+    → MatchOption old (new ≡ None) (λ v. MatchOption new (MAX_BYTES < length ((v.items ++ kept) ++ value_of m.bindings parts)) (λ w. w.items ≡ (v.items ++ kept) ++ value_of m.bindings parts))
+    → MatchOption new (MAX_BYTES < length all) (λ w. w.items ++ replaced parts t m.end ms ≡ all)
 match_written parts t kept all c m ms None None before long added = long
 match_written parts t kept all c m ms None (Some w) before long added = absurd cc
 match_written parts t kept all c m ms (Some v) None before so_far added =
-    longer ((v.items ++ kept) ++ value_of m.bindings parts) (replaced parts t m.end ms) all MAX_TEXT (written parts t v.items kept (value_of m.bindings parts) all c m ms before refl so_far) added
+    longer ((v.items ++ kept) ++ value_of m.bindings parts) (replaced parts t m.end ms) all MAX_BYTES (written parts t v.items kept (value_of m.bindings parts) all c m ms before refl so_far) added
 match_written parts t kept all c m ms (Some v) (Some w) before so_far added =
     ap (λ (z : List ℕ). z ++ replaced parts t m.end ms) added ∙ written parts t v.items kept (value_of m.bindings parts) all c m ms before refl so_far
 
 -- the text with its end
 pub end_written : (end all : List ℕ) (old new : Option (Vec ℕ Global))
-    → MatchOption old (MAX_TEXT < length all) (λ v. v.items ++ end ≡ all)
-    → MatchOption old (new ≡ None) (λ v. MatchOption new (MAX_TEXT < length (v.items ++ end)) (λ w. w.items ≡ v.items ++ end))
-    → IfSome new (λ v. (length v.items ≤ MAX_TEXT) × IsTrue (list_all is_ascii v.items)) → IsReplaced all new
-end_written end all None None long added valid = long
-end_written end all None (Some w) long added valid = absurd cc
-end_written end all (Some v) None so_far added valid = subst (λ (z : List ℕ). MAX_TEXT < length z) so_far added
-end_written end all (Some v) (Some w) so_far added valid =
+    → MatchOption old (MAX_BYTES < length all) (λ v. v.items ++ end ≡ all)
+    → MatchOption old (new ≡ None) (λ v. MatchOption new (MAX_BYTES < length (v.items ++ end)) (λ w. w.items ≡ v.items ++ end))
+    → IfSome new (λ v. length v.items ≤ MAX_BYTES) → IsReplaced all new
+end_written end all None None long added short = long
+end_written end all None (Some w) long added short = absurd cc
+end_written end all (Some v) None so_far added short = subst (λ (z : List ℕ). MAX_BYTES < length z) so_far added
+end_written end all (Some v) (Some w) so_far added short =
     let is : w.items ≡ all = added ∙ so_far in
-    (is, subst (λ (z : List ℕ). length z ≤ MAX_TEXT) is valid.0, subst (λ (z : List ℕ). IsTrue (list_all is_ascii z)) is valid.1)
+    (is, subst (λ (z : List ℕ). length z ≤ MAX_BYTES) is short)

@@ -5,6 +5,7 @@ use Rattle.std.specs.Fmt.{digits}
 use Rattle.sno_pattern.specs.Tree.{Tree, Lit, Len, Pos, Tab, Rtab, AnyOf, Span, Break, Rem, Fence, Abort, At, Seq, Alt, Cond, Imm}
 use Rattle.sno_pattern.specs.Results.{results_of}
 use Rattle.sno_pattern.specs.Outcome.{outcome_at, trials_at, outcome_at_from, trials_at_from}
+use Rattle.sno_pattern.specs.declared.byte_texts.TheConstants.{MAX_BYTES}
 use Rattle.sno_pattern.specs.declared.events.What.TheVariants as what
 use Rattle.sno_pattern.specs.declared.found.Found.{Found}
 use Rattle.sno_read.specs.declared.objects.Part.{Part}
@@ -15,7 +16,7 @@ use Rattle.sno_statement.specs.Statement.{Statement, with_all, with_limit, with_
 use Rattle.sno_statement.specs.Bindings.{Bindings, bind, lookup, bindings_of}
 use Rattle.sno_statement.specs.Value.{value_of}
 use Rattle.sno_statement.specs.Passes.{matches_from, trials_onward}
-use Rattle.sno_statement.specs.Perform.{Matched, Failed, Repeated, All, with_text, finish_all, perform, perform_all}
+use Rattle.sno_statement.specs.Perform.{Matched, Failed, Repeated, All, with_text, finish_all, perform, perform_all_within, perform_within}
 use Rattle.sno_statement.specs.declared.match_lists.Match.{Match}
 
 -- ---- Bindings
@@ -328,3 +329,36 @@ longest_of_all = refl
 
 too_long_of_all : finish_all (Some (Var (codes "A") ∷ Quoted (codes "a") ∷ [])) (replicate 65536 97) (doubled 65536) ≡ Err fault.TextTooLong
 too_long_of_all = refl
+
+-- ---- The longest text that is allowed
+-- 'a', object 'aa', on aaa: if six characters are allowed, the new text has six ..
+abbrev each_doubled : Statement
+each_doubled = for_all (Lit (codes "a")) (Some (Quoted (codes "aa") ∷ []))
+
+six_allowed : perform_within 6 each_doubled (codes "aaa") ≡ Ok (All (at 0 1 [] ∷ at 1 2 [] ∷ at 2 3 [] ∷ []) (Some (codes "aaaaaa")))
+unfolding outcome_at trials_at outcome_at_from trials_at_from results_of matches_from trials_onward perform_all_within
+six_allowed = refl
+
+-- .. and if five are, it is refused
+five_allowed : perform_within 5 each_doubled (codes "aaa") ≡ Err fault.TextTooLong
+unfolding outcome_at trials_at outcome_at_from trials_at_from results_of matches_from trials_onward perform_all_within
+five_allowed = refl
+
+-- the trials are refused first
+five_allowed_in_two_trials : perform_within 5 (with_limit each_doubled 2) (codes "aaa") ≡ Err fault.TooManyTrials
+unfolding outcome_at trials_at outcome_at_from trials_at_from results_of matches_from trials_onward perform_all_within
+five_allowed_in_two_trials = refl
+
+-- 'a', object 'aa', 3 times, on a: three characters are too few for the third round, and enough for two
+three_for_three_rounds : perform_within 3 (replacing (Lit (codes "a")) (Quoted (codes "aa") ∷ []) 3) (codes "a") ≡ Err fault.TextTooLong
+unfolding outcome_at trials_at results_of
+three_for_three_rounds = refl
+
+three_for_two_rounds : perform_within 3 (replacing (Lit (codes "a")) (Quoted (codes "aa") ∷ []) 2) (codes "a") ≡ Ok (Repeated 2 [] (codes "aaa"))
+unfolding outcome_at trials_at results_of
+three_for_two_rounds = refl
+
+-- LEN(1) . B, object B B, on the bytes 195 and 169: each byte is a character, and any will do
+one_byte : perform_within MAX_BYTES (floating (Cond (Len 1) (codes "B")) (Some (Var (codes "B") ∷ Var (codes "B") ∷ []))) (195 ∷ 169 ∷ []) ≡ Ok (Matched 0 1 ((codes "B", Str (195 ∷ [])) ∷ []) (Some (195 ∷ 195 ∷ 169 ∷ [])))
+unfolding outcome_at trials_at results_of
+one_byte = refl

@@ -9,6 +9,7 @@ pub mod Value
 pub mod Passes
 pub mod Perform
 pub mod Rewriting
+pub mod Spans
 pub mod Laws
 pub mod Examples
 pub mod Limits

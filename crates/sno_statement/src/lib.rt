@@ -9,8 +9,9 @@
 //! A statement that replaces may be repeated, each round on the new text of the round before. Any statement may be for all
 //! matches, in one pass over its text. [`perform`] performs it on one text and returns the [`Outcome`]: a new text beside the
 //! old one, which stays as it is. [`perform_shared`] takes a shared text, which the matches of a statement for all matches then
-//! share. [`rewrite`] returns only the new text and the number of matches, and a [`Pass`] goes from match to match; both keep
-//! none. Nothing is waited for. The newer versions of a text are not this crate's concern.
+//! share. A [`Pass`] goes from match to match and keeps none. [`rewrite`] takes the content of a file, a [`ByteText`]: any bytes, up
+//! to 16,777,216. It returns only the new text and the number of matches. Nothing is waited for. The newer versions of a text are
+//! not this crate's concern.
 //!
 //! # What is promised, and where
 //!
@@ -40,25 +41,31 @@
 //! - **The limits** (`specs/Perform.antt`), in each round: `TooManyTrials` comes exactly if the match takes more trials than the
 //!   statement's limit. `TextTooLong` comes exactly if it doesn't, succeeds, and the new text would have more than 65,536 characters.
 //!
+//! The contract of `rewrite` is the same equation for the longest text of a file and a limit of trials of the caller's
+//! (`perform_within` of `specs/Perform.antt`), without the matches and the bindings.
+//!
 //! What each file has:
 //!
 //! - `src/statements.rt`: [`Statement`], by value the record `Statement` of `specs/Statement.antt`. Each method that reads returns what
 //!   `new` was given. The type ensures that the definitions cover the pattern.
 //! - `src/statement_patterns.rt`: the pattern of a statement, its own or one that statements share.
 //! - `src/performing.rt`: [`perform`], with the bindings and the rounds.
-//! - `src/passes.rt`: [`Pass`], the matches of a statement for all matches one after the other.
+//! - `src/passes.rt`: [`Pass`], the matches of a statement for all matches one after the other; `src/searches.rt`: the searches of a
+//!   pass.
 //! - `src/match_lists.rt`: [`Match`], [`Matches`] and [`MatchRef`]; `src/gathered.rt`: matches as they are found, and
 //!   `src/assigned.rt`: what one search assigned.
-//! - `src/rewriting.rt`: [`rewrite`]; `src/laws.rt`: what follows of matches, for callers' proofs.
+//! - `src/rewriting.rt`: [`rewrite`]; `src/spans.rt`: the values of one search, as spans of its bytes.
+//! - `src/laws.rt`: what follows of matches, for callers' proofs.
 //! - `src/last_assignments.rt`: the last assignment of each variable, for a match that assigns often.
 //! - `src/lengths.rt`: how many characters the new text has, counted before any is copied.
 //! - `src/values.rt`: the object's value, and cutting and joining texts.
 //! - `src/binding.rt`: [`Bindings`], by value a list of distinct variables with their values, and [`Datum`].
 //! - `src/binding_refs.rt`: [`BindingsRef`], bindings that are lent, whether they are kept or are those of one of all matches.
 //! - `src/outcomes.rt`: [`Outcome`] and [`StatementFault`].
-//! - `specs/Rewriting.antt`: what `rewrite` leaves; `specs/MatchLists.antt` and `specs/BindingRefs.antt`: what is lent, by value.
+//! - `specs/Rewriting.antt`: what `rewrite` leaves; `specs/MatchLists.antt`, `specs/BindingRefs.antt` and `specs/Spans.antt`: what
+//!   is lent, by value.
 //! - `proofs/Ascii.antt`: what is joined from ASCII is ASCII, so a new text is refused for its length alone.
-//! - `proofs/Rounds.antt`: the result of one more round; `proofs/NotMemory.antt`: by its definition no statement runs out of memory.
+//! - `proofs/Rounds.antt` and `proofs/RewritingRounds.antt`: the result of one more round; `proofs/NotMemory.antt`: by its definition no statement runs out of memory.
 //!
 //! # What is not promised
 //!
@@ -90,7 +97,7 @@ pub use binding_refs::{BindingsRef, DatumRef, TextPart};
 pub use laws::{kept_matches_keep_the_text, matches_are_in_order, the_first_is_the_plain_match};
 pub use match_lists::{Match, MatchRef, Matches};
 pub use outcomes::{Outcome, StatementFault};
-pub use passes::{Pass, counts, next_search};
+pub use passes::{Pass, counts, next_cursor, next_search};
 pub use performing::{perform, perform_shared};
 pub use rewriting::{Rewritten, rewrite};
 pub use sno_machine::MatchFault;

@@ -91,7 +91,7 @@ pub fn next_search(anchored: bool, text: &Text, hit: &Hit) -> Option<usize>
 }
 
 /// As [`next_search`], of the characters of a text.
-pub(crate) fn next_cursor(anchored: bool, characters: &[u8], hit: &Hit) -> Option<usize>
+pub fn next_cursor(anchored: bool, characters: &[u8], hit: &Hit) -> Option<usize>
     requires inside { hit.now.end ≤ length characters.now }
     requires short { length characters.now ≤ MAX_BYTES }
     ensures { result ≡ next_search anchored characters.now hit.now }

@@ -1,5 +1,5 @@
 //! What a statement makes of the content of a file, without its matches.
-ghost use Rattle.std.specs.Prelude.{◌≡◌, ◌<◌, ◌≤◌, ◌+◌, ◌^◌, ◌++◌, length, IfOk, IfErr, IfSome, MatchOption, None, Some};
+ghost use Rattle.std.specs.Prelude.{◌≡◌, ◌<◌, ◌≤◌, ◌+◌, ◌^◌, ◌++◌, length, IfOk, IfErr, IfSome, MatchOption, None, Some, unwrap_or};
 ghost use Rattle.sno_pattern.specs.CursorLaws.{SetsLie};
 ghost use Rattle.sno_pattern.specs.Ends.{part};
 ghost use Rattle.sno_pattern.specs.declared.byte_texts.TheConstants.{MAX_BYTES};
@@ -111,6 +111,27 @@ fn round<'a>(
     after
 }
 
+/// The text for the next round: the new text of the round before, if there was one.
+fn latest<'t>(last: &'t Option<ByteText>, subject: &'t ByteText) -> &'t ByteText
+    ensures { result.now ≡ unwrap_or last.now subject.now }
+{
+    match last {
+        None => subject,
+        Some(text) => text,
+    }
+}
+
+/// How many rounds a statement may have: one if it isn't repeated.
+fn rounds_of(statement: &Statement) -> u32
+    ensures value { result ≡ unwrap_or statement.now.repeat 1 }
+    ensures some { 1 ≤ result }
+{
+    match statement.repeat() {
+        None => 1,
+        Some(times) => times,
+    }
+}
+
 /// What this many rounds leave, with the new text of the last one; `None` if none matched.
 fn left_by(alloc: Global, matches: u32, last: Option<ByteText>) -> Result<Rewritten, StatementFault>
     ensures rewritten { GivesRewritten result (left_by matches last) }
@@ -146,7 +167,7 @@ fn rewrite_rounds(
     let mut workspace = Workspace::new(alloc);
     let mut last = None;
     for matches in 0..times {
-        let text = last.as_ref().unwrap_or(subject);
+        let text = latest(&last, subject);
         match round(alloc, code, &mut workspace, statement, parts, text, trials)? {
             None => return left_by(alloc, matches, last),
             Some(next) => last = Some(next),
@@ -370,7 +391,7 @@ pub fn rewrite(
     match statement.object() {
         None => match_once(alloc, &code, statement, subject, trials),
         Some(object) => {
-            let times = statement.repeat().unwrap_or(1);
+            let times = rounds_of(statement);
             rewrite_rounds(
                 alloc,
                 &code,

@@ -51,8 +51,16 @@ impl<'c, 't, 'a> Searches<'c, 't, 'a> {
         requires { IsCodeOf code.now statement.now }
         ensures { result ≡ begun statement.now text.now }
     {
-        let searched = Searched::new(alloc, text);
-        Searches::of(statement, code, searched, statement.limit())
+        let limit = statement.limit();
+        Searches {
+            statement,
+            code,
+            searched: Searched::new(alloc, text),
+            before: None,
+            at: Some(0),
+            limit,
+            left: limit,
+        }
     }
 
     /// As [`Searches::in_text`], in a text of bytes, with a limit of their own.
@@ -66,23 +74,10 @@ impl<'c, 't, 'a> Searches<'c, 't, 'a> {
         requires { IsCodeOf code.now statement.now }
         ensures { result ≡ begun (with_limit statement.now limit) text.now }
     {
-        let searched = Searched::of_bytes(alloc, text);
-        Searches::of(statement, code, searched, limit)
-    }
-
-    fn of(
-        statement: &'c Statement,
-        code: &'c Code<'a>,
-        searched: Searched<'t, 'a>,
-        limit: u32,
-    ) -> Searches<'c, 't, 'a>
-        requires { IsCodeOf code.now statement.now }
-        ensures { result ≡ begun (with_limit statement.now limit) searched }
-    {
         Searches {
             statement,
             code,
-            searched,
+            searched: Searched::of_bytes(alloc, text),
             before: None,
             at: Some(0),
             limit,
@@ -100,6 +95,7 @@ impl<'c, 't, 'a> Searches<'c, 't, 'a> {
         ensures within { IfOk result (λ _. self.old.spent + search_trials self.old.statement self.old.text from ≤ self.old.statement.limit) }
         ensures refused { IfErr result (λ e. e ≡ TooManyTrials → self.old.statement.limit < self.old.spent + search_trials self.old.statement self.old.text from) }
         ensures never { IfErr result (λ e. e ≡ TextTooLong → ⊥) }
+        ensures text { self.new.text ≡ self.old.text }
     {
         let anchored = self.statement.anchored();
         let searched = &mut self.searched;
@@ -143,6 +139,7 @@ impl<'c, 't, 'a> Searches<'c, 't, 'a> {
         ensures within { OnOk result (self.new.spent ≤ self.new.statement.limit) }
         ensures refused { IfErr result (λ e. e ≡ TooManyTrials → self.old.statement.limit < trials_together self.old) }
         ensures never { IfErr result (λ e. e ≡ TextTooLong → ⊥) }
+        ensures text { self.new.text ≡ self.old.text }
     {
         while let Some(from) = self.at {
             let before = self.before;

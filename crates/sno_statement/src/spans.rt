@@ -1,8 +1,10 @@
 //! What a search assigned, as spans of the bytes that were searched: nothing is cut from them.
 ghost use Rattle.std.specs.Prelude.{◌≡◌, ◌+◌, ◌*◌, ◌≤◌, ◌<◌, ◌++◌, IfSome, IfNone, OnOk, length};
+ghost use Rattle.std.specs.Option.{option_map};
 ghost use Rattle.sno_pattern.specs.declared.byte_texts.TheConstants.{MAX_BYTES};
 ghost use Rattle.sno_statement.specs.Bindings.{lookup};
-ghost use Rattle.sno_statement.specs.LastAssignments.{values_of_last};
+ghost use Rattle.sno_statement.specs.LastAssignments.{value_of_last, values_of_last};
+ghost use Rattle.sno_statement.specs.Spans.{IsShort, value_lent};
 ghost use Rattle.sno_statement.specs.Value.{part_value, string_of, value_of};
 
 use crate::binding_refs::last_of;
@@ -13,6 +15,30 @@ use sno_pattern::{MAX_BYTES, Name};
 use sno_read::Part;
 use std::alloc::{AllocError, Global};
 use std::marker::Model;
+
+/// The value of a variable, lent.
+#[derive(Clone, Copy)]
+pub(crate) enum SpanValue<'t> {
+    /// A span of the bytes that were searched.
+    Bytes(&'t [u8]),
+    /// A number: a cursor.
+    Number(u32),
+}
+
+impl<'t> SpanValue<'t> {
+    /// The value of a last assignment.
+    #[tactic(auto, using(crate::proofs::Ascii::short_part))]
+    fn of(subject: &'t [u8], last: Last) -> SpanValue<'t>
+        requires { length subject.now ≤ MAX_BYTES }
+        ensures value { value_lent result ≡ value_of_last subject.now last }
+        ensures short { IsShort result }
+    {
+        match last {
+            Last::Part(from, to) => SpanValue::Bytes(between(subject, from, to)),
+            Last::Cursor(cursor) => SpanValue::Number(cursor),
+        }
+    }
+}
 
 /// The variables that one search assigned. Their strings are spans of the bytes that were searched.
 #[derive(Drop)]
@@ -43,26 +69,31 @@ impl<'t> Spans<'t> {
         Spans { subject, assigned }
     }
 
-    /// How many bytes a variable's value has.
-    fn variable_length(&self, name: &Name) -> usize
-        ensures value { result ≡ length (string_of (lookup name.now self.now)) }
-        ensures short { result ≤ MAX_BYTES }
+    /// The value of a variable; `None` if it was never assigned.
+    #[tactic(auto, using(crate::proofs::LastValues::lookup_values))]
+    fn value(&self, name: &Name) -> Option<SpanValue<'t>>
+        ensures value { option_map value_lent result ≡ lookup name.now self.now }
+        ensures short { IfSome result IsShort }
     {
         match last_of(self.assigned, name) {
-            None => 0,
-            Some(Last::Part(from, to)) => between(self.subject, from, to).len(),
-            Some(Last::Cursor(cursor)) => decimal_length(cursor),
+            None => None,
+            Some(last) => Some(SpanValue::of(self.subject, last)),
         }
     }
 
     /// How many bytes a part's value has.
+    #[tactic(auto, using(crate::proofs::Decimals::few_digits))]
     fn part_length(&self, part: &Part) -> usize
         ensures value { result ≡ length (part_value self.now part.now) }
         ensures short { result ≤ MAX_BYTES }
     {
         match part {
             Part::Quoted(text) => text.bytes().len(),
-            Part::Var(name) => self.variable_length(name),
+            Part::Var(name) => match self.value(name) {
+                None => 0,
+                Some(SpanValue::Bytes(bytes)) => bytes.len(),
+                Some(SpanValue::Number(number)) => decimal_length(number),
+            },
         }
     }
 
@@ -87,10 +118,10 @@ impl<'t> Spans<'t> {
     fn put_variable(&self, alloc: Global, name: &Name, out: &mut Vec<u8>) -> Result<(), AllocError>
         ensures { OnOk result (out.new.items ≡ out.old.items ++ string_of (lookup name.now self.now)) }
     {
-        match last_of(self.assigned, name) {
+        match self.value(name) {
             None => Ok(()),
-            Some(Last::Part(from, to)) => out.extend_from_slice(between(self.subject, from, to)),
-            Some(Last::Cursor(cursor)) => put_number(alloc, cursor, out),
+            Some(SpanValue::Bytes(bytes)) => out.extend_from_slice(bytes),
+            Some(SpanValue::Number(number)) => put_number(alloc, number, out),
         }
     }
 

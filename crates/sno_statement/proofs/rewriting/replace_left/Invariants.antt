@@ -1,16 +1,14 @@
 -- What was written, and what the matches that are still to come leave of the text.
-use Rattle.std.proofs.Common.{◌≡◌, ◌+◌, ◌<◌, ◌≤◌, ◌++◌, length, IsTrue, IfSome, MatchOption}
-use Rattle.std.specs.List.{list_all}
-use Rattle.std.specs.Char.{is_ascii}
-use Rattle.sno_pattern.specs.declared.texts.TheConstants.{MAX_TEXT}
+use Rattle.std.proofs.Common.{◌≡◌, ◌+◌, ◌<◌, ◌≤◌, ◌++◌, length, IfSome, MatchOption}
+use Rattle.sno_pattern.specs.declared.byte_texts.TheConstants.{MAX_BYTES}
 use Rattle.sno_statement.specs.Passes.{cursors_left, matches_left, replaced, trials_together}
 use Rattle.sno_statement.proofs.rewriting.replace_left.Given as goal
 
 abbrev pub invariant-loop-text : goal.invariant-loop-text
 invariant-loop-text l = record {
-  written : MatchOption l.text (MAX_TEXT < length (replaced l.parts l.subject 0 (matches_left l.fn.pass)))
+  written : MatchOption l.text (MAX_BYTES < length (replaced l.parts l.subject 0 (matches_left l.fn.pass)))
       (λ v. v.items ++ replaced l.parts l.subject l.cursor (matches_left l.pass) ≡ replaced l.parts l.subject 0 (matches_left l.fn.pass));
-  valid : IfSome l.text (λ v. (length v.items ≤ MAX_TEXT) × IsTrue (list_all is_ascii v.items));
+  short : IfSome l.text (λ v. length v.items ≤ MAX_BYTES);
   counted : l.matches + length (matches_left l.pass) ≡ length (matches_left l.fn.pass);
   trials : trials_together l.pass ≡ trials_together l.fn.pass;
   statement : l.pass.statement ≡ l.fn.pass.statement;

@@ -21,6 +21,9 @@ returns-in_err-found-clause-refused c =
     let limit : p.statement.limit ≡ c.args.self.now.statement.limit = ap (λ z. z.limit) before.statement in
     rw (e.1, e.2) (λ is. let over = trials_over p from at inside p.statement.limit (c.in_err-found.ensures.refused is) in let kept = before.trials in omega (arith, limit, over, kept))
 
+pub returns-in_err-found-clause-text : goal.returns-in_err-found-clause-text
+returns-in_err-found-clause-text c = c.search.ensures.text ∙ c.loop-self.invariant.text
+
 pub returns-in_default-end-clause-next : goal.returns-in_default-end-clause-next
 returns-in_default-end-clause-next c =
     let p = c.loop-self.self in
