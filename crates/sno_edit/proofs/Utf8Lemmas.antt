@@ -172,11 +172,11 @@ in_turn_cut path trials [] begin cut h = cc
 in_turn_cut path trials (s ∷ statements) begin cut h =
     by (then_cut (turn path trials s begin) (in_turn path trials statements) cut h)
     (λ next so. in_turn_cut path trials statements next cut so) where
-  by : Either (turn path trials s begin ≡ Err (Cut cut)) (IsCutThen (turn path trials s begin) (in_turn path trials statements) cut)
-      → ((next : Edited) → in_turn path trials statements next ≡ Err (Cut cut) → IsCutFrom path trials statements next cut)
-      → IsCutFrom path trials (s ∷ statements) begin cut
-  by (Now is) again = cut_now path trials s statements begin cut (turn_cut (is_for path s) s begin (rewriting_of trials s begin.text) cut is)
-  by (Later more) again = cut_later path trials s statements begin more.next cut more.first_is (again more.next more.then_is)
+      by : Either (turn path trials s begin ≡ Err (Cut cut)) (IsCutThen (turn path trials s begin) (in_turn path trials statements) cut)
+          → ((next : Edited) → in_turn path trials statements next ≡ Err (Cut cut) → IsCutFrom path trials statements next cut)
+          → IsCutFrom path trials (s ∷ statements) begin cut
+      by (Now is) again = cut_now path trials s statements begin cut (turn_cut (is_for path s) s begin (rewriting_of trials s begin.text) cut is)
+      by (Later more) again = cut_later path trials s statements begin more.next cut more.first_is (again more.next more.then_is)
 
 pub edited_cut : (rules : FileRules) (path old : List ℕ) (cut : CutCharacter) → edited rules path old ≡ Err (Cut cut) → IsCut rules path old cut
 edited_cut rules path old cut h =

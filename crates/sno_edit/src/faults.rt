@@ -101,7 +101,10 @@ impl fmt::Display for FileFault {
             FileFault::Cut(cut) => {
                 let number = cut.statement;
                 let Position { line, column, .. } = cut.position;
-                write!(f, "statement {number}: cuts a character at line {line}, column {column}")
+                write!(
+                    f,
+                    "statement {number}: cuts a character at line {line}, column {column}"
+                )
             }
             FileFault::Unread(kind) => write!(f, "read failed: {kind}"),
             FileFault::Unwritten(kind) => write!(f, "write failed: {kind}"),
