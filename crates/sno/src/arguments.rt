@@ -14,15 +14,19 @@ pub(crate) fn flag<'a>(alloc: Global, name: &'a str, help: &'a str) -> Arg<'a> {
         .help(help)
 }
 
-/// An option with a number, which is `usual` without the option.
-pub(crate) fn number<'a>(alloc: Global, name: &'a str, usual: &'a str, help: &'a str) -> Arg<'a> {
+/// An option with a number.
+pub(crate) fn optional_number<'a>(alloc: Global, name: &'a str, help: &'a str) -> Arg<'a> {
     Arg::new(alloc, name)
         .long(name)
         .value_name("N")
         .value_parser(clap::value_parser!(u32))
         .action(ArgAction::Set)
-        .default_value(usual)
         .help(help)
+}
+
+/// An option with a number, which is `usual` without the option.
+pub(crate) fn number<'a>(alloc: Global, name: &'a str, usual: &'a str, help: &'a str) -> Arg<'a> {
+    optional_number(alloc, name, help).default_value(usual)
 }
 
 /// Whether a number is 1 to `most`.

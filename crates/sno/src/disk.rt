@@ -42,11 +42,16 @@ fn regular<R: Files>(rt: &R, path: &str) -> io::Result<Metadata> {
     Ok(metadata)
 }
 
+/// How much room is made for the bytes of a file: for as many as it says that it has, at most `most`, and one more.
+fn room_for(metadata: &Metadata, most: u64) -> usize {
+    metadata.len().min(most).saturating_add(1) as usize
+}
+
 /// The bytes of a file up to its end, or only the first ones if there are more than `most`: then one more.
 fn read_file<R: Files>(rt: &R, alloc: Global, path: &str, most: usize) -> io::Result<Vec<u8>> {
-    let _metadata = regular(rt, path)?;
+    let metadata = regular(rt, path)?;
     let file = OpenOptions::new().read(true).open(rt, path)?;
-    let mut bytes = Vec::new(alloc);
+    let mut bytes = Vec::with_capacity(alloc, room_for(&metadata, most as u64))?;
     let mut reader = file.take((most as u64).saturating_add(1));
     let _count = reader.read_to_end(&mut bytes)?;
     Ok(bytes)

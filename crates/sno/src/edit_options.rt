@@ -1,9 +1,8 @@
 //! What the arguments of `sno edit` ask for.
-ghost use Rattle.sno_statement.specs.Statement.{IsLimit};
 
-use crate::arguments::{flag, is_up_to, number};
+use crate::arguments::{flag, is_up_to, optional_number};
 use clap::{Arg, ArgAction, ArgMatches, Command};
-use sno_edit::{MAX_TRIALS, Purpose};
+use sno_edit::{MAX_TRIALS, Purpose, Trials};
 use std::alloc::{AllocError, Global};
 
 const ABOUT: &str =
@@ -21,12 +20,13 @@ const SYNC_HELP: &str =
 
 const ANCHOR_HELP: &str = "Anchors each statement that does not say whether it is anchored";
 
-const TRIALS_HELP: &str = "How many trials a match may take, 1 to 1000000000";
+const TRIALS_HELP: &str =
+    "How many trials a match may take, 1 to 1000000000; by default enough for any plain rule on a file of its length";
 
 const RULES_HELP: &str =
     "The file of a document whose statements need no text; - is standard input";
 
-const FILES_HELP: &str = "The files, each a text by itself";
+const FILES_HELP: &str = "The files, each a text by itself: any bytes, up to 16 MiB";
 
 const EXAMPLE: &str = "Example: sno edit --diff rules.json src/*.c";
 
@@ -34,7 +34,7 @@ const EXAMPLE: &str = "Example: sno edit --diff rules.json src/*.c";
 pub(crate) const EDIT_OUT_OF_RANGE: &str =
     "error: '--trials' takes 1 to 1000000000\n\nFor more information, try '--help'.\n";
 
-/// How `sno edit` is to be done. By its type its number is in its range.
+/// How `sno edit` is to be done.
 #[derive(Clone, Copy, Debug, PartialEq, Eq)]
 pub(crate) struct EditOptions<'a> {
     /// What is done with the texts.
@@ -44,10 +44,9 @@ pub(crate) struct EditOptions<'a> {
     /// Whether statements that don't say it are anchored.
     pub(crate) anchor: bool,
     /// How many trials a match may take.
-    pub(crate) trials: u32,
+    pub(crate) trials: Trials,
     /// The file of the rules; `-` is standard input.
     pub(crate) rules: &'a str,
-    ghost limit: { IsLimit trials },
 }
 
 fn positional<'a>(alloc: Global, id: &'a str, name: &'a str, help: &'a str) -> Arg<'a> {
@@ -70,17 +69,23 @@ pub(crate) fn edit_command<'a>(alloc: Global) -> Result<Command<'a>, AllocError>
         .arg(flag(alloc, "check", CHECK_HELP))?
         .arg(flag(alloc, "sync", SYNC_HELP))?
         .arg(flag(alloc, "anchor", ANCHOR_HELP))?
-        .arg(number(alloc, "trials", "1000000", TRIALS_HELP))?
+        .arg(optional_number(alloc, "trials", TRIALS_HELP))?
         .arg(positional(alloc, "rules", "RULES", RULES_HELP).action(ArgAction::Set))?
         .arg(files)
 }
 
+/// How many trials are asked for; `None` if the number is not in its range.
+fn trials(matches: &ArgMatches<'_>) -> Option<Trials> {
+    match matches.get_one::<u32>("trials") {
+        None => Some(Trials::Usual),
+        Some(trials) if is_up_to(MAX_TRIALS, trials) => Some(Trials::AtMost(trials)),
+        Some(_) => None,
+    }
+}
+
 /// The options that were found; `None` if a number is not in its range.
 pub(crate) fn edit_options<'a>(matches: &ArgMatches<'a>) -> Option<EditOptions<'a>> {
-    let trials = matches.get_one::<u32>("trials").unwrap_or(0);
-    if !is_up_to(MAX_TRIALS, trials) {
-        return None;
-    }
+    let trials = trials(matches)?;
     let purpose = if matches.get_flag("diff") {
         Purpose::Diff
     } else if matches.get_flag("check") {

@@ -4,7 +4,7 @@ use crate::disk::{Disk, different_files};
 use crate::edit_options::EditOptions;
 use crate::faults::ProgramFault;
 use crate::streams::{read_up_to, write_all};
-use sno_document::{DocumentFault, MAX_DOCUMENT, Mode};
+use sno_document::{DocumentFault, MAX_DOCUMENT};
 use sno_edit::{
     Done, EditRules, FileFault, Purpose, Tally, edit_files, plan_file, script_of, unified_diff,
 };
@@ -101,17 +101,17 @@ fn shown<R: Files>(
     rules: &EditRules,
     path: &str,
     show: Show,
-) -> Result<(Done, String), FileFault> {
+) -> Result<(Done, Vec<u8>), FileFault> {
     let plan = plan_file(alloc, &Disk { rt, sync: false }, rules, path)?;
     let done = Done {
         changed: plan.changes(),
         matches: plan.matches,
     };
     if !done.changed {
-        return Ok((done, String::new(alloc)));
+        return Ok((done, Vec::new(alloc)));
     }
     match show {
-        Show::Path => Ok((done, format!(in alloc; "{path}\n")?)),
+        Show::Path => Ok((done, format!(in alloc; "{path}\n")?.into_bytes())),
         Show::Diff { coloured } => {
             let script = script_of(alloc, plan.before.bytes(), plan.after.bytes())?;
             Ok((done, unified_diff(alloc, path, &script, coloured)?))
@@ -146,7 +146,7 @@ fn show_files<R: Files, W: Write, E: Write>(
         match shown(rt, alloc, rules, path, show) {
             Ok((done, text)) => {
                 tally.count(&Ok(done));
-                write_all(output, text.as_bytes())?;
+                write_all(output, &text)?;
             }
             Err(fault) => {
                 tally.count(&Err(fault));
@@ -183,11 +183,7 @@ pub(crate) fn run_edit<R: Files, I: Read, W: Write, E: Write>(
     errors: &mut E,
 ) -> Result<u8, ProgramFault> {
     let bytes = rules_bytes(rt, alloc, input, options.rules)?;
-    let mode = Mode {
-        anchor: options.anchor,
-        trials: options.trials,
-    };
-    let rules = match EditRules::read(alloc, &bytes, mode) {
+    let rules = match EditRules::read(alloc, &bytes, options.anchor, options.trials) {
         Ok(rules) => rules,
         Err(DocumentFault::Memory) => return Err(ProgramFault::Memory),
         Err(fault) => return Ok(refuse_rules(errors, &fault)),

@@ -1,3 +1,5 @@
+pub mod PositionLemmas
+pub mod Utf8Lemmas
 pub mod ScriptLemmas
 pub mod FileLemmas
 pub mod BatchLemmas

@@ -2,10 +2,10 @@
 use Rattle.std.specs.Prelude.{◌≡◌, ◌≢◌, ℕ, Bool, true, false, List, [], ◌∷◌, not, Result, Ok, Err, OnOk, OnErr}
 use Rattle.std.specs.Arc.{arc_value}
 use Rattle.sno_pattern.specs.Identifiers.{same}
-use Rattle.sno_statement.specs.Statement.{Statement}
 use Rattle.sno_edit.specs.Held.{Held, Kept, OthersKept}
 use Rattle.sno_edit.specs.Faults.{of_write}
 use Rattle.sno_edit.specs.Files.{HasCause, IsEdit}
+use Rattle.sno_edit.specs.Rules.{FileRules}
 use Rattle.sno_edit.specs.declared.files.Done.{Done}
 use Rattle.sno_edit.specs.declared.folders.NewText.{NewText}
 use Rattle.sno_edit.specs.declared.folders.WriteFault.{WriteFault}
@@ -50,15 +50,15 @@ TakesWrite true path text [] Rest = ⊥
 TakesWrite true path text (file ∷ writes) Rest = (file.path.now ≡ path) × (arc_value file.text ≡ text) × Rest writes
 
 -- Files were planned: what becomes of each if its new text is written, and the new texts, of those that change alone.
-abbrev pub ArePlanned : List Statement → Held → List (List ℕ) → List End → List NewText → Type 0
-ArePlanned statements before [] [] writes = writes ≡ []
-ArePlanned statements before [] (end ∷ ends) writes = ⊥
-ArePlanned statements before (path ∷ paths) [] writes = ⊥
-ArePlanned statements before (path ∷ paths) (Err fault ∷ ends) writes =
-    HasCause statements path before fault × ArePlanned statements before paths ends writes
-ArePlanned statements before (path ∷ paths) (Ok done ∷ ends) writes =
-    (old : List ℕ) × (new : List ℕ) × IsEdit statements path before old (record { text = new; matches = done.matches })
-    × (done.changed ≡ not (same old new)) × TakesWrite done.changed path new writes (ArePlanned statements before paths ends)
+abbrev pub ArePlanned : FileRules → Held → List (List ℕ) → List End → List NewText → Type 0
+ArePlanned rules before [] [] writes = writes ≡ []
+ArePlanned rules before [] (end ∷ ends) writes = ⊥
+ArePlanned rules before (path ∷ paths) [] writes = ⊥
+ArePlanned rules before (path ∷ paths) (Err fault ∷ ends) writes =
+    HasCause rules path before fault × ArePlanned rules before paths ends writes
+ArePlanned rules before (path ∷ paths) (Ok done ∷ ends) writes =
+    (old : List ℕ) × (new : List ℕ) × IsEdit rules path before old (record { text = new; matches = done.matches })
+    × (done.changed ≡ not (same old new)) × TakesWrite done.changed path new writes (ArePlanned rules before paths ends)
 
 -- what becomes of a file that changes, by the first of the results; without a result there was no memory
 abbrev pub settle_write : Done → List Written → End × List Written

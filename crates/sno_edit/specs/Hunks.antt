@@ -3,7 +3,7 @@ use Rattle.std.specs.Prelude.{◌≡◌, ◌+◌, ◌-◌, ◌/◌, ◌%◌, ◌
 use Rattle.std.specs.Fmt.{decimal}
 use Rattle.std.specs.Char.{encode_utf8, is_ascii_control}
 use Rattle.std.specs.List.{flat_map, list_all, list_any}
-use Rattle.std.specs.Str.{chars, is_utf8}
+use Rattle.std.specs.Str.{chars}
 use Rattle.sno_edit.specs.declared.scripts.DiffLine.{DiffLine}
 use Rattle.sno_edit.specs.declared.scripts.Mark.{Mark}
 use Rattle.sno_edit.specs.declared.scripts.Mark.TheVariants.{Kept, Removed, Added}
@@ -80,10 +80,6 @@ has_line_feed line = is_line_feed (slice_index line (length line - 1))
 abbrev pub bare : List ℕ → List ℕ
 bare line = if has_line_feed line then take (length line - 1) line else line
 
--- what can be written to a string: nothing of characters that are not UTF-8
-abbrev pub as_text : List ℕ → List ℕ
-as_text line = if is_utf8 line then line else []
-
 -- what comes after a line that has no line feed
 abbrev pub unended : List ℕ → List ℕ
 unended line = if has_line_feed line then [] else 92 ∷ (codes " No newline at end of file" ++ (10 ∷ []))
@@ -91,7 +87,7 @@ unended line = if has_line_feed line then [] else 92 ∷ (codes " No newline at 
 -- a line of a hunk
 abbrev pub line_text : Bool → DiffLine → List ℕ
 line_text coloured line =
-    paint coloured (line_code line.mark) ++ (sign line.mark ++ (as_text (bare line.text.now) ++ (paint coloured (line_end_code line.mark)
+    paint coloured (line_code line.mark) ++ (sign line.mark ++ (bare line.text.now ++ (paint coloured (line_end_code line.mark)
     ++ (10 ∷ [] ++ unended line.text.now))))
 
 -- Which lines of a text a hunk has: the number of the first, from 1, and how many, if it isn't one. Without a line it is the

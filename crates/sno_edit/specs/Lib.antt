@@ -1,10 +1,13 @@
+pub mod Trials
+pub mod Rules
+pub mod Utf8
+pub mod Positions
+pub mod Faults
 pub mod Edits
 pub mod Held
-pub mod Faults
 pub mod Scripts
 pub mod Hunks
 pub mod Files
-pub mod Rules
 pub mod Batches
 pub mod Statuses
 pub mod Examples

@@ -1,16 +1,26 @@
 -- Rules that were read.
-use Rattle.std.specs.Prelude.{◌≡◌, ℕ, List, map, Ok}
+use Rattle.std.specs.Prelude.{◌≡◌, ℕ, Bool, List, map, Ok}
 use Rattle.std.specs.Arc.{arc_value}
 use Rattle.sno_statement.specs.Statement.{Statement}
+use Rattle.sno_statement.specs.declared.statements.TheConstants.{MAX_TRIALS}
 use Rattle.sno_document.specs.Document.{Document}
 use Rattle.sno_document.specs.Rules.{IsRules}
 use Rattle.sno_document.specs.declared.modes.Mode.{Mode}
 use Rattle.sno_edit.specs.declared.rules.EditRules.{EditRules}
+use Rattle.sno_edit.specs.declared.trials.Trials.{Trials}
 
--- the statements of rules, in order
-abbrev pub statements_in : EditRules → List Statement
-statements_in rules = map arc_value rules.statements.items
+-- rules: statements in order, and how many trials each may take on a text
+pub record FileRules : Type 0 where
+  pub statements : List Statement
+  pub trials : Trials
+
+abbrev pub rules_seen : EditRules → FileRules
+rules_seen rules = record { statements = map arc_value rules.statements.items; trials = rules.trials }
+
+-- The statements are read with a limit of trials that isn't used: that of the rules takes its place.
+abbrev pub mode_of : Bool → Mode
+mode_of anchor = record { anchor = anchor; trials = MAX_TRIALS }
 
 -- the bytes are rules, and these are their statements
-abbrev pub HoldsRules : Mode → List ℕ → List Statement → Type 0
-HoldsRules mode bytes statements = (d : Document) × IsRules mode bytes (Ok d) × (d.statements ≡ statements)
+abbrev pub HoldsRules : Bool → List ℕ → List Statement → Type 0
+HoldsRules anchor bytes statements = (d : Document) × IsRules (mode_of anchor) bytes (Ok d) × (d.statements ≡ statements)

@@ -2,7 +2,7 @@
 use Rattle.std.specs.Prelude.{ℕ, Bool, true, false, ◌||◌, nat_eq, nat_lt, Result, Ok, Err, if◌then◌else◌}
 use Rattle.sno_edit.specs.declared.files.Done.{Done}
 use Rattle.sno_edit.specs.declared.faults.FileFault.{FileFault}
-use Rattle.sno_edit.specs.declared.faults.FileFault.TheVariants.{TooLong, NonAscii, Refused, Unread, Unwritten, Memory}
+use Rattle.sno_edit.specs.declared.faults.FileFault.TheVariants.{TooLong, Refused, Cut, Unread, Unwritten, Memory}
 use Rattle.sno_edit.specs.declared.tallies.Purpose.{Purpose}
 use Rattle.sno_edit.specs.declared.tallies.Purpose.TheVariants.{Write, Diff, Check}
 use Rattle.sno_edit.specs.declared.tallies.Tally.{Tally}
@@ -11,8 +11,8 @@ use Rattle.sno_edit.specs.declared.tallies.Tally.{Tally}
 abbrev pub is_refused : Result Done FileFault → Bool
 is_refused (Ok done) = false
 is_refused (Err TooLong) = false
-is_refused (Err (NonAscii position)) = false
 is_refused (Err (Refused statement)) = true
+is_refused (Err (Cut character)) = true
 is_refused (Err (Unread kind)) = false
 is_refused (Err (Unwritten kind)) = false
 is_refused (Err Memory) = false
@@ -21,8 +21,8 @@ is_refused (Err Memory) = false
 abbrev pub is_failed : Result Done FileFault → Bool
 is_failed (Ok done) = false
 is_failed (Err TooLong) = true
-is_failed (Err (NonAscii position)) = true
 is_failed (Err (Refused statement)) = false
+is_failed (Err (Cut character)) = false
 is_failed (Err (Unread kind)) = true
 is_failed (Err (Unwritten kind)) = true
 is_failed (Err Memory) = true

@@ -5,13 +5,17 @@ ghost use Rattle.sno_edit.specs.declared.folders.NewText.{NewText};
 ghost use Rattle.sno_pattern.specs.Identifiers.{same};
 ghost use Rattle.sno_edit.specs.Batches.{ArePlanned, Differ, settle, settled};
 ghost use Rattle.sno_edit.specs.Files.{AreFilesEnds};
-ghost use Rattle.sno_edit.specs.Rules.{statements_in};
+ghost use Rattle.sno_edit.specs.Rules.{rules_seen};
 
 use crate::{Done, EditRules, FileFault, Folder, NewText, Plan, WriteFault, plan_file};
+use sno_pattern::MAX_BYTES;
 use std::alloc::Global;
 
-/// The most files of a batch. Their new texts have at most 16 MiB.
+/// The most files of a batch: the texts of small files, of 65,536 bytes each, are 16 MiB together.
 pub(crate) const BATCH: usize = 256;
+
+/// A batch ends with the file that makes its new texts together longer than this.
+const BATCH_BYTES: usize = MAX_BYTES;
 
 /// Whether this path is one of the paths.
 fn has(paths: &[&str], path: &str) -> bool
@@ -45,7 +49,7 @@ fn plan_one<'a, F: Folder>(
     path: &'a str,
     writes: &mut Vec<NewText<'a>>,
 ) -> Result<Done, FileFault>
-    ensures { (added : List NewText) × (writes.new.items ≡ writes.old.items ++ added) × ArePlanned (statements_in rules.now) (F.holds folder.now) (path.now ∷ []) (result ∷ []) added }
+    ensures { (added : List NewText) × (writes.new.items ≡ writes.old.items ++ added) × ArePlanned (rules_seen rules.now) (F.holds folder.now) (path.now ∷ []) (result ∷ []) added }
 {
     let plan = plan_file(alloc, folder, rules, path)?;
     let changed = plan.changes();
@@ -57,7 +61,17 @@ fn plan_one<'a, F: Folder>(
     Ok(Done { changed, matches })
 }
 
-/// Plans files: what becomes of each if it is written, and what is to be written.
+/// Whether these new texts end a batch: they are longer together than [`BATCH_BYTES`].
+fn is_full(writes: &[NewText<'_>]) -> bool {
+    let mut bytes = 0usize;
+    for file in writes {
+        bytes = bytes.saturating_add(file.text.bytes().len());
+    }
+    bytes > BATCH_BYTES
+}
+
+/// Plans the first of these files, up to the one that ends their batch: what becomes of each if it is written, and what
+/// is to be written.
 fn plan_files<'a, F: Folder>(
     alloc: Global,
     folder: &F,
@@ -68,14 +82,18 @@ fn plan_files<'a, F: Folder>(
 )
     requires empty { (planned.now.items ≡ []) × (writes.now.items ≡ []) }
     requires room { vec_len planned.now + length paths.now ≤ vec_capacity planned.now }
-    ensures planned { ArePlanned (statements_in rules.now) (F.holds folder.now) (map (λ p. p.now) paths.now) planned.new.items writes.new.items }
-    ensures len { vec_len planned.new ≡ length paths.now }
+    ensures planned { ArePlanned (rules_seen rules.now) (F.holds folder.now) (map (λ p. p.now) (take (vec_len planned.new) paths.now)) planned.new.items writes.new.items }
+    ensures few { vec_len planned.new ≤ length paths.now }
+    ensures some { 0 < length paths.now → 0 < vec_len planned.new }
     ensures capacity { vec_capacity planned.old ≤ vec_capacity planned.new }
 {
     for path in paths {
         match planned.push(plan_one(alloc, folder, rules, path, writes)) {
             Ok(()) => {}
             Err(_) => unreachable!(),
+        }
+        if is_full(writes) {
+            return;
         }
     }
 }
@@ -103,13 +121,14 @@ fn settle(
     }
 }
 
-/// Adds what became of each file to the reports.
+/// Adds what became of each file to the reports, and returns how many there are.
 fn settle_all(
     planned: &[Result<Done, FileFault>],
     results: &[Result<(), WriteFault>],
     ends: &mut Vec<Result<Done, FileFault>>,
-)
+) -> usize
     requires room { vec_len ends.now + length planned.now ≤ vec_capacity ends.now }
+    ensures count { result ≡ length planned.now }
     ensures settled { ends.new.items ≡ ends.old.items ++ settled planned.now results.now }
     ensures len { vec_len ends.new ≡ vec_len ends.old + length planned.now }
     ensures capacity { vec_capacity ends.old ≤ vec_capacity ends.new }
@@ -123,10 +142,12 @@ fn settle_all(
         }
         left = rest;
     }
+    planned.len()
 }
 
-/// Edits files with different paths, and adds a report for each: plans each, and has those that change written
-/// together. `planned` is room for the plans.
+/// Edits the first of these files, up to the one that ends their batch, and adds a report for each: plans each, and has
+/// those that change written together. Returns how many there were, at least one. The paths are different; `planned` is
+/// room for the plans.
 pub(crate) fn edit_batch<F: Folder>(
     alloc: Global,
     folder: &mut F,
@@ -134,12 +155,14 @@ pub(crate) fn edit_batch<F: Folder>(
     paths: &[&str],
     planned: &mut Vec<Result<Done, FileFault>>,
     ends: &mut Vec<Result<Done, FileFault>>,
-)
+) -> usize
     requires differ { Differ (map (λ p. p.now) paths.now) }
     requires plans { length paths.now ≤ vec_capacity planned.now }
     requires room { vec_len ends.now + length paths.now ≤ vec_capacity ends.now }
-    ensures ends { (first : F) → (sofar : List (List ℕ)) → AreFilesEnds F.holds (statements_in rules.now) first sofar folder.old ends.old.items → AreFilesEnds F.holds (statements_in rules.now) first (sofar ++ map (λ p. p.now) paths.now) folder.new ends.new.items }
-    ensures len { vec_len ends.new ≡ vec_len ends.old + length paths.now }
+    ensures ends { (first : F) → (sofar : List (List ℕ)) → AreFilesEnds F.holds (rules_seen rules.now) first sofar folder.old ends.old.items → AreFilesEnds F.holds (rules_seen rules.now) first (sofar ++ map (λ p. p.now) (take result paths.now)) folder.new ends.new.items }
+    ensures few { result ≤ length paths.now }
+    ensures some { 0 < length paths.now → 0 < result }
+    ensures len { vec_len ends.new ≡ vec_len ends.old + result }
     ensures capacity { vec_capacity ends.old ≤ vec_capacity ends.new }
     ensures plans { vec_capacity planned.old ≤ vec_capacity planned.new }
 {

@@ -1,55 +1,19 @@
 //! Why a file stays as it was.
-ghost use Rattle.std.specs.Prelude.{◌≡◌};
-
-use crate::{ReadFault, RefusedStatement, WriteFault};
+use crate::{CutCharacter, Position, ReadFault, RefusedStatement, WriteFault};
 use sno_statement::StatementFault;
 use std::alloc::{AllocError, AllocFailed};
 use std::fmt;
 use std::io::ErrorKind;
 
-/// A place in bytes.
-#[derive(Clone, Copy, Debug, PartialEq, Eq)]
-pub struct Position {
-    /// How many bytes come before it.
-    pub place: usize,
-    /// Its line, from 1.
-    pub line: usize,
-    /// How many bytes of its line come before it, and one more.
-    pub column: usize,
-}
-
-impl Position {
-    /// The position of the byte at this place.
-    pub(crate) fn of(bytes: &[u8], place: usize) -> Position
-        ensures { result.place ≡ place }
-    {
-        let mut line = 1usize;
-        let mut column = 1usize;
-        for byte in bytes.iter().take(place) {
-            if *byte == b'\n' {
-                line = line.saturating_add(1);
-                column = 1;
-            } else {
-                column = column.saturating_add(1);
-            }
-        }
-        Position {
-            place,
-            line,
-            column,
-        }
-    }
-}
-
 /// Why a file stays as it was. Its printed form is what a line for standard error says after the path.
 #[derive(Clone, Copy, Debug, PartialEq, Eq)]
 pub enum FileFault {
-    /// The file has more than 65,536 bytes.
+    /// The file has more than 16,777,216 bytes.
     TooLong,
-    /// The file has a byte above 127; this is the first.
-    NonAscii(Position),
     /// A statement was refused on its text, for another reason than memory.
     Refused(RefusedStatement),
+    /// A statement was refused since it would make a text that is not UTF-8 of one that is.
+    Cut(CutCharacter),
     /// The file could not be read.
     Unread(ErrorKind),
     /// The edited file could not be written.
@@ -128,16 +92,19 @@ impl From<RefusedStatement> for FileFault {
 impl fmt::Display for FileFault {
     fn fmt<W: fmt::Write>(&self, f: &mut fmt::Formatter<W>) -> fmt::Result {
         match self {
-            FileFault::TooLong => f.write_str("longer than 65536 bytes"),
-            FileFault::NonAscii(position) => {
-                let line = position.line;
-                let column = position.column;
-                write!(f, "line {line}, column {column}: not ASCII")
-            }
+            FileFault::TooLong => f.write_str("longer than 16777216 bytes"),
             FileFault::Refused(refused) => {
                 let number = refused.statement;
                 let fault = refused.fault;
                 write!(f, "statement {number}: {fault}")
+            }
+            FileFault::Cut(cut) => {
+                let number = cut.statement;
+                let Position { line, column, .. } = cut.position;
+                write!(
+                    f,
+                    "statement {number}: cuts a character at line {line}, column {column}"
+                )
             }
             FileFault::Unread(kind) => write!(f, "read failed: {kind}"),
             FileFault::Unwritten(kind) => write!(f, "write failed: {kind}"),

@@ -1,16 +1,16 @@
 //! Files, edited.
-ghost use Rattle.std.specs.Prelude.{◌≡◌, map, not, IfOk, IfErr, OnErr, Ok};
+ghost use Rattle.std.specs.Prelude.{◌≡◌, map, not, IsUtf8, IfOk, IfErr, OnErr, Ok};
 ghost use Rattle.std.specs.Arc.{arc_value};
 ghost use Rattle.sno_pattern.specs.Identifiers.{same};
-ghost use Rattle.sno_pattern.specs.Texts.{text_of};
+ghost use Rattle.sno_pattern.specs.Texts.{byte_text_of};
 ghost use Rattle.sno_edit.specs.Held.{Kept};
 ghost use Rattle.sno_edit.specs.Files.{AreFilesEnds, HasCause, HasTextCause, IsFileEnd, IsPlan};
-ghost use Rattle.sno_edit.specs.Rules.{statements_in};
+ghost use Rattle.sno_edit.specs.Rules.{rules_seen};
 
 use crate::batches::{BATCH, batch_len, edit_batch};
 use crate::edits::edited;
-use crate::{EditRules, EditedText, FileFault, Folder, Position};
-use sno_pattern::{MAX_TEXT, Text, first_non_ascii};
+use crate::{EditRules, FileFault, Folder};
+use sno_pattern::{ByteText, ByteTextFault, MAX_BYTES};
 use std::alloc::{AllocError, Global};
 use std::sync::Arc;
 
@@ -18,9 +18,9 @@ use std::sync::Arc;
 #[derive(Drop)]
 pub struct Plan {
     /// The text that the file holds.
-    pub before: Arc<Text>,
+    pub before: Arc<ByteText>,
     /// The text that the rules leave.
-    pub after: Arc<Text>,
+    pub after: Arc<ByteText>,
     /// How many matches there were.
     pub matches: u64,
 }
@@ -43,21 +43,15 @@ pub struct Done {
     pub matches: u64,
 }
 
-/// The text that these bytes are. Refused with `TooLong`, then with `NonAscii`, each exactly then; with `Memory`.
-fn text_in(alloc: Global, bytes: Vec<u8>) -> Result<Arc<Text>, FileFault>
-    ensures text { IfOk result (λ text. text_of bytes.items ≡ Ok (arc_value text)) }
+/// The text that these bytes are. Refused with `TooLong`, exactly then; with `Memory`.
+fn text_in(alloc: Global, bytes: Vec<u8>) -> Result<Arc<ByteText>, FileFault>
+    ensures text { IfOk result (λ text. byte_text_of bytes.items ≡ Ok (arc_value text)) }
     ensures same { IfOk result (λ text. arc_value text ≡ bytes.items) }
     ensures cause { IfErr result (λ e. HasTextCause bytes.items e) }
 {
-    if bytes.len() > MAX_TEXT {
-        return Err(FileFault::TooLong);
-    }
-    if let Some(place) = first_non_ascii(&bytes) {
-        return Err(FileFault::NonAscii(Position::of(&bytes, place)));
-    }
-    match Text::new(bytes) {
+    match ByteText::new(bytes) {
         Ok(text) => Ok(Arc::new(alloc, text)?),
-        Err(_) => unreachable!(),
+        Err(ByteTextFault::TooLong) => Err(FileFault::TooLong),
     }
 }
 
@@ -66,8 +60,9 @@ fn text_in(alloc: Global, bytes: Vec<u8>) -> Result<Arc<Text>, FileFault>
 /// Refused with
 ///
 /// - `Unread` if the file can't be read;
-/// - `TooLong` for more than 65,536 bytes, then `NonAscii` for a byte above 127, then `Refused` for a statement that is
-///   refused on the text, each exactly then;
+/// - `TooLong` for more than 16,777,216 bytes, exactly then;
+/// - `Refused` or `Cut` as the first statement that is refused on the text, exactly then: `Cut` if it would make a text
+///   that is not UTF-8 of one that is;
 /// - `Memory`.
 pub fn plan_file<F: Folder>(
     alloc: Global,
@@ -75,17 +70,21 @@ pub fn plan_file<F: Folder>(
     rules: &EditRules,
     path: &str,
 ) -> Result<Plan, FileFault>
-    ensures planned { IfOk result (λ plan. IsPlan (statements_in rules.now) path.now (F.holds folder.now) plan) }
-    ensures cause { IfErr result (λ e. HasCause (statements_in rules.now) path.now (F.holds folder.now) e) }
+    ensures planned { IfOk result (λ plan. IsPlan (rules_seen rules.now) path.now (F.holds folder.now) plan) }
+    ensures utf8 { IfOk result (λ plan. IsUtf8 (arc_value plan.before) → IsUtf8 (arc_value plan.after)) }
+    ensures cause { IfErr result (λ e. HasCause (rules_seen rules.now) path.now (F.holds folder.now) e) }
 {
-    let bytes = folder.read(alloc, path, MAX_TEXT)?;
+    let bytes = folder.read(alloc, path, MAX_BYTES)?;
     let before = text_in(alloc, bytes)?;
-    let EditedText { text, matches } = edited(alloc, rules, path, Arc::try_clone(&before)?)?;
-    Ok(Plan {
-        before,
-        after: text,
-        matches,
-    })
+    let text = Arc::try_clone(&before)?;
+    match edited(alloc, rules, path, text) {
+        Ok(edited) => Ok(Plan {
+            before,
+            after: edited.text,
+            matches: edited.matches,
+        }),
+        Err(fault) => Err(fault),
+    }
 }
 
 /// Edits the file with this path by the rules. It is written only if its text changes.
@@ -97,7 +96,7 @@ pub fn edit_file<F: Folder>(
     rules: &EditRules,
     path: &str,
 ) -> Result<Done, FileFault>
-    ensures { IsFileEnd (statements_in rules.now) path.now (F.holds folder.old) (F.holds folder.new) result }
+    ensures { IsFileEnd (rules_seen rules.now) path.now (F.holds folder.old) (F.holds folder.new) result }
 {
     let plan = plan_file(alloc, folder, rules, path)?;
     let changed = plan.changes();
@@ -121,7 +120,7 @@ pub fn edit_files<F: Folder>(
     rules: &EditRules,
     paths: &[&str],
 ) -> Result<Vec<Result<Done, FileFault>>, AllocError>
-    ensures edited { IfOk result (λ ends. AreFilesEnds F.holds (statements_in rules.now) folder.old (map (λ p. p.now) paths.now) folder.new ends.items) }
+    ensures edited { IfOk result (λ ends. AreFilesEnds F.holds (rules_seen rules.now) folder.old (map (λ p. p.now) paths.now) folder.new ends.items) }
     ensures untouched { OnErr result (folder.new ≡ folder.old) }
 {
     let mut ends = Vec::with_capacity(alloc, paths.len())?;
@@ -130,8 +129,7 @@ pub fn edit_files<F: Folder>(
     while begin < paths.len() {
         let (_, rest) = paths.split_at(begin);
         let (batch, _) = rest.split_at(batch_len(rest));
-        edit_batch(alloc, folder, rules, batch, &mut planned, &mut ends);
-        begin += batch.len();
+        begin += edit_batch(alloc, folder, rules, batch, &mut planned, &mut ends);
     }
     Ok(ends)
 }

@@ -3,7 +3,7 @@ ghost use Rattle.std.specs.Prelude.{◌≡◌, ◌≤◌, ◌<◌, ℕ, List, le
 ghost use Rattle.sno_edit.specs.Held.{Kept, OthersKept};
 ghost use Rattle.sno_edit.specs.Batches.{AreReplaced};
 
-use sno_pattern::Text;
+use sno_pattern::ByteText;
 use std::alloc::{AllocError, AllocFailed, Global};
 use std::io::ErrorKind;
 use std::sync::Arc;
@@ -78,7 +78,7 @@ pub struct NewText<'a> {
     /// The path of the file.
     pub path: &'a str,
     /// The text that it is to hold.
-    pub text: Arc<Text>,
+    pub text: Arc<ByteText>,
 }
 
 /// Files, each under its path.

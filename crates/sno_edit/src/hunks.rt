@@ -1,9 +1,9 @@
 //! Scripts as unified diffs.
 ghost use Rattle.std.specs.Prelude.{◌≡◌, ◌≤◌, ◌<◌, ◌+◌, ◌-◌, ◌++◌, [], ◌∷◌, ℕ, if◌then◌else◌, true, false, codes, drop, length, List, nat_eq, position, take, not, IfOk, IfSome, OnOk, IsTrue, string_bytes, None, Some};
 ghost use Rattle.std.specs.List.{flat_map, list_all, list_any};
-ghost use Rattle.std.specs.Str.{chars, is_utf8};
+ghost use Rattle.std.specs.Str.{chars};
 ghost use Rattle.sno_edit.specs.Scripts.{new_lines, new_part, old_lines, old_part};
-ghost use Rattle.sno_edit.specs.Hunks.{AreHunks, AreKept, Hunk, IsUnifiedDiff, name_text, octal, needs_quotes, path_text, quoted_character, as_text, bare, has_line_feed, hunk_at, hunk_text, is_kept, line_code, line_end_code, line_text, paint, place_text, range_text, ranges_text, sign, unended};
+ghost use Rattle.sno_edit.specs.Hunks.{AreHunks, AreKept, Hunk, IsUnifiedDiff, name_text, names_text, octal, needs_quotes, path_text, quoted_character, bare, has_line_feed, hunk_at, hunk_text, is_kept, line_code, line_end_code, line_text, paint, place_text, range_text, ranges_text, sign, unended};
 
 use crate::{DiffLine, Mark};
 use std::alloc::{AllocError, Global};
@@ -81,16 +81,6 @@ fn bare<'t>(line: &'t [u8]) -> &'t [u8]
     }
 }
 
-/// What can be written of characters: nothing if they aren't UTF-8.
-fn as_text<'t>(characters: &'t [u8]) -> &'t str
-    ensures { result.now ≡ as_text characters.now }
-{
-    match str::from_utf8(characters) {
-        Ok(text) => text,
-        Err(_) => "",
-    }
-}
-
 /// What comes after a line.
 fn unended(line: &[u8]) -> &'static str
     ensures { result.now ≡ unended line.now }
@@ -102,20 +92,26 @@ fn unended(line: &[u8]) -> &'static str
     }
 }
 
-/// One line of a hunk.
-fn put_line(diff: &mut String, coloured: bool, line: &DiffLine<'_>) -> Result<(), AllocError>
-    ensures { OnOk result (string_bytes diff.new ≡ string_bytes diff.old ++ line_text coloured line.now) }
+fn put(diff: &mut Vec<u8>, characters: &str) -> Result<(), AllocError>
+    ensures { OnOk result (diff.new.items ≡ diff.old.items ++ characters.now) }
 {
-    diff.push_str(paint(coloured, line_code(line.mark)))?;
-    diff.push_str(sign(line.mark))?;
-    diff.push_str(as_text(bare(line.text)))?;
-    diff.push_str(paint(coloured, line_end_code(line.mark)))?;
-    diff.push_str("\n")?;
-    diff.push_str(unended(line.text))
+    diff.extend_from_slice(characters.as_bytes())
 }
 
-fn put_lines(diff: &mut String, coloured: bool, lines: &[DiffLine<'_>]) -> Result<(), AllocError>
-    ensures { OnOk result (string_bytes diff.new ≡ string_bytes diff.old ++ flat_map (line_text coloured) lines.now) }
+/// One line of a hunk.
+fn put_line(diff: &mut Vec<u8>, coloured: bool, line: &DiffLine<'_>) -> Result<(), AllocError>
+    ensures { OnOk result (diff.new.items ≡ diff.old.items ++ line_text coloured line.now) }
+{
+    put(diff, paint(coloured, line_code(line.mark)))?;
+    put(diff, sign(line.mark))?;
+    diff.extend_from_slice(bare(line.text))?;
+    put(diff, paint(coloured, line_end_code(line.mark)))?;
+    put(diff, "\n")?;
+    put(diff, unended(line.text))
+}
+
+fn put_lines(diff: &mut Vec<u8>, coloured: bool, lines: &[DiffLine<'_>]) -> Result<(), AllocError>
+    ensures { OnOk result (diff.new.items ≡ diff.old.items ++ flat_map (line_text coloured) lines.now) }
 {
     for line in lines {
         put_line(diff, coloured, line)?;
@@ -245,16 +241,19 @@ fn put_place(
 
 /// The lines of a hunk, with the line before them.
 fn put_hunk(
-    diff: &mut String,
+    alloc: Global,
+    diff: &mut Vec<u8>,
     coloured: bool,
     before: LinesBefore,
     lines: &[DiffLine<'_>],
 ) -> Result<(), AllocError>
     requires old { before.old + length lines.now ≤ usize.MAX }
     requires new { before.new + length lines.now ≤ usize.MAX }
-    ensures { OnOk result (string_bytes diff.new ≡ string_bytes diff.old ++ hunk_text coloured (record { old_before = before.old; new_before = before.new; lines = lines.now })) }
+    ensures { OnOk result (diff.new.items ≡ diff.old.items ++ hunk_text coloured (record { old_before = before.old; new_before = before.new; lines = lines.now })) }
 {
-    put_place(diff, coloured, before, lines)?;
+    let mut place = String::new(alloc);
+    put_place(&mut place, coloured, before, lines)?;
+    put(diff, &place)?;
     put_lines(diff, coloured, lines)
 }
 
@@ -315,7 +314,8 @@ struct Left<'l, 't> {
 
 /// Puts the next hunk, which has `count` lines after the next `place` ones, and returns what is left after it.
 fn put_next<'l, 't>(
-    diff: &mut String,
+    alloc: Global,
+    diff: &mut Vec<u8>,
     coloured: bool,
     left: Left<'l, 't>,
     place: usize,
@@ -324,7 +324,7 @@ fn put_next<'l, 't>(
     requires within { place + count ≤ length left.script.now }
     requires old { left.before.old + length left.script.now ≤ usize.MAX }
     requires new { left.before.new + length left.script.now ≤ usize.MAX }
-    ensures written { OnOk result (string_bytes diff.new ≡ string_bytes diff.old
+    ensures written { OnOk result (diff.new.items ≡ diff.old.items
         ++ hunk_text coloured (hunk_at left.entry.before.old left.entry.before.new place count left.entry.script.now)) }
     ensures old { IfOk result (λ next. next.before.old ≡ left.entry.before.old + length (old_lines (take place left.entry.script.now))
         + length (old_lines (take count (drop place left.entry.script.now)))) }
@@ -335,7 +335,7 @@ fn put_next<'l, 't>(
     let (between, shown) = left.script.split_at(place);
     let (hunk, script) = shown.split_at(count);
     let before = after(left.before, between);
-    put_hunk(diff, coloured, before, hunk)?;
+    put_hunk(alloc, diff, coloured, before, hunk)?;
     Ok(Left {
         before: after(before, hunk),
         script,
@@ -343,13 +343,18 @@ fn put_next<'l, 't>(
 }
 
 /// The hunks of a script.
-fn put_hunks(diff: &mut String, coloured: bool, script: &[DiffLine<'_>]) -> Result<(), AllocError>
-    ensures { OnOk result ((hunks : List Hunk) × (string_bytes diff.new ≡ string_bytes diff.old ++ flat_map (hunk_text coloured) hunks) × AreHunks 0 0 hunks script.now) }
+fn put_hunks(
+    alloc: Global,
+    diff: &mut Vec<u8>,
+    coloured: bool,
+    script: &[DiffLine<'_>],
+) -> Result<(), AllocError>
+    ensures { OnOk result ((hunks : List Hunk) × (diff.new.items ≡ diff.old.items ++ flat_map (hunk_text coloured) hunks) × AreHunks 0 0 hunks script.now) }
 {
     let before = LinesBefore { old: 0, new: 0 };
     let mut left = Left { before, script };
     while let Some((place, count)) = next_hunk(left.script) {
-        left = put_next(diff, coloured, left, place, count)?;
+        left = put_next(alloc, diff, coloured, left, place, count)?;
     }
     Ok(())
 }
@@ -450,9 +455,17 @@ fn put_name(
     diff.push_str("\n")
 }
 
+/// The lines that name the two texts.
+fn put_names(diff: &mut String, coloured: bool, path: &str) -> Result<(), AllocError>
+    ensures { OnOk result (string_bytes diff.new ≡ string_bytes diff.old ++ names_text coloured path.now) }
+{
+    put_name(diff, coloured, "--- ", "a/", path)?;
+    put_name(diff, coloured, "+++ ", "b/", path)
+}
+
 /// Returns a script as a unified diff of the file with this path: three lines around each difference, as `diff -u` has
-/// them. Before the path comes `a/` or `b/`, as in a diff of git. A script without differences has an empty diff.
-/// Coloured, it is for a terminal, and no program reads it. Characters that aren't UTF-8 are left out.
+/// them, with the bytes of each line as they are. Before the path comes `a/` or `b/`, as in a diff of git. A script
+/// without differences has an empty diff. Coloured, it is for a terminal, and no program reads it.
 ///
 /// What its hunks say takes the old lines of the script to the new ones: `IsUnifiedDiff` of `specs/Hunks.antt`.
 /// Refused only if memory runs out.
@@ -461,15 +474,16 @@ pub fn unified_diff(
     path: &str,
     script: &[DiffLine<'_>],
     coloured: bool,
-) -> Result<String, AllocError>
-    ensures { IfOk result (λ diff. IsUnifiedDiff coloured path.now script.now (string_bytes diff)) }
+) -> Result<Vec<u8>, AllocError>
+    ensures { IfOk result (λ diff. IsUnifiedDiff coloured path.now script.now diff.items) }
 {
-    let mut diff = String::new(alloc);
+    let mut diff = Vec::new(alloc);
     if kept_len(script) == script.len() {
         return Ok(diff);
     }
-    put_name(&mut diff, coloured, "--- ", "a/", path)?;
-    put_name(&mut diff, coloured, "+++ ", "b/", path)?;
-    put_hunks(&mut diff, coloured, script)?;
+    let mut names = String::new(alloc);
+    put_names(&mut names, coloured, path)?;
+    put(&mut diff, &names)?;
+    put_hunks(alloc, &mut diff, coloured, script)?;
     Ok(diff)
 }

@@ -7,6 +7,8 @@
 //! - A statement is for the file whose path is the name of its text. If that is `*`, it is for every file.
 //! - The statements that are for a file are performed on it in turn, each on the text that those before it left. If one
 //!   of them is refused, the file stays as it was.
+//! - A statement that would make a text that is not UTF-8 of one that is, is refused: so UTF-8 stays UTF-8. Other texts
+//!   are edited as the bytes that they are.
 //! - A file that doesn't change isn't written.
 //! - [`script_of`] compares two texts line by line; its clause says that the script takes one to the other.
 //! - [`unified_diff`] writes a script as hunks; its clause says that they take the old lines to the new ones.
@@ -14,7 +16,10 @@
 //! | File | What it does |
 //! |---|---|
 //! | `rules` | `EditRules`: the statements, read from JSON |
+//! | `trials` | `Trials`: how many trials a statement may take on a text |
 //! | `edits` | the statements on one text |
+//! | `utf8` | whether a text is UTF-8 |
+//! | `positions` | `Position`: the line and the column of a place |
 //! | `folders` | `Folder`, and why a file is not read or written |
 //! | `faults` | `FileFault`: why a file stays as it was |
 //! | `files` | `plan_file`, `edit_file`, `edit_files` |
@@ -30,18 +35,23 @@ mod faults;
 mod files;
 mod folders;
 mod hunks;
+mod positions;
 mod rules;
 mod scripts;
 mod tallies;
+mod trials;
+mod utf8;
 
-pub use edits::{EditedText, RefusedStatement};
-pub use faults::{FileFault, Position};
+pub use edits::{CutCharacter, RefusedStatement};
+pub use faults::FileFault;
 pub use files::{Done, Plan, edit_file, edit_files, plan_file};
 pub use folders::{Folder, NewText, ReadFault, WriteFault};
 pub use hunks::unified_diff;
+pub use positions::Position;
 pub use rules::EditRules;
 pub use scripts::{DiffLine, Mark, script_of};
-pub use sno_document::{DocumentFault, Mode};
-pub use sno_pattern::Text;
+pub use sno_document::DocumentFault;
+pub use sno_pattern::ByteText;
 pub use sno_statement::{MAX_TRIALS, Statement, StatementFault};
 pub use tallies::{Purpose, Tally};
+pub use trials::Trials;

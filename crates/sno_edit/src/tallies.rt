@@ -51,7 +51,7 @@ fn matches_in(end: &Result<Done, FileFault>) -> u64
 fn is_refused(end: &Result<Done, FileFault>) -> bool
     ensures { result ≡ is_refused end.now }
 {
-    matches!(end, Err(FileFault::Refused(_)))
+    matches!(end, Err(FileFault::Refused(_) | FileFault::Cut(_)))
 }
 
 fn is_failed(end: &Result<Done, FileFault>) -> bool
