@@ -79,6 +79,16 @@ impl<'a> Beginnings<'a> {
         }
     }
 
+    /// Whether a match may begin with the character. It may be that it can and `false` is returned, since a literal isn't looked at.
+    #[inline(always)]
+    pub fn begins_with(&self, character: u8) -> bool {
+        match self {
+            Beginnings::Any | Beginnings::Literal(_) => false,
+            Beginnings::Few(needle) => needle.begins_with(character),
+            Beginnings::Many(table) => !table.passed[character as usize],
+        }
+    }
+
     /// How many trials a start costs at which a match can't begin: at most 64 for the beginnings of a pattern.
     pub fn cost(&self) -> usize
         ensures { result ≡ cost self.now }
