@@ -78,7 +78,7 @@ fn definition_rows<'a>(
     Ok(rows)
 }
 
-/// A rule of which nothing is written: it stands in for one whose parts are not UTF-8, as those of a line always are.
+/// A rule of which nothing is written: it takes the place of one whose parts are not UTF-8, which a line doesn't have.
 fn no_rule<'a>() -> StatementRow<'a> {
     StatementRow {
         text: "",
