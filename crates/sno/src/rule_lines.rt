@@ -7,13 +7,18 @@ use sno_findings::{
 };
 use sno_read::ReadFault;
 use sno_rules::{LineFault, read_definition, read_rule};
-use std::alloc::{AllocError, Global};
+use std::alloc::{AllocError, AllocFailed, Global};
 
 /// What is wanted in place of a field that is unknown.
 const FIELDS: &str = ":first, :anchored, :repeat N or :in 'NAME' is wanted here";
 
 /// What is wanted in a definition without a sign.
 const DEFINITION: &str = "a definition is NAME = PATTERN";
+
+/// What the lines are called in a fault.
+const DEFINITION_LINE: &str = "definition";
+
+const RULE_LINE: &str = "rule";
 
 /// Rules and definitions, each in a line.
 #[derive(Drop)]
@@ -38,6 +43,12 @@ pub(crate) enum NoRows {
 
 impl From<AllocError> for NoRows {
     fn from(_refused: AllocError) -> NoRows {
+        NoRows::Memory
+    }
+}
+
+impl<T: Drop> From<AllocFailed<T>> for NoRows {
+    fn from(_refused: AllocFailed<T>) -> NoRows {
         NoRows::Memory
     }
 }
@@ -70,7 +81,7 @@ fn definition_rows<'a>(
         match read_definition(line.as_bytes()) {
             Ok(definition) => rows.push(definition_row(definition).unwrap_or(("", "")))?,
             Err(fault) => {
-                let text = refused_line(alloc, "definition", number, line, fault)?;
+                let text = refused_line(alloc, DEFINITION_LINE, number, line, fault)?;
                 return Err(NoRows::Line(text));
             }
         }
@@ -97,7 +108,7 @@ fn statement_rows<'a>(alloc: Global, lines: &[&'a str]) -> Result<Vec<StatementR
         match read_rule(line.as_bytes()) {
             Ok(rule) => rows.push(rule_row(rule).unwrap_or_else(no_rule))?,
             Err(fault) => {
-                let text = refused_line(alloc, "rule", number, line, fault)?;
+                let text = refused_line(alloc, RULE_LINE, number, line, fault)?;
                 return Err(NoRows::Line(text));
             }
         }
