@@ -1,5 +1,5 @@
 //! The conditional assignments of a success.
-ghost use Rattle.std.specs.Prelude.{◌≡◌, ◌≤◌, [], length, true, OnOk, IfErr, IfOk};
+ghost use Rattle.std.specs.Prelude.{◌≡◌, ◌≤◌, length, true, OnOk, IfErr, IfOk};
 ghost use Rattle.sno_machine.specs.History.{entries_of, Setting, IsHistory, IsTurned, conds_at};
 ghost use Rattle.sno_machine.specs.declared.faults.MatchFault.TheVariants.{Memory};
 
@@ -18,7 +18,6 @@ impl<'a> History<'a> {
         ensures gathered { OnOk result (self.new.gathered.items ≡ conds_at (entries_of self.old) number) }
         ensures refused { IfErr result (λ e. e ≡ Memory) }
     {
-        self.gathered.clear();
         if self.entries.len() <= FEW {
             let all = put_in_order(&self.entries, number, &mut self.gathered)?;
             if all {
@@ -96,9 +95,9 @@ fn put_in_order(
 ) -> Result<bool, AllocError>
     requires held { (s : Setting) × IsHistory s entries.now }
     requires few { length entries.now ≤ FEW }
-    requires empty { gathered.old.items ≡ [] }
     ensures { IfOk result (λ all. all ≡ true → gathered.new.items ≡ conds_at entries.now number) }
 {
+    gathered.clear();
     gathered.reserve(entries.len())?;
     let mut list = 0;
     for place in 0..entries.len() {

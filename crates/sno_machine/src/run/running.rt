@@ -48,7 +48,8 @@ fn begins_here(each: bool, beginnings: &Beginnings, text: &[u8], first: usize) -
 
 /// Tries the pattern from cursor `first` to cursor `last`, at most `most` references deep, until one of these starts ends the
 /// match. Returns the success, if there is one. With `each`, no start is passed over. What the history holds is dropped first.
-/// All of it is one loop, so that a start is not a call.
+/// All of it is one loop, so that a start is not a call. Nor is it a call of a search.
+#[inline(always)]
 pub fn try_starts<'a>(
     alloc: Global,
     code: &Compiled<'a>,

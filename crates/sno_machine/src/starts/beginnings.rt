@@ -79,11 +79,15 @@ impl<'a> Beginnings<'a> {
         }
     }
 
-    /// Whether a match may begin with the character. It may be that it can and `false` is returned, since a literal isn't looked at.
+    /// Whether a match may begin with the character, as far as one look tells: of a literal, by its first character. Of anything,
+    /// `false` is returned.
     #[inline(always)]
     pub fn begins_with(&self, character: u8) -> bool {
         match self {
-            Beginnings::Any | Beginnings::Literal(_) => false,
+            Beginnings::Any => false,
+            Beginnings::Literal(literal) => {
+                matches!(literal.needle().first(), Some(first) if *first == character)
+            }
             Beginnings::Few(needle) => needle.begins_with(character),
             Beginnings::Many(table) => !table.passed[character as usize],
         }

@@ -11,7 +11,7 @@ use Rattle.sno_machine.proofs.run.conditions.put_in_order.Goals.{in-Pending+else
 
 pub loop-place-init : goal.loop-place-init
 loop-place-init c =
-    let none = c.in_ok-reserve.ensures.items ∙ c.requires.empty in
+    let none : c.reserve.new.self.items ≡ [] = search rules in
     record {
       list = none ∙ sym (list_none conds_of [] c.args.entries.now);
       few = omega (arith, ap length none);
