@@ -79,7 +79,7 @@ impl<'a> Beginnings<'a> {
         }
     }
 
-    /// Whether a match may begin with the character, as far as one look tells: of a literal, by its first character. Of anything,
+    /// Whether a match may begin with the character, by one look: of a literal, at its first character. Of anything,
     /// `false` is returned.
     #[inline(always)]
     pub fn begins_with(&self, character: u8) -> bool {
