@@ -5,7 +5,8 @@ ghost use Rattle.sno_book.specs.Views.{IsPrefix};
 
 use crate::call_ends::{CallEnd, check_bytes, check_eq, tell, tell_ready, tell_twice};
 use crate::jobs::{
-    book, check_book, check_exchange, check_exchange_all, exchange, exchange_all, proposed, row,
+    book, check_book, check_exchange, check_exchange_all, exchange, exchange_all, exchange_twice,
+    proposed, row,
 };
 use sno_book::{
     Book, BookFault, CommitFault, Proposal, Snapshot, StatementFault, Text, TextName, propose,
@@ -113,6 +114,34 @@ fn a_text_is_rewritten(rt: HostRuntime) -> Result<(), Fail> {
     let statement = exchange_all(&rt, alloc)?;
     let text = ByteText::new(Vec::from_slice(alloc, b"k=v;m=n;")?)?;
     tell_twice(&rt, || rewrite_once(&rt, alloc, &statement, &text))
+}
+
+fn rewrite_twice(
+    rt: &impl Abort,
+    alloc: Global,
+    statement: &Statement,
+    text: &ByteText,
+) -> CallEnd {
+    match rewrite(alloc, statement, text, 1_000) {
+        Ok(rewritten) => {
+            check_eq(rt, &rewritten.matches, &2);
+            let after = rewritten.after.as_ref().expect(rt, "there is a new text");
+            check_bytes(rt, after.bytes(), BEFORE);
+            CallEnd::Given
+        }
+        Err(fault) => {
+            check_eq(rt, &fault, &StatementFault::Memory);
+            CallEnd::Refused
+        }
+    }
+}
+
+#[test]
+fn a_text_is_rewritten_in_rounds(rt: HostRuntime) -> Result<(), Fail> {
+    let alloc = rt.alloc();
+    let statement = exchange_twice(&rt, alloc)?;
+    let text = ByteText::new(Vec::from_slice(alloc, BEFORE)?)?;
+    tell_twice(&rt, || rewrite_twice(&rt, alloc, &statement, &text))
 }
 
 /// A share of a statement, and one of its text.

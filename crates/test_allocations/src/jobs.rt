@@ -85,6 +85,16 @@ pub(crate) fn exchange_all(rt: &impl Abort, alloc: Global) -> Result<Statement, 
     Ok(statement.for_all())
 }
 
+/// A key and its value change places, twice.
+pub(crate) fn exchange_twice(rt: &impl Abort, alloc: Global) -> Result<Statement, Fail> {
+    let rules = rules(alloc)?;
+    let (pattern, object) = parts(alloc, &rules, "BREAK('=') . K '=' REM . V", "V '=' K")?;
+    assert!(rt; rules.covers(&pattern));
+    let text = TextName::new(alloc, b"T")?;
+    let statement = Statement::new(1, rules, pattern, Some(object), text, false);
+    Ok(statement.repeated(2))
+}
+
 /// A key and its value change places.
 pub(crate) fn exchange(rt: &impl Abort, alloc: Global) -> Result<Arc<Statement>, Fail> {
     statement(rt, alloc, "T", "BREAK('=') . K '=' REM . V", "V '=' K")

@@ -1,9 +1,10 @@
-//! What a statement is given.
+//! What a statement is given, and what it makes of the bytes of a file.
 use crate::written::{check_eq, no_rules, pattern_of};
 use sno_pattern::TextName;
 use sno_read::read_object;
-use sno_statement::Statement;
+use sno_statement::{ByteText, Statement, StatementFault, rewrite};
 use std::alloc::Global;
+use std::process::Abort;
 use std::sync::Arc;
 use std::test::Fail;
 
@@ -42,5 +43,96 @@ fn a_statement_for_all_matches_is_not_repeated(rt: HostRuntime) -> Result<(), Fa
         &(again.is_for_all(), again.repeat()),
         &(false, Some(3)),
     );
+    Ok(())
+}
+
+// What a statement leaves of these bytes with this limit: how many matches there were, and the new text, or the null string if
+// there is none. Or why it is refused.
+fn left_of(
+    alloc: Global,
+    statement: &Statement,
+    bytes: &[u8],
+    trials: u32,
+) -> Result<Result<(u64, Vec<u8>), StatementFault>, Fail> {
+    let text = ByteText::new(Vec::from_slice(alloc, bytes)?)?;
+    match rewrite(alloc, statement, &text, trials) {
+        Ok(rewritten) => {
+            let after = match &rewritten.after {
+                None => Vec::new(alloc),
+                Some(after) => Vec::from_slice(alloc, after.bytes())?,
+            };
+            Ok(Ok((rewritten.matches, after)))
+        }
+        Err(fault) => Ok(Err(fault)),
+    }
+}
+
+// Compares what a statement leaves of these bytes.
+fn check_left(
+    rt: &impl Abort,
+    left: &Result<(u64, Vec<u8>), StatementFault>,
+    matches: u64,
+    wanted: &[u8],
+) {
+    match left {
+        Ok((count, after)) => {
+            check_eq(rt, count, &matches);
+            assert!(rt; after.as_slice() == wanted);
+        }
+        Err(_) => assert!(rt; false, "refused"),
+    }
+}
+
+// The statement that doubles one byte, whichever it is.
+fn doubling(alloc: Global) -> Result<Statement, Fail> {
+    let rules = Arc::new(alloc, no_rules(alloc)?)?;
+    let text = TextName::new(alloc, b"T".as_slice())?;
+    let object = read_object(alloc, rules.names(), b"B B")?;
+    let pattern = pattern_of(alloc, &rules, "LEN(1) . B")?;
+    Ok(Statement::new(1, rules, pattern, Some(object), text, false))
+}
+
+#[test]
+fn any_bytes_of_a_file_are_rewritten(rt: HostRuntime) -> Result<(), Fail> {
+    let alloc = rt.alloc();
+    let once = doubling(alloc)?;
+    let bytes = [195, 169, 0];
+    check_left(
+        &rt,
+        &left_of(alloc, &once, &bytes, 1_000)?,
+        1,
+        &[195, 195, 169, 0],
+    );
+    let all = once.for_all();
+    check_left(
+        &rt,
+        &left_of(alloc, &all, &bytes, 1_000)?,
+        3,
+        &[195, 195, 169, 169, 0, 0],
+    );
+    Ok(())
+}
+
+#[test]
+fn a_file_is_rewritten_in_rounds(rt: HostRuntime) -> Result<(), Fail> {
+    let alloc = rt.alloc();
+    let often = repeated(alloc, 2)?;
+    check_left(&rt, &left_of(alloc, &often, b"aaa", 1_000)?, 2, b"bba");
+    check_left(&rt, &left_of(alloc, &often, b"ca", 1_000)?, 1, b"cb");
+    check_left(&rt, &left_of(alloc, &often, b"c", 1_000)?, 0, b"");
+    Ok(())
+}
+
+#[test]
+fn the_limit_for_a_file_is_the_one_that_is_given(rt: HostRuntime) -> Result<(), Fail> {
+    let alloc = rt.alloc();
+    let once = repeated(alloc, 1)?;
+    check_eq(
+        &rt,
+        &left_of(alloc, &once, b"cca", 2)?.err(),
+        &Some(StatementFault::TooManyTrials),
+    );
+    let limited = once.limited(2);
+    check_left(&rt, &left_of(alloc, &limited, b"cca", 3)?, 1, b"ccb");
     Ok(())
 }
