@@ -13,7 +13,7 @@ _sno() {
     if [ "$COMP_CWORD" -gt 1 ]; then
         case "${COMP_WORDS[1]}" in
             check) options=" --json --strict --help -h " ;;
-            edit) options=" --diff --check --sync --anchor --trials --help -h " ;;
+            edit) options=" --diff --check --sync --anchor --trials --rule -e --define -d --help -h " ;;
             trace) options=" --statement --match --lines --html --help -h " ;;
             serve) options=" --seats --tries --trials --listing --help -h " ;;
             *) options="" ;;

@@ -13,6 +13,8 @@ complete -c sno -n '__fish_seen_subcommand_from edit' -l diff -d 'Write what wou
 complete -c sno -n '__fish_seen_subcommand_from edit' -l check -d 'Name the files that would change, and write none'
 complete -c sno -n '__fish_seen_subcommand_from edit' -l sync -d 'Wait until each new file is on the disk before it takes the place of the old one'
 complete -c sno -n '__fish_seen_subcommand_from edit' -l anchor -d 'Anchor each statement that does not say itself whether it is anchored'
+complete -c sno -n '__fish_seen_subcommand_from edit' -s e -l rule -x -d 'A rule, PATTERN = OBJECT'
+complete -c sno -n '__fish_seen_subcommand_from edit' -s d -l define -x -d 'A definition for the rules, NAME = PATTERN'
 complete -c sno -n '__fish_seen_subcommand_from edit' -l trials -x -a '1000 1000000 1000000000' -d 'How many trials a match may take'
 complete -c sno -n '__fish_seen_subcommand_from trace' -l statement -x -a '(seq 9)' -d 'The number of the statement'
 complete -c sno -n '__fish_seen_subcommand_from trace' -l match -x -a '(seq 9)' -d 'The number of the match'

@@ -1,4 +1,3 @@
 cp examples/own/calls.c calls.c
-./sno edit --diff examples/own/calls.json calls.c > calls.diff
-./sno edit examples/own/calls.json calls.c
+./sno edit -e "'same(' BAL . A ', ' BAL . B ')' = 'expect(' B ').to_be(' A ')'" calls.c
 cat calls.c

@@ -1,7 +1,9 @@
 //! What the arguments ask for.
 
 use crate::arguments::{document, flag};
-use crate::edit_options::{EDIT_OUT_OF_RANGE, EditOptions, edit_command, edit_options};
+use crate::edit_options::{
+    EDIT_OUT_OF_RANGE, EditRequest, edit_command, edit_options, edit_request,
+};
 use crate::serve_command::{SERVE_OUT_OF_RANGE, ServeOptions, serve_command, serve_options};
 use crate::trace_command::{TRACE_OUT_OF_RANGE, TraceOptions, trace_command, trace_options};
 use clap::error::ErrorKind;
@@ -41,12 +43,7 @@ pub(crate) enum Request<'a> {
     /// A document is to be checked.
     Check(CheckOptions<'a>),
     /// Files are to be edited.
-    Edit {
-        /// How it is to be done.
-        options: EditOptions<'a>,
-        /// The files.
-        paths: Vec<&'a str>,
-    },
+    Edit(EditRequest<'a>),
     /// A match is to be traced.
     Trace(TraceOptions<'a>),
     /// A document is to be served.
@@ -116,11 +113,11 @@ fn matches<'a>(alloc: Global, words: &'a [String]) -> Result<ArgMatches<'a>, Err
 /// What is found under a subcommand.
 fn request_in<'a>(alloc: Global, matches: &ArgMatches<'a>) -> Result<Request<'a>, Stop> {
     if let Some(found) = matches.subcommand_matches("edit") {
-        let Ok(paths) = Vec::from_slice(alloc, found.get_strs("files").unwrap_or(&[])) else {
-            return Err(Stop::Memory);
-        };
         return match edit_options(found) {
-            Some(options) => Ok(Request::Edit { options, paths }),
+            Some(options) => match edit_request(alloc, found, options) {
+                Ok(request) => Ok(Request::Edit(request)),
+                Err(_) => Err(Stop::Memory),
+            },
             None => Err(out_of_range(alloc, EDIT_OUT_OF_RANGE)),
         };
     }

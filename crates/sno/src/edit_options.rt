@@ -1,6 +1,7 @@
 //! What the arguments of `sno edit` ask for.
 
 use crate::arguments::{flag, is_up_to, optional_number};
+use crate::rule_lines::RuleLines;
 use clap::{Arg, ArgAction, ArgMatches, Command};
 use sno_edit::{MAX_TRIALS, Purpose, Trials};
 use std::alloc::{AllocError, Global};
@@ -9,7 +10,12 @@ const ABOUT: &str =
     "Performs the statements of RULES on each file, in order, and writes the files that change";
 
 // The subcommand's own usage would leave out the program's name.
-const USAGE: &str = "sno edit [OPTIONS] RULES FILE..";
+const USAGE: &str = "sno edit [OPTIONS] RULES FILE..\n       sno edit [OPTIONS] -e RULE.. FILE..";
+
+const RULE_HELP: &str =
+    "A rule, PATTERN = OBJECT, for all matches, or with :first, :anchored, :repeat N or :in 'NAME' at its end";
+
+const DEFINE_HELP: &str = "A definition for the rules of -e, NAME = PATTERN";
 
 const DIFF_HELP: &str = "Writes what would change as a unified diff, and no file";
 
@@ -24,15 +30,27 @@ const TRIALS_HELP: &str =
     "How many trials a match may take, 1 to 1000000000; by default enough for any plain rule on a file of its length";
 
 const RULES_HELP: &str =
-    "The file of a document whose statements need no text; - is standard input";
+    "The file of a document whose statements need no text; - is standard input; with -e the first file";
 
 const FILES_HELP: &str = "The files, each a text by itself: any bytes, up to 16 MiB";
 
-const EXAMPLE: &str = "Example: sno edit --diff rules.json src/*.c";
+const EXAMPLE: &str =
+    "Examples: sno edit --diff rules.json src/*.c\n          sno edit -e \"'colour' = 'color'\" README.md";
 
 /// What is written if a number is not in its range.
 pub(crate) const EDIT_OUT_OF_RANGE: &str =
     "error: '--trials' takes 1 to 1000000000\n\nFor more information, try '--help'.\n";
+
+/// What `sno edit` is to do.
+#[derive(Drop)]
+pub(crate) struct EditRequest<'a> {
+    /// How it is to be done.
+    pub(crate) options: EditOptions<'a>,
+    /// The rules that are given as lines; if there are none, the rules are in a file.
+    pub(crate) lines: RuleLines<'a>,
+    /// The files.
+    pub(crate) paths: Vec<&'a str>,
+}
 
 /// How `sno edit` is to be done.
 #[derive(Clone, Copy, Debug, PartialEq, Eq)]
@@ -45,8 +63,24 @@ pub(crate) struct EditOptions<'a> {
     pub(crate) anchor: bool,
     /// How many trials a match may take.
     pub(crate) trials: Trials,
-    /// The file of the rules; `-` is standard input.
+    /// The file of the rules, if they are in a file; `-` is standard input.
     pub(crate) rules: &'a str,
+}
+
+/// An option that may be given several times, each time with a value.
+fn repeated<'a>(
+    alloc: Global,
+    name: &'a str,
+    short: char,
+    value: &'a str,
+    help: &'a str,
+) -> Arg<'a> {
+    Arg::new(alloc, name)
+        .short(short)
+        .long(name)
+        .value_name(value)
+        .action(ArgAction::Append)
+        .help(help)
 }
 
 fn positional<'a>(alloc: Global, id: &'a str, name: &'a str, help: &'a str) -> Arg<'a> {
@@ -58,7 +92,10 @@ fn positional<'a>(alloc: Global, id: &'a str, name: &'a str, help: &'a str) -> A
 
 /// The subcommand.
 pub(crate) fn edit_command<'a>(alloc: Global) -> Result<Command<'a>, AllocError> {
+    // With rules in lines the first positional argument is a file, and it may be the only one.
     let files = positional(alloc, "files", "FILE", FILES_HELP)
+        .required(false)
+        .required_unless_present("rule")?
         .action(ArgAction::Append)
         .num_args(1..);
     Command::new(alloc, "edit")
@@ -70,6 +107,8 @@ pub(crate) fn edit_command<'a>(alloc: Global) -> Result<Command<'a>, AllocError>
         .arg(flag(alloc, "sync", SYNC_HELP))?
         .arg(flag(alloc, "anchor", ANCHOR_HELP))?
         .arg(optional_number(alloc, "trials", TRIALS_HELP))?
+        .arg(repeated(alloc, "rule", 'e', "RULE", RULE_HELP))?
+        .arg(repeated(alloc, "define", 'd', "DEFINITION", DEFINE_HELP).requires_arg("rule")?)?
         .arg(positional(alloc, "rules", "RULES", RULES_HELP).action(ArgAction::Set))?
         .arg(files)
 }
@@ -81,6 +120,36 @@ fn trials(matches: &ArgMatches<'_>) -> Option<Trials> {
         Some(trials) if is_up_to(MAX_TRIALS, trials) => Some(Trials::AtMost(trials)),
         Some(_) => None,
     }
+}
+
+/// The values of an option.
+fn values<'a>(
+    alloc: Global,
+    matches: &ArgMatches<'a>,
+    name: &str,
+) -> Result<Vec<&'a str>, AllocError> {
+    Vec::from_slice(alloc, matches.get_strs(name).unwrap_or(&[]))
+}
+
+/// What `sno edit` is to do, with these options.
+pub(crate) fn edit_request<'a>(
+    alloc: Global,
+    matches: &ArgMatches<'a>,
+    options: EditOptions<'a>,
+) -> Result<EditRequest<'a>, AllocError> {
+    let lines = RuleLines {
+        definitions: values(alloc, matches, "define")?,
+        rules: values(alloc, matches, "rule")?,
+    };
+    let mut paths = values(alloc, matches, "files")?;
+    if !lines.rules.is_empty() {
+        paths.insert(0, options.rules)?;
+    }
+    Ok(EditRequest {
+        options,
+        lines,
+        paths,
+    })
 }
 
 /// The options that were found; `None` if a number is not in its range.

@@ -1,8 +1,9 @@
 //! `sno edit`.
 
 use crate::disk::{Disk, different_files};
-use crate::edit_options::EditOptions;
+use crate::edit_options::{EditOptions, EditRequest};
 use crate::faults::ProgramFault;
+use crate::rule_lines::{NoRows, RuleLines, refused_lines, rows_of};
 use crate::streams::{read_up_to, write_all};
 use sno_document::{DocumentFault, MAX_DOCUMENT};
 use sno_edit::{
@@ -157,10 +158,99 @@ fn show_files<R: Files, W: Write, E: Write>(
     Ok(tally)
 }
 
-/// Writes that no file was touched, since the rules are not rules, and returns the status.
-fn refuse_rules<E: Write>(errors: &mut E, fault: &DocumentFault) -> u8 {
-    let _printed = errors.writeln(fault);
-    BAD_RULES
+/// Why there are no rules.
+#[derive(Debug, Drop)]
+enum NoRules {
+    /// What is written about what was given in their place.
+    Refused(String),
+    /// They can't be read, or memory ran out.
+    Fault(ProgramFault),
+}
+
+impl From<AllocError> for NoRules {
+    fn from(_refused: AllocError) -> NoRules {
+        NoRules::Fault(ProgramFault::Memory)
+    }
+}
+
+impl From<ProgramFault> for NoRules {
+    fn from(fault: ProgramFault) -> NoRules {
+        NoRules::Fault(fault)
+    }
+}
+
+impl From<NoRows> for NoRules {
+    fn from(fault: NoRows) -> NoRules {
+        match fault {
+            NoRows::Line(text) => NoRules::Refused(text),
+            NoRows::Memory => NoRules::Fault(ProgramFault::Memory),
+        }
+    }
+}
+
+/// The rules of a file.
+fn rules_of_file<R: Files, I: Read>(
+    rt: &R,
+    alloc: Global,
+    options: &EditOptions<'_>,
+    input: &mut I,
+) -> Result<EditRules, NoRules> {
+    let bytes = rules_bytes(rt, alloc, input, options.rules)?;
+    match EditRules::read(alloc, &bytes, options.anchor, options.trials) {
+        Ok(rules) => Ok(rules),
+        Err(DocumentFault::Memory) => Err(NoRules::Fault(ProgramFault::Memory)),
+        Err(fault) => Err(NoRules::Refused(format!(in alloc; "{fault}\n")?)),
+    }
+}
+
+/// The rules that are given as lines.
+fn rules_of_lines(
+    alloc: Global,
+    options: &EditOptions<'_>,
+    lines: &RuleLines<'_>,
+) -> Result<EditRules, NoRules> {
+    let (definitions, rules) = rows_of(alloc, lines)?;
+    match EditRules::of_rows(alloc, definitions, rules, options.anchor, options.trials) {
+        Ok(rules) => Ok(rules),
+        Err(DocumentFault::Memory) => Err(NoRules::Fault(ProgramFault::Memory)),
+        Err(fault) => Err(NoRules::Refused(refused_lines(alloc, lines, fault)?)),
+    }
+}
+
+fn rules_for<R: Files, I: Read>(
+    rt: &R,
+    alloc: Global,
+    request: &EditRequest<'_>,
+    input: &mut I,
+) -> Result<EditRules, NoRules> {
+    if request.lines.rules.is_empty() {
+        return rules_of_file(rt, alloc, &request.options, input);
+    }
+    rules_of_lines(alloc, &request.options, &request.lines)
+}
+
+/// Edits the files, or shows what would become of them.
+fn edit<R: Files, W: Write, E: Write>(
+    rt: &R,
+    alloc: Global,
+    request: &EditRequest<'_>,
+    rules: &EditRules,
+    coloured: bool,
+    output: &mut W,
+    errors: &mut E,
+) -> Result<Tally, ProgramFault> {
+    let paths = request.paths.as_slice();
+    match request.options.purpose {
+        Purpose::Write => {
+            let sync = request.options.sync;
+            write_files(rt, alloc, rules, paths, sync, output, errors)
+        }
+        Purpose::Diff => {
+            let show = Show::Diff { coloured };
+            show_files(rt, alloc, rules, paths, show, output, errors)
+        }
+        Purpose::Check => show_files(rt, alloc, rules, paths, Show::Path, output, errors),
+    }
 }
 
 /// Edits files by rules and returns the status:
@@ -175,26 +265,20 @@ fn refuse_rules<E: Write>(errors: &mut E, fault: &DocumentFault) -> u8 {
 pub(crate) fn run_edit<R: Files, I: Read, W: Write, E: Write>(
     rt: &R,
     alloc: Global,
-    options: &EditOptions<'_>,
-    paths: &[&str],
+    request: &EditRequest<'_>,
     coloured: bool,
     input: &mut I,
     output: &mut W,
     errors: &mut E,
 ) -> Result<u8, ProgramFault> {
-    let bytes = rules_bytes(rt, alloc, input, options.rules)?;
-    let rules = match EditRules::read(alloc, &bytes, options.anchor, options.trials) {
+    let rules = match rules_for(rt, alloc, request, input) {
         Ok(rules) => rules,
-        Err(DocumentFault::Memory) => return Err(ProgramFault::Memory),
-        Err(fault) => return Ok(refuse_rules(errors, &fault)),
-    };
-    let tally = match options.purpose {
-        Purpose::Write => write_files(rt, alloc, &rules, paths, options.sync, output, errors)?,
-        Purpose::Diff => {
-            let show = Show::Diff { coloured };
-            show_files(rt, alloc, &rules, paths, show, output, errors)?
+        Err(NoRules::Fault(fault)) => return Err(fault),
+        Err(NoRules::Refused(text)) => {
+            let _printed = write_all(errors, text.as_bytes());
+            return Ok(BAD_RULES);
         }
-        Purpose::Check => show_files(rt, alloc, &rules, paths, Show::Path, output, errors)?,
     };
-    Ok(tally.status(options.purpose))
+    let tally = edit(rt, alloc, request, &rules, coloured, output, errors)?;
+    Ok(tally.status(request.options.purpose))
 }

@@ -26,6 +26,7 @@ mod edits;
 mod faults;
 mod program;
 mod rounds;
+mod rule_lines;
 mod searches;
 mod serve_command;
 mod serves;

@@ -86,9 +86,9 @@ fn run_request<
 ) -> Result<u8, ProgramFault> {
     match request {
         Request::Check(options) => run_check(rt, alloc, options, input, output),
-        Request::Edit { options, paths } => {
+        Request::Edit(edit) => {
             let coloured = output.is_terminal() && !is_set(rt, "NO_COLOR");
-            run_edit(rt, alloc, options, paths, coloured, input, output, errors)
+            run_edit(rt, alloc, edit, coloured, input, output, errors)
         }
         Request::Trace(options) => run_trace(rt, alloc, options, input, output, errors),
         Request::Serve(options) => run_serve(rt, alloc, options, input, output, errors),

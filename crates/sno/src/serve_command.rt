@@ -1,9 +1,11 @@
 //! The arguments of `sno serve`.
 ghost use Rattle.std.specs.Prelude.{◌≤◌};
+ghost use Rattle.sno_desk.specs.declared.desk.TheConstants.{MAX_SEATS, MAX_TRIES};
 ghost use Rattle.sno_statement.specs.Statement.{IsLimit};
 
 use crate::arguments::{is_up_to, number};
 use clap::{Arg, ArgAction, ArgMatches, Command};
+use sno_desk::{MAX_SEATS, MAX_TRIES};
 use sno_statement::MAX_TRIALS;
 use std::alloc::{AllocError, Global};
 
@@ -26,12 +28,6 @@ const DOCUMENT_HELP: &str = "The file of the document";
 
 const EXAMPLE: &str = "Example: sno serve --listing listing.json document.json";
 
-/// The most seats.
-const MAX_SEATS: u32 = 16;
-
-/// The most tries.
-const MAX_TRIES: u32 = 1_000;
-
 /// What is written if a number is not in its range.
 pub(crate) const SERVE_OUT_OF_RANGE: &str =
     "error: '--seats' takes 1 to 16, '--tries' 1 to 1000, and '--trials' 1 to 1000000000\n\nFor more information, try '--help'.\n";
@@ -49,8 +45,8 @@ pub(crate) struct ServeOptions<'a> {
     pub(crate) listing: Option<&'a str>,
     /// The file of the document.
     pub(crate) document: &'a str,
-    ghost few: { (1 ≤ seats) × (seats ≤ 16) },
-    ghost valid: { (1 ≤ tries) × (tries ≤ 1000) },
+    ghost few: { (1 ≤ seats) × (seats ≤ MAX_SEATS) },
+    ghost valid: { (1 ≤ tries) × (tries ≤ MAX_TRIES) },
     ghost limit: { IsLimit trials },
 }
 

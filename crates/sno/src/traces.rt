@@ -6,7 +6,7 @@ use crate::streams::write_all;
 use crate::trace_command::TraceOptions;
 use crate::trace_faults::NoTrace;
 use crate::trace_lines::{TraceLines, match_lines, pass_lines, round_lines};
-use sno_book::{Book, CommitFault, SnapshotFault, fresh_is_kin, propose};
+use sno_book::{Book, CommitFault, SnapshotFault, fresh_is_related, propose};
 use sno_document::{Document, DocumentFault, Mode, read_document};
 use sno_pattern::Text;
 use sno_statement::{Statement, StatementFault, USUAL_TRIALS};
@@ -42,7 +42,7 @@ fn advance(alloc: Global, book: &mut Book, statement: &Arc<Statement>) -> Result
         Err(StatementFault::TextTooLong) | Err(StatementFault::TooManyTrials) => return Ok(()),
     };
     // for the proof
-    fresh_is_kin();
+    fresh_is_related();
     match book.commit(proposal) {
         Ok(_) => Ok(()),
         Err((CommitFault::Memory, _)) => Err(AllocError),

@@ -90,10 +90,10 @@ pub keeps_more : (v : View) (p : Proposal) (old new : List StoredText) → Keeps
 keeps_more v p old new keeps f performed put as_many =
     let step = free_step v p old keeps f performed in
     record {
-      lawful = record {
-        opening = keeps.lawful.opening;
-        legal = legal_snoc (start v.opening) v.journal (entry_of p) keeps.lawful.legal step;
-        within = omega (arith, length-append v.journal (entry_of p ∷ []), keeps.lawful.within, f.room);
+      valid = record {
+        opening = keeps.valid.opening;
+        legal = legal_snoc (start v.opening) v.journal (entry_of p) keeps.valid.legal step;
+        within = omega (arith, length-append v.journal (entry_of p ∷ []), keeps.valid.within, f.room);
       };
       texts = put ∙ ap (λ (s : State). renew_by p.statement.text (after_of p.outcome) s) keeps.texts ∙ sym (replay_snoc (start v.opening) v.journal (entry_of p));
       as_many = as_many ∙ keeps.as_many;
@@ -136,7 +136,7 @@ version_small v stored k s keeps there =
 -- the version of a stored text may be raised
 pub version_rises : (v : View) (stored : List StoredText) (k : ℕ) (s : StoredText) → Keeps v stored → slice_get stored k ≡ Some s → s.version + 1 < 2 ^ 64
 version_rises v stored k s keeps there =
-    let small = version_small v stored k s keeps there in omega (arith, small, keeps.lawful.within, keeps.lawful.opening.room)
+    let small = version_small v stored k s keeps there in omega (arith, small, keeps.valid.within, keeps.valid.opening.room)
 
 place_is : (v : View) (p : Proposal) (place : ℕ) (b : Bool) → b ≡ true → cond b (beside v p (slice_get (state_of v) place)) (Some NoText) ≡ beside v p (slice_get (state_of v) place)
 place_is v p place true h = refl
@@ -168,7 +168,7 @@ first_many texts stored h =
 pub keeps_first : (opening : Opening) (stored : List StoredText) → IsOpening opening → contents stored ≡ first_contents opening.texts
     → Keeps (record { opening = opening; journal = [] }) stored
 keeps_first opening stored is_opening h = record {
-  lawful = record { opening = is_opening; legal = tt; within = omega arith };
+  valid = record { opening = is_opening; legal = tt; within = omega arith };
   texts = held_first opening.texts opening.room stored h;
   as_many = first_many opening.texts stored h;
 }

@@ -7,7 +7,7 @@ use Rattle.sno_statement.specs.Perform.{perform}
 use Rattle.sno_book.specs.States.{VersionedText, State}
 use Rattle.sno_book.specs.Entries.{Entry}
 use Rattle.sno_book.specs.Openings.{names_in, start, place_in}
-use Rattle.sno_book.specs.Views.{View, IsLawful, Kin, state_of, and_then}
+use Rattle.sno_book.specs.Views.{View, IsValid, AreRelated, state_of, and_then}
 use Rattle.sno_book.specs.Books.{Book, view_of}
 use Rattle.sno_book.specs.Origins.{Stands, IsPerformed}
 use Rattle.sno_book.specs.Proposals.{Proposal, Receipt, entry_of}
@@ -18,7 +18,7 @@ use Rattle.sno_book.specs.declared.versioned_texts.VersionedText.{VersionedText 
 use Rattle.sno_book.proofs.Places.{StandsAt, stands_at, same_is}
 use Rattle.sno_book.proofs.Steps.{replay_snoc}
 use Rattle.sno_book.proofs.BookLaws.{IsFree, free, free_step, place_inside, refusal_there, stands_there}
-use Rattle.sno_book.proofs.Rising.{versions_count_entries, kin_agree}
+use Rattle.sno_book.proofs.Rising.{versions_count_entries, related_agree}
 use Rattle.sno_book.proofs.Fresh.{chosen, not_full}
 use Rattle.sno_book.proofs.Named.{placed_at}
 
@@ -49,8 +49,8 @@ fits v p stored keeps unrefused =
     record {
       text = f.versioned.text;
       there = f.there ∙ (λ i. Some (record { name = named i; text = f.versioned.text; version = sym f.version i }));
-      room = omega (arith, keeps.lawful.within, f.room);
-      rises = omega (arith, count, f.version, keeps.lawful.within, keeps.lawful.opening.room);
+      room = omega (arith, keeps.valid.within, f.room);
+      rises = omega (arith, count, f.version, keeps.valid.within, keeps.valid.opening.room);
     }
 
 -- and nothing refuses one that fits
@@ -59,7 +59,7 @@ fits_free v p stored keeps h =
     let names = names_in v.opening.texts in
     let versioned : VersionedText = record { name = p.statement.text; text = h.text; version = p.version } in
     let there : slice_get (with_names names stored) p.place ≡ Some versioned = ap (λ (s : State). slice_get s p.place) keeps.texts ∙ h.there in
-    let apart = (repeats_are_found names).0 keeps.lawful.opening.apart in
+    let apart = (repeats_are_found names).0 keeps.valid.opening.apart in
     let placed : place_in v.opening p.statement.text ≡ Some p.place = placed_at p.place p.statement.text names apart (name_there p.place names stored versioned there) in
     refusal_there v p p.place versioned placed refl h.there
     ∙ chosen (nat_eq p.version p.version) (full v) (Changed p.version p.version) (eq-eqb p.version p.version refl)
@@ -72,17 +72,17 @@ place_free b book p stored equal keeps none =
 
 -- the text in the book is the one that the proposal's statement was performed on
 pub stands_still : (b book : Book) (p : Proposal) (stored : List StoredText) (s : StoredText) → b ≡ book → Keeps (view_of b) stored → refusal (view_of book) p ≡ None
-    → Kin p.origin (view_of book) → IsPerformed p.origin p.place p.version p.statement p.outcome → slice_get stored p.place ≡ Some s
+    → AreRelated p.origin (view_of book) → IsPerformed p.origin p.place p.version p.statement p.outcome → slice_get stored p.place ≡ Some s
     → Stands p.origin p.place p.version (arc_value s.text)
-stands_still b book p stored s equal keeps none kin performed at =
+stands_still b book p stored s equal keeps none related performed at =
     let f = free (view_of b) p (ap (λ (c : Book). refusal (view_of c) p) equal ∙ none) in
     let there = stands_there b stored p.statement.text p.place s keeps f.placed at in
     let is : f.versioned ≡ record { name = p.statement.text; text = arc_value s.text; version = s.version } = cc in
-    let here : Kin p.origin (view_of b) = subst (λ (c : Book). Kin p.origin (view_of c)) (sym equal) kin in
+    let here : AreRelated p.origin (view_of b) = subst (λ (c : Book). AreRelated p.origin (view_of c)) (sym equal) related in
     let before : VersionedText = record { name = performed.stands.name; text = performed.text; version = p.version } in
     let now : VersionedText = record { name = p.statement.text; text = arc_value s.text; version = s.version } in
     let text : performed.text ≡ arc_value s.text =
-    kin_agree p.origin (view_of b) here p.place before now performed.stands.there there (f.version ∙ ap (λ (x : VersionedText). x.version) is) in
+    related_agree p.origin (view_of b) here p.place before now performed.stands.there there (f.version ∙ ap (λ (x : VersionedText). x.version) is) in
     subst (λ (t : List ℕ). Stands p.origin p.place p.version t) text performed.stands
 
 pub fits_still : (b book : Book) (p ready : Proposal) (stored : List StoredText) (journal : List Entry) → b ≡ book → ready ≡ p → journal ≡ b.journal → Keeps (view_of b) stored
@@ -95,16 +95,16 @@ fits_still b book p ready stored journal same holds still keeps none =
 
 -- a proposal that was prepared, and a book that it fits
 module _ (b book : Book) (p ready : Proposal) (stored : List StoredText) (text : List ℕ) (equal : b ≡ book) (holds : p ≡ ready) (keeps : Keeps (view_of b) stored)
-    (fit : Fits (view_of book) ready) (kin : Kin ready.origin (view_of book)) (stands : Stands p.origin p.place p.version text) (performed : perform p.statement text ≡ Ok p.outcome) where
+    (fit : Fits (view_of book) ready) (related : AreRelated ready.origin (view_of book)) (stands : Stands p.origin p.place p.version text) (performed : perform p.statement text ≡ Ok p.outcome) where
   fit_here : Fits (view_of b) p
   fit_here =
       let here : Fits (view_of b) ready = subst (λ (c : Book). Fits (view_of c) ready) (sym equal) fit in
       subst (λ (q : Proposal). Fits (view_of b) q) (sym holds) here
 
-  kin_here : Kin p.origin (view_of b)
-  kin_here =
-      let here : Kin ready.origin (view_of b) = subst (λ (c : Book). Kin ready.origin (view_of c)) (sym equal) kin in
-      subst (λ (q : Proposal). Kin q.origin (view_of b)) (sym holds) here
+  related_here : AreRelated p.origin (view_of b)
+  related_here =
+      let here : AreRelated ready.origin (view_of b) = subst (λ (c : Book). AreRelated ready.origin (view_of c)) (sym equal) related in
+      subst (λ (q : Proposal). AreRelated q.origin (view_of b)) (sym holds) here
 
   none_here : refusal (view_of b) p ≡ None
   none_here = fits_free (view_of b) p stored keeps fit_here
@@ -117,7 +117,7 @@ module _ (b book : Book) (p ready : Proposal) (stored : List StoredText) (text :
   pub performed_here : perform p.statement free_here.versioned.text ≡ Ok p.outcome
   performed_here =
       let before : VersionedText = record { name = stands.name; text = text; version = p.version } in
-      let agree : text ≡ free_here.versioned.text = kin_agree p.origin (view_of b) kin_here p.place before free_here.versioned stands.there free_here.there free_here.version in
+      let agree : text ≡ free_here.versioned.text = related_agree p.origin (view_of b) related_here p.place before free_here.versioned stands.there free_here.there free_here.version in
       ap (λ (t : List ℕ). perform p.statement t) (sym agree) ∙ performed
 
   -- and so it is accepted
@@ -128,7 +128,7 @@ module _ (b book : Book) (p ready : Proposal) (stored : List StoredText) (text :
       let appended : record { opening = v.opening; journal = journal } ≡ and_then v (entry_of p) = ap (λ (j : List Entry). record { opening = v.opening; journal = j }) grown in
       let before : VersionedText = record { name = stands.name; text = text; version = p.version } in
       let now : VersionedText = record { name = p.statement.text; text = fit_here.text; version = p.version } in
-      let agree : text ≡ fit_here.text = kin_agree p.origin v kin_here p.place before now stands.there fit_here.there refl in
+      let agree : text ≡ fit_here.text = related_agree p.origin v related_here p.place before now stands.there fit_here.there refl in
       let given_text : text ≡ given.text = sym (ap (λ (r : Receipt). r.text) received) in
       let is : IsAccepted v (record { opening = b.opening; journal = journal }) p given = record {
         free = none_here;
@@ -145,9 +145,9 @@ module _ (b book : Book) (p ready : Proposal) (stored : List StoredText) (text :
       subst (λ (q : Proposal). IsAccepted (view_of book) (record { opening = b.opening; journal = journal }) q given) holds at_book
 
 -- a current text of a book
-pub stands_in : (book : Book) (origin : View) (name taken text : List ℕ) (place version : ℕ) → origin ≡ view_of book → IsLawful (view_of book) → text ≡ taken
+pub stands_in : (book : Book) (origin : View) (name taken text : List ℕ) (place version : ℕ) → origin ≡ view_of book → IsValid (view_of book) → text ≡ taken
     → slice_get (state_of (view_of book)) place ≡ Some (record { name = name; text = taken; version = version }) → Stands origin place version text
-stands_in book origin name taken text place version from lawful same_text there =
-    let here : Stands (view_of book) place version taken = record { lawful = lawful; name = name; there = there } in
+stands_in book origin name taken text place version from valid same_text there =
+    let here : Stands (view_of book) place version taken = record { valid = valid; name = name; there = there } in
     let at : Stands origin place version taken = subst (λ (v : View). Stands v place version taken) (sym from) here in
     subst (λ (t : List ℕ). Stands origin place version t) (sym same_text) at

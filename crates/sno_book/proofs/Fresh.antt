@@ -6,8 +6,8 @@ use Rattle.sno_statement.specs.Statement.{Statement}
 use Rattle.sno_book.specs.Openings.{place_in}
 use Rattle.sno_book.specs.States.{VersionedText}
 use Rattle.sno_book.specs.Commits.{full}
-use Rattle.sno_book.specs.Views.{View, Kin}
-use Rattle.sno_book.specs.Laws.{FreshIsFree, FreshIsKin}
+use Rattle.sno_book.specs.Views.{View, AreRelated}
+use Rattle.sno_book.specs.Laws.{FreshIsFree, FreshIsRelated}
 use Rattle.sno_book.specs.declared.faults.CommitFault.{CommitFault}
 use Rattle.sno_book.specs.declared.faults.CommitFault.TheVariants.{Changed, Full}
 use Rattle.sno_book.proofs.BookLaws.{refusal_there}
@@ -36,8 +36,8 @@ fresh_is_free v snapshot s p taken proposed room =
     ∙ not_full (length v.journal) v.opening.room (nat_eq (length v.journal) v.opening.room) refl room
 
 -- a view begins itself
-pub kin_self : (one other : View) → one ≡ other → Kin one other
-kin_self one other equal = inl (record { opening = ap (λ (v : View). v.opening) (sym equal); more = []; journal = ap (λ (v : View). v.journal) (sym equal) ∙ sym (append-nil one.journal) })
+pub related_self : (one other : View) → one ≡ other → AreRelated one other
+related_self one other equal = inl (record { opening = ap (λ (v : View). v.opening) (sym equal); more = []; journal = ap (λ (v : View). v.journal) (sym equal) ∙ sym (append-nil one.journal) })
 
-pub fresh_is_kin : FreshIsKin
-fresh_is_kin v snapshot s p taken proposed = kin_self p.origin v (proposed.origin ∙ taken.origin)
+pub fresh_is_related : FreshIsRelated
+fresh_is_related v snapshot s p taken proposed = related_self p.origin v (proposed.origin ∙ taken.origin)

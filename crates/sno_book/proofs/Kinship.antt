@@ -6,15 +6,15 @@ use Rattle.sno_statement.specs.Statement.{Statement}
 use Rattle.sno_statement.specs.declared.outcomes.StatementFault.{StatementFault}
 use Rattle.sno_book.specs.Books.{Book, view_of}
 use Rattle.sno_book.specs.Entries.{Entry}
-use Rattle.sno_book.specs.Views.{View, IsPrefix, Kin, and_then}
+use Rattle.sno_book.specs.Views.{View, IsPrefix, AreRelated, and_then}
 use Rattle.sno_book.specs.Commits.{GivesSnapshot, IsReady, IsRefused}
 use Rattle.sno_book.specs.Proposals.{Proposal, GivesProposal}
 use Rattle.sno_book.specs.Snapshots.{Snapshot}
 use Rattle.sno_book.specs.declared.faults.CommitFault.{CommitFault}
 use Rattle.sno_book.specs.declared.faults.SnapshotFault.{SnapshotFault}
 
-pub is_kin : (v w : View) → IsPrefix v w → Kin v w
-is_kin v w begins = inl begins
+pub is_related : (v w : View) → IsPrefix v w → AreRelated v w
+is_related v w begins = inl begins
 
 pub of_snapshot : (r : Result Snapshot SnapshotFault) (v : View) (name : List ℕ) → GivesSnapshot r v name → IfOk r (λ s. s.origin ≡ v)
 of_snapshot (Ok s) v name given = given.origin
@@ -50,5 +50,5 @@ still before after p back e begins refused = moved before after p back refused.u
 pub held : (before after : Book) (p ready : Proposal) → IsPrefix p.origin (view_of before) → IsReady before after p ready → IsPrefix ready.origin (view_of after)
 held before after p ready begins done = moved (view_of before) (view_of after) p ready done.unchanged done.holds begins
 
-pub kin_after : (before after : Book) (p ready : Proposal) → IsPrefix p.origin (view_of before) → IsReady before after p ready → Kin ready.origin (view_of after)
-kin_after before after p ready begins done = inl (held before after p ready begins done)
+pub related_after : (before after : Book) (p ready : Proposal) → IsPrefix p.origin (view_of before) → IsReady before after p ready → AreRelated ready.origin (view_of after)
+related_after before after p ready begins done = inl (held before after p ready begins done)

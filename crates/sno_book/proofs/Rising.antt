@@ -6,7 +6,7 @@ use Rattle.sno_book.specs.Entries.{Entry, after_of}
 use Rattle.sno_book.specs.Journals.{step, replay}
 use Rattle.sno_book.specs.Openings.{Opening, start}
 use Rattle.sno_book.specs.Views.{View, IsPrefix, state_of}
-use Rattle.sno_book.specs.Laws.{OnlyRises, VersionsOnlyRise, VersionsOnlyRiseInPlace, KinAgree, VersionsCountEntries}
+use Rattle.sno_book.specs.Laws.{OnlyRises, VersionsOnlyRise, VersionsOnlyRiseInPlace, RelatedAgree, VersionsCountEntries}
 use Rattle.sno_book.proofs.Steps.{VersionsBelow, below_replayed, below_started}
 
 -- what is found after a step: the text that was found before it, or one whose version is one higher
@@ -88,9 +88,9 @@ pub versions_only_rise_in_place : VersionsOnlyRiseInPlace
 versions_only_rise_in_place earlier later prefix place before after h g =
     rises_there place (state_of earlier) prefix.more before after h (ap (λ (s : State). slice_get s place) (sym (later_state earlier later prefix)) ∙ g)
 
-pub kin_agree : KinAgree
-kin_agree one other (inl prefix) place text its there its_there same = (versions_only_rise_in_place one other prefix place text its there its_there).text same
-kin_agree one other (inr prefix) place text its there its_there same = sym ((versions_only_rise_in_place other one prefix place its text its_there there).text (sym same))
+pub related_agree : RelatedAgree
+related_agree one other (inl prefix) place text its there its_there same = (versions_only_rise_in_place one other prefix place text its there its_there).text same
+related_agree one other (inr prefix) place text its there its_there same = sym ((versions_only_rise_in_place other one prefix place its text its_there there).text (sym same))
 
 below_at : (n k : ℕ) (state : State) (versioned : VersionedText) → slice_get state k ≡ Some versioned → VersionsBelow n state → versioned.version ≤ n
 below_at n k [] versioned there h = cc

@@ -5,7 +5,7 @@ use Rattle.sno_book.specs.Proposals.{Proposal, Proposes}
 use Rattle.sno_book.specs.Commits.{IsSnapshot, refusal}
 use Rattle.sno_book.specs.Snapshots.{Snapshot}
 use Rattle.sno_book.specs.States.{VersionedText, find}
-use Rattle.sno_book.specs.Views.{View, IsPrefix, Kin, state_of}
+use Rattle.sno_book.specs.Views.{View, IsPrefix, AreRelated, state_of}
 
 -- a text's version is no higher after the earlier view than after the later one; if it is the same, so are the
 -- characters
@@ -23,8 +23,8 @@ VersionsOnlyRiseInPlace = (earlier later : View) → IsPrefix earlier later → 
     → slice_get (state_of later) place ≡ Some after → OnlyRises before after
 
 -- if one of two views begins the other, the texts at one place with the same version have the same characters
-abbrev pub KinAgree : Type 0
-KinAgree = (one other : View) → Kin one other → (place : ℕ) (text its : VersionedText) → slice_get (state_of one) place ≡ Some text
+abbrev pub RelatedAgree : Type 0
+RelatedAgree = (one other : View) → AreRelated one other → (place : ℕ) (text its : VersionedText) → slice_get (state_of one) place ≡ Some text
     → slice_get (state_of other) place ≡ Some its → text.version ≡ its.version → text.text ≡ its.text
 
 -- no text has a version above the number of entries
@@ -37,5 +37,5 @@ FreshIsFree = (v : View) (snapshot : Snapshot) (s : Statement) (p : Proposal) �
     → refusal v p ≡ None
 
 -- and its view is the book's
-abbrev pub FreshIsKin : Type 0
-FreshIsKin = (v : View) (snapshot : Snapshot) (s : Statement) (p : Proposal) → IsSnapshot v s.text snapshot → Proposes p s snapshot → Kin p.origin v
+abbrev pub FreshIsRelated : Type 0
+FreshIsRelated = (v : View) (snapshot : Snapshot) (s : Statement) (p : Proposal) → IsSnapshot v s.text snapshot → Proposes p s snapshot → AreRelated p.origin v

@@ -2,7 +2,7 @@
 use Rattle.std.specs.Prelude.{◌≡◌, ℕ, List, [], ◌∷◌, Some, Ok, slice_get}
 use Rattle.sno_statement.specs.Statement.{Statement}
 use Rattle.sno_statement.specs.Perform.{Outcome, perform}
-use Rattle.sno_book.specs.Views.{View, IsLawful, state_of}
+use Rattle.sno_book.specs.Views.{View, IsValid, state_of}
 use Rattle.sno_book.specs.Books.{Book, view_of}
 
 -- a view as a book that keeps no memory
@@ -16,7 +16,7 @@ first_view (b ∷ books) = view_of b
 
 -- the view is valid, and after it the text at this place has this version and these characters
 pub record Stands (v : View) (place version : ℕ) (text : List ℕ) : Type 0 where
-  pub lawful : IsLawful v
+  pub valid : IsValid v
   pub name : List ℕ
   pub there : slice_get (state_of v) place ≡ Some (record { name = name; text = text; version = version })
 

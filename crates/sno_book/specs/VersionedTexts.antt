@@ -3,7 +3,7 @@ use Rattle.std.specs.Prelude.{◌≡◌, ℕ, List, [], ◌∷◌, length}
 use Rattle.std.specs.Arc.{arc_value}
 use Rattle.sno_book.specs.States.{State}
 use Rattle.sno_book.specs.Openings.{names_in}
-use Rattle.sno_book.specs.Views.{View, IsLawful, state_of}
+use Rattle.sno_book.specs.Views.{View, IsValid, state_of}
 use Rattle.sno_book.specs.declared.versioned_texts.VersionedText.{VersionedText as StoredText}
 
 -- these texts, each with the name at its place
@@ -14,6 +14,6 @@ with_names (name ∷ names) (s ∷ stored) = record { name = name; text = arc_va
 
 -- the view is valid, and the stored texts are what its entries leave
 pub record Keeps (v : View) (stored : List StoredText) : Type 0 where
-  pub lawful : IsLawful v
+  pub valid : IsValid v
   pub texts : with_names (names_in v.opening.texts) stored ≡ state_of v
   pub as_many : length stored ≡ length v.opening.texts

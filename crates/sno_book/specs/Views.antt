@@ -19,7 +19,7 @@ abbrev pub state_of : View → State
 state_of v = replay (start v.opening) v.journal
 
 -- each entry is a step from the texts after those before it, and there is room for all entries
-pub record IsLawful (v : View) : Type 0 where
+pub record IsValid (v : View) : Type 0 where
   pub opening : IsOpening v.opening
   pub legal : Legal (start v.opening) v.journal
   pub within : length v.journal ≤ v.opening.room
@@ -31,8 +31,8 @@ pub record IsPrefix (earlier later : View) : Type 0 where
   pub journal : later.journal ≡ earlier.journal ++ more
 
 -- one of the two views begins the other
-abbrev pub Kin : View → View → Type 0
-Kin one other = IsPrefix one other ⊎ IsPrefix other one
+abbrev pub AreRelated : View → View → Type 0
+AreRelated one other = IsPrefix one other ⊎ IsPrefix other one
 
 -- one entry more
 abbrev pub and_then : View → Entry → View

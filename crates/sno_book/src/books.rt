@@ -4,7 +4,7 @@ ghost use Rattle.std.specs.Option.{option_map};
 ghost use Rattle.std.specs.Arc.{arc_value};
 ghost use Rattle.sno_book.specs.Openings.{place_in};
 ghost use Rattle.sno_book.specs.States.{find};
-ghost use Rattle.sno_book.specs.Views.{IsLawful, Kin, state_of};
+ghost use Rattle.sno_book.specs.Views.{IsValid, AreRelated, state_of};
 ghost use Rattle.sno_book.specs.Books.{OpensBook, view_of};
 ghost use Rattle.sno_book.specs.Commits.{GivesSnapshot, IsAccepted, IsRefused, IsReady, Fits, beside, refusal};
 ghost use Rattle.sno_book.specs.declared.openings.TheConstants.{MAX_ENTRIES};
@@ -72,7 +72,7 @@ impl Book {
     /// The journal, in the order in which its entries were accepted.
     pub fn journal(&self) -> &[Entry]
         ensures journal { result.now ≡ self.now.journal }
-        ensures lawful { IsLawful (view_of self.now) }
+        ensures valid { IsValid (view_of self.now) }
     {
         self.journal.as_slice()
     }
@@ -187,7 +187,7 @@ impl Book {
     /// Refused as [`Book::commit`] refuses, in its order. After each refusal the book is as it was, and so is the
     /// memory that it keeps. The same proposal comes back.
     pub fn prepare(&mut self, proposal: Proposal) -> Result<Ready, (CommitFault, Proposal)>
-        requires { Kin proposal.origin (view_of self.old) }
+        requires { AreRelated proposal.origin (view_of self.old) }
         ensures ready { IfOk result (λ ready. IsReady self.old self.new proposal ready) }
         ensures refused { IfErr result (λ r. IsRefused (view_of self.old) (view_of self.new) proposal r.1 r.0) }
         ensures same { OnErr result (self.new ≡ self.old) }
@@ -221,7 +221,7 @@ impl Book {
     pub fn finish(&mut self, ready: Ready) -> Receipt
         requires kept { 0 < self.old.spare }
         requires fits { Fits (view_of self.old) ready }
-        requires kin { Kin ready.origin (view_of self.old) }
+        requires related { AreRelated ready.origin (view_of self.old) }
         ensures accepted { IsAccepted (view_of self.old) (view_of self.new) ready result }
         ensures spare { self.new.spare + 1 ≡ self.old.spare }
     {
@@ -248,7 +248,7 @@ impl Book {
     ///
     /// After each the book is as it was, and the same proposal comes back.
     pub fn commit(&mut self, proposal: Proposal) -> Result<Receipt, (CommitFault, Proposal)>
-        requires { Kin proposal.origin (view_of self.old) }
+        requires { AreRelated proposal.origin (view_of self.old) }
         ensures accepted { IfOk result (λ receipt. IsAccepted (view_of self.old) (view_of self.new) proposal receipt) }
         ensures refused { IfErr result (λ r. IsRefused (view_of self.old) (view_of self.new) proposal r.1 r.0) }
         ensures same { OnErr result (self.new ≡ self.old) }

@@ -1,5 +1,5 @@
 //! Laws of the definitions, for callers that build on a book. The functions do nothing; each contract is the law.
-ghost use Rattle.sno_book.specs.Laws.{VersionsOnlyRise, VersionsOnlyRiseInPlace, KinAgree, VersionsCountEntries, FreshIsFree, FreshIsKin};
+ghost use Rattle.sno_book.specs.Laws.{VersionsOnlyRise, VersionsOnlyRiseInPlace, RelatedAgree, VersionsCountEntries, FreshIsFree, FreshIsRelated};
 
 /// In a later view each text has a version that is no lower. If the version is the same, so are the characters.
 #[tactic(auto, using(crate::proofs::Rising::versions_only_rise))]
@@ -14,9 +14,9 @@ pub fn versions_only_rise_in_place()
 {}
 
 /// If one of two views begins the other, the texts at one place with the same version have the same characters.
-#[tactic(auto, using(crate::proofs::Rising::kin_agree))]
-pub fn kin_agree()
-    ensures { KinAgree }
+#[tactic(auto, using(crate::proofs::Rising::related_agree))]
+pub fn related_agree()
+    ensures { RelatedAgree }
 {}
 
 /// A version rises only with an entry, so no version is above the number of entries.
@@ -33,7 +33,7 @@ pub fn fresh_is_free()
 {}
 
 /// A proposal on a snapshot of the book as it is now has the book's view.
-#[tactic(auto, using(crate::proofs::Fresh::fresh_is_kin))]
-pub fn fresh_is_kin()
-    ensures { FreshIsKin }
+#[tactic(auto, using(crate::proofs::Fresh::fresh_is_related))]
+pub fn fresh_is_related()
+    ensures { FreshIsRelated }
 {}

@@ -22,13 +22,13 @@
 //!   changes only the memory that the book keeps.
 //! - **The version decides.** A [`Snapshot`] and a [`Proposal`] keep the view from which they come, an opening with the
 //!   entries that followed it, without bytes ([`Origin`]). A commit requires that the proposal's view begins the book's
-//!   view, or the other way round (`Kin`, `specs/Views.antt`). If a text has one version after both, it has the same
-//!   characters ([`kin_agree`]), so no characters are compared.
+//!   view, or the other way round (`AreRelated`, `specs/Views.antt`). If a text has one version after both, it has the same
+//!   characters ([`related_agree`]), so no characters are compared.
 //! - **Nothing is made up.** By its type a [`Proposal`]'s outcome is what its statement does to the text at its place
 //!   after its view. The outcome of a [`Receipt`]'s entry is what the statement does to the receipt's text.
 //! - **Receipts can be audited.** [`Book::audit`] compares entries by value, wherever they lie in memory.
-//! - **Laws**: [`versions_only_rise`], [`versions_only_rise_in_place`], [`kin_agree`], [`versions_count_entries`],
-//!   [`fresh_is_free`], [`fresh_is_kin`] (`specs/Laws.antt`).
+//! - **Laws**: [`versions_only_rise`], [`versions_only_rise_in_place`], [`related_agree`], [`versions_count_entries`],
+//!   [`fresh_is_free`], [`fresh_is_related`] (`specs/Laws.antt`).
 //!
 //! What each file has:
 //!
@@ -66,7 +66,7 @@ pub use books::Book;
 pub use entries::{Entry, Receipt};
 pub use faults::{BookFault, CommitFault, SnapshotFault};
 pub use laws::{
-    fresh_is_free, fresh_is_kin, kin_agree, versions_count_entries, versions_only_rise,
+    fresh_is_free, fresh_is_related, related_agree, versions_count_entries, versions_only_rise,
     versions_only_rise_in_place,
 };
 pub use openings::{MAX_ENTRIES, MAX_TEXTS, Opening};

@@ -1,7 +1,9 @@
 //! Reading patterns and objects, with what to write instead of one that can't be read.
 
 use crate::vocabulary::{RESERVED, Vocabulary};
-use sno_findings::{Collector, Whose, around, nearest, place_of, reading_advice, shown, text_of};
+use sno_findings::{
+    Collector, Whose, around, habit_advice, nearest, place_of, reading_advice, shown, text_of,
+};
 use sno_pattern::{Pattern, is_name_char};
 use sno_read::{Object, ReadFault, read_object, read_pattern};
 use std::alloc::{AllocError, Global};
@@ -47,6 +49,26 @@ fn advice_of_unknown(
     )
 }
 
+/// What to write instead of what has this fault: first for what other languages write.
+fn advice_in(
+    findings: &Collector,
+    vocabulary: &Vocabulary<'_>,
+    whose: Whose,
+    written: &str,
+    fault: &ReadFault,
+) -> Result<String, AllocError> {
+    let is_object = whose.is_object();
+    if let Some(advice) = habit_advice(is_object, fault, written) {
+        return String::from_str(findings.alloc, advice);
+    }
+    match fault {
+        ReadFault::UnknownName(place) => {
+            advice_of_unknown(findings, vocabulary, word_at(written, *place))
+        }
+        _ => String::from_str(findings.alloc, reading_advice(is_object, fault, written)),
+    }
+}
+
 /// An expression that can't be read. An unknown name is no fault of its own if a definition's name can't be used.
 fn refuse(
     findings: &mut Collector,
@@ -59,13 +81,8 @@ fn refuse(
     let place = place_of(&fault);
     let advice = match fault {
         ReadFault::Memory => return Err(AllocError),
-        ReadFault::UnknownName(_) => {
-            if !vocabulary.is_whole {
-                return Ok(());
-            }
-            advice_of_unknown(findings, vocabulary, word_at(written, place))?
-        }
-        _ => String::from_str(alloc, reading_advice(whose.is_object(), &fault, written))?,
+        ReadFault::UnknownName(_) if !vocabulary.is_whole => return Ok(()),
+        _ => advice_in(findings, vocabulary, whose, written, &fault)?,
     };
     let excerpt = around(alloc, written, 0, place)?;
     findings.refuse(whose.fault(fault), Some(excerpt), advice)

@@ -2,7 +2,7 @@
 
 use json::Value;
 use sno_findings::{Collector, Place, nearest, shown};
-use std::alloc::AllocError;
+use std::alloc::{AllocError, Global};
 
 /// A kind of object of a document.
 #[derive(Clone, Copy, Debug, PartialEq, Eq)]
@@ -43,6 +43,30 @@ impl Kind {
     }
 }
 
+/// The member that is called so elsewhere.
+fn called_elsewhere(kind: Kind, name: &str) -> Option<&'static str> {
+    match (kind, name) {
+        (Kind::Document, "definitions" | "rules") => Some("patterns"),
+        (Kind::Document, "files" | "documents" | "subjects") => Some("texts"),
+        (Kind::Document, "edits" | "steps") => Some("statements"),
+        (Kind::Definition, "body" | "definition" | "value") => Some("pattern"),
+        (Kind::Text, "content" | "contents" | "body" | "value") => Some("text"),
+        (Kind::Statement, "replacement" | "replace" | "with" | "to") => Some("object"),
+        (Kind::Statement, "find" | "match" | "search" | "regex") => Some("pattern"),
+        (Kind::Statement, "subject" | "name" | "file") => Some("text"),
+        (Kind::Statement, "global" | "every") => Some("all"),
+        _ => None,
+    }
+}
+
+/// The member that is probably meant.
+fn meant_by(alloc: Global, kind: Kind, name: &str) -> Result<Option<&'static str>, AllocError> {
+    match called_elsewhere(kind, name) {
+        Some(member) => Ok(Some(member)),
+        None => nearest(alloc, name, kind.members()),
+    }
+}
+
 fn is_among(word: &str, words: &[&str]) -> bool {
     words.iter().any(|other| *other == word)
 }
@@ -56,9 +80,12 @@ fn warn_of_unknown(
     let alloc = findings.alloc;
     let word = shown(alloc, name)?;
     let called = kind.called();
-    let message = match nearest(alloc, name, kind.members())? {
+    let message = match meant_by(alloc, kind, name)? {
         Some(meant) => format!(in alloc;
             "'{word}' is no member of {called}; did you mean '{meant}'?"
+        )?,
+        None if name == "trials" || name == "limit" => format!(in alloc;
+            "'{word}' is no member of {called}; the option --trials sets the limit of a run"
         )?,
         None => {
             let listed = kind.listed();

@@ -134,6 +134,7 @@ fn check_object<'t>(
         range: _,
         escape: _,
         repeats_rounds: _,
+        is_ambiguous: _,
         blocked: _,
     } = facts;
     let reached = surroundings.reach.from(references);

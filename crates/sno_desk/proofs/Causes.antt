@@ -8,11 +8,11 @@ use Rattle.sno_book.specs.Entries.{Entry}
 use Rattle.sno_book.specs.Journals.{HasStep, Legal, replay}
 use Rattle.sno_book.specs.Openings.{Opening, start, place_in}
 use Rattle.sno_book.specs.Origins.{IsPerformed}
-use Rattle.sno_book.specs.Views.{View, IsLawful, Kin, state_of}
+use Rattle.sno_book.specs.Views.{View, IsValid, AreRelated, state_of}
 use Rattle.sno_book.specs.States.{VersionedText, State, find}
 use Rattle.sno_book.specs.Commits.{IsAccepted, IsRefused, refusal, at_place, beside, full}
 use Rattle.sno_book.specs.Proposals.{Proposal, Receipt, entry_of}
-use Rattle.sno_book.specs.Laws.{KinAgree, VersionsCountEntries}
+use Rattle.sno_book.specs.Laws.{RelatedAgree, VersionsCountEntries}
 use Rattle.sno_book.specs.declared.faults.CommitFault.{CommitFault as BookRefusal}
 use Rattle.sno_book.specs.declared.faults.CommitFault.TheVariants as fault
 use Rattle.sno_book.proofs.BookLaws.{free}
@@ -102,15 +102,15 @@ cause before after p back e opening seen refused opens is =
     by_cause fault.Memory h m = m refl
 
 -- the version that a refusal names is one that a text can have
-pub named : (before after : View) (p back : Proposal) (e : BookRefusal) (seats accepted total : ℕ) → IsRefused before after p back e → IsLawful before → VersionsCountEntries
+pub named : (before after : View) (p back : Proposal) (e : BookRefusal) (seats accepted total : ℕ) → IsRefused before after p back e → IsValid before → VersionsCountEntries
     → (seats ≡ 1 → accepted ≡ total) → length before.journal ≡ total → NamesVersion seats accepted (of_book e)
-named before after p back (fault.Changed seen now) seats accepted total refused lawful law alone counted =
+named before after p back (fault.Changed seen now) seats accepted total refused valid law alone counted =
     by_refusal before p (λ d. NamesVersion seats accepted (of_book d)) (λ _. tt) (λ _ _ _ _. tt)
     (λ held there differ.
     let small = law before p.place held there in
-    record { within = omega (arith, small, lawful.within, lawful.opening.room); alone = λ one. let all = alone one in omega (arith, small, all, counted) })
+    record { within = omega (arith, small, valid.within, valid.opening.room); alone = λ one. let all = alone one in omega (arith, small, all, counted) })
     (fault.Changed seen now) (refused.cause (λ q. cc))
-named before after p back e seats accepted total refused lawful law alone counted = tt
+named before after p back e seats accepted total refused valid law alone counted = tt
 
 -- and so is the one that a submit returns
 pub spent : (seats accepted : ℕ) (e : CommitFault) → NamesVersion seats accepted e → SpentAt seats accepted (of_commit e)
@@ -120,13 +120,13 @@ spent seats accepted e h = tt
 -- ---- views
 
 -- a proposal that nothing refuses has a step
-pub has_step : (v : View) (p : Proposal) → refusal v p ≡ None → IsPerformed p.origin p.place p.version p.statement p.outcome → Kin p.origin v → KinAgree → HasStep (state_of v) (entry_of p)
-has_step v p none performed kin law =
+pub has_step : (v : View) (p : Proposal) → refusal v p ≡ None → IsPerformed p.origin p.place p.version p.statement p.outcome → AreRelated p.origin v → RelatedAgree → HasStep (state_of v) (entry_of p)
+has_step v p none performed related law =
     let is_free = free v p none in
     let stood = standing v.opening v.journal p.statement.text p.place is_free.placed in
     let held : is_free.versioned ≡ stood.held = cc (is_free.there, stood.there) in
     let version : stood.held.version ≡ p.version = ap (λ (x : VersionedText). x.version) (sym held) ∙ sym is_free.version in
-    let text : performed.text ≡ stood.held.text = law p.origin v kin p.place _ stood.held performed.stands.there stood.there (sym version) in
+    let text : performed.text ≡ stood.held.text = law p.origin v related p.place _ stood.held performed.stands.there stood.there (sym version) in
     record { versioned = stood.held; found = stood.found; at_version = version; performed = subst (λ (l : List ℕ). perform p.statement l ≡ Ok p.outcome) text performed.performed }
 
 -- and so has its entry, from what is shown of the book

@@ -4,7 +4,7 @@ use Rattle.std.specs.List.{All}
 use mathlib.Core.List.{IsPrefix as Begins}
 use Rattle.sno_book.specs.Books.{Book, view_of}
 use Rattle.sno_book.specs.Entries.{Entry}
-use Rattle.sno_book.specs.Views.{IsLawful}
+use Rattle.sno_book.specs.Views.{IsValid}
 use Rattle.sno_desk.specs.Turns.{Position, position}
 use Rattle.sno_desk.specs.declared.faults.AtDeskFault.{AtDeskFault}
 use Rattle.sno_desk.specs.declared.faults.AtDeskFault.TheVariants as at_desk
@@ -21,4 +21,4 @@ pub record HasWorkedAt (takes : Position → Position → Type 0) (seats : ℕ) 
 -- the book comes back as it was if no desk was made, and with a legal journal if the desk couldn't be closed
 abbrev pub IsBackWith : AtDeskFault → Book → Book → Type 0
 IsBackWith (at_desk.Desk fault) back book = back ≡ book
-IsBackWith (at_desk.Close fault) back book = IsLawful (view_of back)
+IsBackWith (at_desk.Close fault) back book = IsValid (view_of back)

@@ -4,7 +4,7 @@ ghost use Rattle.std.specs.Arc.{arc_value};
 ghost use Rattle.std.specs.List.{All};
 ghost use mathlib.Core.List.{IsPrefix as Begins};
 ghost use Rattle.sno_book.specs.Books.{view_of};
-ghost use Rattle.sno_book.specs.Views.{IsLawful, IsPrefix};
+ghost use Rattle.sno_book.specs.Views.{IsValid, IsPrefix};
 ghost use Rattle.sno_desk.specs.Answers.{Answers, AnswersAt, SpentAt, receipts_in};
 ghost use Rattle.sno_desk.specs.Closings.{IsCloseCause, book_in};
 ghost use Rattle.sno_desk.specs.Receipts.{IsCause, IsFor, NamesVersion, StandsAfter};
@@ -287,7 +287,7 @@ impl<L: Naming> Desk<L> {
     /// The book's opening is the one that the desk began with, and its journal is legal from there.
     pub fn end<R: Wait>(self, rt: &R) -> Book
         ensures opening { result.opening ≡ L.opening }
-        ensures lawful { IsLawful (view_of result) }
+        ensures valid { IsValid (view_of result) }
     {
         let Desk {
             opening: _opening,
@@ -325,7 +325,7 @@ pub fn close<L: Naming, R: Wait>(
     ensures seen { IfOk result (λ book. All (λ s. Begins s.viewer.seen book.journal) seats.items) }
     ensures cause { IfErr result (λ r. IsCloseCause r.0 r.1 (arc_value desk.opening) (All (λ s. Begins s.viewer.seen r.1.journal) seats.items)) }
     ensures counted { length (book_in result).journal ≡ sum_by (λ s. s.accepted) seats.items }
-    ensures lawful { IsLawful (view_of (book_in result)) }
+    ensures valid { IsValid (view_of (book_in result)) }
 {
     let Desk {
         opening,

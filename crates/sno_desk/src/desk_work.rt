@@ -2,7 +2,7 @@
 ghost use Rattle.std.specs.Prelude.{◌≡◌, ◌<◌, ◌≤◌, ℕ, [], IfOk, IfErr, length, slice_index_or};
 ghost use Rattle.std.specs.Arc.{arc_value};
 ghost use Rattle.sno_book.specs.Books.{view_of};
-ghost use Rattle.sno_book.specs.Views.{IsLawful};
+ghost use Rattle.sno_book.specs.Views.{IsValid};
 ghost use Rattle.sno_desk.specs.Turns.{Position, position};
 ghost use Rattle.sno_desk.specs.Worked.{HasWorkedAt, IsBackWith};
 ghost use Rattle.sno_desk.specs.declared.desk.TheConstants.{MAX_SEATS};
@@ -75,7 +75,7 @@ fn at_named_desk<L: Naming + Send + Sync, W: DeskWork + Sync, R: Threads + Wait 
     requires few { (1 ≤ seats) × (seats ≤ MAX_SEATS) }
     requires empty { book.journal ≡ [] }
     ensures opening { IfOk result (λ left. left.opening ≡ book.opening) }
-    ensures lawful { IfOk result (λ left. IsLawful (view_of left)) }
+    ensures valid { IfOk result (λ left. IsValid (view_of left)) }
     ensures worked { IfOk result (λ left. HasWorkedAt (W.takes work.now) seats left.journal) }
     ensures back { IfErr result (λ r. IsBackWith r.0 r.1 book) }
 {
@@ -114,7 +114,7 @@ pub fn at_desk<W: DeskWork + Sync, R: Threads + Wait + Sync>(
     requires few { (1 ≤ seats) × (seats ≤ MAX_SEATS) }
     requires empty { book.journal ≡ [] }
     ensures opening { IfOk result (λ left. left.opening ≡ book.opening) }
-    ensures lawful { IfOk result (λ left. IsLawful (view_of left)) }
+    ensures valid { IfOk result (λ left. IsValid (view_of left)) }
     ensures worked { IfOk result (λ left. HasWorkedAt (W.takes work.now) seats left.journal) }
     ensures back { IfErr result (λ r. IsBackWith r.0 r.1 book) }
 {

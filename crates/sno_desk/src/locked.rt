@@ -5,7 +5,7 @@ ghost use mathlib.Core.List.{IsPrefix as Begins};
 ghost use Rattle.sno_book.specs.Books.{view_of};
 ghost use Rattle.sno_book.specs.Commits.{Fits, refusal};
 ghost use Rattle.sno_book.specs.Origins.{IsPerformed};
-ghost use Rattle.sno_book.specs.Views.{IsPrefix, Kin};
+ghost use Rattle.sno_book.specs.Views.{IsPrefix, AreRelated};
 ghost use Rattle.sno_desk.specs.Commits.{IsCommitted, IsReturned};
 ghost use Rattle.sno_desk.specs.Seen.{view_after};
 ghost use Rattle.sno_desk.specs.Turns.{position};
@@ -13,7 +13,7 @@ ghost use Rattle.sno_desk.specs.declared.faults.CommitFault.TheVariants.{Memory}
 
 use crate::seats::{are_within, gather};
 use crate::{CommitFault, Seat, SinceFault};
-use sno_book::{Book, Entry, Proposal, Ready, Receipt, kin_agree, versions_count_entries};
+use sno_book::{Book, Entry, Proposal, Ready, Receipt, related_agree, versions_count_entries};
 use sno_published::{Naming, Screen};
 use std::alloc::Global;
 use std::marker::Model;
@@ -64,7 +64,7 @@ fn publish<L: Naming, R: Wait>(
     requires free { refusal (view_of book.old) ready ≡ None }
     requires fits { Fits (view_of book.old) ready }
     requires performed { IsPerformed ready.origin ready.place ready.version ready.statement ready.outcome }
-    requires kin { Kin ready.origin (view_of book.old) }
+    requires related { AreRelated ready.origin (view_of book.old) }
     ensures opening { book.new.opening ≡ L.opening }
     ensures shown { screen.new.shown ≡ book.new.journal }
     ensures total { length book.new.journal ≡ total.new.total }
@@ -75,7 +75,7 @@ fn publish<L: Naming, R: Wait>(
     ensures seen { OnErr result (seat.new.viewer.seen ≡ seat.old.viewer.seen) }
 {
     // for the proof
-    kin_agree();
+    related_agree();
     versions_count_entries();
     let _ = book.journal();
     let _ = book.opening().room();

@@ -29,7 +29,7 @@ struct Shift<'a, L: Naming, G: Gate> {
     tries: u32,
     gate: &'a G,
     ghost some: { 1 ≤ workers },
-    ghost lawful: { (1 ≤ tries) × (tries ≤ MAX_TRIES) },
+    ghost valid: { (1 ≤ tries) × (tries ≤ MAX_TRIES) },
 }
 
 impl<L: Naming, G: Gate> Shift<'_, L, G> {
@@ -116,7 +116,7 @@ fn work_all<L: Naming + Send + Sync, G: Gate + Sync, R: Threads + Wait + Sync>(
     gate: &G,
 )
     requires some { 1 ≤ length seats.old }
-    requires lawful { (1 ≤ tries) × (tries ≤ MAX_TRIES) }
+    requires valid { (1 ≤ tries) × (tries ≤ MAX_TRIES) }
     ensures worked { (k : ℕ) (d : Seat L) → k < length seats.old → HasWorked (IsSubmitted (G.shuts gate.now) tries L.opening L.parts) (every (length seats.old) k (map arc_value jobs.now))
         (position (slice_index_or seats.old k d).accepted (slice_index_or seats.old k d).viewer.seen) (position (slice_index_or seats.new k d).accepted (slice_index_or seats.new k d).viewer.seen)
         (option_map (λ q. q.items) (slice_index_or seats.new k d).replies) }
@@ -172,7 +172,7 @@ pub fn run_workers<L: Naming + Send + Sync, G: Gate + Sync, R: Threads + Wait + 
     gate: &G,
 ) -> Result<Vec<Reply>, WorkersFault>
     requires few { (1 ≤ length seats.old) × (length seats.old ≤ MAX_SEATS) }
-    requires lawful { (1 ≤ tries) × (tries ≤ MAX_TRIES) }
+    requires valid { (1 ≤ tries) × (tries ≤ MAX_TRIES) }
     ensures answers { IfOk result (λ replies. AllAnswer (Answers (G.shuts gate.now) tries L.opening) (map arc_value jobs.now) replies.items) }
     ensures total { IfOk result (λ replies. sum_by (λ s. s.accepted) seats.new ≡ sum_by (λ s. s.accepted) seats.old + sum_by receipts_in replies.items) }
     ensures in_turn { IfOk result (λ replies. (k : ℕ) (d : Seat L) → k < length seats.old → InTurn (IsSubmitted (G.shuts gate.now) tries L.opening L.parts)

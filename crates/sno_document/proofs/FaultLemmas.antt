@@ -7,7 +7,8 @@ use Rattle.sno_document.specs.DocumentRows.{pair_seen, rows_seen}
 use Rattle.sno_document.specs.declared.document_rows.Rows.{Rows}
 use Rattle.sno_document.specs.Document.{IsDocument, definitions_of}
 use Rattle.sno_document.specs.Reads.{Reads}
-use Rattle.sno_document.specs.Rules.{IsRules, ReadsRules}
+use Rattle.sno_document.specs.Rules.{AreRules, GivesRules, IsRules, ReadsRules}
+use Rattle.sno_document.specs.Shape as written
 use Rattle.sno_document.specs.declared.documents.Document.{Document}
 use Rattle.sno_document.specs.declared.faults.DocumentFault.{DocumentFault}
 use Rattle.sno_document.specs.declared.faults.DocumentFault.TheVariants.{Memory}
@@ -33,6 +34,12 @@ pub rules_err : (mode : Mode) (bytes : List ℕ) (result : Result Document Docum
     → (e ≢ Memory → IsRules mode bytes (Err e)) → ReadsRules mode bytes result
 rules_err mode bytes (Err d) e is h = λ memory. subst (λ f. IsRules mode bytes (Err f)) (sym is) (h (λ m. memory (is ∙ m)))
 rules_err mode bytes (Ok x) e is h = absurd is
+
+-- the exit of a `?` of rows
+pub rows_err : (mode : Mode) (rows : written.Rows) (result : Result Document DocumentFault) (e : DocumentFault) → IsErrAnd result (λ d. d ≡ e)
+    → (e ≢ Memory → AreRules mode rows (Err e)) → GivesRules mode rows result
+rows_err mode rows (Err d) e is h = λ memory. subst (λ f. AreRules mode rows (Err f)) (sym is) (h (λ m. memory (is ∙ m)))
+rows_err mode rows (Ok x) e is h = absurd is
 
 -- the definitions of the rows are those of the slice of them
 pub drafted_from : (rows : Rows) (slice : List (Bor (List ℕ) × Bor (List ℕ))) (r : Result Definitions DocumentFault) → slice ≡ rows.patterns.items

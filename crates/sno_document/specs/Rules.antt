@@ -46,18 +46,27 @@ rule_arrays_of d =
 abbrev pub rule_rows_of : Data → Result Rows DocumentFault
 rule_rows_of d = or_shape (as_object d) >>= λ members. rule_arrays_of d
 
+-- What rows represent as rules, in whichever form they were written: their definitions, admitted, and then their statements.
+-- Otherwise the result is the first fault among these.
+pub data AreRules (mode : Mode) (rows : Rows) : Result document.Document DocumentFault → Type 0 where
+  no_definitions : {e : DocumentFault} → definitions_of rows.patterns ≡ Err e → AreRules mode rows (Err e)
+  not_admitted : {e : DocumentFault} (rules : Definitions) → definitions_of rows.patterns ≡ Ok rules → IsAdmitted rules (Err e) → AreRules mode rows (Err e)
+  whole : {r : Result document.Document DocumentFault} (rules : Definitions) → definitions_of rows.patterns ≡ Ok rules → IsAdmitted rules (Ok rules)
+      → document_with rules mode rows ≡ r → AreRules mode rows r
+
 -- What bytes represent as rules: a document without texts, or the first fault, in the order of a document's.
 pub data IsRules (mode : Mode) (bytes : List ℕ) : Result document.Document DocumentFault → Type 0 where
   no_value : {e : DocumentFault} → value_in bytes ≡ Err e → IsRules mode bytes (Err e)
   no_rows : {e : DocumentFault} (d : Data) → value_in bytes ≡ Ok d → rule_rows_of d ≡ Err e → IsRules mode bytes (Err e)
-  no_definitions : {e : DocumentFault} (d : Data) (rows : Rows) → value_in bytes ≡ Ok d → rule_rows_of d ≡ Ok rows → definitions_of rows.patterns ≡ Err e
-      → IsRules mode bytes (Err e)
-  not_admitted : {e : DocumentFault} (d : Data) (rows : Rows) (rules : Definitions) → value_in bytes ≡ Ok d → rule_rows_of d ≡ Ok rows
-      → definitions_of rows.patterns ≡ Ok rules → IsAdmitted rules (Err e) → IsRules mode bytes (Err e)
-  whole : {r : Result document.Document DocumentFault} (d : Data) (rows : Rows) (rules : Definitions) → value_in bytes ≡ Ok d → rule_rows_of d ≡ Ok rows
-      → definitions_of rows.patterns ≡ Ok rules → IsAdmitted rules (Ok rules) → document_with rules mode rows ≡ r → IsRules mode bytes r
+  of_rows : {r : Result document.Document DocumentFault} (d : Data) (rows : Rows) → value_in bytes ≡ Ok d → rule_rows_of d ≡ Ok rows → AreRules mode rows r
+      → IsRules mode bytes r
 
 -- the result is what the bytes represent as rules, or out of memory
 abbrev pub ReadsRules : Mode → List ℕ → Result Document DocumentFault → Type 0
 ReadsRules mode bytes (Ok d) = IsRules mode bytes (Ok (document_seen d))
 ReadsRules mode bytes (Err e) = e ≢ Memory → IsRules mode bytes (Err e)
+
+-- the result is what the rows represent, or out of memory
+abbrev pub GivesRules : Mode → Rows → Result Document DocumentFault → Type 0
+GivesRules mode rows (Ok d) = AreRules mode rows (Ok (document_seen d))
+GivesRules mode rows (Err e) = e ≢ Memory → AreRules mode rows (Err e)

@@ -17,15 +17,21 @@ use std::alloc::Global;
 /// Two strings: a name with a pattern, or a name with a text.
 pub(crate) type PairRow<'t> = (&'t str, &'t str);
 
-/// A statement as the document writes it.
+/// A statement as it is written, before anything of it is read.
 #[derive(Drop)]
-pub(crate) struct StatementRow<'t> {
-    pub(crate) text: &'t str,
-    pub(crate) pattern: &'t str,
-    pub(crate) object: Option<&'t str>,
-    pub(crate) anchored: Option<bool>,
-    pub(crate) repeat: Option<&'t str>,
-    pub(crate) all: Option<bool>,
+pub struct StatementRow<'t> {
+    /// The name of its text; `*` is every file.
+    pub text: &'t str,
+    /// The pattern.
+    pub pattern: &'t str,
+    /// The object, if it has one.
+    pub object: Option<&'t str>,
+    /// Whether it is anchored, if it says so.
+    pub anchored: Option<bool>,
+    /// How often it is repeated, if it says so: a number as JSON has them.
+    pub repeat: Option<&'t str>,
+    /// Whether it is for all matches, if it says so.
+    pub all: Option<bool>,
 }
 
 /// A document as it is written.

@@ -36,11 +36,12 @@ mod statements;
 mod texts;
 mod trees;
 
+pub use document_rows::StatementRow;
 pub use documents::{Document, MAX_DOCUMENT, read_document};
 pub use faults::DocumentFault;
 pub use laws::one_answer;
 pub use modes::Mode;
-pub use rules::read_rules;
+pub use rules::{read_rules, rules_of_rows};
 pub use single::read_statement;
 pub use sno_book::Book;
 pub use sno_pattern::{Name, Rules};

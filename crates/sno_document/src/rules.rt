@@ -3,10 +3,10 @@ ghost use Rattle.std.specs.Prelude.{[], codes, map, IfOk};
 ghost use Rattle.sno_statement.specs.Statement.{IsLimit};
 ghost use Rattle.sno_document.specs.Faults.{Gives};
 ghost use Rattle.sno_document.specs.Shape.{each_row};
-ghost use Rattle.sno_document.specs.DocumentRows.{statement_seen, rows_seen};
+ghost use Rattle.sno_document.specs.DocumentRows.{pair_seen, statement_seen, rows_seen};
 ghost use Rattle.sno_document.specs.Trees.{tree_seen};
 ghost use Rattle.sno_document.specs.Reads.{IsReady};
-ghost use Rattle.sno_document.specs.Rules.{rule_row, rules_at, rule_arrays_of, rule_rows_of, ReadsRules};
+ghost use Rattle.sno_document.specs.Rules.{rule_row, rules_at, rule_arrays_of, rule_rows_of, GivesRules, ReadsRules};
 
 use crate::definitions::{admit, definitions};
 use crate::document_rows::{Rows, StatementRow, pairs_at, row_on};
@@ -77,6 +77,47 @@ fn rule_rows_of<'t>(alloc: Global, value: &Value<'t>) -> Result<Rows<'t>, Docume
     rule_arrays_of(alloc, value)
 }
 
+/// What rows represent as rules.
+fn of_rows(alloc: Global, rows: &Rows<'_>, mode: Mode) -> Result<Document, DocumentFault>
+    requires { IsLimit mode.trials }
+    ensures rules { GivesRules mode (rows_seen rows.now) result }
+    ensures ready { IfOk result (λ d. IsReady d) }
+{
+    let drafted = definitions(alloc, &rows.patterns)?;
+    let rules = admit(alloc, drafted)?;
+    let document = document_with(alloc, rules, mode, rows)?;
+    Ok(document)
+}
+
+/// Returns the statements that these are as rules, as [`read_rules`] does for rules in JSON: rules of the same rows are the
+/// same. `patterns` has the names of definitions with their patterns. `mode` has what the statements don't say themselves, with 1
+/// to 1,000,000,000 trials.
+///
+/// Refused with the first fault, in this order:
+///
+/// - the faults of the definitions, `Unguarded` last;
+/// - those of the statements.
+///
+/// `Memory` may come instead of any result. After a refusal nothing is left of the rules.
+pub fn rules_of_rows<'t>(
+    alloc: Global,
+    patterns: Vec<(&'t str, &'t str)>,
+    statements: Vec<StatementRow<'t>>,
+    mode: Mode,
+) -> Result<Document, DocumentFault>
+    requires { IsLimit mode.trials }
+    ensures rules { GivesRules mode (record { patterns = map pair_seen patterns.items; texts = []; statements = map statement_seen statements.items }) result }
+    ensures ready { IfOk result (λ d. IsReady d) }
+{
+    let rows = Rows {
+        patterns,
+        texts: Vec::new(alloc),
+        statements,
+    };
+    let document = of_rows(alloc, &rows, mode)?;
+    Ok(document)
+}
+
 /// Returns the statements that the bytes are as rules, in a document whose book has no texts. Rules are a document
 /// without texts, whose statements need not name a text: one that names none has the name `*`. The member `texts` is
 /// ignored. `mode` has what the statements don't say themselves, with 1 to 1,000,000,000 trials.
@@ -97,8 +138,6 @@ pub fn read_rules(alloc: Global, bytes: &[u8], mode: Mode) -> Result<Document, D
     let value = value_in(alloc, bytes, &mut scratch)?;
     let rows = rule_rows_of(alloc, &value)?;
     drop(value);
-    let drafted = definitions(alloc, &rows.patterns)?;
-    let rules = admit(alloc, drafted)?;
-    let document = document_with(alloc, rules, mode, &rows)?;
+    let document = of_rows(alloc, &rows, mode)?;
     Ok(document)
 }

@@ -1,5 +1,6 @@
 pub mod Trials
 pub mod Rules
+pub mod LineRules
 pub mod Utf8
 pub mod Positions
 pub mod Faults

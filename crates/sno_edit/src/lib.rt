@@ -15,7 +15,8 @@
 //!
 //! | File | What it does |
 //! |---|---|
-//! | `rules` | `EditRules`: the statements, read from JSON |
+//! | `rules` | `EditRules`: the statements, read from JSON or from rows |
+//! | `line_rules` | rules and definitions in lines as rows |
 //! | `trials` | `Trials`: how many trials a statement may take on a text |
 //! | `edits` | the statements on one text |
 //! | `utf8` | whether a text is UTF-8 |
@@ -35,6 +36,7 @@ mod faults;
 mod files;
 mod folders;
 mod hunks;
+mod line_rules;
 mod positions;
 mod rules;
 mod scripts;
@@ -47,10 +49,11 @@ pub use faults::FileFault;
 pub use files::{Done, Plan, edit_file, edit_files, plan_file};
 pub use folders::{Folder, NewText, ReadFault, WriteFault};
 pub use hunks::unified_diff;
+pub use line_rules::{definition_row, rule_row};
 pub use positions::Position;
 pub use rules::EditRules;
 pub use scripts::{DiffLine, Mark, script_of};
-pub use sno_document::DocumentFault;
+pub use sno_document::{DocumentFault, StatementRow};
 pub use sno_pattern::ByteText;
 pub use sno_statement::{MAX_TRIALS, Statement, StatementFault};
 pub use tallies::{Purpose, Tally};

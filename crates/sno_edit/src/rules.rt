@@ -1,10 +1,11 @@
 //! Rules, as they are read.
 ghost use Rattle.std.specs.Prelude.{◌≡◌, ◌≢◌, ◌≤◌, map, length, Err, MatchResult};
 ghost use Rattle.std.specs.Arc.{arc_value};
-ghost use Rattle.sno_document.specs.Rules.{IsRules};
+ghost use Rattle.sno_document.specs.declared.statements.TheConstants.{MAX_STATEMENTS};
+ghost use Rattle.sno_document.specs.Rules.{AreRules, IsRules};
 
 use crate::Trials;
-use sno_document::{Document, DocumentFault, Mode, read_rules};
+use sno_document::{Document, DocumentFault, Mode, StatementRow, read_rules, rules_of_rows};
 use sno_statement::{MAX_TRIALS, Statement};
 use std::alloc::Global;
 use std::sync::Arc;
@@ -14,11 +15,11 @@ use std::sync::Arc;
 pub struct EditRules {
     statements: Vec<Arc<Statement>>,
     trials: Trials,
-    ghost few: { length statements.items ≤ 1000000 },
+    ghost few: { length statements.items ≤ MAX_STATEMENTS },
 }
 
 impl EditRules {
-    ghost use Rattle.sno_edit.specs.Rules.{HoldsRules, mode_of, rules_seen};
+    ghost use Rattle.sno_edit.specs.Rules.{HoldsRows, HoldsRules, mode_of, rows_in, rules_seen};
 
     /// Reads rules: a document without texts, whose statements need not name a text. The faults are those of
     /// `read_rules` of `sno_document`, in its order. A statement that doesn't say it is anchored if `anchor` says so,
@@ -40,10 +41,31 @@ impl EditRules {
         Ok(EditRules { statements, trials })
     }
 
+    /// Rules that were written in another form than JSON, from the names and patterns of their definitions and from their
+    /// statements. Rules of the same rows are the same. The faults are those of `rules_of_rows` of `sno_document`, in its
+    /// order.
+    pub fn of_rows<'t>(
+        alloc: Global,
+        patterns: Vec<(&'t str, &'t str)>,
+        statements: Vec<StatementRow<'t>>,
+        anchor: bool,
+        trials: Trials,
+    ) -> Result<EditRules, DocumentFault>
+        ensures { MatchResult result (λ rules. HoldsRows anchor (rows_in patterns.items statements.items) (rules_seen rules).statements × ((rules_seen rules).trials ≡ trials)) (λ e. e ≢ DocumentFault.Memory → AreRules (mode_of anchor) (rows_in patterns.items statements.items) (Err e)) }
+    {
+        let mode = Mode {
+            anchor,
+            trials: MAX_TRIALS,
+        };
+        let document = rules_of_rows(alloc, patterns, statements, mode)?;
+        let Document { statements, .. } = document;
+        Ok(EditRules { statements, trials })
+    }
+
     /// The statements, in order: at most 1,000,000.
     pub(crate) fn statements(&self) -> &[Arc<Statement>]
         ensures value { map arc_value result.now ≡ (rules_seen self.now).statements }
-        ensures few { length result.now ≤ 1000000 }
+        ensures few { length result.now ≤ MAX_STATEMENTS }
     {
         &self.statements
     }

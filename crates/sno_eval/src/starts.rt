@@ -4,6 +4,7 @@ ghost use Rattle.sno_eval.specs.Steps.{up_to};
 ghost use Rattle.sno_pattern.specs.Tree.{tree_of, refs_below};
 ghost use Rattle.sno_pattern.specs.Results.{enough_depth};
 ghost use Rattle.sno_pattern.specs.Outcome.{outcome, outcome_at, outcome_from, starts_from};
+ghost use Rattle.sno_pattern.specs.declared.texts.TheConstants.{MAX_TEXT};
 
 use crate::endings::{Ending, first_ending};
 use crate::results::results;
@@ -110,7 +111,7 @@ pub fn last_start(text: &Text, anchored: bool, from: usize) -> usize
     requires { from ≤ length text.now }
     ensures starts { up_to from result ≡ starts_from text.now anchored from }
     ensures within { (from ≤ result) × (result ≤ length text.now) }
-    ensures short { result ≤ 65536 }
+    ensures short { result ≤ MAX_TEXT }
 {
     let length = text.bytes().len();
     if anchored { from } else { length }

@@ -1,5 +1,6 @@
 //! What a pattern assigns, refers to and seeks.
 
+use crate::ambiguous::is_ambiguous;
 use crate::ascii::text_of;
 use crate::edges::{Blocked, blocked_after};
 use sno_pattern::{Name, Pattern};
@@ -27,6 +28,8 @@ pub struct Facts {
     pub escape: Option<u8>,
     /// Whether an `ARBNO` in it repeats another `ARBNO`.
     pub repeats_rounds: bool,
+    /// Whether the rounds of an `ARBNO` in it can take the same characters in more than one way.
+    pub is_ambiguous: bool,
     /// The first of its parts that never matches after the one before it.
     pub blocked: Option<Blocked>,
 }
@@ -45,10 +48,14 @@ impl Facts {
         }
     }
 
-    fn note_repeated(&mut self, part: &Pattern) {
+    fn note_repeated(&mut self, alloc: Global, part: &Pattern) -> Result<(), AllocError> {
         if let Pattern::Arbno(_) = part {
             self.repeats_rounds = true;
         }
+        if is_ambiguous(alloc, part)? {
+            self.is_ambiguous = true;
+        }
+        Ok(())
     }
 
     fn note_neighbours(&mut self, first: &Pattern, second: &Pattern) {
@@ -57,7 +64,7 @@ impl Facts {
         }
     }
 
-    fn gather(&mut self, pattern: &Pattern) -> Result<(), AllocError> {
+    fn gather(&mut self, alloc: Global, pattern: &Pattern) -> Result<(), AllocError> {
         match pattern {
             Pattern::Lit(text) => self.note_characters(text.bytes()),
             Pattern::AnyOf(set) | Pattern::NoneOf(set) | Pattern::Span(set) | Pattern::Break(set) =>
@@ -66,19 +73,19 @@ impl Facts {
             Pattern::Ref(number) => self.references = self.references | bit(*number),
             Pattern::Seq(first, second) => {
                 self.note_neighbours(first, second);
-                self.gather(first)?;
-                self.gather(second)?;
+                self.gather(alloc, first)?;
+                self.gather(alloc, second)?;
             }
             Pattern::Alt(first, second) => {
-                self.gather(first)?;
-                self.gather(second)?;
+                self.gather(alloc, first)?;
+                self.gather(alloc, second)?;
             }
             Pattern::Arbno(part) => {
-                self.note_repeated(part);
-                self.gather(part)?;
+                self.note_repeated(alloc, part)?;
+                self.gather(alloc, part)?;
             }
             Pattern::Cond(part, name) | Pattern::Imm(part, name) => {
-                self.gather(part)?;
+                self.gather(alloc, part)?;
                 self.variables.push(*name)?;
             }
             _ => {}
@@ -129,9 +136,10 @@ pub fn facts_of(alloc: Global, pattern: &Pattern) -> Result<Facts, AllocError> {
         range: None,
         escape: None,
         repeats_rounds: false,
+        is_ambiguous: false,
         blocked: None,
     };
-    facts.gather(pattern)?;
+    facts.gather(alloc, pattern)?;
     Ok(facts)
 }
 

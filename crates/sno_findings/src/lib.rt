@@ -13,13 +13,16 @@
 //! | `whose` | the expressions of a document: patterns and objects |
 //! | `facts`, `edges` | what a pattern assigns, refers to and seeks, and what can't come after its parts |
 //! | `warnings` | what patterns and objects probably don't mean |
+//! | `ambiguous` | repetitions whose rounds can take the same characters in more than one way |
 //! | `found_again` | whether a repeated statement may find again what its object puts in |
 //! | `advice`, `reading` | what to write instead, by a fault of the document or of an expression |
+//! | `habits` | what other languages write, and what is written here instead |
 //! | `spelling` | the known name that is nearest to a word |
 //! | `excerpts`, `ascii` | the characters around a place; ASCII characters as text |
 #![tactic(auto)]
 
 mod advice;
+mod ambiguous;
 mod ascii;
 mod collector;
 mod edges;
@@ -27,6 +30,7 @@ mod excerpts;
 mod facts;
 mod findings;
 mod found_again;
+mod habits;
 mod json_lines;
 mod json_places;
 mod json_walk;
@@ -43,9 +47,10 @@ pub use edges::Blocked;
 pub use excerpts::{Position, around, position_of, shown};
 pub use facts::{Facts, bit, facts_of};
 pub use findings::{Excerpt, Mistake, Place, Report, Warning};
+pub use habits::habit_advice;
 pub use json_lines::json_of;
 pub use json_places::json_mistake;
-pub use lines::lines_of;
+pub use lines::{lines_of, put_mistake, put_pointed};
 pub use reading::{place_of, reading_advice};
 pub use sno_document::DocumentFault;
 pub use spelling::nearest;

@@ -1,6 +1,6 @@
 //! A report in lines.
 
-use crate::{Mistake, Report, Warning};
+use crate::{Excerpt, Mistake, Report, Warning};
 use std::alloc::{AllocError, Global};
 
 fn put_blanks(out: &mut String, count: usize) -> Result<(), AllocError> {
@@ -10,17 +10,21 @@ fn put_blanks(out: &mut String, count: usize) -> Result<(), AllocError> {
     Ok(())
 }
 
-fn put_mistake(out: &mut String, mistake: &Mistake) -> Result<(), AllocError> {
+/// Adds the characters around a place in a line, and below the place, marked by `^`, what is wanted there. Refused only if memory
+/// runs out.
+pub fn put_pointed(out: &mut String, excerpt: &Excerpt, wanted: &str) -> Result<(), AllocError> {
+    writeln!(out, "    {}", excerpt.shown)?;
+    put_blanks(out, excerpt.column.saturating_add(4))?;
+    writeln!(out, "^ {wanted}")
+}
+
+/// Adds an error: the line that `sno_rewrite` writes, and what to write instead. Refused only if memory runs out.
+pub fn put_mistake(out: &mut String, mistake: &Mistake) -> Result<(), AllocError> {
     writeln!(out, "{}", mistake.fault)?;
     match &mistake.excerpt {
-        Some(excerpt) => {
-            writeln!(out, "    {}", excerpt.shown)?;
-            put_blanks(out, excerpt.column.saturating_add(4))?;
-            writeln!(out, "^ {}", mistake.advice)?;
-        }
-        None => writeln!(out, "    {}", mistake.advice)?,
+        Some(excerpt) => put_pointed(out, excerpt, &mistake.advice),
+        None => writeln!(out, "    {}", mistake.advice),
     }
-    Ok(())
 }
 
 fn put_warning(out: &mut String, warning: &Warning) -> Result<(), AllocError> {

@@ -58,6 +58,43 @@ fn warn_of_rounds(
     findings.warn(whose.place(), message)
 }
 
+fn warn_of_ambiguity(
+    findings: &mut Collector,
+    whose: Whose,
+    is_ambiguous: bool,
+) -> Result<(), AllocError> {
+    if !is_ambiguous {
+        return Ok(());
+    }
+    let message = String::from_str(
+        findings.alloc,
+        "pattern: rounds of ARBNO can take the same characters in more than one way, so a match that fails may reach its limit of trials",
+    )?;
+    findings.warn(whose.place(), message)
+}
+
+/// Whether the name is that of a variable which other implementations print, or read from.
+fn is_of_streams(name: &Name) -> bool {
+    [b"OUTPUT".as_slice(), b"INPUT", b"TERMINAL"]
+        .iter()
+        .any(|word| name.bytes() == *word)
+}
+
+fn warn_of_streams(
+    findings: &mut Collector,
+    whose: Whose,
+    variables: &[Name],
+) -> Result<(), AllocError> {
+    let Some(name) = variables.iter().find(|name| is_of_streams(name)) else {
+        return Ok(());
+    };
+    let word = text_of(name.bytes());
+    let message = format!(in findings.alloc;
+        "pattern: {word} is a variable as any other: nothing is written or read; `sno trace` shows how a match goes"
+    )?;
+    findings.warn(whose.place(), message)
+}
+
 fn warn_of_blocked(
     findings: &mut Collector,
     whose: Whose,
@@ -91,6 +128,8 @@ pub fn warn_of_facts(
     warn_of_range(findings, whose, facts.range)?;
     warn_of_escape(findings, whose, facts.escape)?;
     warn_of_rounds(findings, whose, facts.repeats_rounds)?;
+    warn_of_ambiguity(findings, whose, facts.is_ambiguous)?;
+    warn_of_streams(findings, whose, &facts.variables)?;
     warn_of_blocked(findings, whose, facts.blocked)
 }
 

@@ -5,6 +5,7 @@ pub mod PlanLaws
 pub mod HistoryLaws
 pub mod PrimitiveLaws
 pub mod BranchLaws
+pub mod RowLaws
 pub mod ReferenceLaws
 pub mod TakingLaws
 pub mod EndingLaws
@@ -16,6 +17,7 @@ pub mod RoundLaws
 pub mod PairLaws
 pub mod ScanLaws
 pub mod StartLaws
+pub mod FarLaws
 pub mod TableLaws
 pub mod SizeLaws
 pub mod WritingLaws

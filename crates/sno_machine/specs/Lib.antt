@@ -4,11 +4,13 @@ pub mod Told
 pub mod Meaning
 pub mod Steps
 pub mod Leaves
+pub mod Limits
 pub mod Plans
 pub mod Code
 pub mod Sources
 pub mod Compiling
 pub mod History
+pub mod Rows
 pub mod Endings
 pub mod Beginnings
 pub mod Scanning

@@ -16,6 +16,9 @@
 //!
 //! P Q              P ──> Q ──>                    no node of its own
 //!
+//! ANY('ab') 'c'    Row ANY('ab') ──> 'c' ──>      both take exactly one character: the step goes on through the primitives after
+//!                                                the first as long as they do, one trial each, and backs up at the first that fails
+//!
 //! P | Q            Fork ──> P ──>                 the choice is Q, which goes on to the same node as P. If P begins with a primitive
 //!                    └────> Q ──┘                with at most one end, that is tried at once; if it fails, no choice is left
 //!
@@ -49,6 +52,9 @@
 //! P $ V            Mark ──> P ──> Now V ──>       .. or is assigned at once
 //! SPAN('a') . V    MarkSingle ──> Later V ──>     a primitive with at most one end: the first node does what both do, and goes on past
 //!                                                the second; also with `$`
+//! (ANY('ab') 'c') . V
+//!                  MarkRow ──> Row ANY('ab') ──> 'c' ──> Later V ──>
+//!                                                the first node goes through such a row and on past `Later`; also with `$`
 //!
 //! *D               Call D ──>                     the nodes of D (`other` is the first), with a frame that says what comes after it
 //! *D               Jump D                         if nothing comes after it in the definition that refers to it: the nodes of D without
@@ -151,8 +157,9 @@
 //! | `run/singles` | the primitives that have at most one end |
 //! | `compiling/other_leaves`, `run/leaves` | the other patterns without parts |
 //! | `run/parts` | parts of `.` and `$`, and primitives as such parts |
+//! | `run/rows` | primitives in a row that take exactly one character each, also as such parts |
 //! | `run/rounds` | rounds of a repetition of a primitive |
-//! | `run/one_character` | the parts that take exactly one character |
+//! | `run/one_character` | the primitives that take exactly one character |
 //! | `run/scanning` | how many rounds of such a part are passed |
 //! | `run/pairs` | the parts that are two primitives with at most one end each |
 //! | `run/pair_rounds` | the rounds of such a part that are passed |
@@ -195,7 +202,7 @@ mod workspace;
 pub use code::{Code, compile};
 pub use faults::MatchFault;
 pub use run::search::SearchOutcome;
-pub use searched::Searched;
+pub use searched::{MAX_KEPT, Searched};
 pub use sno_pattern::{
     Assign, Assigns, ByteText, Conds, Found, Hit, Name, Pattern, Rules, Text, What,
 };

@@ -13,6 +13,7 @@ pub(crate) mod pairs;
 pub(crate) mod parts;
 pub(crate) mod progress;
 pub(crate) mod rounds;
+pub(crate) mod rows;
 pub(crate) mod running;
 pub(crate) mod scanning;
 pub(crate) mod search;

@@ -8,6 +8,9 @@ use sno_pattern::{ByteText, Found, Text};
 use std::alloc::Global;
 use std::marker::Model;
 
+/// How many entries the history of a match in a text of bytes should have at most: they take up to 128 MiB.
+pub const MAX_KEPT: u32 = 4_194_304;
+
 /// A text that is searched more than once. It has beside the text what searches have learnt of it, and the memory that they use
 /// one after the other. So what one search learnt serves the next, and none of it changes a result.
 #[derive(Drop)]
@@ -33,24 +36,30 @@ impl<'t, 'a> Searched<'t, 'a> {
     pub fn new(alloc: Global, text: &'t Text) -> Searched<'t, 'a>
         ensures { result ≡ text.now }
     {
-        Searched::of(alloc, text.bytes())
+        Searched::of(Workspace::new(alloc), text.bytes())
     }
 
-    /// As [`Searched::new`], of a text of bytes.
+    /// As [`Searched::new`], of a text of bytes. A search that would have to keep more than [`MAX_KEPT`] entries in its history is
+    /// refused as out of memory, and then [`Searched::is_full`].
     pub fn of_bytes(alloc: Global, text: &'t ByteText) -> Searched<'t, 'a>
         ensures { result ≡ text.now }
     {
-        Searched::of(alloc, text.bytes())
+        Searched::of(Workspace::bounded(alloc, MAX_KEPT), text.bytes())
     }
 
-    fn of(alloc: Global, text: &'t [u8]) -> Searched<'t, 'a>
+    /// Whether a search was refused since its history would have had too many entries, and not because memory ran out.
+    pub fn is_full(&self) -> bool {
+        self.workspace.is_full()
+    }
+
+    fn of(workspace: Workspace<'a>, text: &'t [u8]) -> Searched<'t, 'a>
         requires { length text.now ≤ MAX_BYTES }
         ensures { result ≡ text.now }
     {
         Searched {
             text,
             learnt: Learnt::nothing_of(text),
-            workspace: Workspace::new(alloc),
+            workspace,
         }
     }
 

@@ -16,9 +16,20 @@ pub struct Workspace<'a> {
 impl<'a> Workspace<'a> {
     /// A workspace without any memory yet.
     pub fn new(alloc: Global) -> Workspace<'a> {
+        Workspace::bounded(alloc, u32::MAX)
+    }
+
+    /// A workspace without any memory yet, for matches that keep at most this many entries in their history. A match that would
+    /// have to keep more is refused as out of memory, and then the workspace [is full](Workspace::is_full).
+    pub fn bounded(alloc: Global, most: u32) -> Workspace<'a> {
         Workspace {
-            history: History::new(alloc),
+            history: History::of(alloc, most),
         }
+    }
+
+    /// Whether a match was refused since its history would have had too many entries, and not because memory ran out.
+    pub fn is_full(&self) -> bool {
+        self.history.is_full
     }
 
     /// Takes the memory of a result back, for the conditional assignments of a later match.

@@ -15,7 +15,7 @@ pub stands_after : (opening : Opening) (origin : View) (seen : List Entry) (plac
     → Legal (start opening) seen → length seen ≤ opening.room → Some (text_at opening place text version) ≡ text_after opening seen place → Stands origin place version text
 stands_after opening origin seen place version text from opens legal within found =
     let here : Stands (record { opening = opening; journal = seen }) place version text = record {
-      lawful = record { opening = opens; legal = legal; within = within };
+      valid = record { opening = opens; legal = legal; within = within };
       name = slice_index_or (names_in opening.texts) place [];
       there = sym found;
     } in

@@ -3,6 +3,7 @@ ghost use Rattle.std.specs.Prelude.{◌≡◌, ◌<◌, ◌^◌, ◌++◌, ◌�
 ghost use Rattle.std.specs.Arc.{arc_value};
 ghost use Rattle.sno_book.specs.Journals.{HasStep, replay};
 ghost use Rattle.sno_book.specs.Openings.{place_in, start};
+ghost use Rattle.sno_book.specs.declared.openings.TheConstants.{MAX_ENTRIES};
 ghost use Rattle.sno_published.specs.Screens.{leaves_open};
 
 use crate::viewers::viewer_of;
@@ -62,7 +63,7 @@ fn append<L: Naming>(
     requires history { (arc_value history.now).history ≡ L.book }
     requires attempts { attempts.old.history ≡ L.tries }
     requires step { HasStep (replay (start L.opening) writer.old.desk.shown.value) entry.now }
-    requires room { (length writer.old.desk.shown.value < 1000000) × (length writer.old.desk.shown.value < L.opening.room) }
+    requires room { (length writer.old.desk.shown.value < MAX_ENTRIES) × (length writer.old.desk.shown.value < L.opening.room) }
     requires place { place_in L.opening entry.now.statement.text ≡ Some place }
     ensures desk { writer.new.desk ≡ writer.old.desk }
     ensures attempts { attempts.new.history ≡ L.tries }
@@ -194,7 +195,7 @@ impl<L: Naming> Screen<L> {
         requires open { self.old.is_open ≡ true }
         requires place { place_in L.opening entry.now.statement.text ≡ Some place }
         requires step { HasStep (replay (start L.opening) self.old.shown) entry.now }
-        requires room { (length self.old.shown < 1000000) × (length self.old.shown < L.opening.room) }
+        requires room { (length self.old.shown < MAX_ENTRIES) × (length self.old.shown < L.opening.room) }
         ensures published { OnOk result (self.new ≡ record { shown = self.old.shown ++ entry.now ∷ []; is_open = true }) }
         ensures refused { IfErr result (λ e. self.new ≡ record { shown = self.old.shown; is_open = leaves_open e }) }
     {

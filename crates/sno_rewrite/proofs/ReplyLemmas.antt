@@ -14,7 +14,7 @@ use Rattle.sno_statement.specs.declared.outcomes.StatementFault.TheVariants as s
 use Rattle.sno_book.specs.Proposals.{Receipt}
 use Rattle.sno_book.specs.Entries.{Entry}
 use Rattle.sno_book.specs.States.{VersionedText, find}
-use Rattle.sno_book.specs.Views.{View, IsLawful, IsPrefix}
+use Rattle.sno_book.specs.Views.{View, IsValid, IsPrefix}
 use Rattle.sno_book.specs.Books.{Book, view_of}
 use Rattle.sno_book.specs.Journals.{Legal, replay}
 use Rattle.sno_book.specs.Openings.{Opening, place_in, start}
@@ -220,14 +220,14 @@ settles shuts tries book statements replies owners refused answered within owns 
 
 -- what is settled with a valid book that began with the document's texts
 pub shares : (tries : ℕ) (d : Document) (book : Book) (before : Opening) (refused : List Refusal) (replies : List (Result Receipt SubmitFault)) (seats workers : ℕ) → seats ≡ workers
-    → AreInTurn seats replies → book.opening ≡ before → before.texts ≡ d.texts → before.room ≡ room → IsLawful (view_of book)
+    → AreInTurn seats replies → book.opening ≡ before → before.texts ≡ d.texts → before.room ≡ room → IsValid (view_of book)
     → ((w : ℕ) → AreInTurn w replies → Settles w tries book.opening d.statements (history_of (view_of book) refused))
     → (seats ≡ 1 → run_from book.opening d.statements ≡ Some (history_of (view_of book) refused)) → IsShared workers tries d (history_of (view_of book) refused)
-shares tries d book before refused replies seats workers all turns opens texts rooms lawful settled alone =
+shares tries d book before refused replies seats workers all turns opens texts rooms valid settled alone =
     let began : book.opening ≡ opening_in d = opens ∙ (λ i. record { texts = texts i; room = rooms i }) in
     let mine = settled workers (subst (λ (w : ℕ). AreInTurn w replies) all turns) in
     record {
-      legal = subst (λ (o : Opening). Legal (start o) book.journal) began lawful.legal;
+      legal = subst (λ (o : Opening). Legal (start o) book.journal) began valid.legal;
       replayed = ap (λ (o : Opening). replay (start o) book.journal) began;
       settled = subst (λ (o : Opening). Settles workers tries o d.statements (history_of (view_of book) refused)) began mine;
       alone = λ one. ap (λ (o : Opening). run_from o d.statements) (sym began) ∙ alone (all ∙ one);

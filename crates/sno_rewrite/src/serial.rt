@@ -7,7 +7,7 @@ ghost use Rattle.sno_listing.specs.History.{history_of};
 ghost use Rattle.sno_document.specs.Document.{room};
 ghost use Rattle.sno_rewrite.specs.Histories.{history_seen, HasRoom};
 
-use sno_book::{Book, CommitFault, SnapshotFault, fresh_is_free, fresh_is_kin, propose};
+use sno_book::{Book, CommitFault, SnapshotFault, fresh_is_free, fresh_is_related, propose};
 use sno_document::Document;
 use sno_listing::{Reason, Refusal};
 use sno_statement::{Statement, StatementFault};
@@ -67,7 +67,7 @@ fn advance(
     };
     // for the proof
     fresh_is_free();
-    fresh_is_kin();
+    fresh_is_related();
     match performed.book.commit(proposal) {
         Ok(_) => Ok(()),
         Err((CommitFault::Memory, _)) => Err(AllocError),

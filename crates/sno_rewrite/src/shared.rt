@@ -2,7 +2,7 @@
 ghost use Rattle.std.specs.Prelude.{◌≡◌, ◌≤◌, [], length, map, IfOk, IfErr};
 ghost use Rattle.std.specs.Arc.{arc_value};
 ghost use Rattle.std.specs.List.{All};
-ghost use Rattle.sno_book.specs.Views.{IsLawful};
+ghost use Rattle.sno_book.specs.Views.{IsValid};
 ghost use Rattle.sno_book.specs.Books.{view_of};
 ghost use Rattle.sno_desk.specs.Answers.{Answers};
 ghost use Rattle.sno_desk.specs.Turns.{AllAnswer};
@@ -69,7 +69,7 @@ fn work<L: Naming + Send + Sync, R: Threads + Wait + Sync>(
     requires none { All (λ s. (s.accepted ≡ 0) × (s.viewer.seen ≡ [])) seats.items }
     requires tries { (1 ≤ tries) × (tries ≤ MAX_TRIES) }
     ensures opening { IfOk result (λ r. r.0.opening ≡ arc_value desk.opening) }
-    ensures lawful { IfOk result (λ r. IsLawful (view_of r.0)) }
+    ensures valid { IfOk result (λ r. IsValid (view_of r.0)) }
     ensures answers { IfOk result (λ r. AllAnswer (Answers (λ _ _. ⊥) tries r.0.opening) (map arc_value statements.now) r.1.items) }
     ensures within { IfOk result (λ r. AllAnswer (IsAnsweredWithin tries (view_of r.0)) (map arc_value statements.now) r.1.items) }
     ensures in_turn { IfOk result (λ r. AreInTurn (length seats.items) r.1.items) }

@@ -4,6 +4,7 @@ ghost use Rattle.std.specs.Arc.{arc_value};
 ghost use Rattle.std.specs.Option.{option_map};
 ghost use mathlib.Core.List.{IsPrefix as Begins};
 ghost use Rattle.serde_json.specs.View.{view};
+ghost use Rattle.sno_desk.specs.declared.desk.TheConstants.{MAX_TRIES};
 ghost use Rattle.sno_desk.specs.Answers.{Answers, AnswersAt, receipts_in};
 ghost use Rattle.sno_desk.specs.Turns.{position};
 ghost use Rattle.sno_serve.specs.Accepted.{AsksFor, HasTaken, IsCounted, IsCountedOnce};
@@ -69,7 +70,7 @@ pub(crate) fn submit<L: Naming, R: Wait>(
     statement: Arc<Statement>,
     tries: u32,
 ) -> Reply
-    requires { (1 ≤ tries) × (tries ≤ 1000) }
+    requires { (1 ≤ tries) × (tries ≤ MAX_TRIES) }
     ensures answers { Answers (λ _ _. ⊥) tries L.opening (arc_value statement) result }
     ensures at { AnswersAt tries L.opening seat.old.viewer.seen seat.new.viewer.seen (arc_value statement) result }
     ensures begins { Begins seat.old.viewer.seen seat.new.viewer.seen }
@@ -90,7 +91,7 @@ fn perform<L: Naming, R: Wait>(
     statement: Statement,
     tries: u32,
 ) -> Result<Answered, AllocError>
-    requires { (1 ≤ tries) × (tries ≤ 1000) }
+    requires { (1 ≤ tries) × (tries ≤ MAX_TRIES) }
     ensures performed { IfOk result (λ a. IsPerformed tries L.opening seat.old.viewer.seen seat.new.viewer.seen (option_map view id) statement (view a.reply) a.refused) }
     ensures counted { IfOk result (λ a. IsCountedOnce seat.old.accepted seat.new.accepted (option_map view id) (view a.reply)) }
     ensures taken { HasTaken (λ s. s ≡ statement) (position seat.old.accepted seat.old.viewer.seen) (position seat.new.accepted seat.new.viewer.seen) }
@@ -172,7 +173,7 @@ pub fn answer<L: Naming, R: Wait>(
     line: Line,
     tries: u32,
 ) -> Result<Answered, AllocError>
-    requires { (1 ≤ tries) × (tries ≤ 1000) }
+    requires { (1 ≤ tries) × (tries ≤ MAX_TRIES) }
     ensures replied { IfOk result (λ a. IsReplied tries L.opening seat.old.viewer.seen seat.new.viewer.seen (option_map view line.id) line.asked (view a.reply) a.refused) }
     ensures counted { IfOk result (λ a. IsCounted seat.old.accepted seat.new.accepted (option_map view line.id) line.asked (view a.reply)) }
     ensures taken { HasTaken (AsksFor line.asked) (position seat.old.accepted seat.old.viewer.seen) (position seat.new.accepted seat.new.viewer.seen) }

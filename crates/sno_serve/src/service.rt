@@ -3,11 +3,12 @@ ghost use Rattle.std.specs.Prelude.{◌≡◌, ◌≤◌, ◌⊎◌, ℕ, [], If
 ghost use Rattle.std.specs.List.Sorted.{IsNonDecreasingBy};
 ghost use mathlib.Core.List.{IsPrefix as Begins};
 ghost use Rattle.sno_book.specs.Books.{view_of};
-ghost use Rattle.sno_book.specs.Views.{IsLawful};
+ghost use Rattle.sno_book.specs.Views.{IsValid};
 ghost use Rattle.sno_statement.specs.Statement.{IsLimit};
 ghost use Rattle.sno_document.specs.Reads.{IsReady};
 ghost use Rattle.std.specs.Thread.{IsSend, IsSync};
 ghost use Rattle.std.specs.Arc.{arc_value};
+ghost use Rattle.sno_desk.specs.declared.desk.TheConstants.{MAX_SEATS, MAX_TRIES};
 ghost use Rattle.sno_desk.specs.Turns.{position};
 ghost use Rattle.sno_desk.specs.Worked.{HasWorkedAt};
 ghost use Rattle.sno_serve.specs.Asked.{asked_in};
@@ -41,7 +42,7 @@ struct Service<I: Read, W: Write> {
     intake: Mutex<Intake<I>>,
     outlet: Mutex<Outlet<W>>,
     ghost limit: { IsLimit mode.trials },
-    ghost valid: { (1 ≤ tries) × (tries ≤ 1000) },
+    ghost valid: { (1 ≤ tries) × (tries ≤ MAX_TRIES) },
 }
 
 /// What a service leaves.
@@ -228,11 +229,11 @@ pub fn serve<I: Read + Send + Drop, W: Write + Send + Drop, R: Threads + Wait + 
     writer: W,
 ) -> Result<Served, ServeFault>
     requires limit { IsLimit mode.trials }
-    requires few { (1 ≤ seats) × (seats ≤ 16) }
-    requires lawful { (1 ≤ tries) × (tries ≤ 1000) }
+    requires few { (1 ≤ seats) × (seats ≤ MAX_SEATS) }
+    requires valid { (1 ≤ tries) × (tries ≤ MAX_TRIES) }
     requires ready { IsReady document }
     ensures opening { IfOk result (λ s. s.book.opening ≡ document.book.opening) }
-    ensures lawful { IfOk result (λ s. IsLawful (view_of s.book)) }
+    ensures valid { IfOk result (λ s. IsValid (view_of s.book)) }
     ensures worked { IfOk result (λ s. HasWorkedAt (λ before after. Begins before.seen after.seen) seats s.book.journal) }
     ensures given { IfOk result (λ s. HasWorkedAt (HasServed (IsGiven (arc_value document.rules) (map arc_value document.statements.items) mode)) seats s.book.journal) }
     ensures rising { IfOk result (λ s. IsNonDecreasingBy (λ r. r.number) s.refused.items) }

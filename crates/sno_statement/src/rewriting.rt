@@ -15,7 +15,7 @@ use crate::searches::Searches;
 use crate::spans::Spans;
 use crate::values::{back, between, front};
 use crate::{Statement, StatementFault};
-use sno_machine::{Code, Workspace, compile};
+use sno_machine::{Code, MAX_KEPT, Workspace, compile};
 use sno_pattern::{Assigns, ByteText, Found, Hit, MAX_BYTES, cursors_lie_within_the_text};
 use sno_read::Part;
 use std::alloc::{AllocError, Global};
@@ -164,7 +164,7 @@ fn rewrite_rounds(
     ensures rewritten { GivesRewritten result (rewriting (perform_times_within MAX_BYTES (with_limit statement.now trials) (Some times) subject.now)) }
     ensures few { IfOk result (λ r. r.matches < 2 ^ 32) }
 {
-    let mut workspace = Workspace::new(alloc);
+    let mut workspace = Workspace::bounded(alloc, MAX_KEPT);
     let mut last = None;
     for matches in 0..times {
         let text = latest(&last, subject);
@@ -189,7 +189,7 @@ fn match_once(
     ensures rewritten { GivesRewritten result (rewriting (perform_once_within MAX_BYTES (with_limit statement.now trials) subject.now)) }
     ensures few { IfOk result (λ r. r.matches < 2 ^ 32) }
 {
-    let mut workspace = Workspace::new(alloc);
+    let mut workspace = Workspace::bounded(alloc, MAX_KEPT);
     let anchored = statement.anchored();
     let found = code.first_in_bytes(alloc, &mut workspace, subject, anchored, trials)?;
     let matches = if found.end.is_some() { 1 } else { 0 };
@@ -374,7 +374,8 @@ fn rewrite_all(
 /// - `TooManyTrials` exactly if the match takes more trials than the limit; of a statement for all matches, if all searches
 ///   together do;
 /// - then `TextTooLong` exactly if the new text would have more than 16,777,216 bytes;
-/// - `Memory` at any allocation that fails, and so instead of any refusal that would have come later.
+/// - `Memory` at any allocation that fails, or if a search would have to keep more than [`MAX_KEPT`] entries in its history; and
+///   so instead of any refusal that would have come later.
 pub fn rewrite(
     alloc: Global,
     statement: &Statement,

@@ -4,6 +4,7 @@ ghost use Rattle.std.specs.List.{list_any, range_with_len};
 ghost use Rattle.sno_pattern.specs.Tree.{tree_of};
 ghost use Rattle.sno_pattern.specs.Results.{enough_depth};
 ghost use Rattle.sno_pattern.specs.Outcome.{starts_from};
+ghost use Rattle.sno_pattern.specs.declared.texts.TheConstants.{MAX_TEXT};
 ghost use Rattle.sno_trace.specs.Steps.{is_ending};
 ghost use Rattle.sno_trace.specs.Promise.{IsShownFrom, until_ended};
 ghost use Rattle.sno_trace.specs.Depth.{IsDeeperFrom};
@@ -60,7 +61,7 @@ fn last_start(text: &Text, anchored: bool, from: usize) -> usize
     requires { from ≤ length text.now }
     ensures starts { range_with_len from (result + 1 - from) ≡ starts_from text.now anchored from }
     ensures within { result ≤ length text.now }
-    ensures short { result ≤ 65536 }
+    ensures short { result ≤ MAX_TEXT }
 {
     let length = text.bytes().len();
     if anchored { from } else { length }

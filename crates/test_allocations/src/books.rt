@@ -195,7 +195,7 @@ fn a_statement_is_proposed(rt: HostRuntime) -> Result<(), Fail> {
 }
 
 /// Prepares the proposal, and takes it back. The book is as it was, whatever comes back.
-#[tactic(auto, using(sno_book::proofs::Kinship::is_kin, sno_book::proofs::Kinship::held, sno_book::proofs::Kinship::still))]
+#[tactic(auto, using(sno_book::proofs::Kinship::is_related, sno_book::proofs::Kinship::held, sno_book::proofs::Kinship::still))]
 fn prepare(rt: &impl Abort, book: &mut Book, proposal: Proposal) -> (CallEnd, Proposal)
     requires { IsPrefix proposal.origin (view_of book.old) }
     ensures { IsPrefix result.1.origin (view_of book.new) }
@@ -235,7 +235,7 @@ fn a_commit_is_prepared(rt: HostRuntime) -> Result<(), Fail> {
 }
 
 /// Commits the proposal; where memory is refused the book is as it was, and the proposal comes back.
-#[tactic(auto, using(sno_book::proofs::Kinship::is_kin, sno_book::proofs::Kinship::still))]
+#[tactic(auto, using(sno_book::proofs::Kinship::is_related, sno_book::proofs::Kinship::still))]
 fn commit(rt: &impl Abort, book: &mut Book, proposal: Proposal) -> Result<(), Proposal>
     requires { IsPrefix proposal.origin (view_of book.old) }
     ensures { IfErr result (λ p. IsPrefix p.origin (view_of book.new)) }

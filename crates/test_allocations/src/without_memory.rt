@@ -104,7 +104,7 @@ fn a_statement_without_memory(rt: HostRuntime) -> Result<(), Fail> {
 }
 
 /// Takes back a proposal that is ready.
-#[tactic(auto, using(sno_book::proofs::Kinship::is_kin))]
+#[tactic(auto, using(sno_book::proofs::Kinship::is_related))]
 fn check_book_with_ready(rt: &impl Abort, book: &Book, ready: Ready, name: &TextName) {
     check_book(rt, book, b"k=v".as_slice(), 0, 0);
     check_eq(rt, &ready.back().version(), &0);
@@ -114,7 +114,7 @@ fn check_book_with_ready(rt: &impl Abort, book: &Book, ready: Ready, name: &Text
 
 /// A proposal that is ready is taken back.
 #[test]
-#[tactic(auto, using(sno_book::proofs::Kinship::is_kin))]
+#[tactic(auto, using(sno_book::proofs::Kinship::is_related))]
 fn a_book_without_memory(rt: HostRuntime) -> Result<(), Fail> {
     let name = TextName::new(rt.alloc(), b"T".as_slice())?;
     let (mut book, proposal) = proposed(&rt, rt.alloc())?;
@@ -126,7 +126,7 @@ fn a_book_without_memory(rt: HostRuntime) -> Result<(), Fail> {
 
 /// A proposal that is ready is accepted, and the receipt audited.
 #[test]
-#[tactic(auto, using(sno_book::proofs::Kinship::is_kin, sno_book::proofs::Kinship::kin_after))]
+#[tactic(auto, using(sno_book::proofs::Kinship::is_related, sno_book::proofs::Kinship::related_after))]
 fn a_commit_is_finished_without_memory(rt: HostRuntime) -> Result<(), Fail> {
     let (mut book, proposal) = proposed(&rt, rt.alloc())?;
     let Ok(ready) = book.prepare(proposal) else {

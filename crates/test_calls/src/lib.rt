@@ -8,6 +8,7 @@
 //! - `src/reading.rt`: the limits of what is written, and the parts of an object.
 //! - `src/primitives.rt`: where primitives end.
 //! - `src/evaluating.rt`: all that the plain evaluator assigns.
+//! - `src/byte_texts.rt`: texts of bytes, and matches in them.
 //! - `src/machine.rt`: one code on many texts, and the deepest references.
 //! - `src/statements.rt`: what a statement is given.
 //! - `src/printing.rt`: what each fault prints.
@@ -16,6 +17,8 @@
 
 #[cfg(test)]
 mod admission;
+#[cfg(test)]
+mod byte_texts;
 #[cfg(test)]
 mod evaluating;
 #[cfg(test)]

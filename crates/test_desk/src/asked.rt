@@ -108,8 +108,8 @@ impl Submitted {
         seat: &mut Seat<L>,
         gate: &Overtaking<'_, L>,
     ) -> Result<(), Fail> {
-        let lawful = 1 <= self.tries && self.tries <= 1_000;
-        assert!(rt; lawful);
+        let valid = 1 <= self.tries && self.tries <= 1_000;
+        assert!(rt; valid);
         let job = of_row(rt, alloc, &self.job)?;
         let reply = gate.desk.submit(rt, alloc, seat, job, self.tries, gate);
         check_eq(rt, &line_of(alloc, &reply)?.as_str(), &self.line);

@@ -46,7 +46,7 @@ fn spend<L: Naming + Send + Sync, G: Gate + Sync, R: Threads + Wait + Sync>(
     requires one_each { blank.ledger.parts ≡ seats }
     requires few { (1 ≤ seats) × (seats ≤ 16) }
     requires empty { book.journal ≡ [] }
-    requires lawful { (1 ≤ tries) × (tries ≤ 1000) }
+    requires valid { (1 ≤ tries) × (tries ≤ 1000) }
 {
     let (desk, mut seats) = Desk::<L>::new(rt, alloc, blank, book, seats).map_err(|(
         fault,
@@ -74,7 +74,7 @@ pub(crate) fn run_day<G: Gate + Sync, R: Threads + Wait + Sync>(
 ) -> Result<Day, Fail>
     requires few { (1 ≤ seats) × (seats ≤ 16) }
     requires empty { book.journal ≡ [] }
-    requires lawful { (1 ≤ tries) × (tries ≤ 1000) }
+    requires valid { (1 ≤ tries) × (tries ≤ 1000) }
 {
     spend::<Brand, G, R>(
         rt,

@@ -45,7 +45,7 @@ fn proposal(alloc: Global, book: &Book, job: &Arc<Statement>) -> Result<Proposal
 }
 
 /// Commits the proposal to the book, and publishes the entry. Returns whether both were done.
-#[tactic(auto, using(sno_book::proofs::Kinship::is_kin))]
+#[tactic(auto, using(sno_book::proofs::Kinship::is_related))]
 fn follow<L: Naming, R: Wait>(
     rt: &R,
     screen: &mut Screen<L>,
@@ -72,7 +72,7 @@ fn follow<L: Naming, R: Wait>(
 }
 
 /// The receipt of the statement on a book of its own.
-#[tactic(auto, using(sno_book::proofs::Kinship::is_kin))]
+#[tactic(auto, using(sno_book::proofs::Kinship::is_related))]
 fn receipt(rt: &impl Abort, alloc: Global) -> Result<Receipt, Fail> {
     let mut book = one_text(alloc)?;
     let proposal = added(rt, alloc, &book)?;

@@ -162,7 +162,7 @@ fn receipt_line(alloc: Global, receipt: &Receipt) -> Result<String, Fail> {
 }
 
 /// Prepares the proposal and accepts it. A view that began the book's view still begins it.
-#[tactic(auto, using(sno_book::proofs::Kinship::is_kin, sno_book::proofs::Kinship::kin_after, sno_book::proofs::Kinship::grows))]
+#[tactic(auto, using(sno_book::proofs::Kinship::is_related, sno_book::proofs::Kinship::related_after, sno_book::proofs::Kinship::grows))]
 fn prepare_and_finish(
     book: &mut Book,
     proposal: Proposal,
@@ -187,7 +187,7 @@ fn prepare_and_finish(
 }
 
 /// Prepares the proposal and takes it back, or returns why it is refused. The same proposal comes back.
-#[tactic(auto, using(sno_book::proofs::Kinship::is_kin, sno_book::proofs::Kinship::held, sno_book::proofs::Kinship::still))]
+#[tactic(auto, using(sno_book::proofs::Kinship::is_related, sno_book::proofs::Kinship::held, sno_book::proofs::Kinship::still))]
 fn prepare_and_take_back(book: &mut Book, proposal: Proposal) -> (Option<CommitFault>, Proposal)
     requires { IsPrefix proposal.origin (view_of book.old) }
     ensures kept { IsPrefix result.1.origin (view_of book.new) }
@@ -199,7 +199,7 @@ fn prepare_and_take_back(book: &mut Book, proposal: Proposal) -> (Option<CommitF
 }
 
 /// Accepts the proposal, or returns it with the reason why it is refused.
-#[tactic(auto, using(sno_book::proofs::Kinship::is_kin, sno_book::proofs::Kinship::still))]
+#[tactic(auto, using(sno_book::proofs::Kinship::is_related, sno_book::proofs::Kinship::still))]
 fn commit(book: &mut Book, proposal: Proposal) -> Result<Receipt, (CommitFault, Proposal)>
     requires { IsPrefix proposal.origin (view_of book.old) }
     ensures { IfErr result (λ r. IsPrefix r.1.origin (view_of book.new)) }

@@ -55,8 +55,13 @@ pub enum Entry<'a> {
 pub struct History<'a> {
     pub entries: Vec<Entry<'a>>,
     pub room: u32,
+    /// How many entries there may be.
+    pub most: u32,
+    /// Whether there was to be one more than there may be.
+    pub is_full: bool,
     pub gathered: Vec<(Name, usize, usize)>,
     ghost few: { vec_len entries ≤ room },
     ghost roomy: { room ≤ vec_capacity entries },
     ghost fits: { room < 2 ^ 32 },
+    ghost bounded: { room ≤ most },
 }

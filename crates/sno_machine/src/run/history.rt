@@ -11,17 +11,20 @@ use std::alloc::Global;
 const MANY: u32 = 4_096;
 
 impl<'a> History<'a> {
-    pub fn new(alloc: Global) -> History<'a>
+    /// A history that may have this many entries.
+    pub fn of(alloc: Global, most: u32) -> History<'a>
         ensures { (entries_of result) ≡ [] }
     {
         History {
             entries: Vec::new(alloc),
             room: 0,
+            most,
+            is_full: false,
             gathered: Vec::new(alloc),
         }
     }
 
-    /// Adds an entry, and returns how many there are then. More than 4,294,967,295 are refused as out of memory.
+    /// Adds an entry, and returns how many there are then. More than there may be are refused as out of memory.
     #[inline(always)]
     pub fn push(&mut self, entry: Entry<'a>) -> Result<u32, MatchFault>
         ensures entries { OnOk result ((entries_of self.new) ≡ (entries_of self.old) ++ entry.entry ∷ []) }
@@ -59,8 +62,9 @@ impl<'a> History<'a> {
         } else {
             self.room.saturating_mul(2)
         };
-        let room = more.max(16);
+        let room = more.max(16).min(self.most);
         if self.entries.len() == room as usize {
+            self.is_full = true;
             return Err(MatchFault::Memory);
         }
         self.entries.reserve(room as usize - self.entries.len())?;

@@ -9,8 +9,14 @@ use sno_primitives::{Mates, RunEnds};
 use std::alloc::Global;
 use std::marker::Model;
 
-// The most sets of which runs are remembered: they take 8 MB at most.
+// The most sets of which runs are remembered.
 const MOST_RUNS: usize = 2_048;
+
+// The most memory that the runs of all sets may take, in bytes.
+const MOST_MEMORY: usize = 67_108_864;
+
+// How much of it the runs of one set take for each block of 64 characters.
+const BLOCK_MEMORY: usize = 4;
 
 // How many members of a set its number is made of.
 const FIRST_MEMBERS: usize = 16;
@@ -55,10 +61,14 @@ impl<'t, 'a> Known<'t, 'a> {
         }
     }
 
-    /// Learns where the runs of the set end. If there is no memory for it, nothing is learnt.
+    /// Learns where the runs of the set end. If there is no memory for it, or if the runs of other sets have taken as much as they
+    /// may, nothing is learnt.
     pub fn learn_runs(&mut self, alloc: Global, set: &'a Class, inside: bool)
         ensures { self.new ≡ self.old }
     {
+        if self.runs.len() >= most_runs(self.text.len()) {
+            return;
+        }
         if let Ok(runs) = RunEnds::of(alloc, self.text, set, inside) {
             self.keep(alloc, runs);
         }
@@ -73,7 +83,7 @@ impl<'t, 'a> Known<'t, 'a> {
         }
     }
 
-    // Keeps the runs, if there is room for them.
+    // Keeps the runs, if they may be kept.
     fn keep(&mut self, alloc: Global, runs: RunEnds<'a>)
         requires { IsOfText self.old runs }
         ensures { self.new ≡ self.old }
@@ -116,6 +126,12 @@ impl<'t, 'a> Known<'t, 'a> {
     {
         self.mates.as_ref()
     }
+}
+
+// Of how many sets the runs in a text of this many characters may be known.
+fn most_runs(characters: usize) -> usize {
+    let memory = (characters / 64 + 1) * BLOCK_MEMORY;
+    (MOST_MEMORY / memory).min(MOST_RUNS)
 }
 
 // Whether the runs are those of the set.

@@ -66,6 +66,7 @@ impl<'a> Progress<'a> {
     pub fn try_spend(&mut self, count: usize) -> bool
         ensures spent { result ≡ true → self.new ≡ spend count self.old }
         ensures refused { result ≡ false → self.old.limit < self.old.trials + count }
+        ensures within { self.new.trials ≤ self.new.limit }
     {
         if (self.left as usize) < count {
             return false;
@@ -86,6 +87,9 @@ impl<'a> Progress<'a> {
         ensures sets { IfOk result (λ sets. sets.items ≡ self.now.sets) }
         ensures within { self.now.trials ≤ self.now.limit }
     {
+        if self.sets.is_empty() {
+            return Ok(Vec::new(alloc));
+        }
         let mut sets = Vec::with_capacity(alloc, self.sets.len())?;
         for told in &self.sets {
             sets.push_reserved(Assign {

@@ -36,9 +36,20 @@ fn first_place(nodes: &Nodes, most: u32, start: usize) -> Place
     }
 }
 
+// Whether no later start is looked for at first: none is passed over, or a match may begin at this one. Where matches follow one
+// another, as in a pass, that saves a call.
+#[inline(always)]
+fn begins_here(each: bool, beginnings: &Beginnings, text: &[u8], first: usize) -> bool {
+    match text.get(first) {
+        Some(character) => each || beginnings.begins_with(*character),
+        None => each,
+    }
+}
+
 /// Tries the pattern from cursor `first` to cursor `last`, at most `most` references deep, until one of these starts ends the
 /// match. Returns the success, if there is one. With `each`, no start is passed over. What the history holds is dropped first.
-/// All of it is one loop, so that a start is not a call.
+/// All of it is one loop, so that a start is not a call. Nor is it a call of a search.
+#[inline(always)]
 pub fn try_starts<'a>(
     alloc: Global,
     code: &Compiled<'a>,
@@ -69,7 +80,8 @@ pub fn try_starts<'a>(
     let run = code.run;
     // Found out once, so that a start that fails costs little.
     let each = each || (run.is_none() && matches!(beginnings, Beginnings::Any));
-    let mut start = next_start(each, beginnings, None, text, learnt, first, last, progress)?;
+    let here = begins_here(each, beginnings, text, first);
+    let mut start = next_start(here, beginnings, None, text, learnt, first, last, progress)?;
     if start > last {
         return Ok(None);
     }

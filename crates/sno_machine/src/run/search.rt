@@ -95,6 +95,7 @@ fn depth(text: &[u8], rules: &Rules) -> u32
 }
 
 // Tries each start at which a match may begin, until one of them ends the match: this cursor alone if the match is anchored.
+#[inline(always)]
 fn try_all<'a>(
     alloc: Global,
     code: &Compiled<'a>,

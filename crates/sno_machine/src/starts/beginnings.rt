@@ -79,6 +79,20 @@ impl<'a> Beginnings<'a> {
         }
     }
 
+    /// Whether a match may begin with the character, by one look: of a literal, at its first character. Of anything,
+    /// `false` is returned.
+    #[inline(always)]
+    pub fn begins_with(&self, character: u8) -> bool {
+        match self {
+            Beginnings::Any => false,
+            Beginnings::Literal(literal) => {
+                matches!(literal.needle().first(), Some(first) if *first == character)
+            }
+            Beginnings::Few(needle) => needle.begins_with(character),
+            Beginnings::Many(table) => !table.passed[character as usize],
+        }
+    }
+
     /// How many trials a start costs at which a match can't begin: at most 64 for the beginnings of a pattern.
     pub fn cost(&self) -> usize
         ensures { result ≡ cost self.now }

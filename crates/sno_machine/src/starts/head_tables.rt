@@ -1,5 +1,5 @@
 //! Many heads, as a table of the characters with which none of them can begin.
-ghost use Rattle.std.specs.Prelude.{◌≡◌, ◌&&◌, ℕ, false, not, get_or, nat_lt, length};
+ghost use Rattle.std.specs.Prelude.{◌≡◌, ◌&&◌, ℕ, false, not, get_or, nat_lt, length, take};
 ghost use Rattle.memchr.specs.Find.{IsFirstByte};
 ghost use Rattle.sno_primitives.specs.Rows.{rows_have};
 
@@ -9,6 +9,9 @@ use sno_primitives::Rows;
 
 // How many characters are looked at one by one. To look at sixteen at once is worth a call only after these.
 const NEAR: usize = 32;
+
+// How many characters are looked at one by one after a run, before the next run.
+const AT_ONCE: usize = 16;
 
 /// At which characters a start is passed over, and how many trials it costs there.
 #[derive(Clone, Copy)]
@@ -62,17 +65,36 @@ impl HeadTable {
             .position(|character| !self.passed[*character as usize])
     }
 
-    // Kept out of line, since it is for far characters.
+    // By rows up to a character that they don't have, and by the table over the next ones. So a few characters above 127 keep no
+    // text from being gone over by rows. Kept out of line, since it is for far characters.
     #[inline(never)]
     fn first_by_rows(&self, text: &[u8]) -> Option<usize>
         ensures { IsFirstByte (λ x. not (is_passed self.now x)) text.now result }
     {
-        let run = self.rows.run(text, true);
-        let (_, rest) = text.split_at(run);
-        match self.first_by_table(rest) {
-            Some(place) => Some(run + place),
-            None => None,
+        let mut passed = 0;
+        while passed < text.len() {
+            let (_, rest) = text.split_at(passed);
+            let run = self.rows.run(rest, true);
+            let (_, far) = rest.split_at(run);
+            let near = front(far, AT_ONCE);
+            match self.first_by_table(near) {
+                Some(place) => return Some(passed + run + place),
+                None => passed += run + near.len(),
+            }
         }
+        None
+    }
+}
+
+// The first characters, at most this many.
+#[inline(always)]
+fn front(characters: &[u8], most: usize) -> &[u8]
+    ensures { result.now ≡ take most characters.now }
+{
+    if most < characters.len() {
+        characters.split_at(most).0
+    } else {
+        characters
     }
 }
 

@@ -75,6 +75,19 @@ impl<'a> Needle<'a> {
         }
     }
 
+    /// Whether one of the heads can begin with the character. A set isn't looked at.
+    #[inline(always)]
+    pub fn begins_with(self, character: u8) -> bool {
+        match self {
+            Needle::Byte(byte) => byte == character,
+            Needle::Two(first, second) => first == character || second == character,
+            Needle::Three(first, second, third) => {
+                first == character || second == character || third == character
+            }
+            Needle::OneOf(_) | Needle::NoneOf(_) => false,
+        }
+    }
+
     /// The index of the first character of the text with which one of the heads can begin, if there is one.
     pub fn first(self, text: &[u8]) -> Option<usize>
         ensures { IsFirstByte (any_begins (heads_in self.entry)) text.now result }

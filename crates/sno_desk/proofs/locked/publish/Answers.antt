@@ -16,7 +16,7 @@ use Rattle.sno_desk.proofs.locked.publish.Goals as goal
 pub publish-requires-clause-step : goal.publish-requires-clause-step
 publish-requires-clause-step g c =
     let book = c.args.book.now in
-    let step = has_step (view_of book) c.args.ready c.requires.free c.requires.performed c.requires.kin c.kin_agree.ensures in
+    let step = has_step (view_of book) c.args.ready c.requires.free c.requires.performed c.requires.related c.related_agree.ensures in
     next_step (view_of book) c.args.ready g.L.Naming.opening c.args.screen.now.shown c.entry.result.now step c.requires.opening c.requires.level.0 c.entry.ensures
 
 pub returns-in_default-clause-begins : goal.returns-in_default-clause-begins
@@ -32,7 +32,7 @@ returns-clause-committed g c =
     let after : c.finish-receipt.new.self.journal ≡ book.journal ++ given.entry ∷ [] =
     ap (λ (v : View). v.journal) accepted.appended ∙ ap (λ (e : Entry). book.journal ++ e ∷ []) (sym accepted.entry) in
     let legal : Legal (start g.L.Naming.opening) (book.journal ++ given.entry ∷ []) =
-    subst (λ (l : List Entry). Legal (start g.L.Naming.opening) l) after (subst (λ (o : Opening). Legal (start o) c.finish-receipt.new.self.journal) opens c.journal-2.ensures.lawful.legal) in
+    subst (λ (l : List Entry). Legal (start g.L.Naming.opening) l) after (subst (λ (o : Opening). Legal (start o) c.finish-receipt.new.self.journal) opens c.journal-2.ensures.valid.legal) in
     let shown : c.table.result.now ≡ book.journal ++ given.entry ∷ [] = c.table.ensures ∙ ap (λ (s : Screen). s.shown) c.in-Ok.ensures.published ∙ ap (λ (l : List Entry). l ++ c.entry.result.now ∷ []) c.requires.level.0
     ∙ ap (λ (e : Entry). book.journal ++ e ∷ []) (c.entry.ensures ∙ sym accepted.entry) in
     let begins : Begins (book.journal ++ given.entry ∷ []) c.count.new.self.viewer.seen =

@@ -1,7 +1,7 @@
 -- What was settled is a shared run of the document.
 use Rattle.std.proofs.Common.{◌≡◌, Some, length, map, refl, ap, sym, subst, ◌∙◌}
 use Rattle.std.specs.Arc.{arc_value}
-use Rattle.sno_book.specs.Views.{IsLawful}
+use Rattle.sno_book.specs.Views.{IsValid}
 use Rattle.sno_book.specs.Books.{Book, view_of}
 use Rattle.sno_document.specs.Reads.{document_seen}
 use Rattle.sno_rewrite.specs.Histories.{history_seen}
@@ -20,7 +20,7 @@ returns-clause-shared g c =
     let opens = ap (λ (b : Book). b.opening) same ∙ c.in_ok-book.ensures.opening ∙ c.in_ok-desk.ensures.opening in
     shares c.args.tries (document_seen c.args.document) p.book c.args.document.book.opening p.refused.items c.in_ok-book.replies.items (length c.in_ok-desk.seats.items) c.args.workers
     c.in_ok-desk.ensures.count c.in_ok-book.ensures.in_turn opens refl c.requires.ready.room
-    (subst (λ (b : Book). IsLawful (view_of b)) (sym same) c.in_ok-book.ensures.lawful)
+    (subst (λ (b : Book). IsValid (view_of b)) (sym same) c.in_ok-book.ensures.valid)
     (λ w turns.
     let settled = c.in_ok-performed.ensures.settles w (subst (λ l. AreInTurn w l) (sym replies) turns) in
     let there = subst (λ (b : Book). Settles w c.args.tries b.opening (map arc_value c.deref-2.result.now) (history_seen p)) (sym same) settled in

@@ -22,7 +22,7 @@ returns-in-Err-clause-refused g c =
           (cause (view_of book) (view_of c.prepare.new.self) c.args.proposal c.in-Err.proposal c.in-Err.fault g.L.Naming.opening seen c.in-Err.ensures.refused c.self.invariant.0 (sym (level ∙ shown)));
       version = subst (λ (e : CommitFault). NamesVersion g.L.Ledger.parts c.args.seat.now.accepted e) (sym c.from.ensures)
           (named (view_of book) (view_of c.prepare.new.self) c.args.proposal c.in-Err.proposal c.in-Err.fault g.L.Ledger.parts c.args.seat.now.accepted c.self.inside.total.total
-          c.in-Err.ensures.refused c.journal.ensures.lawful c.versions_count_entries.ensures (λ one. sym c.see_all.ensures.accepted ∙ c.audit.ensures.alone one) c.self.invariant.2);
+          c.in-Err.ensures.refused c.journal.ensures.valid c.versions_count_entries.ensures (λ one. sym c.see_all.ensures.accepted ∙ c.audit.ensures.alone one) c.self.invariant.2);
       same = c.audit.ensures.accepted ∙ c.see_all.ensures.accepted;
     }
 

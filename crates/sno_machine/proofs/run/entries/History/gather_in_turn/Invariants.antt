@@ -2,7 +2,7 @@
 use Rattle.std.proofs.Common.{◌≡◌, ◌+◌, ◌≤◌, List, ◌++◌, length}
 use Rattle.sno_machine.specs.declared.run.entries.Entry.{Entry}
 use Rattle.sno_machine.specs.History.{entries_of, conds_at, in_turn}
-use Rattle.sno_machine.proofs.run.entries.History.gather.Given as goal
+use Rattle.sno_machine.proofs.run.entries.History.gather_in_turn.Given as goal
 
 abbrev pub invariant-loop-self : goal.invariant-loop-self
 invariant-loop-self l =

@@ -4,7 +4,7 @@ use Rattle.sno_machine.specs.History.{entries_of, in_turn}
 use Rattle.sno_machine.specs.declared.run.entries.Entry.{Entry}
 use Rattle.sno_machine.specs.declared.run.entries.Entry.TheVariants as entry
 use Rattle.sno_machine.proofs.HistoryLaws.{in_turn_new, last_added, unpended}
-use Rattle.sno_machine.proofs.run.entries.History.gather.Goals as goal
+use Rattle.sno_machine.proofs.run.entries.History.gather_in_turn.Goals as goal
 
 pub loop-self-preserved-in-Pending : goal.loop-self-preserved-in-Pending
 loop-self-preserved-in-Pending c =

@@ -1,0 +1,133 @@
+//! Repetitions whose rounds can take the same characters in more than one way.
+
+use sno_pattern::{Class, Pattern};
+use std::alloc::{AllocError, Global};
+
+/// The longest alternative that is compared, in characters.
+const LONGEST: usize = 32;
+
+/// Which characters one place of an alternative takes.
+#[derive(Clone, Copy)]
+enum Taken<'p> {
+    Every,
+    This(u8),
+    OneOf(&'p Class),
+    NoneOf(&'p Class),
+}
+
+impl<'p> Taken<'p> {
+    fn has(&self, character: u8) -> bool {
+        match self {
+            Taken::Every => true,
+            Taken::This(byte) => *byte == character,
+            Taken::OneOf(set) => set.has(character),
+            Taken::NoneOf(set) => !set.has(character),
+        }
+    }
+}
+
+/// Whether some character is taken at both places.
+fn overlap(one: &Taken, other: &Taken) -> bool {
+    (0..128).any(|character: u8| one.has(character) && other.has(character))
+}
+
+/// Whether some characters are taken by both, place by place; they have the same length.
+fn overlap_throughout(some: &[Taken], others: &[Taken]) -> bool {
+    some.len() == others.len()
+        && some
+            .iter()
+            .zip(others.iter())
+            .all(|(one, other)| overlap(one, other))
+}
+
+fn add_each<'p>(places: &mut Vec<Taken<'p>>, characters: &[u8]) -> Result<(), AllocError> {
+    for byte in characters.iter().take(LONGEST) {
+        places.push(Taken::This(*byte))?;
+    }
+    Ok(())
+}
+
+fn add_any<'p>(places: &mut Vec<Taken<'p>>, count: usize) -> Result<(), AllocError> {
+    for _ in 0..count.min(LONGEST) {
+        places.push(Taken::Every)?;
+    }
+    Ok(())
+}
+
+/// Adds the places of a pattern; returns whether it is made of parts that each take one known number of characters.
+fn add_places<'p>(places: &mut Vec<Taken<'p>>, pattern: &'p Pattern) -> Result<bool, AllocError> {
+    match pattern {
+        Pattern::Lit(text) => add_each(places, text.bytes())?,
+        Pattern::Len(count) => add_any(places, *count as usize)?,
+        Pattern::AnyOf(set) => places.push(Taken::OneOf(set))?,
+        Pattern::NoneOf(set) => places.push(Taken::NoneOf(set))?,
+        Pattern::Seq(first, second) => {
+            return Ok(add_places(places, first)? && add_places(places, second)?);
+        }
+        Pattern::Cond(part, _) | Pattern::Imm(part, _) => return add_places(places, part),
+        _ => return Ok(false),
+    }
+    Ok(true)
+}
+
+/// Adds the places of each alternative that has them.
+fn add_alternatives<'p>(
+    alloc: Global,
+    alternatives: &mut Vec<Vec<Taken<'p>>>,
+    pattern: &'p Pattern,
+) -> Result<(), AllocError> {
+    match pattern {
+        Pattern::Alt(first, second) => {
+            add_alternatives(alloc, alternatives, first)?;
+            add_alternatives(alloc, alternatives, second)
+        }
+        Pattern::Cond(part, _) | Pattern::Imm(part, _) => {
+            add_alternatives(alloc, alternatives, part)
+        }
+        _ => {
+            let mut places = Vec::new(alloc);
+            if add_places(&mut places, pattern)? && !places.is_empty() && places.len() <= LONGEST {
+                alternatives.push(places)?;
+            }
+            Ok(())
+        }
+    }
+}
+
+/// Whether characters that the longer alternative takes are also taken by the shorter one, and then by a third.
+fn is_divided(shorter: &[Taken], longer: &[Taken], alternatives: &[Vec<Taken>]) -> bool {
+    if shorter.len() > longer.len() {
+        return false;
+    }
+    let (front, rest) = longer.split_at(shorter.len());
+    if !overlap_throughout(shorter, front) {
+        return false;
+    }
+    rest.is_empty()
+        || alternatives
+            .iter()
+            .any(|third| overlap_throughout(third, rest))
+}
+
+/// Whether an alternative after the first ones takes what this one does, or the other way round.
+fn is_taken_again(one: &[Taken], later: &[Vec<Taken>], alternatives: &[Vec<Taken>]) -> bool {
+    later.iter().any(|other| {
+        is_divided(one, other, alternatives) || is_divided(other, one, alternatives)
+    })
+}
+
+/// Whether rounds of this part can take the same characters in more than one way, as `LEN(1) | LEN(2)`: each such place
+/// doubles the ways that a failing match goes. Only alternatives of a known length are compared, up to 32 characters.
+///
+/// Refused only if memory runs out.
+pub(crate) fn is_ambiguous(alloc: Global, part: &Pattern) -> Result<bool, AllocError> {
+    let mut alternatives = Vec::new(alloc);
+    add_alternatives(alloc, &mut alternatives, part)?;
+    for place in 0..alternatives.len() {
+        let (_, later) = alternatives.split_at(place + 1);
+        if is_taken_again(&alternatives[place], later, &alternatives) {
+            return Ok(true);
+        }
+    }
+    Ok(false)
+}

@@ -1,0 +1,31 @@
+//! Rules in one line, and definitions in one line.
+//!
+//! A rule is a pattern and, after a `=`, an object, as in a statement without its subject. Fields come after it, each with a
+//! colon before it. So a line is split at signs that are in no quotes; the grammar of patterns and objects has neither sign.
+//!
+//! ```text
+//! 'colour' = 'color'
+//! 'same(' BAL . WANTED ', ' BAL . FOUND ')' = 'expect(' FOUND ').to_be(' WANTED ')'
+//! SPAN(' ') RPOS(0) =
+//! 'x' = 'y' :first
+//! ```
+//!
+//! What the parts spell is for `sno_read`; here it is only found where they are. `specs/Lines.antt` says what a line is.
+//!
+//! | File | What it holds |
+//! |---|---|
+//! | `signs` | the first sign of a text that is in no quotes |
+//! | `pieces` | blanks, words and quotations |
+//! | `fields` | the fields of a rule |
+//! | `rules` | [`read_rule`] and [`read_definition`] |
+//! | `faults` | [`LineFault`] |
+#![tactic(auto)]
+
+mod faults;
+mod fields;
+mod pieces;
+mod rules;
+mod signs;
+
+pub use faults::LineFault;
+pub use rules::{LineDefinition, LineRule, read_definition, read_rule};
