@@ -106,7 +106,7 @@ pub fn rules_of_rows<'t>(
     mode: Mode,
 ) -> Result<Document, DocumentFault>
     requires { IsLimit mode.trials }
-    ensures rules { GivesRules mode (record { patterns = map pair_seen patterns.items; texts = []; statements = map statement_seen statements.items }) result }
+    ensures rules { GivesRules mode (record { patterns = map pair_seen patterns.entry.items; texts = []; statements = map statement_seen statements.entry.items }) result }
     ensures ready { IfOk result (λ d. IsReady d) }
 {
     let rows = Rows {

@@ -51,7 +51,7 @@ impl EditRules {
         anchor: bool,
         trials: Trials,
     ) -> Result<EditRules, DocumentFault>
-        ensures { MatchResult result (λ rules. HoldsRows anchor (rows_in patterns.items statements.items) (rules_seen rules).statements × ((rules_seen rules).trials ≡ trials)) (λ e. e ≢ DocumentFault.Memory → AreRules (mode_of anchor) (rows_in patterns.items statements.items) (Err e)) }
+        ensures { MatchResult result (λ rules. HoldsRows anchor (rows_in patterns.entry.items statements.entry.items) (rules_seen rules).statements × ((rules_seen rules).trials ≡ trials)) (λ e. e ≢ DocumentFault.Memory → AreRules (mode_of anchor) (rows_in patterns.entry.items statements.entry.items) (Err e)) }
     {
         let mode = Mode {
             anchor,
