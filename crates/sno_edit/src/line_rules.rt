@@ -1,5 +1,5 @@
 //! Rules and definitions in lines, as the rows of a document have them.
-ghost use Rattle.std.specs.Prelude.{◌≡◌, ¬, IfSome, IsUtf8, MatchOption};
+ghost use Rattle.std.specs.Prelude.{◌≡◌, IfSome, IsUtf8, MatchOption};
 ghost use Rattle.std.specs.Option.{option_map};
 ghost use Rattle.sno_document.specs.DocumentRows.{pair_seen, statement_seen};
 ghost use Rattle.sno_edit.specs.LineRules.{row_of};
@@ -9,7 +9,7 @@ use sno_rules::{LineDefinition, LineRule};
 
 /// The characters as a text; `None` if they are not UTF-8.
 fn text_of(characters: &[u8]) -> Option<&str>
-    ensures { MatchOption result (¬ (IsUtf8 characters.now)) (λ s. s.now ≡ characters.now) }
+    ensures { MatchOption result (IsUtf8 characters.now → ⊥) (λ s. s.now ≡ characters.now) }
 {
     match str::from_utf8(characters) {
         Ok(text) => Some(text),
