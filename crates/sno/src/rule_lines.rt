@@ -106,7 +106,7 @@ fn statement_rows<'a>(alloc: Global, lines: &[&'a str]) -> Result<Vec<StatementR
     for line in lines {
         let number = rows.len().saturating_add(1);
         match read_rule(line.as_bytes()) {
-            Ok(rule) => rows.push(rule_row(rule).unwrap_or_else(no_rule))?,
+            Ok(rule) => rows.push(rule_row(rule).unwrap_or(no_rule()))?,
             Err(fault) => {
                 let text = refused_line(alloc, RULE_LINE, number, line, fault)?;
                 return Err(NoRows::Line(text));
