@@ -139,6 +139,14 @@ fn pattern_begins(line: &str) -> usize {
     }
 }
 
+/// The pattern of a rule, as it is written; the line if that is no rule.
+fn pattern_written(line: &str) -> &str {
+    match read_rule(line.as_bytes()) {
+        Ok(rule) => line.get(..rule.pattern.len()).unwrap_or(line),
+        Err(_) => line,
+    }
+}
+
 /// Where the object of a rule begins.
 fn object_begins(line: &str) -> usize {
     match read_rule(line.as_bytes()) {
@@ -147,16 +155,16 @@ fn object_begins(line: &str) -> usize {
     }
 }
 
-/// What is wrong in a line with this fault of reading, which begins to be read after `begin` characters.
+/// What is wrong in a line with this fault of reading a part, which begins after `begin` characters and is written so.
 fn mistake_in(
     alloc: Global,
     fault: DocumentFault,
     line: &str,
     begin: usize,
+    written: &str,
     is_object: bool,
     read: ReadFault,
 ) -> Result<Mistake, AllocError> {
-    let written = line.get(begin..).unwrap_or("");
     let advice = match habit_advice(is_object, &read, written) {
         Some(advice) => advice,
         None => reading_advice(is_object, &read, written),
@@ -169,6 +177,11 @@ fn mistake_in(
     })
 }
 
+/// What is left of the line after `begin` characters.
+fn left_of(line: &str, begin: usize) -> &str {
+    line.get(begin..).unwrap_or("")
+}
+
 /// What is wrong in the lines with this fault.
 fn mistake_of(
     alloc: Global,
@@ -178,15 +191,17 @@ fn mistake_of(
     match fault {
         DocumentFault::PatternRead(number, read) => {
             let line = line_at(&lines.definitions, number);
-            mistake_in(alloc, fault, line, pattern_begins(line), false, read)
+            let begin = pattern_begins(line);
+            mistake_in(alloc, fault, line, begin, left_of(line, begin), false, read)
         }
         DocumentFault::StatementPattern(number, read) => {
             let line = line_at(&lines.rules, number);
-            mistake_in(alloc, fault, line, 0, false, read)
+            mistake_in(alloc, fault, line, 0, pattern_written(line), false, read)
         }
         DocumentFault::StatementObject(number, read) => {
             let line = line_at(&lines.rules, number);
-            mistake_in(alloc, fault, line, object_begins(line), true, read)
+            let begin = object_begins(line);
+            mistake_in(alloc, fault, line, begin, left_of(line, begin), true, read)
         }
         _ => Ok(Mistake {
             fault,
