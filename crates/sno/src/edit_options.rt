@@ -46,7 +46,7 @@ pub(crate) const EDIT_OUT_OF_RANGE: &str =
 pub(crate) struct EditRequest<'a> {
     /// How it is to be done.
     pub(crate) options: EditOptions<'a>,
-    /// The rules that are given as lines; if there are none, the rules are in a file.
+    /// The rules that are given as lines. Without any, the rules are in a file.
     pub(crate) lines: RuleLines<'a>,
     /// The files.
     pub(crate) paths: Vec<&'a str>,

@@ -89,7 +89,7 @@ fn definition_rows<'a>(
     Ok(rows)
 }
 
-/// A rule of which nothing is written: it takes the place of one whose parts are not UTF-8, which a line doesn't have.
+/// A rule without any characters. It takes the place of one whose parts are not UTF-8, which a line doesn't have.
 fn no_rule<'a>() -> StatementRow<'a> {
     StatementRow {
         text: "",
@@ -123,7 +123,7 @@ pub(crate) fn rows_of<'a>(alloc: Global, lines: &RuleLines<'a>) -> Result<RuleRo
     Ok((definitions, rules))
 }
 
-/// The line with this number, from 1; the empty line if there is none.
+/// The line with this number, from 1; the empty line if there are not as many lines.
 fn line_at<'a>(lines: &[&'a str], number: usize) -> &'a str {
     match lines.get(number.saturating_sub(1)) {
         Some(line) => line,

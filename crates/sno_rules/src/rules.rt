@@ -46,7 +46,7 @@ fn object_in(text: &[u8]) -> Option<&[u8]>
 /// The rule that a line is. The first `=` in no quotes ends the pattern, and the first `:` in no quotes begins the fields. The line
 /// takes no memory, and of its parts nothing is read.
 ///
-/// Refused: `UnknownField` with the place of the first field that is none of `first`, `anchored`, `repeat N` and `in 'NAME'`.
+/// Refused: `UnknownField` with the place of the first field other than `first`, `anchored`, `repeat N` and `in 'NAME'`.
 pub fn read_rule(line: &[u8]) -> Result<LineRule<'_>, LineFault>
     ensures { IsRule line.now result }
 {

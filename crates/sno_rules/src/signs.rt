@@ -22,7 +22,7 @@ fn is_sign(quote: u8, character: u8, sign: u8) -> bool
     quote == 0 && character == sign
 }
 
-/// How many characters come before the first sign that is in no quotes; all of them if there is none.
+/// How many characters come before the first sign outside quotes; all of them without such a sign.
 pub(crate) fn before_sign(text: &[u8], sign: u8) -> usize
     ensures exact { result ≡ before_sign sign 0 text.now }
     ensures within { result ≤ length text.now }

@@ -126,7 +126,7 @@ impl<'c, 't, 'a> Searches<'c, 't, 'a> {
         });
     }
 
-    /// The next match, with what its search assigned at once; `None` if there is none left. Refused as [`crate::Pass::next`] is.
+    /// The next match, with what its search assigned at once; `None` at the end of the pass. Refused as [`crate::Pass::next`] is.
     pub(crate) fn next_hit(
         &mut self,
         alloc: Global,

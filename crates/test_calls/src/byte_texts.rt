@@ -8,7 +8,7 @@ use std::test::Fail;
 // More trials than the searches here take.
 const LIMIT: u32 = u32::MAX;
 
-// How many bytes a text of this many zeros has, or why it is none.
+// How many bytes a text of this many zeros has, or why there is no such text.
 fn length_of(alloc: Global, count: usize) -> Result<Result<usize, ByteTextFault>, Fail> {
     let zeros = vec![in alloc; 0; count]?;
     Ok(ByteText::new(zeros).map(|text| text.bytes().len()))
@@ -84,7 +84,7 @@ fn end_from<'a>(
     Ok((search.found.end.as_ref().map(|hit| hit.end), search.trials))
 }
 
-// An x takes a trial at each start up to it, and if there is none at each.
+// A search for x takes a trial at each start up to the first x; without an x, one at each start.
 #[test]
 fn searches_of_bytes_go_on_from_a_cursor(rt: HostRuntime) -> Result<(), Fail> {
     let alloc = rt.alloc();

@@ -46,8 +46,8 @@ fn a_statement_for_all_matches_is_not_repeated(rt: HostRuntime) -> Result<(), Fa
     Ok(())
 }
 
-// What a statement leaves of these bytes with this limit: how many matches there were, and the new text, or the null string if
-// there is none. Or why it is refused.
+// What a statement leaves of these bytes with this limit: how many matches there were, and the new text, or the null string
+// without a match. Or why it is refused.
 fn left_of(
     alloc: Global,
     statement: &Statement,

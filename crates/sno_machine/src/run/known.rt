@@ -9,7 +9,7 @@ use sno_primitives::{Mates, RunEnds};
 use std::alloc::Global;
 use std::marker::Model;
 
-// The most sets of which runs are remembered.
+// The most sets whose runs are remembered.
 const MOST_RUNS: usize = 2_048;
 
 // The most memory that the runs of all sets may take, in bytes.
