@@ -89,7 +89,8 @@ fn definition_rows<'a>(
     Ok(rows)
 }
 
-/// A rule without any characters. It takes the place of one whose parts are not UTF-8, which a line doesn't have.
+/// A rule without any characters, which is refused as it is read. It takes the place of one whose parts are not UTF-8; a line has
+/// no such parts.
 fn no_rule<'a>() -> StatementRow<'a> {
     StatementRow {
         text: "",

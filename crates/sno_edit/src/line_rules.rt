@@ -1,5 +1,5 @@
 //! Rules and definitions in lines, as the rows of a document have them.
-ghost use Rattle.std.specs.Prelude.{◌≡◌, IfSome, IsUtf8, MatchOption};
+ghost use Rattle.std.specs.Prelude.{◌≡◌, IfNone, IfSome, IsUtf8, MatchOption};
 ghost use Rattle.std.specs.Option.{option_map};
 ghost use Rattle.sno_document.specs.DocumentRows.{pair_seen, statement_seen};
 ghost use Rattle.sno_edit.specs.LineRules.{row_of};
@@ -19,7 +19,8 @@ fn text_of(characters: &[u8]) -> Option<&str>
 
 /// A definition's name and pattern; `None` if one of them is not UTF-8.
 pub fn definition_row<'t>(definition: LineDefinition<'t>) -> Option<(&'t str, &'t str)>
-    ensures { IfSome result (λ row. pair_seen row ≡ (definition.entry.name.now, definition.entry.pattern.now)) }
+    ensures row { IfSome result (λ row. pair_seen row ≡ (definition.entry.name.now, definition.entry.pattern.now)) }
+    ensures utf8 { IfNone result (IsUtf8 definition.entry.name.now → IsUtf8 definition.entry.pattern.now → ⊥) }
 {
     let name = text_of(definition.name)?;
     let pattern = text_of(definition.pattern)?;
@@ -28,7 +29,8 @@ pub fn definition_row<'t>(definition: LineDefinition<'t>) -> Option<(&'t str, &'
 
 /// A part that may be missing; `None` if it is there and not UTF-8.
 fn optional_text<'t>(characters: Option<&'t [u8]>) -> Option<Option<&'t str>>
-    ensures { IfSome result (λ s. option_map (λ t. t.now) s ≡ option_map (λ t. t.now) characters.entry) }
+    ensures text { IfSome result (λ s. option_map (λ t. t.now) s ≡ option_map (λ t. t.now) characters.entry) }
+    ensures utf8 { IfNone result (IfSome characters.entry (λ t. IsUtf8 t.now) → ⊥) }
 {
     match characters {
         None => Some(None),
@@ -41,7 +43,8 @@ fn optional_text<'t>(characters: Option<&'t [u8]>) -> Option<Option<&'t str>>
 ///
 /// `None` if one of its parts is not UTF-8.
 pub fn rule_row<'t>(rule: LineRule<'t>) -> Option<StatementRow<'t>>
-    ensures { IfSome result (λ row. statement_seen row ≡ row_of rule.entry) }
+    ensures row { IfSome result (λ row. statement_seen row ≡ row_of rule.entry) }
+    ensures utf8 { IfNone result (IsUtf8 rule.entry.pattern.now → IfSome rule.entry.object (λ t. IsUtf8 t.now) → IfSome rule.entry.repeat (λ t. IsUtf8 t.now) → IfSome rule.entry.text (λ t. IsUtf8 t.now) → ⊥) }
 {
     let pattern = text_of(rule.pattern)?;
     let object = optional_text(rule.object)?;

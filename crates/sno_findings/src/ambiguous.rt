@@ -6,6 +6,9 @@ use std::alloc::{AllocError, Global};
 /// The longest alternative that is compared, in characters.
 const LONGEST: usize = 32;
 
+/// The most alternatives of a part that are compared, each with each.
+const MOST: usize = 64;
+
 /// Which characters one place of an alternative takes.
 #[derive(Clone, Copy)]
 enum Taken<'p> {
@@ -70,12 +73,15 @@ fn add_places<'p>(places: &mut Vec<Taken<'p>>, pattern: &'p Pattern) -> Result<b
     Ok(true)
 }
 
-/// Adds the places of each alternative that has them.
+/// Adds the places of each alternative that has them, up to the most that are compared.
 fn add_alternatives<'p>(
     alloc: Global,
     alternatives: &mut Vec<Vec<Taken<'p>>>,
     pattern: &'p Pattern,
 ) -> Result<(), AllocError> {
+    if alternatives.len() >= MOST {
+        return Ok(());
+    }
     match pattern {
         Pattern::Alt(first, second) => {
             add_alternatives(alloc, alternatives, first)?;
@@ -117,7 +123,8 @@ fn is_taken_again(one: &[Taken], later: &[Vec<Taken>], alternatives: &[Vec<Taken
 }
 
 /// Whether rounds of this part can take the same characters in more than one way, as `LEN(1) | LEN(2)`: each such place
-/// doubles the ways that a failing match goes. Only alternatives of a known length are compared, up to 32 characters.
+/// doubles the ways that a failing match goes. Only alternatives of a known length are compared: the first 64, up to 32
+/// characters.
 ///
 /// Refused only if memory runs out.
 pub(crate) fn is_ambiguous(alloc: Global, part: &Pattern) -> Result<bool, AllocError> {

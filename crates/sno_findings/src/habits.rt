@@ -1,15 +1,12 @@
 //! What other languages write, and what is written here instead.
 
 use crate::ascii::text_of;
+use crate::reading::is_blank;
 use sno_pattern::is_name_char;
 use sno_read::ReadFault;
 
 /// The words whose argument is a set.
 const SET_WORDS: [&str; 4] = ["ANY", "NOTANY", "SPAN", "BREAK"];
-
-fn is_blank(character: u8) -> bool {
-    character == b' ' || character == b'\t'
-}
 
 fn is_quote(character: u8) -> bool {
     character == b'\'' || character == b'"'
@@ -106,10 +103,14 @@ fn ends_in_assignment(characters: &[u8]) -> bool {
     }
 }
 
-/// Whether a part is assigned to the variable with this name.
+/// Whether a part is assigned to the variable with this name. The name is looked for first: what comes before each place is looked at
+/// only there, so that long blanks and long words aren't gone through again and again.
 fn assigns(written: &[u8], word: &str) -> bool {
     (0..written.len()).any(|place| {
-        ends_in_assignment(before(written, place)) && first_word(from(written, place)) == word
+        let rest = from(written, place);
+        rest.starts_with(word.as_bytes())
+            && ends_in_assignment(before(written, place))
+            && first_word(rest) == word
     })
 }
 

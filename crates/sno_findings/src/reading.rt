@@ -20,7 +20,8 @@ pub fn place_of(fault: &ReadFault) -> usize {
     }
 }
 
-fn is_blank(character: u8) -> bool {
+/// A space or a tab.
+pub(crate) fn is_blank(character: u8) -> bool {
     character == b' ' || character == b'\t'
 }
 
