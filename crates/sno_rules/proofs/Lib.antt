@@ -1,2 +1,3 @@
 mod SignLaws
 mod FieldLaws
+mod SpellingLaws

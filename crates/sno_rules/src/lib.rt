@@ -12,20 +12,32 @@
 //!
 //! What the parts spell is for `sno_read`; here it is only found where they are. `specs/Lines.antt` says what a line is.
 //!
+//! A hand may write sets by name, as `SPAN(LETTER DIGIT '_')`. [`spelled`] writes them out; `specs/Spelling.antt` says how.
+//!
 //! | File | What it holds |
 //! |---|---|
 //! | `signs` | the first sign of a text that is in no quotes |
 //! | `pieces` | blanks, words and quotations |
 //! | `fields` | the fields of a rule |
 //! | `rules` | [`read_rule`] and [`read_definition`] |
-//! | `faults` | [`LineFault`] |
+//! | `names` | names of sets, and names that stand for a literal |
+//! | `arguments` | the argument of a set: its parts, joined |
+//! | `calls` | the words that take a set, and what is spelled for each |
+//! | `spelling` | [`spelled`]: a pattern or an object as `sno_read` reads it |
+//! | `faults` | [`LineFault`], [`SpellingFault`] |
 #![tactic(auto)]
 
+mod arguments;
+mod calls;
 mod faults;
 mod fields;
+mod names;
 mod pieces;
 mod rules;
 mod signs;
+mod spelling;
 
-pub use faults::LineFault;
+pub use faults::{LineFault, SpellingFault};
+pub use names::SetName;
 pub use rules::{LineDefinition, LineRule, read_definition, read_rule};
+pub use spelling::{Mark, Spelling, set_of, spelled};

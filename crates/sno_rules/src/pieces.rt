@@ -4,13 +4,13 @@ ghost use Rattle.std.specs.Option.{option_map};
 ghost use Rattle.std.specs.List.{prefix_len, suffix_len};
 ghost use Rattle.sno_rules.specs.Lines.{argument_of, before_quote, is_blank, is_quote, is_solid, trimmed, unquoted, word_of};
 
-fn is_blank(character: u8) -> bool
+pub(crate) fn is_blank(character: u8) -> bool
     ensures { result ≡ is_blank character }
 {
     character == b' ' || character == b'\t'
 }
 
-fn is_quote(character: u8) -> bool
+pub(crate) fn is_quote(character: u8) -> bool
     ensures { result ≡ is_quote character }
 {
     character == b'\'' || character == b'"'
@@ -41,7 +41,7 @@ fn solids_before(text: &[u8]) -> usize
 }
 
 // How many characters come before the first quote of this kind.
-fn before_quote(text: &[u8], quote: u8) -> usize
+pub(crate) fn before_quote(text: &[u8], quote: u8) -> usize
     ensures count { result ≡ before_quote quote text.now }
     ensures within { result ≤ length text.now }
 {
