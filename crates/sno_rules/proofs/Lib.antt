@@ -1,3 +1,4 @@
 mod SignLaws
 mod FieldLaws
 mod SpellingLaws
+mod RuleFileLaws

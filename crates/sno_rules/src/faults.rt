@@ -61,3 +61,39 @@ impl<T: Drop> From<AllocFailed<T>> for SpellingFault {
         SpellingFault::Memory
     }
 }
+
+/// Why a file is no file of rules. A number is that of a line, from 1.
+#[derive(Clone, Copy, Debug, PartialEq, Eq, Error)]
+pub enum RuleFileFault {
+    /// The line begins neither as a rule nor as a definition, nor as a comment.
+    #[error("line {0}: neither a rule nor a definition")]
+    UnknownLine(usize),
+    /// There is nothing before the line that it could go on with.
+    #[error("line {0}: nothing before it to go on with")]
+    NothingBefore(usize),
+    /// Out of memory.
+    #[error("out of memory")]
+    Memory,
+}
+
+impl From<AllocError> for RuleFileFault {
+    ghost use Rattle.std.specs.Prelude.{◌≡◌};
+    ghost use Rattle.sno_rules.specs.declared.faults.RuleFileFault.TheVariants.{Memory};
+
+    ghost from_gives = { λ _ e. e ≡ Memory };
+
+    fn from(_refused: AllocError) -> RuleFileFault {
+        RuleFileFault::Memory
+    }
+}
+
+impl<T: Drop> From<AllocFailed<T>> for RuleFileFault {
+    ghost use Rattle.std.specs.Prelude.{◌≡◌};
+    ghost use Rattle.sno_rules.specs.declared.faults.RuleFileFault.TheVariants.{Memory};
+
+    ghost from_gives = { λ _ e. e ≡ Memory };
+
+    fn from(_refused: AllocFailed<T>) -> RuleFileFault {
+        RuleFileFault::Memory
+    }
+}

@@ -20,11 +20,12 @@
 //! | `pieces` | blanks, words and quotations |
 //! | `fields` | the fields of a rule |
 //! | `rules` | [`read_rule`] and [`read_definition`] |
+//! | `rule_files` | [`lines_of`]: the rules and definitions of a file, with its comments and lines that go on |
 //! | `names` | names of sets, and names that stand for a literal |
 //! | `arguments` | the argument of a set: its parts, joined |
 //! | `calls` | the words that take a set, and what is spelled for each |
 //! | `spelling` | [`spelled`]: a pattern or an object as `sno_read` reads it |
-//! | `faults` | [`LineFault`], [`SpellingFault`] |
+//! | `faults` | [`LineFault`], [`SpellingFault`], [`RuleFileFault`] |
 #![tactic(auto)]
 
 mod arguments;
@@ -33,11 +34,13 @@ mod faults;
 mod fields;
 mod names;
 mod pieces;
+mod rule_files;
 mod rules;
 mod signs;
 mod spelling;
 
-pub use faults::{LineFault, SpellingFault};
+pub use faults::{LineFault, RuleFileFault, SpellingFault};
 pub use names::SetName;
+pub use rule_files::{FileLine, LineKind, lines_of};
 pub use rules::{LineDefinition, LineRule, read_definition, read_rule};
 pub use spelling::{Mark, Spelling, set_of, spelled};

@@ -17,7 +17,7 @@ pub(crate) fn is_quote(character: u8) -> bool
 }
 
 // How many blanks the text begins with.
-fn blanks_before(text: &[u8]) -> usize
+pub(crate) fn blanks_before(text: &[u8]) -> usize
     ensures count { result ≡ prefix_len is_blank text.now }
     ensures within { result ≤ length text.now }
 {
