@@ -8,7 +8,7 @@ use Rattle.sno_rules.specs.declared.names.SetName.{SetName}
 use Rattle.sno_rules.specs.declared.calls.SetWord.TheVariants as word
 use Rattle.sno_rules.specs.declared.rule_files.LineKind.TheVariants as kind
 use Rattle.sno_rules.specs.declared.rule_files.Meaning.TheVariants as meaning
-use Rattle.sno_rules.specs.Spelling.{IsJoined, IsSpelled, IsStep, Spelled, call_of, call_text, ends, literal_of, more, no_more, nothing_spelled, part_at, piece_of, quoted, ready_literal, ready_set, set_word, stepped}
+use Rattle.sno_rules.specs.Spelling.{IsJoined, IsSpelled, IsStep, Spelled, call_begin, call_of, ends, literal_of, more, no_more, nothing_spelled, part_at, piece_of, quoted, ready_literal, ready_set, set_text, set_word, stepped}
 use Rattle.sno_rules.specs.RuleFiles.{FileLine, after_line, line_of, meaning_of, with_line}
 use Rattle.sno_rules.specs.Lines.{Fields, before_sign, front_of, rest_of, object_in, no_fields, trimmed, unquoted, with_field}
 use Rattle.sno_rules.specs.Rules.{definition_by}
@@ -147,14 +147,14 @@ double_quotes = refl
 no_quotes_left : quoted (codes "'\"") ≡ None
 no_quotes_left = refl
 
--- calls
-span : call_text word.Span (codes "'ab'") ≡ codes "SPAN('ab')"
+-- calls, from their sets on
+span : set_text word.Span (codes "'ab'") ≡ codes "'ab')"
 span = refl
 
-break_x : call_text word.BreakX (codes "','") ≡ codes "(BREAK(',') ARBNO(LEN(1) BREAK(',')))"
+break_x : call_begin word.BreakX ++ set_text word.BreakX (codes "','") ≡ codes "(BREAK(',') ARBNO(LEN(1) BREAK(',')))"
 break_x = refl
 
-n_span : call_text word.NSpan (codes "' '") ≡ codes "(SPAN(' ') | '')"
+n_span : call_begin word.NSpan ++ set_text word.NSpan (codes "' '") ≡ codes "(SPAN(' ') | '')"
 n_span = refl
 
 -- a whole call: the parts of its argument, joined, and what is spelled for them
@@ -163,7 +163,7 @@ unfolding is_letter is_name_char ready_set
 joined_set = more [] _ (codes "_") (codes " DIGIT)") _ refl refl (more _ _ [] (codes "DIGIT)") _ refl refl (more _ _ (codes "0123456789") (codes ")") _ refl refl (ends _ _ refl)))
 
 abbrev span_of_digits : Spelled
-span_of_digits = record { characters = codes "SPAN('_0123456789')"; marks = record { before = 0; place = 0; copied = false } ∷ [] }
+span_of_digits = record { characters = codes "SPAN('_0123456789')"; marks = record { before = 0; place = 0; copied = true } ∷ record { before = 5; place = 5; copied = false } ∷ [] }
 
 one_call : IsStep [] 15 nothing_spelled (codes "SPAN('_' DIGIT)") (Ok (span_of_digits, []))
 unfolding is_letter is_name_char ready_set set_word

@@ -137,9 +137,18 @@ call_end word.Break set = codes ")"
 call_end word.BreakX set = codes ") ARBNO(LEN(1) BREAK(" ++ (set ++ codes ")))")
 call_end word.NSpan set = codes ") | '')"
 
--- a call with this set, which is in quotes
-abbrev pub call_text : SetWord → List ℕ → List ℕ
-call_text w set = call_begin w ++ (set ++ call_end w set)
+-- whether what is spelled before the set is what is written there
+abbrev pub is_copied : SetWord → Bool
+is_copied word.Any = true
+is_copied word.NotAny = true
+is_copied word.Span = true
+is_copied word.Break = true
+is_copied word.BreakX = false
+is_copied word.NSpan = false
+
+-- what is spelled for a call from its set on, which is in quotes
+abbrev pub set_text : SetWord → List ℕ → List ℕ
+set_text w set = set ++ call_end w set
 
 -- characters in a kind of quotes that they don't have
 abbrev pub has : ℕ → List ℕ → Bool
@@ -209,22 +218,23 @@ abbrev pub with_piece : Spelled → ℕ → List ℕ → Option (List ℕ) → S
 with_piece s place piece None = with_part s place true piece
 with_piece s place piece (Some literal) = with_part s place false (in_quotes 39 literal)
 
-abbrev pub with_set : Spelled → ℕ → SetWord → Option (List ℕ) → List ℕ → Step
-with_set s place w None rest = Err (fault.BothQuotes place)
-with_set s place w (Some set) rest = Ok (with_part s place false (call_text w set), rest)
+-- a call of this word at this place, whose argument is inside, from there on
+abbrev pub with_set : Spelled → ℕ → ℕ → SetWord → Option (List ℕ) → List ℕ → Step
+with_set s place inside w None rest = Err (fault.BothQuotes place)
+with_set s place inside w (Some set) rest = Ok (with_part (with_part s place (is_copied w) (call_begin w)) inside false (set_text w set), rest)
 
 -- a call with these members, if its parenthesis is closed
-abbrev pub with_members : Spelled → ℕ → SetWord → List ℕ → List ℕ → Step
-with_members s place w members [] = Err (fault.OpenArgument place)
-with_members s place w members (c ∷ rest) = with_set s place w (quoted members) rest
+abbrev pub with_members : Spelled → ℕ → ℕ → SetWord → List ℕ → List ℕ → Step
+with_members s place inside w members [] = Err (fault.OpenArgument place)
+with_members s place inside w members (c ∷ rest) = with_set s place inside w (quoted members) rest
 
-abbrev pub with_call : Spelled → ℕ → SetWord → Part → Step
-with_call s place w (Err e) = Err e
-with_call s place w (Ok joined) = with_members s place w joined.0 joined.1
+abbrev pub with_call : Spelled → ℕ → ℕ → SetWord → Part → Step
+with_call s place inside w (Err e) = Err e
+with_call s place inside w (Ok joined) = with_members s place inside w joined.0 joined.1
 
 -- what is spelled in place of a call of this word, after which this comes
 abbrev pub IsCall : List SetName → ℕ → Spelled → ℕ → SetWord → List ℕ → Step → Type 0
-IsCall names total s place w after step = (joined : Part) × IsJoined names total [] (drop 1 after) joined × (step ≡ with_call s place w joined)
+IsCall names total s place w after step = (joined : Part) × IsJoined names total [] (drop 1 after) joined × (step ≡ with_call s place (total - length (drop 1 after)) w joined)
 
 -- what is spelled in place of the first piece of a text, or of the call that it begins with
 abbrev pub IsStepBy : List SetName → ℕ → Spelled → List ℕ → Option SetWord → Step → Type 0

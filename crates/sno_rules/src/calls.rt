@@ -1,7 +1,7 @@
 //! The words that take a set, and what is spelled for each.
 ghost use Rattle.std.specs.Prelude.{◌≡◌, ◌++◌, IfOk, OnOk};
 ghost use Rattle.std.specs.Option.{option_map};
-ghost use Rattle.sno_rules.specs.Spelling.{call_begin, call_end, call_text, has, in_quotes, quoted, set_word};
+ghost use Rattle.sno_rules.specs.Spelling.{call_begin, call_end, has, is_copied, in_quotes, quoted, set_text, set_word};
 
 use std::alloc::{AllocError, Global};
 
@@ -76,8 +76,15 @@ pub(crate) fn quoted(alloc: Global, text: &[u8]) -> Result<Option<Vec<u8>>, Allo
 }
 
 impl SetWord {
+    /// Whether what is spelled before the set is what is written there.
+    pub(crate) fn is_copied(self) -> bool
+        ensures { result ≡ is_copied self }
+    {
+        !matches!(self, SetWord::BreakX | SetWord::NSpan)
+    }
+
     /// What is spelled before the set.
-    fn begin(self) -> &'static [u8]
+    pub(crate) fn begin(self) -> &'static [u8]
         ensures { result.now ≡ call_begin self }
     {
         match self {
@@ -108,12 +115,11 @@ impl SetWord {
         Ok(())
     }
 
-    /// The call with this set, which is in quotes.
-    pub(crate) fn call(self, alloc: Global, set: &[u8]) -> Result<Vec<u8>, AllocError>
-        ensures { IfOk result (λ v. v.items ≡ call_text self set.now) }
+    /// What is spelled from the set on, which is in quotes.
+    pub(crate) fn from_set(self, alloc: Global, set: &[u8]) -> Result<Vec<u8>, AllocError>
+        ensures { IfOk result (λ v. v.items ≡ set_text self set.now) }
     {
         let mut text = Vec::new(alloc);
-        text.extend_from_slice(self.begin())?;
         text.extend_from_slice(set)?;
         self.put_end(&mut text, set)?;
         Ok(text)

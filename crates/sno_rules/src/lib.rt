@@ -43,4 +43,4 @@ pub use faults::{LineFault, RuleFileFault, SpellingFault};
 pub use names::SetName;
 pub use rule_files::{FileLine, LineKind, lines_of};
 pub use rules::{LineDefinition, LineRule, read_definition, read_rule};
-pub use spelling::{Mark, Spelling, set_of, spelled};
+pub use spelling::{Mark, Spelling, first_piece, set_of, spelled};

@@ -3,7 +3,7 @@ ghost use Rattle.std.specs.Prelude.{◌≡◌, ◌≤◌, ◌<◌, ◌+◌, true
 ghost use Rattle.std.specs.Option.{option_map};
 ghost use Rattle.std.specs.List.{prefix_len};
 ghost use Rattle.sno_rules.specs.Gives.{GivesCall, GivesSpelled, GivesStep, IsSet};
-ghost use Rattle.sno_rules.specs.Spelling.{call_of, is_opened, is_other, nothing_spelled, origin_from, piece_len, quotation_len, spelling_seen, with_part, with_piece};
+ghost use Rattle.sno_rules.specs.Spelling.{after_piece, call_of, is_opened, is_other, nothing_spelled, origin_from, piece_len, piece_of, quotation_len, spelling_seen, with_part, with_piece};
 
 use crate::SpellingFault;
 use crate::arguments::{count_name, joined};
@@ -125,6 +125,15 @@ fn piece_len(text: &[u8]) -> usize
     }
 }
 
+/// The first piece of a text, which is a quotation, a name or a run of other characters, and what comes after it. An empty text
+/// has an empty one.
+pub fn first_piece(text: &[u8]) -> (&[u8], &[u8])
+    ensures piece { result.0.now ≡ piece_of text.now }
+    ensures after { result.1.now ≡ after_piece text.now }
+{
+    text.split_at(piece_len(text))
+}
+
 /// Whether the text begins with an opening parenthesis.
 fn is_opened(text: &[u8]) -> bool
     ensures value { result ≡ is_opened text.now }
@@ -163,15 +172,17 @@ fn put_call<'t>(
     ensures step { GivesCall names.now total (spelling_seen spelling.old) (spelling_seen spelling.new) place word after.now result }
     ensures shorter { IfOk result (λ rest. length rest.now < length after.now) }
 {
-    let (members, rest) = joined(alloc, names, total, after.split_at(1).1)?;
+    let (_, inside) = after.split_at(1);
+    let (members, rest) = joined(alloc, names, total, inside)?;
     let Some((_, rest)) = rest.split_first() else {
         return Err(SpellingFault::OpenArgument(place));
     };
     let Some(set) = quoted(alloc, &members)? else {
         return Err(SpellingFault::BothQuotes(place));
     };
-    let text = word.call(alloc, &set)?;
-    spelling.put(place, false, &text)?;
+    let text = word.from_set(alloc, &set)?;
+    spelling.put(place, word.is_copied(), word.begin())?;
+    spelling.put(total - inside.len(), false, &text)?;
     Ok(rest)
 }
 
