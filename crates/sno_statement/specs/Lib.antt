@@ -7,6 +7,7 @@ pub mod MatchLists
 pub mod Gathered
 pub mod Value
 pub mod Passes
+pub mod BytePasses
 pub mod Perform
 pub mod Rewriting
 pub mod Spans

@@ -10,8 +10,8 @@
 //! matches, in one pass over its text. [`perform`] performs it on one text and returns the [`Outcome`]: a new text beside the
 //! old one, which stays as it is. [`perform_shared`] takes a shared text, which the matches of a statement for all matches then
 //! share. A [`Pass`] goes from match to match and keeps none. [`rewrite`] takes the content of a file, a [`ByteText`]: any bytes, up
-//! to 16,777,216. It returns only the new text and the number of matches. Nothing is waited for. The newer versions of a text are
-//! not this crate's concern.
+//! to 16,777,216. It returns only the new text and the number of matches; a [`BytePass`] goes from match to match in one. Nothing is
+//! waited for. The newer versions of a text are not this crate's concern.
 //!
 //! # What is promised, and where
 //!
@@ -52,6 +52,7 @@
 //! - `src/performing.rt`: [`perform`], with the bindings and the rounds.
 //! - `src/passes.rt`: [`Pass`], the matches of a statement for all matches one after the other; `src/searches.rt`: the searches of a
 //!   pass.
+//! - `src/byte_passes.rt`: [`BytePass`], the same in the content of a file, and [`first_match`] alone; each has a [`ByteMatch`].
 //! - `src/match_lists.rt`: [`Match`], [`Matches`] and [`MatchRef`]; `src/gathered.rt`: matches as they are found, and
 //!   `src/assigned.rt`: what one search assigned.
 //! - `src/rewriting.rt`: [`rewrite`]; `src/spans.rt`: the values of one search, as spans of its bytes.
@@ -77,6 +78,7 @@
 mod assigned;
 mod binding;
 mod binding_refs;
+mod byte_passes;
 mod gathered;
 mod last_assignments;
 mod laws;
@@ -94,6 +96,7 @@ mod values;
 
 pub use binding::{Bindings, Datum};
 pub use binding_refs::{BindingsRef, DatumRef, TextPart};
+pub use byte_passes::{ByteBindings, ByteMatch, BytePass, first_match};
 pub use laws::{kept_matches_keep_the_text, matches_are_in_order, the_first_is_the_plain_match};
 pub use match_lists::{Match, MatchRef, Matches};
 pub use outcomes::{Outcome, StatementFault};
@@ -103,4 +106,5 @@ pub use rewriting::{Rewritten, rewrite};
 pub use sno_machine::MatchFault;
 pub use sno_pattern::{ByteText, Name, Pattern, Rules, Text, TextName};
 pub use sno_read::{Object, Part};
+pub use spans::SpanValue;
 pub use statements::{MAX_ROUNDS, MAX_TRIALS, Statement, USUAL_TRIALS};

@@ -18,7 +18,7 @@ use std::marker::Model;
 
 /// The value of a variable, lent.
 #[derive(Clone, Copy)]
-pub(crate) enum SpanValue<'t> {
+pub enum SpanValue<'t> {
     /// A span of the bytes that were searched.
     Bytes(&'t [u8]),
     /// A number: a cursor.
@@ -28,7 +28,7 @@ pub(crate) enum SpanValue<'t> {
 impl<'t> SpanValue<'t> {
     /// The value of a last assignment.
     #[tactic(auto, using(crate::proofs::Ascii::short_part))]
-    fn of(subject: &'t [u8], last: Last) -> SpanValue<'t>
+    pub(crate) fn of(subject: &'t [u8], last: Last) -> SpanValue<'t>
         requires { length subject.now ≤ MAX_BYTES }
         ensures value { value_lent result ≡ value_of_last subject.now last }
         ensures short { IsShort result }
