@@ -27,6 +27,9 @@ FISH_COMPLETION = $(DATADIR)/fish/vendor_completions.d/sno_rewrite.fish
 SNO_BASH_COMPLETION = $(DATADIR)/bash-completion/completions/sno
 SNO_ZSH_COMPLETION = $(DATADIR)/zsh/site-functions/_sno
 SNO_FISH_COMPLETION = $(DATADIR)/fish/vendor_completions.d/sno.fish
+# `sno edit --with` looks for them in ../share/nomyake, from the folder of the program on.
+READY_DIR = $(PREFIX)/share/nomyake
+READY = $(wildcard share/*.sno)
 HEADER = $(INCLUDEDIR)/sno_rewrite.h
 CPP_HEADER = $(INCLUDEDIR)/sno_rewrite.hpp
 ARCHIVE = $(LIBDIR)/libsno_rewrite.a
@@ -106,13 +109,14 @@ install-program: need-program
 
 install-sno:
 	$(INSTALL) -d "$(DESTDIR)$(BINDIR)" "$(DESTDIR)$(dir $(SNO_PAGE))" "$(DESTDIR)$(dir $(SNO_BASH_COMPLETION))" \
-	    "$(DESTDIR)$(dir $(SNO_ZSH_COMPLETION))" "$(DESTDIR)$(dir $(SNO_FISH_COMPLETION))"
+	    "$(DESTDIR)$(dir $(SNO_ZSH_COMPLETION))" "$(DESTDIR)$(dir $(SNO_FISH_COMPLETION))" "$(DESTDIR)$(READY_DIR)"
 	$(INSTALL_PROGRAM) "$(SNO)" "$(DESTDIR)$(BINDIR)/sno"
 	sed 's/@VERSION@/$(VERSION)/' docs/man/sno.1 > "$(DESTDIR)$(SNO_PAGE)"
 	chmod 644 "$(DESTDIR)$(SNO_PAGE)"
 	$(INSTALL_DATA) completions/sno.bash "$(DESTDIR)$(SNO_BASH_COMPLETION)"
 	$(INSTALL_DATA) completions/_sno "$(DESTDIR)$(SNO_ZSH_COMPLETION)"
 	$(INSTALL_DATA) completions/sno.fish "$(DESTDIR)$(SNO_FISH_COMPLETION)"
+	$(INSTALL_DATA) $(READY) "$(DESTDIR)$(READY_DIR)"
 
 install-library: need-library
 	$(INSTALL) -d "$(DESTDIR)$(INCLUDEDIR)" "$(DESTDIR)$(LIBDIR)" "$(DESTDIR)$(dir $(PKG_CONFIG_FILE))" \
@@ -142,7 +146,8 @@ uninstall:
 	    "$(DESTDIR)$(SNO_ZSH_COMPLETION)" "$(DESTDIR)$(SNO_FISH_COMPLETION)" "$(DESTDIR)$(HEADER)" "$(DESTDIR)$(ARCHIVE)" \
 	    "$(DESTDIR)$(CPP_HEADER)" "$(DESTDIR)$(SHARED)" "$(DESTDIR)$(SONAME)" "$(DESTDIR)$(LINK)" \
 	    "$(DESTDIR)$(PKG_CONFIG_FILE)" "$(DESTDIR)$(CMAKE_CONFIG)" "$(DESTDIR)$(CMAKE_VERSION)"
-	@rmdir "$(DESTDIR)$(CMAKE_DIR)" 2> /dev/null || true
+	rm -f $(patsubst share/%,"$(DESTDIR)$(READY_DIR)/%",$(READY))
+	@rmdir "$(DESTDIR)$(CMAKE_DIR)" "$(DESTDIR)$(READY_DIR)" 2> /dev/null || true
 
 check: need-program
 	examples/run "$(abspath $(PROGRAM))"
@@ -155,7 +160,7 @@ help:
 	@echo "make library          the library alone, by tools/prove library and embed/build"
 	@echo "make install          installs the program, and sno and the library if they are built"
 	@echo "make install-program  the program, its manual page and its completions; sno if it is built"
-	@echo "make install-sno      sno, its manual page and its completions"
+	@echo "make install-sno      sno, its manual page, its completions and the definitions that are ready"
 	@echo "make install-library  the headers, the static and the shared library, and the files for pkg-config and CMake"
 	@echo "make deb              a package for Debian of all that make install installs, in DEB_DIR"
 	@echo "make dist             an archive of the same files with their sums, for a release, in DIST_DIR"

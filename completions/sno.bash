@@ -2,7 +2,7 @@
 
 _sno() {
     local word="${COMP_WORDS[COMP_CWORD]}" previous="${COMP_WORDS[COMP_CWORD - 1]}"
-    local options=" check edit trace serve --help -h --version -V "
+    local options=" run check edit trace serve --help -h --version -V "
     local given index
     # In --trials=4, bash makes the equals sign a word of its own.
     if [ "$word" = "=" ]; then
@@ -12,8 +12,9 @@ _sno() {
     fi
     if [ "$COMP_CWORD" -gt 1 ]; then
         case "${COMP_WORDS[1]}" in
+            run) options=" --anchor --json --workers --tries --trials --help -h --version -V " ;;
             check) options=" --json --strict --help -h " ;;
-            edit) options=" --diff --check --sync --anchor --trials --rule -e --define -d --help -h " ;;
+            edit) options=" --diff --check --sync --anchor --trials --rule -e --file -f --define -d --with -w --help -h " ;;
             trace) options=" --statement --match --lines --html --help -h " ;;
             serve) options=" --seats --tries --trials --listing --help -h " ;;
             *) options="" ;;
@@ -23,9 +24,10 @@ _sno() {
         --trials) options="1000 1000000 1000000000" ;;
         --statement|--match) options="1 2 3 4 5 6 7 8 9" ;;
         --lines) options="100 1000 10000" ;;
-        --seats) options="1 2 4 8 16" ;;
+        --seats|--workers) options="1 2 4 8 16" ;;
         --tries) options="1 10 100 1000" ;;
-        --listing)
+        --with|-w) options="c html json markdown python shell" ;;
+        --listing|--file|-f)
             # A file: the option -o default below.
             COMPREPLY=()
             return
@@ -36,10 +38,13 @@ _sno() {
                 COMPREPLY=()
                 return
             fi
-            # An option may be given once.
+            # An option may be given once, but for rules and definitions.
             for ((index = 1; index < COMP_CWORD; index++)); do
                 given="${COMP_WORDS[index]}"
-                options="${options/ $given / }"
+                case "$given" in
+                    --rule|-e|--file|-f|--define|-d|--with|-w) ;;
+                    *) options="${options/ $given / }" ;;
+                esac
             done
             ;;
     esac

@@ -2,7 +2,8 @@
 
 use crate::arguments::{document, flag};
 use crate::edit_options::{
-    EDIT_OUT_OF_RANGE, EditRequest, edit_command, edit_options, edit_request,
+    EDIT_OUT_OF_RANGE, EDIT_WITHOUT_LINES, EditRequest, are_without_lines, edit_command,
+    edit_options, edit_request,
 };
 use crate::serve_command::{SERVE_OUT_OF_RANGE, ServeOptions, serve_command, serve_options};
 use crate::trace_command::{TRACE_OUT_OF_RANGE, TraceOptions, trace_command, trace_options};
@@ -11,6 +12,12 @@ use clap::{ArgMatches, Command, Error};
 use std::alloc::{AllocError, Global};
 
 const ABOUT: &str = "Tools for documents of texts and statements";
+
+/// The first word of what `sno_rewrite` does.
+pub(crate) const RUN: &str = "run";
+
+const RUN_ABOUT: &str =
+    "Performs the document on standard input, as sno_rewrite does; sno run --help has its options";
 
 const CHECK_ABOUT: &str =
     "Checks a document without performing it: every fault at once, and what is probably not meant";
@@ -79,6 +86,7 @@ fn program<'a>(alloc: Global) -> Result<Command<'a>, AllocError> {
         .after_help(EXAMPLE)
         .subcommand_required(true)
         .disable_help_subcommand(true)
+        .subcommand(Command::new(alloc, RUN).about(RUN_ABOUT))?
         .subcommand(check_command(alloc)?)?
         .subcommand(edit_command(alloc)?)?
         .subcommand(trace_command(alloc)?)?
@@ -113,24 +121,27 @@ fn matches<'a>(alloc: Global, words: &'a [String]) -> Result<ArgMatches<'a>, Err
 /// What is found under a subcommand.
 fn request_in<'a>(alloc: Global, matches: &ArgMatches<'a>) -> Result<Request<'a>, Stop> {
     if let Some(found) = matches.subcommand_matches("edit") {
+        if are_without_lines(found) {
+            return Err(refused_with(alloc, EDIT_WITHOUT_LINES));
+        }
         return match edit_options(found) {
             Some(options) => match edit_request(alloc, found, options) {
                 Ok(request) => Ok(Request::Edit(request)),
                 Err(_) => Err(Stop::Memory),
             },
-            None => Err(out_of_range(alloc, EDIT_OUT_OF_RANGE)),
+            None => Err(refused_with(alloc, EDIT_OUT_OF_RANGE)),
         };
     }
     if let Some(found) = matches.subcommand_matches("trace") {
         return match trace_options(found) {
             Some(options) => Ok(Request::Trace(options)),
-            None => Err(out_of_range(alloc, TRACE_OUT_OF_RANGE)),
+            None => Err(refused_with(alloc, TRACE_OUT_OF_RANGE)),
         };
     }
     if let Some(found) = matches.subcommand_matches("serve") {
         return match serve_options(found) {
             Some(options) => Ok(Request::Serve(options)),
-            None => Err(out_of_range(alloc, SERVE_OUT_OF_RANGE)),
+            None => Err(refused_with(alloc, SERVE_OUT_OF_RANGE)),
         };
     }
     match matches.subcommand_matches("check") {
@@ -139,20 +150,20 @@ fn request_in<'a>(alloc: Global, matches: &ArgMatches<'a>) -> Result<Request<'a>
     }
 }
 
-/// The refusal of a number that is not in its range, with this text.
-fn out_of_range(alloc: Global, text: &str) -> Stop {
+/// The refusal of arguments that don't go together or of a number that is not in its range, with this text.
+fn refused_with(alloc: Global, text: &str) -> Stop {
     match String::from_str(alloc, text) {
         Ok(text) => Stop::Usage(text),
         Err(_) => Stop::Memory,
     }
 }
 
-/// What the arguments ask for, which come after the program's name.
+/// What the arguments ask for, which come after the program's name. The first of them isn't `run`.
 ///
 /// Refused with
 ///
 /// - `Help` if `--help` or `--version` comes before any fault;
-/// - `Usage` for another first argument than `check`, `edit`, `trace` or `serve`, an argument that is not an option, an option that
+/// - `Usage` for another first argument than `run`, `check`, `edit`, `trace` or `serve`, an argument that is not an option, an option that
 ///   is given twice, a number that is not in its range, a second document, a service without a document, or an edit without
 ///   rules and files;
 /// - `Memory`.

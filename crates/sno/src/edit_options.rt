@@ -10,12 +10,19 @@ const ABOUT: &str =
     "Performs the statements of RULES on each file, in order, and writes the files that change";
 
 // The subcommand's own usage would leave out the program's name.
-const USAGE: &str = "sno edit [OPTIONS] RULES FILE..\n       sno edit [OPTIONS] -e RULE.. FILE..";
+const USAGE: &str =
+    "sno edit [OPTIONS] RULES FILE..\n       sno edit [OPTIONS] -e RULE.. FILE..\n       sno edit [OPTIONS] -f RULES.. FILE..";
 
 const RULE_HELP: &str =
     "A rule, PATTERN = OBJECT, for all matches, or with :first, :anchored, :repeat N or :in 'NAME' at its end";
 
-const DEFINE_HELP: &str = "A definition for the rules of -e, NAME = PATTERN";
+const DEFINE_HELP: &str = "A definition for the rules, NAME = PATTERN";
+
+const RULE_FILE_HELP: &str =
+    "A file of rules in lines: a rule begins with a blank, a definition with its name, a comment with *, and + goes on with a line";
+
+const WITH_HELP: &str =
+    "Definitions that are ready for the rules: c, html, json, markdown, python or shell; or a file of definitions";
 
 const DIFF_HELP: &str = "Writes what would change as a unified diff, and no file";
 
@@ -35,11 +42,15 @@ const RULES_HELP: &str =
 const FILES_HELP: &str = "The files, each a text by itself: any bytes, up to 16 MiB";
 
 const EXAMPLE: &str =
-    "Examples: sno edit --diff rules.json src/*.c\n          sno edit -e \"'colour' = 'color'\" README.md";
+    "Examples: sno edit --diff rules.json src/*.c\n          sno edit -e \"'colour' = 'color'\" README.md\n          sno edit --with c -e \"'malloc(' ARG . SIZE ')' = 'xmalloc(' SIZE ')'\" src/*.c";
 
 /// What is written if a number is not in its range.
 pub(crate) const EDIT_OUT_OF_RANGE: &str =
     "error: '--trials' takes 1 to 1000000000\n\nFor more information, try '--help'.\n";
+
+/// What is written if there are definitions, but no rules in lines that could refer to them.
+pub(crate) const EDIT_WITHOUT_LINES: &str =
+    "error: '--define' and '--with' are for rules of '--rule' or '--file'\n\nFor more information, try '--help'.\n";
 
 /// What `sno edit` is to do.
 #[derive(Drop)]
@@ -63,7 +74,7 @@ pub(crate) struct EditOptions<'a> {
     pub(crate) anchor: bool,
     /// How many trials a match may take.
     pub(crate) trials: Trials,
-    /// The file of the rules, if they are in a file; `-` is standard input.
+    /// The file of the rules, if they are in a file of JSON; `-` is standard input.
     pub(crate) rules: &'a str,
 }
 
@@ -95,7 +106,7 @@ pub(crate) fn edit_command<'a>(alloc: Global) -> Result<Command<'a>, AllocError>
     // With rules in lines the first positional argument is a file, and it may be the only one.
     let files = positional(alloc, "files", "FILE", FILES_HELP)
         .required(false)
-        .required_unless_present("rule")?
+        .required_unless_present_any(&["rule", "file"])?
         .action(ArgAction::Append)
         .num_args(1..);
     Command::new(alloc, "edit")
@@ -108,7 +119,9 @@ pub(crate) fn edit_command<'a>(alloc: Global) -> Result<Command<'a>, AllocError>
         .arg(flag(alloc, "anchor", ANCHOR_HELP))?
         .arg(optional_number(alloc, "trials", TRIALS_HELP))?
         .arg(repeated(alloc, "rule", 'e', "RULE", RULE_HELP))?
-        .arg(repeated(alloc, "define", 'd', "DEFINITION", DEFINE_HELP).requires_arg("rule")?)?
+        .arg(repeated(alloc, "file", 'f', "RULES", RULE_FILE_HELP))?
+        .arg(repeated(alloc, "define", 'd', "DEFINITION", DEFINE_HELP))?
+        .arg(repeated(alloc, "with", 'w', "NAME", WITH_HELP))?
         .arg(positional(alloc, "rules", "RULES", RULES_HELP).action(ArgAction::Set))?
         .arg(files)
 }
@@ -131,6 +144,12 @@ fn values<'a>(
     Vec::from_slice(alloc, matches.get_strs(name).unwrap_or(&[]))
 }
 
+/// Whether there are definitions, but no rules in lines.
+pub(crate) fn are_without_lines(matches: &ArgMatches<'_>) -> bool {
+    let is_given = |name: &str| matches.get_strs(name).is_some();
+    (is_given("define") || is_given("with")) && !is_given("rule") && !is_given("file")
+}
+
 /// What `sno edit` is to do, with these options.
 pub(crate) fn edit_request<'a>(
     alloc: Global,
@@ -138,11 +157,13 @@ pub(crate) fn edit_request<'a>(
     options: EditOptions<'a>,
 ) -> Result<EditRequest<'a>, AllocError> {
     let lines = RuleLines {
+        ready: values(alloc, matches, "with")?,
+        files: values(alloc, matches, "file")?,
         definitions: values(alloc, matches, "define")?,
         rules: values(alloc, matches, "rule")?,
     };
     let mut paths = values(alloc, matches, "files")?;
-    if !lines.rules.is_empty() {
+    if lines.are_given() {
         paths.insert(0, options.rules)?;
     }
     Ok(EditRequest {

@@ -3,7 +3,8 @@
 use crate::disk::{Disk, different_files};
 use crate::edit_options::{EditOptions, EditRequest};
 use crate::faults::ProgramFault;
-use crate::rule_lines::{NoRows, RuleLines, refused_lines, rows_of};
+use crate::given_lines::NoRules;
+use crate::rule_lines::rules_of_lines;
 use crate::streams::{read_up_to, write_all};
 use sno_document::{DocumentFault, MAX_DOCUMENT};
 use sno_edit::{
@@ -158,36 +159,6 @@ fn show_files<R: Files, W: Write, E: Write>(
     Ok(tally)
 }
 
-/// Why there are no rules.
-#[derive(Debug, Drop)]
-enum NoRules {
-    /// What is written about what was given in their place.
-    Refused(String),
-    /// They can't be read, or memory ran out.
-    Fault(ProgramFault),
-}
-
-impl From<AllocError> for NoRules {
-    fn from(_refused: AllocError) -> NoRules {
-        NoRules::Fault(ProgramFault::Memory)
-    }
-}
-
-impl From<ProgramFault> for NoRules {
-    fn from(fault: ProgramFault) -> NoRules {
-        NoRules::Fault(fault)
-    }
-}
-
-impl From<NoRows> for NoRules {
-    fn from(fault: NoRows) -> NoRules {
-        match fault {
-            NoRows::Line(text) => NoRules::Refused(text),
-            NoRows::Memory => NoRules::Fault(ProgramFault::Memory),
-        }
-    }
-}
-
 /// The rules of a file.
 fn rules_of_file<R: Files, I: Read>(
     rt: &R,
@@ -203,30 +174,17 @@ fn rules_of_file<R: Files, I: Read>(
     }
 }
 
-/// The rules that are given as lines.
-fn rules_of_lines(
-    alloc: Global,
-    options: &EditOptions<'_>,
-    lines: &RuleLines<'_>,
-) -> Result<EditRules, NoRules> {
-    let (definitions, rules) = rows_of(alloc, lines)?;
-    match EditRules::of_rows(alloc, definitions, rules, options.anchor, options.trials) {
-        Ok(rules) => Ok(rules),
-        Err(DocumentFault::Memory) => Err(NoRules::Fault(ProgramFault::Memory)),
-        Err(fault) => Err(NoRules::Refused(refused_lines(alloc, lines, fault)?)),
-    }
-}
-
-fn rules_for<R: Files, I: Read>(
+fn rules_for<R: Files + AllocGlobal, I: Read>(
     rt: &R,
     alloc: Global,
     request: &EditRequest<'_>,
     input: &mut I,
 ) -> Result<EditRules, NoRules> {
-    if request.lines.rules.is_empty() {
-        return rules_of_file(rt, alloc, &request.options, input);
+    let options = &request.options;
+    if request.lines.are_given() {
+        return rules_of_lines(rt, alloc, &request.lines, options.anchor, options.trials);
     }
-    rules_of_lines(alloc, &request.options, &request.lines)
+    rules_of_file(rt, alloc, options, input)
 }
 
 /// Edits the files, or shows what would become of them.
@@ -262,7 +220,7 @@ fn edit<R: Files, W: Write, E: Write>(
 /// - 2 if the rules are not rules. Then `errors` has their first fault, and no file was touched.
 ///
 /// Refused with `Read` if the rules can't be read, then no file was touched; with `Memory` or `Write`.
-pub(crate) fn run_edit<R: Files, I: Read, W: Write, E: Write>(
+pub(crate) fn run_edit<R: Files + AllocGlobal, I: Read, W: Write, E: Write>(
     rt: &R,
     alloc: Global,
     request: &EditRequest<'_>,

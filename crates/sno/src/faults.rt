@@ -21,6 +21,9 @@ pub(crate) enum ProgramFault {
     /// The findings could not be written.
     #[error("write failed")]
     Write,
+    /// There was no place for a seat of a service, or its desk could not be closed.
+    #[error("closing failed")]
+    Closing,
 }
 
 impl From<AllocError> for ProgramFault {

@@ -1,12 +1,13 @@
 //! From the arguments and the streams of the program to its status.
 
 use crate::checks::run_check;
-use crate::command_line::{Request, Stop, asked_for};
+use crate::command_line::{RUN, Request, Stop, asked_for};
 use crate::edits::run_edit;
 use crate::faults::{FAILED, MISUSED, ProgramFault};
 use crate::serves::run_serve;
 use crate::streams::write_all;
 use crate::traces::run_trace;
+use sno_rewrite::run_program;
 use std::alloc::{AllocError, Global};
 use std::env::{Args, FillError};
 use std::io;
@@ -72,7 +73,7 @@ fn refuse_words<E: Write>(error: &io::Error, errors: &mut E) -> u8 {
 
 /// Does what is asked for, and returns the status.
 fn run_request<
-    R: Files + Env + Threads + Wait + Sync,
+    R: Files + Env + Threads + Wait + AllocGlobal + Sync,
     I: Read + Send + Drop,
     W: Write + IsTerminal + Send + Drop,
     E: Write,
@@ -95,8 +96,29 @@ fn run_request<
     }
 }
 
+/// Whether the words ask for what `sno_rewrite` does.
+fn is_run(words: &[String]) -> bool {
+    match words.first() {
+        Some(word) => word.as_str() == RUN,
+        None => false,
+    }
+}
+
+/// Runs `sno_rewrite` with the words after the first.
+fn run_document<T: Threads + Wait + Sync, I: Read, W: Write, E: Write>(
+    rt: &T,
+    alloc: Global,
+    words: Vec<String>,
+    input: &mut I,
+    output: &mut W,
+    errors: &mut E,
+) -> u8 {
+    // The first word stands for the program's name.
+    run_program(rt, alloc, Ok(words.into_iter()), input, output, errors)
+}
+
 fn run_words<
-    R: Files + Env + Threads + Wait + Sync,
+    R: Files + Env + Threads + Wait + AllocGlobal + Sync,
     I: Read + Send + Drop,
     W: Write + IsTerminal + Send + Drop,
     E: Write,
@@ -114,10 +136,11 @@ fn run_words<
 ///
 /// - If the arguments ask for help or the version, it goes to `output`. The status is 0, or 4 if it can't be printed.
 /// - If they are refused, or one of them is not a text, `errors` says how the program is used, and the status is 3.
+/// - If the first of them is `run`, the program does what `sno_rewrite` does with the others, byte for byte.
 /// - Otherwise the status is that of the check, the edit, the trace or the service. If that has a fault, the line of the fault goes to
 ///   `errors`, and the status is 4, even if the line can't be printed.
 pub(crate) fn run<
-    R: Files + Env + Threads + Wait + Sync,
+    R: Files + Env + Threads + Wait + AllocGlobal + Sync,
     I: Read + Send + Drop,
     W: Write + IsTerminal + Send + Drop,
     E: Write,
@@ -131,6 +154,7 @@ pub(crate) fn run<
 ) -> u8 {
     match words {
         Ok(words) => match words_after_name(alloc, words) {
+            Ok(words) if is_run(&words) => run_document(rt, alloc, words, input, output, errors),
             Ok(words) => run_words(rt, alloc, &words, input, output, errors),
             Err(_) => report(ProgramFault::Memory, errors),
         },

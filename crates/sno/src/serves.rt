@@ -39,7 +39,8 @@ fn write_listing<R: Files>(
 /// What a fault of the service is to the program.
 fn fault_of(fault: ServeFault) -> ProgramFault {
     match fault {
-        ServeFault::Memory | ServeFault::Desk => ProgramFault::Memory,
+        ServeFault::Memory => ProgramFault::Memory,
+        ServeFault::Desk => ProgramFault::Closing,
         ServeFault::Read => ProgramFault::Read,
         ServeFault::Write => ProgramFault::Write,
     }
@@ -47,7 +48,7 @@ fn fault_of(fault: ServeFault) -> ProgramFault {
 
 /// Serves a document over the streams, and returns the status: 0 at the end of the input; 2 if the document is refused.
 ///
-/// Refused with `Read`, `Write` or `Memory`. The listing is written even if a line could not be read, or a reply not be
+/// Refused with `Read`, `Write`, `Memory` or `Closing`. The listing is written even if a line could not be read, or a reply not be
 /// written.
 pub(crate) fn run_serve<
     R: Files + Threads + Wait + Sync,
