@@ -2,7 +2,7 @@
 
 _sno() {
     local word="${COMP_WORDS[COMP_CWORD]}" previous="${COMP_WORDS[COMP_CWORD - 1]}"
-    local options=" run check edit trace serve --help -h --version -V "
+    local options=" run check edit find trace serve --help -h --version -V "
     local given index
     # In --trials=4, bash makes the equals sign a word of its own.
     if [ "$word" = "=" ]; then
@@ -14,7 +14,8 @@ _sno() {
         case "${COMP_WORDS[1]}" in
             run) options=" --anchor --json --workers --tries --trials --help -h --version -V " ;;
             check) options=" --json --strict --help -h " ;;
-            edit) options=" --diff --check --sync --anchor --trials --rule -e --file -f --define -d --with -w --help -h " ;;
+            edit) options=" --diff --check --sync --anchor --trials --rule -e --file -f --define -d --with -w --name -n --help -h " ;;
+            find) options=" --paths -l --count -c --json --only --anchor --trials --rule -e --file -f --define -d --with -w --name -n --help -h " ;;
             trace) options=" --statement --match --lines --html --help -h " ;;
             serve) options=" --seats --tries --trials --listing --help -h " ;;
             *) options="" ;;
@@ -42,7 +43,7 @@ _sno() {
             for ((index = 1; index < COMP_CWORD; index++)); do
                 given="${COMP_WORDS[index]}"
                 case "$given" in
-                    --rule|-e|--file|-f|--define|-d|--with|-w) ;;
+                    --rule|-e|--file|-f|--define|-d|--with|-w|--name|-n) ;;
                     *) options="${options/ $given / }" ;;
                 esac
             done

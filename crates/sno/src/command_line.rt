@@ -1,10 +1,9 @@
 //! What the arguments ask for.
 
 use crate::arguments::{document, flag};
-use crate::edit_options::{
-    EDIT_OUT_OF_RANGE, EDIT_WITHOUT_LINES, EditRequest, are_without_lines, edit_command,
-    edit_options, edit_request,
-};
+use crate::edit_options::{EditRequest, edit_command, edit_options, edit_request};
+use crate::find_options::{FindRequest, WITHOUT_RULES, find_command, find_request};
+use crate::rule_options::{TRIALS_OUT_OF_RANGE, WITHOUT_LINES, are_without_lines, trials};
 use crate::serve_command::{SERVE_OUT_OF_RANGE, ServeOptions, serve_command, serve_options};
 use crate::trace_command::{TRACE_OUT_OF_RANGE, TraceOptions, trace_command, trace_options};
 use clap::error::ErrorKind;
@@ -51,6 +50,8 @@ pub(crate) enum Request<'a> {
     Check(CheckOptions<'a>),
     /// Files are to be edited.
     Edit(EditRequest<'a>),
+    /// Rules are to be sought in files.
+    Find(FindRequest<'a>),
     /// A match is to be traced.
     Trace(TraceOptions<'a>),
     /// A document is to be served.
@@ -89,6 +90,7 @@ fn program<'a>(alloc: Global) -> Result<Command<'a>, AllocError> {
         .subcommand(Command::new(alloc, RUN).about(RUN_ABOUT))?
         .subcommand(check_command(alloc)?)?
         .subcommand(edit_command(alloc)?)?
+        .subcommand(find_command(alloc)?)?
         .subcommand(trace_command(alloc)?)?
         .subcommand(serve_command(alloc)?)
 }
@@ -118,19 +120,34 @@ fn matches<'a>(alloc: Global, words: &'a [String]) -> Result<ArgMatches<'a>, Err
     program.try_get_matches_from(words)
 }
 
+/// What is found under `sno find`.
+fn find_request_in<'a>(alloc: Global, found: &ArgMatches<'a>) -> Result<Request<'a>, Stop> {
+    let Some(trials) = trials(found) else {
+        return Err(refused_with(alloc, TRIALS_OUT_OF_RANGE));
+    };
+    match find_request(alloc, found, trials) {
+        Ok(request) if request.lines.are_given() => Ok(Request::Find(request)),
+        Ok(_) => Err(refused_with(alloc, WITHOUT_RULES)),
+        Err(_) => Err(Stop::Memory),
+    }
+}
+
 /// What is found under a subcommand.
 fn request_in<'a>(alloc: Global, matches: &ArgMatches<'a>) -> Result<Request<'a>, Stop> {
     if let Some(found) = matches.subcommand_matches("edit") {
         if are_without_lines(found) {
-            return Err(refused_with(alloc, EDIT_WITHOUT_LINES));
+            return Err(refused_with(alloc, WITHOUT_LINES));
         }
         return match edit_options(found) {
             Some(options) => match edit_request(alloc, found, options) {
                 Ok(request) => Ok(Request::Edit(request)),
                 Err(_) => Err(Stop::Memory),
             },
-            None => Err(refused_with(alloc, EDIT_OUT_OF_RANGE)),
+            None => Err(refused_with(alloc, TRIALS_OUT_OF_RANGE)),
         };
+    }
+    if let Some(found) = matches.subcommand_matches("find") {
+        return find_request_in(alloc, found);
     }
     if let Some(found) = matches.subcommand_matches("trace") {
         return match trace_options(found) {
@@ -163,9 +180,9 @@ fn refused_with(alloc: Global, text: &str) -> Stop {
 /// Refused with
 ///
 /// - `Help` if `--help` or `--version` comes before any fault;
-/// - `Usage` for another first argument than `run`, `check`, `edit`, `trace` or `serve`, an argument that is not an option, an option that
-///   is given twice, a number that is not in its range, a second document, a service without a document, or an edit without
-///   rules and files;
+/// - `Usage` for another first argument than `run`, `check`, `edit`, `find`, `trace` or `serve`, an argument that is not an option, an option that
+///   is given twice, a number that is not in its range, a second document, a service without a document, an edit without
+///   rules and files, or a search without rules;
 /// - `Memory`.
 pub(crate) fn asked_for<'a>(alloc: Global, words: &'a [String]) -> Result<Request<'a>, Stop> {
     match matches(alloc, words) {

@@ -1,5 +1,5 @@
 //! The program `sno`, whose first argument says what it does: `sno run` performs a document, `sno check` checks one, `sno edit`
-//! edits files, `sno trace` shows how a match goes, and `sno serve` serves a document over its streams.
+//! edits files, `sno find` seeks in them, `sno trace` shows how a match goes, and `sno serve` serves a document over its streams.
 //!
 //! | File | What it does |
 //! |---|---|
@@ -9,9 +9,12 @@
 //! | `streams` | bytes in and out |
 //! | `checks` | `sno check`: a document is checked by `sno_check`, and its report written |
 //! | `edit_options`, `edits` | `sno edit`: its arguments; files are edited by `sno_edit` |
+//! | `find_options`, `finds` | `sno find`: its arguments; rules are sought in files by `sno_find` |
+//! | `rule_options` | the options that give rules in lines, and say how they are performed |
 //! | `rule_lines` | rules in lines, as rows: from options, files and files of definitions that are ready |
 //! | `given_lines`, `ready_files` | the lines that are given; where the files of ready definitions are |
 //! | `spelled_lines`, `line_faults` | the lines as they are spelled; what is written of those that are no rules |
+//! | `trees`, `names` | folders, as the files in them; names of files, as `*.c` stands for them |
 //! | `disk`, `synced` | the files of the system; new files that have to be on the disk |
 //! | `trace_command`, `traces` | `sno trace`: its arguments; the statements before the one that is traced are performed |
 //! | `searches`, `rounds` | the search of a pass, or the round of a repeated statement, that a number asks for |
@@ -27,12 +30,16 @@ mod disk;
 mod edit_options;
 mod edits;
 mod faults;
+mod find_options;
+mod finds;
 mod given_lines;
 mod line_faults;
+mod names;
 mod program;
 mod ready_files;
 mod rounds;
 mod rule_lines;
+mod rule_options;
 mod searches;
 mod serve_command;
 mod serves;
@@ -43,6 +50,7 @@ mod trace_command;
 mod trace_faults;
 mod trace_lines;
 mod traces;
+mod trees;
 
 use std::env;
 use std::process::ExitCode;

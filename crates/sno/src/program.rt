@@ -4,6 +4,7 @@ use crate::checks::run_check;
 use crate::command_line::{RUN, Request, Stop, asked_for};
 use crate::edits::run_edit;
 use crate::faults::{FAILED, MISUSED, ProgramFault};
+use crate::finds::run_find;
 use crate::serves::run_serve;
 use crate::streams::write_all;
 use crate::traces::run_trace;
@@ -73,7 +74,7 @@ fn refuse_words<E: Write>(error: &io::Error, errors: &mut E) -> u8 {
 
 /// Does what is asked for, and returns the status.
 fn run_request<
-    R: Files + Env + Threads + Wait + AllocGlobal + Sync,
+    R: Files + Env + Threads + Wait + AllocGlobal + Clone + Drop + Sync,
     I: Read + Send + Drop,
     W: Write + IsTerminal + Send + Drop,
     E: Write,
@@ -91,6 +92,7 @@ fn run_request<
             let coloured = output.is_terminal() && !is_set(rt, "NO_COLOR");
             run_edit(rt, alloc, edit, coloured, input, output, errors)
         }
+        Request::Find(find) => run_find(rt, alloc, find, input, output, errors),
         Request::Trace(options) => run_trace(rt, alloc, options, input, output, errors),
         Request::Serve(options) => run_serve(rt, alloc, options, input, output, errors),
     }
@@ -118,7 +120,7 @@ fn run_document<T: Threads + Wait + Sync, I: Read, W: Write, E: Write>(
 }
 
 fn run_words<
-    R: Files + Env + Threads + Wait + AllocGlobal + Sync,
+    R: Files + Env + Threads + Wait + AllocGlobal + Clone + Drop + Sync,
     I: Read + Send + Drop,
     W: Write + IsTerminal + Send + Drop,
     E: Write,
@@ -137,10 +139,10 @@ fn run_words<
 /// - If the arguments ask for help or the version, it goes to `output`. The status is 0, or 4 if it can't be printed.
 /// - If they are refused, or one of them is not a text, `errors` says how the program is used, and the status is 3.
 /// - If the first of them is `run`, the program does what `sno_rewrite` does with the others, byte for byte.
-/// - Otherwise the status is that of the check, the edit, the trace or the service. If that has a fault, the line of the fault goes to
+/// - Otherwise the status is that of the check, the edit, the search, the trace or the service. If that has a fault, the line of the fault goes to
 ///   `errors`, and the status is 4, even if the line can't be printed.
 pub(crate) fn run<
-    R: Files + Env + Threads + Wait + AllocGlobal + Sync,
+    R: Files + Env + Threads + Wait + AllocGlobal + Clone + Drop + Sync,
     I: Read + Send + Drop,
     W: Write + IsTerminal + Send + Drop,
     E: Write,

@@ -13,7 +13,7 @@ use crate::statements::{Surroundings, check_statements};
 use crate::texts::check_texts;
 use json::{Scratch, Value};
 use sno_document::{DocumentFault, MAX_DOCUMENT, Mode, read_document};
-use sno_findings::{Collector, Mistake, Place, Report, advice_of, json_mistake};
+use sno_findings::{Collector, Mistake, Place, Report, Warning, advice_of, json_mistake};
 use sno_statement::USUAL_TRIALS;
 use std::alloc::{AllocError, Global};
 
@@ -137,6 +137,21 @@ fn findings_in(alloc: Global, bytes: &[u8]) -> Result<Collector, AllocError> {
         None => check_text(&mut findings, bytes)?,
     }
     Ok(findings)
+}
+
+/// Returns the warnings of members alone: of those that no object of their kind has, and of those that an object has twice. They may be
+/// those of rules too, which are no document if they have no texts. Bytes that are not JSON have none.
+///
+/// Refused only if memory runs out.
+pub fn member_warnings(alloc: Global, bytes: &[u8]) -> Result<Vec<Warning>, AllocError> {
+    let mut findings = Collector::new(alloc);
+    let mut scratch = Scratch::new(alloc);
+    match Value::from_slice(alloc, bytes, &mut scratch) {
+        Ok(value) => check_members(&mut findings, &value)?,
+        Err(json::Error::OutOfMemory) => return Err(AllocError),
+        Err(_) => {}
+    }
+    Ok(findings.warnings)
 }
 
 /// Returns what is found in the bytes of a document. The errors come in the order in which `sno_rewrite` would come to

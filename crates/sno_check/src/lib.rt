@@ -7,7 +7,7 @@
 //!
 //! | File | What it does |
 //! |---|---|
-//! | `checking` | `check` |
+//! | `checking` | `check`, `member_warnings` |
 //! | `rows`, `members` | the document as it is written, with wrong shapes; unknown and repeated members |
 //! | `vocabulary`, `definitions`, `texts`, `statements` | the faults of each part, found independently |
 //! | `cycles` | definitions that refer to one another in a cycle |
@@ -26,6 +26,6 @@ mod statements;
 mod texts;
 mod vocabulary;
 
-pub use checking::{USUAL, check};
+pub use checking::{USUAL, check, member_warnings};
 pub use sno_document::DocumentFault;
 pub use sno_findings::{Excerpt, Mistake, Place, Report, Warning, json_of, lines_of};

@@ -1,0 +1,166 @@
+//! Folders, as the files in them.
+
+use crate::faults::ProgramFault;
+use crate::names::is_named;
+use std::alloc::{AllocError, Global};
+use std::fs;
+use std::io;
+use std::io::{ErrorKind, Read, Write};
+use std::rt::Files;
+
+/// How many bytes of a file are looked at to know whether it is text.
+const LOOKED_AT: usize = 8_192;
+
+/// The files that are named, and those in the folders that are named.
+#[derive(Drop)]
+pub(crate) struct Paths {
+    /// Their paths: those of a folder in order, in the place of the folder.
+    pub(crate) files: Vec<String>,
+    /// How many files of folders were left out since they are no text.
+    pub(crate) not_text: usize,
+    /// The folders that could not be read, with the reason.
+    pub(crate) unread: Vec<(String, ErrorKind)>,
+}
+
+/// Whether a file has no NUL in its first bytes. One that can't be read counts as text: what is wrong with it is found later.
+fn is_text<R: Files>(rt: &R, path: &str) -> bool {
+    let mut piece = [0; LOOKED_AT];
+    let Ok(mut file) = fs::open(rt, path) else {
+        return true;
+    };
+    match file.read(&mut piece) {
+        Ok(count) => !piece[..count].iter().any(|byte| *byte == 0),
+        Err(_) => true,
+    }
+}
+
+/// What is in a folder: the paths of its folders, and those of its files with a wanted name. Names that begin with a dot are left
+/// out, and so are links to folders.
+#[derive(Drop)]
+struct Inside {
+    folders: Vec<String>,
+    files: Vec<String>,
+}
+
+/// The path of what has this name in a folder.
+fn path_in(alloc: Global, folder: &str, name: &str) -> Result<String, AllocError> {
+    if folder.ends_with('/') {
+        format!(in alloc; "{folder}{name}")
+    } else {
+        format!(in alloc; "{folder}/{name}")
+    }
+}
+
+/// Whether the path leads to a file, through symbolic links too.
+fn is_file<R: Files>(rt: &R, path: &str) -> bool {
+    match rt.metadata(path) {
+        Ok(metadata) => metadata.is_file(),
+        Err(_) => false,
+    }
+}
+
+fn list_folder<R: Files + AllocGlobal + Clone + Drop>(
+    rt: &R,
+    alloc: Global,
+    folder: &str,
+    names: &[&str],
+) -> io::Result<Inside> {
+    let mut found = Inside {
+        folders: Vec::new(alloc),
+        files: Vec::new(alloc),
+    };
+    for entry in fs::read_dir(rt, folder)? {
+        let entry = entry?;
+        let name = entry.file_name();
+        if name.starts_with('.') {
+            continue;
+        }
+        let path = path_in(alloc, folder, name)?;
+        if entry.metadata()?.is_dir() {
+            found.folders.push(path)?;
+        } else if is_named(name, names) && is_file(rt, path.as_str()) {
+            found.files.push(path)?;
+        }
+    }
+    Ok(found)
+}
+
+impl Paths {
+    /// Writes a line for each folder that could not be read. If a line can't be written, the others are.
+    pub(crate) fn report_unread<E: Write>(&self, errors: &mut E) {
+        for (folder, kind) in &self.unread {
+            let _printed = errors.writeln(format_args!("{folder}: read failed: {kind}"));
+        }
+    }
+
+    /// The paths of the files.
+    pub(crate) fn lent(&self, alloc: Global) -> Result<Vec<&str>, AllocError> {
+        let mut paths = Vec::with_capacity(alloc, self.files.len())?;
+        for file in &self.files {
+            paths.push(file.as_str())?;
+        }
+        Ok(paths)
+    }
+
+    /// Adds the files of a folder that are text.
+    fn put_files<R: Files>(&mut self, rt: &R, files: Vec<String>) -> Result<(), ProgramFault> {
+        for file in files {
+            if is_text(rt, file.as_str()) {
+                self.files.push(file)?;
+            } else {
+                self.not_text = self.not_text.saturating_add(1);
+            }
+        }
+        Ok(())
+    }
+
+    /// Adds the files in a folder, at any depth, in the order of their paths.
+    fn put_folder<R: Files + AllocGlobal + Clone + Drop>(
+        &mut self,
+        rt: &R,
+        alloc: Global,
+        folder: &str,
+        names: &[&str],
+    ) -> Result<(), ProgramFault> {
+        let mut folders = Vec::new(alloc);
+        let mut files = Vec::new(alloc);
+        folders.push(String::from_str(alloc, folder)?)?;
+        for _ in 0..u64::MAX {
+            let Some(folder) = folders.pop() else {
+                break;
+            };
+            match list_folder(rt, alloc, folder.as_str(), names) {
+                Ok(mut found) => {
+                    folders.append(&mut found.folders)?;
+                    files.append(&mut found.files)?;
+                }
+                Err(e) if e.kind() == ErrorKind::OutOfMemory => return Err(ProgramFault::Memory),
+                Err(e) => self.unread.push((folder, e.kind()))?,
+            }
+        }
+        files.sort()?;
+        self.put_files(rt, files)
+    }
+
+    /// The files at these paths, and in the folders among them. Of files in folders only those count whose name is like one of
+    /// `names`, if there are any.
+    pub(crate) fn at<R: Files + AllocGlobal + Clone + Drop>(
+        rt: &R,
+        alloc: Global,
+        paths: &[&str],
+        names: &[&str],
+    ) -> Result<Paths, ProgramFault> {
+        let mut found = Paths {
+            files: Vec::new(alloc),
+            not_text: 0,
+            unread: Vec::new(alloc),
+        };
+        for path in paths {
+            match rt.metadata(path) {
+                Ok(metadata) if metadata.is_dir() => found.put_folder(rt, alloc, path, names)?,
+                _ => found.files.push(String::from_str(alloc, path)?)?,
+            }
+        }
+        Ok(found)
+    }
+}
