@@ -31,7 +31,7 @@ pub(crate) struct SpelledDefinition<'l> {
     pub(crate) pattern: SpelledPart,
     /// The characters for which the name stands, if it is a set.
     members: Option<Vec<u8>>,
-    /// Whether it is needed: it isn't ready, or a rule or a definition that is needed mentions it.
+    /// Whether it is needed: it is neither ready nor a set, or a rule or a definition that is needed mentions it.
     used: bool,
     /// Whether what it mentions is marked.
     looked: bool,
@@ -106,12 +106,14 @@ fn spelled_definition<'l>(
         Err(fault) => return Err(refused_spelling(alloc, false, number, line, begin, fault)),
     };
     let members = set_of(alloc, names, definition.pattern)?;
+    // A set that only sets name is no pattern: it may join names that are none.
+    let used = !line.ready && members.is_none();
     Ok(SpelledDefinition {
         line,
         name: definition.name,
         pattern,
         members,
-        used: !line.ready,
+        used,
         looked: false,
     })
 }
