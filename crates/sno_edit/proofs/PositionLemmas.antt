@@ -20,7 +20,7 @@ alone : (x : ℕ) (is : Bool) → ◌≡◌ {A = List ℕ} (if is || false then 
 alone x true = refl
 alone x false = refl
 
-last_line_more : (text : List ℕ) (x : ℕ) → last_line (text ++ x ∷ []) ≡ (if is_line_feed x then [] else last_line text ++ x ∷ [])
+pub last_line_more : (text : List ℕ) (x : ℕ) → last_line (text ++ x ∷ []) ≡ (if is_line_feed x then [] else last_line text ++ x ∷ [])
 last_line_more [] x = alone x (is_line_feed x)
 last_line_more (y ∷ t) x =
     let any = list_any-append is_line_feed (y ∷ t) (x ∷ []) ∙ ap (λ b. list_any is_line_feed (y ∷ t) || b) (or-false (is_line_feed x)) in

@@ -43,7 +43,7 @@ pub struct CutCharacter {
 }
 
 /// Whether the statement is for the file with this path.
-fn is_for(statement: &Statement, path: &str) -> bool
+pub fn is_for(statement: &Statement, path: &str) -> bool
     ensures { result ≡ is_for path.now statement.now }
 {
     let name = statement.text().bytes();

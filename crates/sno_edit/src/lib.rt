@@ -44,13 +44,13 @@ mod tallies;
 mod trials;
 mod utf8;
 
-pub use edits::{CutCharacter, RefusedStatement};
+pub use edits::{CutCharacter, RefusedStatement, is_for};
 pub use faults::FileFault;
 pub use files::{Done, Plan, edit_file, edit_files, plan_file};
 pub use folders::{Folder, NewText, ReadFault, WriteFault};
 pub use hunks::unified_diff;
 pub use line_rules::{definition_row, rule_row};
-pub use positions::Position;
+pub use positions::{Position, next_column, next_line};
 pub use rules::EditRules;
 pub use scripts::{DiffLine, Mark, script_of};
 pub use sno_document::{DocumentFault, StatementRow};

@@ -22,7 +22,7 @@ fn begins_character(byte: u8) -> bool
 }
 
 /// The line of what comes after this byte of a line.
-fn next_line(line: usize, byte: u8) -> usize
+pub fn next_line(line: usize, byte: u8) -> usize
     requires { line < usize.MAX }
     ensures { result ≡ (if is_line_feed byte then line + 1 else line) }
 {
@@ -30,7 +30,7 @@ fn next_line(line: usize, byte: u8) -> usize
 }
 
 /// The column of what comes after this byte of a column.
-fn next_column(column: usize, byte: u8) -> usize
+pub fn next_column(column: usize, byte: u8) -> usize
     requires { column < usize.MAX }
     ensures { result ≡ (if is_line_feed byte then 1 else (if begins_character byte then column + 1 else column)) }
 {

@@ -63,7 +63,7 @@ impl EditRules {
     }
 
     /// The statements, in order: at most 1,000,000.
-    pub(crate) fn statements(&self) -> &[Arc<Statement>]
+    pub fn statements(&self) -> &[Arc<Statement>]
         ensures value { map arc_value result.now ≡ (rules_seen self.now).statements }
         ensures few { length result.now ≤ MAX_STATEMENTS }
     {
@@ -71,7 +71,7 @@ impl EditRules {
     }
 
     /// How many trials each may take.
-    pub(crate) fn trials(&self) -> Trials
+    pub fn trials(&self) -> Trials
         ensures { result ≡ (rules_seen self.now).trials }
     {
         self.trials
