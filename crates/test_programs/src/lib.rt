@@ -6,6 +6,8 @@
 mod diffs;
 #[cfg(test)]
 mod edits;
+#[cfg(test)]
+mod findings;
 mod memory;
 #[cfg(test)]
 mod served;

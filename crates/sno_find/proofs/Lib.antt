@@ -1,0 +1,8 @@
+pub mod Added
+pub mod Sorted
+pub mod Within
+pub mod Rising
+pub mod Walk
+pub mod LastLine
+pub mod Variables
+pub mod Joined

@@ -1,0 +1,9 @@
+-- Why the hits of one statement are not found.
+use Rattle.std.specs.Prelude.{◌≡◌, ℕ, Bool, true}
+use Rattle.sno_find.specs.declared.faults.FindFault.{FindFault}
+use Rattle.sno_find.specs.declared.faults.FindFault.TheVariants.{Memory, TooManyTrials}
+
+-- the statement with this number is refused for its trials exactly if it takes too many
+abbrev pub IsRefusal : Bool → ℕ → FindFault → Type 0
+IsRefusal refused number (TooManyTrials n) = (refused ≡ true) × (n ≡ number)
+IsRefusal refused number Memory = Unit {0}

@@ -1,0 +1,6 @@
+pub mod Faults
+pub mod Hits
+pub mod Findings
+pub mod Lines
+pub mod Json
+pub mod Examples

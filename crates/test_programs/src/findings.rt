@@ -1,0 +1,54 @@
+//! What rules match in a file.
+
+use sno_edit::{EditRules, Trials};
+use sno_find::{FindFault, find_in, put_count, put_line};
+use sno_pattern::ByteText;
+use std::alloc::Global;
+use std::test::Fail;
+
+const RULES: &[u8] = br#"{"statements":[
+    {"pattern":"('cat' | 'dog') . ANIMAL","all":true},
+    {"text":"y","pattern":"'a'","all":true},
+    {"text":"x","pattern":"ANY('ad')"}]}"#;
+
+fn text_of(alloc: Global, text: &str) -> Result<ByteText, Fail> {
+    let bytes = Vec::from_slice(alloc, text.as_bytes())?;
+    let text = ByteText::new(bytes).ok().ok_or("text")?;
+    Ok(text)
+}
+
+/// Each finding has the whole line, and its column is counted in characters.
+#[test]
+fn findings_as_lines(rt: HostRuntime) -> Result<(), Fail> {
+    let alloc = rt.alloc();
+    let rules = EditRules::read(alloc, RULES, false, Trials::Usual)
+        .ok()
+        .ok_or("rules")?;
+    let text = text_of(alloc, "b\u{e9}b\u{e9} dog\r\n\ndog, cat\n")?;
+    let findings = find_in(alloc, &rules, "x", &text)
+        .ok()
+        .ok_or("findings")?;
+    let mut lines = Vec::new(alloc);
+    for finding in &findings {
+        put_line(alloc, "x", &text, finding, &mut lines)?;
+    }
+    put_count(alloc, "x", findings.len(), &mut lines)?;
+    assert_eq!(rt;
+        lines.as_slice(),
+        "x:1:6:b\u{e9}b\u{e9} dog\r\nx:1:6:b\u{e9}b\u{e9} dog\r\nx:3:1:dog, cat\nx:3:6:dog, cat\nx:4\n".as_bytes()
+    );
+    Ok(())
+}
+
+/// The first statement that takes more trials than it may is named.
+#[test]
+fn too_many_trials(rt: HostRuntime) -> Result<(), Fail> {
+    let alloc = rt.alloc();
+    let rules = EditRules::read(alloc, RULES, false, Trials::AtMost(3))
+        .ok()
+        .ok_or("rules")?;
+    let text = text_of(alloc, "aaaa")?;
+    let found = find_in(alloc, &rules, "y", &text).map(|findings| findings.len());
+    assert!(rt; found == Err(FindFault::TooManyTrials(1)));
+    Ok(())
+}
