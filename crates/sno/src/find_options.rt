@@ -80,7 +80,11 @@ pub(crate) fn find_command<'a>(alloc: Global) -> Result<Command<'a>, AllocError>
         .override_usage(USAGE)
         .after_help(EXAMPLE)
         .arg(flag(alloc, "paths", PATHS_HELP).short('l'))?
-        .arg(flag(alloc, "count", COUNT_HELP).short('c').conflicts_with("paths")?)?
+        .arg(
+            flag(alloc, "count", COUNT_HELP)
+                .short('c')
+                .conflicts_with("paths")?,
+        )?
         .arg(flag(alloc, "json", JSON_HELP).conflicts_with_all(&["paths", "count"])?)?
         .arg(only.conflicts_with_all(&["paths", "count", "json"])?)?;
     with_rule_options(alloc, find)?.arg(files)

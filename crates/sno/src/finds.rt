@@ -8,7 +8,7 @@ use crate::rule_lines::rules_of_lines;
 use crate::streams::{read_up_to, write_all};
 use crate::trees::Paths;
 use sno_edit::{EditRules, FileFault, Folder, ReadFault, RefusedStatement, StatementFault};
-use sno_find::{Finding, FindFault, SpanValue, find_in, put_count, put_json, put_line};
+use sno_find::{FindFault, Finding, SpanValue, find_in, put_count, put_json, put_line};
 use sno_pattern::{ByteText, MAX_BYTES, Name};
 use std::alloc::{AllocError, Global};
 use std::io::{Read, Write};

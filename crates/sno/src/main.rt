@@ -14,7 +14,7 @@
 //! | `rule_lines` | rules in lines, as rows: from options, files and files of definitions that are ready |
 //! | `given_lines`, `ready_files` | the lines that are given; where the files of ready definitions are |
 //! | `spelled_lines`, `line_faults` | the lines as they are spelled; what is written of those that are no rules |
-//! | `trees`, `names` | folders, as the files in them; names of files, as `*.c` stands for them |
+//! | `trees`, `names` | folders, as the files in them; names of files, and patterns of them as `*.c` |
 //! | `disk`, `synced` | the files of the system; new files that have to be on the disk |
 //! | `trace_command`, `traces` | `sno trace`: its arguments; the statements before the one that is traced are performed |
 //! | `searches`, `rounds` | the search of a pass, or the round of a repeated statement, that a number asks for |

@@ -1,6 +1,6 @@
-//! Names of files, as `*.c` stands for them.
+//! Names of files, and patterns of them as `*.c`.
 
-/// Whether the name is like one of these, or there are none. In them `*` stands for any characters and `?` for one.
+/// Whether the name is like one of these, or there are none. In them `*` means any characters and `?` one.
 pub(crate) fn is_named(name: &str, wanted: &[&str]) -> bool {
     wanted.is_empty()
         || wanted

@@ -115,7 +115,7 @@ fn run_document<T: Threads + Wait + Sync, I: Read, W: Write, E: Write>(
     output: &mut W,
     errors: &mut E,
 ) -> u8 {
-    // The first word stands for the program's name.
+    // The first word is taken for the program's name.
     run_program(rt, alloc, Ok(words.into_iter()), input, output, errors)
 }
 

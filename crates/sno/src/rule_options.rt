@@ -23,7 +23,7 @@ const TRIALS_HELP: &str =
     "How many trials a match may take, 1 to 1000000000; by default enough for any plain rule on a file of its length";
 
 const NAME_HELP: &str =
-    "Of the files in folders only those with such a name, as '*.c': * stands for any characters, ? for one";
+    "Of the files in folders only those with such a name, as '*.c': * means any characters, ? one";
 
 /// What is written if a number is not in its range.
 pub(crate) const TRIALS_OUT_OF_RANGE: &str =

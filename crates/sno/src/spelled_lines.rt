@@ -29,7 +29,7 @@ pub(crate) struct SpelledDefinition<'l> {
     pub(crate) name: &'l [u8],
     /// Its pattern.
     pub(crate) pattern: SpelledPart,
-    /// The characters for which the name stands, if it is a set.
+    /// The characters that the name means, if it is a set.
     members: Option<Vec<u8>>,
     /// Whether it is needed: it is neither ready nor a set, or a rule or a definition that is needed mentions it.
     used: bool,

@@ -3,10 +3,9 @@
 use crate::faults::ProgramFault;
 use crate::names::is_named;
 use std::alloc::{AllocError, Global};
-use std::fs;
-use std::io;
 use std::io::{ErrorKind, Read, Write};
 use std::rt::Files;
+use std::{fs, io};
 
 /// How many bytes of a file are looked at to know whether it is text.
 const LOOKED_AT: usize = 8_192;
@@ -14,7 +13,7 @@ const LOOKED_AT: usize = 8_192;
 /// The files that are named, and those in the folders that are named.
 #[derive(Drop)]
 pub(crate) struct Paths {
-    /// Their paths: those of a folder in order, in the place of the folder.
+    /// Their paths: those of a folder in order, where the folder was named.
     pub(crate) files: Vec<String>,
     /// How many files of folders were left out since they are no text.
     pub(crate) not_text: usize,

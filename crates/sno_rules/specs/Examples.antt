@@ -102,7 +102,7 @@ line_feed : part_at [] 5 (codes "NL)") ≡ Ok (10 ∷ [], codes ")")
 unfolding is_letter is_name_char ready_set ready_literal
 line_feed = refl
 
--- a name that rules define comes before a ready one; one that is no set is none
+-- a name that rules define comes before a ready one; another pattern is none
 abbrev own : List SetName
 own = record { name = record { ref_ptr = (0, 0); now = codes "DIGIT" }; members = Some (record { ref_ptr = (0, 0); now = codes "01" }) }
     ∷ record { name = record { ref_ptr = (0, 0); now = codes "NL" }; members = None } ∷ []
@@ -115,14 +115,14 @@ own_pattern : part_at own 5 (codes "NL)") ≡ Err (spelling.UnknownSet 5)
 unfolding is_letter is_name_char ready_set ready_literal
 own_pattern = refl
 
-own_stands_for_itself : literal_of own (codes "NL") ≡ None
-own_stands_for_itself = refl
+own_is_itself : literal_of own (codes "NL") ≡ None
+own_is_itself = refl
 
-return_stands_for_a_literal : literal_of own (codes "CR") ≡ Some (13 ∷ [])
+return_is_a_literal : literal_of own (codes "CR") ≡ Some (13 ∷ [])
 unfolding ready_literal
-return_stands_for_a_literal = refl
+return_is_a_literal = refl
 
--- what is none: an open quote, a name that is no set's, another sign, a character that isn't ASCII
+-- what is none: an open quote, another name, another sign, a character that isn't ASCII
 open_part : part_at [] 5 (codes "'ab)") ≡ Err (spelling.OpenQuote 5)
 open_part = refl
 
@@ -187,7 +187,7 @@ other_piece : piece_of (codes " | (SPAN") ≡ codes " | ("
 unfolding is_letter
 other_piece = refl
 
--- without a parenthesis a word is no call
+-- without a parenthesis a word isn't a call
 no_call : call_of (codes "SPAN") (codes " ('a')") ≡ None
 no_call = refl
 

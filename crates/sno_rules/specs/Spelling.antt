@@ -24,7 +24,7 @@ ready_set w =
     else (if same w (codes "WORD") then Some (codes "ABCDEFGHIJKLMNOPQRSTUVWXYZabcdefghijklmnopqrstuvwxyz0123456789_")
     else None))))))
 
--- the names that also stand for a literal outside a set: a line feed, a carriage return, a tab
+-- the names that also mean a literal outside a set: a line feed, a carriage return, a tab
 unfoldable pub ready_literal : List ℕ → Option (List ℕ)
 ready_literal w =
     if same w (codes "NL") then Some (10 ∷ [])
@@ -49,7 +49,7 @@ members_by None w = or_else (ready_set w) (ready_literal w)
 abbrev pub members_of : List SetName → List ℕ → Option (List ℕ)
 members_of names w = members_by (defined names w) w
 
--- the literal for which a name stands outside a set, unless rules define it
+-- the literal that a name means outside a set, unless rules define it
 abbrev pub literal_by : Option (Option (List ℕ)) → List ℕ → Option (List ℕ)
 literal_by (Some members) w = None
 literal_by None w = ready_literal w
@@ -213,7 +213,7 @@ call_of piece after = if is_opened after then set_word piece else None
 abbrev pub Step : Type 0
 Step = Result (Spelled × List ℕ) SpellingFault
 
--- a piece as it is, or the literal for which it stands
+-- a piece as it is, or the literal that it means
 abbrev pub with_piece : Spelled → ℕ → List ℕ → Option (List ℕ) → Spelled
 with_piece s place piece None = with_part s place true piece
 with_piece s place piece (Some literal) = with_part s place false (in_quotes 39 literal)

@@ -62,7 +62,7 @@ impl<T: Drop> From<AllocFailed<T>> for SpellingFault {
     }
 }
 
-/// Why a file is no file of rules. A number is that of a line, from 1.
+/// Why a file doesn't have rules. A number is that of a line, from 1.
 #[derive(Clone, Copy, Debug, PartialEq, Eq, Error)]
 pub enum RuleFileFault {
     /// The line begins neither as a rule nor as a definition, nor as a comment.

@@ -21,7 +21,7 @@
 //! | `fields` | the fields of a rule |
 //! | `rules` | [`read_rule`] and [`read_definition`] |
 //! | `rule_files` | [`lines_of`]: the rules and definitions of a file, with its comments and lines that go on |
-//! | `names` | names of sets, and names that stand for a literal |
+//! | `names` | names of sets, and names that mean a literal |
 //! | `arguments` | the argument of a set: its parts, joined |
 //! | `calls` | the words that take a set, and what is spelled for each |
 //! | `spelling` | [`spelled`]: a pattern or an object as `sno_read` reads it |

@@ -1,11 +1,11 @@
-//! Names that stand for sets, and for literals.
+//! Names of sets, and names that mean a literal.
 ghost use Rattle.std.specs.Prelude.{◌≡◌};
 ghost use Rattle.std.specs.Option.{option_map};
 ghost use Rattle.std.specs.List.{find};
 ghost use Rattle.sno_pattern.specs.Identifiers.{same};
 ghost use Rattle.sno_rules.specs.Spelling.{defined, literal_of, members_of, ready_literal, ready_set};
 
-/// A name that rules define, and the characters for which it stands as a set.
+/// A name that rules define, and the characters that it means as a set.
 #[derive(Clone, Copy)]
 pub struct SetName<'n> {
     /// The name.
@@ -50,7 +50,7 @@ fn ready_set<'n>(name: &[u8]) -> Option<&'n [u8]>
     }
 }
 
-/// The literal for which the name stands in every rule.
+/// The literal that the name means in every rule.
 #[tactic(auto, unfolding(crate::specs::Spelling::ready_literal))]
 fn ready_literal<'n>(name: &[u8]) -> Option<&'n [u8]>
     ensures { option_map (λ s. s.now) result ≡ ready_literal name.now }
@@ -89,7 +89,7 @@ pub(crate) fn members_of<'n>(names: &[SetName<'n>], name: &[u8]) -> Option<&'n [
     }
 }
 
-/// The literal for which a name stands outside a set; `None` if it is no such name, or rules define it.
+/// The literal that a name means outside a set; `None` if it means none, or rules define it.
 pub(crate) fn literal_of<'n>(names: &[SetName<'n>], name: &[u8]) -> Option<&'n [u8]>
     ensures { option_map (λ s. s.now) result ≡ literal_of names.now name.now }
 {

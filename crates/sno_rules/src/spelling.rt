@@ -186,17 +186,17 @@ fn put_call<'t>(
     Ok(rest)
 }
 
-/// Spells a piece: as it is, or the literal for which it stands.
+/// Spells a piece: as it is, or the literal that it means.
 fn put_piece(
     alloc: Global,
     spelling: &mut Spelling,
     place: usize,
     piece: &[u8],
-    stands_for: Option<&[u8]>,
+    meant: Option<&[u8]>,
 ) -> Result<(), AllocError>
-    ensures { OnOk result (spelling_seen spelling.new ≡ with_piece (spelling_seen spelling.old) place piece.now (option_map (λ s. s.now) stands_for.entry)) }
+    ensures { OnOk result (spelling_seen spelling.new ≡ with_piece (spelling_seen spelling.old) place piece.now (option_map (λ s. s.now) meant.entry)) }
 {
-    match stands_for {
+    match meant {
         None => spelling.put(place, true, piece),
         Some(characters) => {
             let text = literal(alloc, characters)?;
@@ -263,7 +263,7 @@ pub fn spelled<'n>(
     Ok(spelling)
 }
 
-/// The characters of the set that a definition is; `None` if it is no set, but another pattern. A set is spelled by quotations and
+/// The characters of the set that a definition is; `None` if it is another pattern. A set is spelled by quotations and
 /// by names of sets, joined by blanks.
 ///
 /// Refused only if memory runs out.
