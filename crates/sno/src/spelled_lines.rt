@@ -6,6 +6,7 @@ use sno_rules::{
     LineRule, SetName, Spelling, SpellingFault, first_piece, read_definition, read_rule, set_of,
     spelled,
 };
+use sno_pattern::is_letter;
 use std::alloc::{AllocError, Global};
 
 /// The most definitions that are looked at, with those that are ready.
@@ -31,7 +32,7 @@ pub(crate) struct SpelledDefinition<'l> {
     pub(crate) pattern: SpelledPart,
     /// The characters that the name means, if it is a set.
     members: Option<Vec<u8>>,
-    /// Whether it is needed: it is neither ready nor a set, or a rule or a definition that is needed mentions it.
+    /// Whether it is needed: it is neither ready nor a set of names, or a rule or a definition that is needed mentions it.
     used: bool,
     /// Whether what it mentions is marked.
     looked: bool,
@@ -89,6 +90,20 @@ fn spelled_part<'n>(
     Ok(SpelledPart { begin, spelling })
 }
 
+/// Whether the characters have a name outside quotes.
+fn has_names(characters: &[u8]) -> bool {
+    let mut rest = characters;
+    // A piece has at least one character.
+    for _ in 0..characters.len() {
+        let (piece, after) = first_piece(rest);
+        if piece.first().is_some_and(|first| is_letter(*first)) {
+            return true;
+        }
+        rest = after;
+    }
+    false
+}
+
 /// A definition with the names of those before it.
 fn spelled_definition<'l>(
     alloc: Global,
@@ -106,8 +121,9 @@ fn spelled_definition<'l>(
         Err(fault) => return Err(refused_spelling(alloc, false, number, line, begin, fault)),
     };
     let members = set_of(alloc, names, definition.pattern)?;
-    // A set that only sets name is no pattern: it may join names that are none.
-    let used = !line.ready && members.is_none();
+    // A set that joins names may be no pattern.
+    let is_joined = members.is_some() && has_names(pattern.spelling.characters());
+    let used = !line.ready && !is_joined;
     Ok(SpelledDefinition {
         line,
         name: definition.name,
@@ -197,7 +213,8 @@ fn mentioned(
 ) -> Result<Vec<usize>, AllocError> {
     let mut places = Vec::new(alloc);
     let mut rest = characters;
-    while !rest.is_empty() {
+    // A piece has at least one character.
+    for _ in 0..characters.len() {
         let (piece, after) = first_piece(rest);
         if let Some(place) = definitions.iter().position(|other| other.name == piece) {
             places.push(place)?;
