@@ -1,13 +1,12 @@
 -- Hits that are added to those before.
-use Rattle.std.proofs.Common.{◌≡◌, ◌≤◌, ◌<◌, ℕ, Bool, true, false, ◌&&◌, List, [], ◌∷◌, ◌++◌, map, nat_lt, refl, ap, sym, ◌∙◌, append_assoc}
-use Rattle.std.proofs.lemmas.Bool.{le-ltb, lt-ltb}
+use Rattle.std.proofs.Common.{◌≡◌, ℕ, List, [], ◌∷◌, ◌++◌, map, ap, sym, ◌∙◌, append_assoc}
 use Rattle.std.proofs.lemmas.List.{map-append}
 use Rattle.sno_statement.specs.declared.match_lists.Match.{Match}
 use Rattle.sno_find.specs.Findings.{hit_of, hit_seen, hits_seen}
 use Rattle.sno_find.specs.declared.hits.Hit.{Hit as StoredHit}
 
 -- one more hit
-pub one_added : (hits : List StoredHit) (hit : StoredHit) → hits_seen (hits ++ hit ∷ []) ≡ hits_seen hits ++ hit_seen hit ∷ []
+one_added : (hits : List StoredHit) (hit : StoredHit) → hits_seen (hits ++ hit ∷ []) ≡ hits_seen hits ++ hit_seen hit ∷ []
 one_added hits hit = map-append hit_seen hits (hit ∷ [])
 
 -- the next match of a statement is added, and those after it are left
@@ -18,12 +17,3 @@ next_added number hits hit m left rest is seen =
     ∙ append_assoc (hits_seen hits) (hit_seen hit ∷ []) (map (hit_of number) rest)
     ∙ ap (λ z. hits_seen hits ++ (z ∷ map (hit_of number) rest)) seen
     ∙ ap (λ z. hits_seen hits ++ map (hit_of number) z) (sym is)
-
--- a statement that is for the file is refused exactly if it takes too many trials
-pub not_refused : (it_is : Bool) (most taken : ℕ) → taken ≤ most → (it_is && nat_lt most taken) ≡ false
-not_refused true most taken few = le-ltb most taken few
-not_refused false most taken few = refl
-
-pub refused : (it_is : Bool) (most taken : ℕ) → it_is ≡ true → most < taken → (it_is && nat_lt most taken) ≡ true
-refused true most taken is many = lt-ltb most taken many
-refused false most taken is many = cc

@@ -1,7 +1,7 @@
 //! What rules match in a file.
 
 use sno_edit::{EditRules, Trials};
-use sno_find::{FindFault, find_in, put_count, put_line};
+use sno_find::{FindFault, find_in, put_count, put_json, put_line};
 use sno_pattern::ByteText;
 use std::alloc::Global;
 use std::test::Fail;
@@ -25,9 +25,7 @@ fn findings_as_lines(rt: HostRuntime) -> Result<(), Fail> {
         .ok()
         .ok_or("rules")?;
     let text = text_of(alloc, "b\u{e9}b\u{e9} dog\r\n\ndog, cat\n")?;
-    let findings = find_in(alloc, &rules, "x", &text)
-        .ok()
-        .ok_or("findings")?;
+    let findings = find_in(alloc, &rules, "x", &text).ok().ok_or("findings")?;
     let mut lines = Vec::new(alloc);
     for finding in &findings {
         put_line(alloc, "x", &text, finding, &mut lines)?;
@@ -50,5 +48,31 @@ fn too_many_trials(rt: HostRuntime) -> Result<(), Fail> {
     let text = text_of(alloc, "aaaa")?;
     let found = find_in(alloc, &rules, "y", &text).map(|findings| findings.len());
     assert!(rt; found == Err(FindFault::TooManyTrials(1)));
+    Ok(())
+}
+
+/// A quote is escaped, what isn't UTF-8 becomes U+FFFD, and a cursor is a number.
+#[test]
+fn a_finding_as_json(rt: HostRuntime) -> Result<(), Fail> {
+    let alloc = rt.alloc();
+    let rules = EditRules::read(
+        alloc,
+        br#"{"statements":[{"pattern":"LEN(2) . X @N"}]}"#,
+        false,
+        Trials::Usual,
+    )
+    .ok()
+    .ok_or("rules")?;
+    let bytes = Vec::from_slice(alloc, b"\"\xff")?;
+    let text = ByteText::new(bytes).ok().ok_or("text")?;
+    let findings = find_in(alloc, &rules, "x", &text).ok().ok_or("findings")?;
+    let mut line = Vec::new(alloc);
+    for finding in &findings {
+        put_json(alloc, "x", &text, finding, &mut line)?;
+    }
+    assert_eq!(rt;
+        line.as_slice(),
+        "{\"path\":\"x\",\"statement\":1,\"start\":0,\"end\":2,\"line\":1,\"column\":1,\"text\":\"\\\"\u{fffd}\",\"variables\":{\"N\":2,\"X\":\"\\\"\u{fffd}\"}}\n".as_bytes()
+    );
     Ok(())
 }
