@@ -1,7 +1,9 @@
 //! What the arguments ask for.
 
 use crate::arguments::{document, flag};
-use crate::edit_options::{EditRequest, edit_command, edit_options, edit_request};
+use crate::edit_options::{
+    EDIT_WITHOUT_FILES, EditRequest, edit_command, edit_options, edit_request,
+};
 use crate::find_options::{FindRequest, WITHOUT_RULES, find_command, find_request};
 use crate::rule_options::{TRIALS_OUT_OF_RANGE, WITHOUT_LINES, are_without_lines, trials};
 use crate::serve_command::{SERVE_OUT_OF_RANGE, ServeOptions, serve_command, serve_options};
@@ -140,6 +142,9 @@ fn request_in<'a>(alloc: Global, matches: &ArgMatches<'a>) -> Result<Request<'a>
         }
         return match edit_options(found) {
             Some(options) => match edit_request(alloc, found, options) {
+                Ok(request) if request.paths.is_empty() => {
+                    Err(refused_with(alloc, EDIT_WITHOUT_FILES))
+                }
                 Ok(request) => Ok(Request::Edit(request)),
                 Err(_) => Err(Stop::Memory),
             },

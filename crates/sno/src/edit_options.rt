@@ -30,6 +30,10 @@ const FILES_HELP: &str =
 const EXAMPLE: &str =
     "Examples: sno edit --diff rules.json src/*.c\n          sno edit -e \"'colour' = 'color'\" README.md\n          sno edit --with c -e \"'malloc(' ARG . SIZE ')' = 'xmalloc(' SIZE ')'\" src/*.c";
 
+/// What is written if there are rules, but no files.
+pub(crate) const EDIT_WITHOUT_FILES: &str =
+    "error: a file is wanted after the rules\n\nFor more information, try '--help'.\n";
+
 /// What `sno edit` is to do.
 #[derive(Drop)]
 pub(crate) struct EditRequest<'a> {
@@ -70,7 +74,6 @@ pub(crate) fn edit_command<'a>(alloc: Global) -> Result<Command<'a>, AllocError>
     // With rules in lines the first positional argument is a file, and it may be the only one.
     let files = positional(alloc, "files", "FILE", FILES_HELP)
         .required(false)
-        .required_unless_present_any(&["rule", "file"])?
         .action(ArgAction::Append)
         .num_args(1..);
     let edit = Command::new(alloc, "edit")

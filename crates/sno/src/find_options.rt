@@ -85,8 +85,16 @@ pub(crate) fn find_command<'a>(alloc: Global) -> Result<Command<'a>, AllocError>
                 .short('c')
                 .conflicts_with("paths")?,
         )?
-        .arg(flag(alloc, "json", JSON_HELP).conflicts_with_all(&["paths", "count"])?)?
-        .arg(only.conflicts_with_all(&["paths", "count", "json"])?)?;
+        .arg(
+            flag(alloc, "json", JSON_HELP)
+                .conflicts_with("paths")?
+                .conflicts_with("count")?,
+        )?
+        .arg(
+            only.conflicts_with("paths")?
+                .conflicts_with("count")?
+                .conflicts_with("json")?,
+        )?;
     with_rule_options(alloc, find)?.arg(files)
 }
 

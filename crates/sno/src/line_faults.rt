@@ -208,38 +208,61 @@ fn source_of<'l>(lines: &SpelledLines<'l>, fault: DocumentFault) -> Source<'l> {
     }
 }
 
-/// What is written of a part that can't be read, if the fault is one of reading.
-fn refused_reading(
+/// What is written of a definition whose pattern can't be read.
+fn refused_definition(
     alloc: Global,
     lines: &SpelledLines<'_>,
     fault: DocumentFault,
-) -> Result<Option<String>, AllocError> {
-    let (line, part, read, is_object) = match fault {
-        DocumentFault::PatternRead(number, read) => {
-            let Some(definition) = lines.definitions.get(number.saturating_sub(1)) else {
-                return Ok(None);
-            };
-            (definition.line, &definition.pattern, read, false)
+    number: usize,
+    read: ReadFault,
+) -> Result<String, AllocError> {
+    match lines.definitions.get(number.saturating_sub(1)) {
+        Some(definition) => {
+            let part = &definition.pattern;
+            refused_part(alloc, fault, read, definition.line, part, false)
         }
-        DocumentFault::StatementPattern(number, read) => {
-            let Some(rule) = lines.rules.get(number.saturating_sub(1)) else {
-                return Ok(None);
-            };
-            (rule.line, &rule.pattern, read, false)
-        }
-        DocumentFault::StatementObject(number, read) => {
-            let Some(rule) = lines.rules.get(number.saturating_sub(1)) else {
-                return Ok(None);
-            };
-            let Some(object) = &rule.object else {
-                return Ok(None);
-            };
-            (rule.line, object, read, true)
-        }
-        _ => return Ok(None),
-    };
-    let text = refused_part(alloc, fault, read, line, part, is_object)?;
-    Ok(Some(text))
+        None => refused_whole(alloc, fault, Source::Option),
+    }
+}
+
+/// What is written of a rule whose pattern can't be read.
+fn refused_pattern(
+    alloc: Global,
+    lines: &SpelledLines<'_>,
+    fault: DocumentFault,
+    number: usize,
+    read: ReadFault,
+) -> Result<String, AllocError> {
+    match lines.rules.get(number.saturating_sub(1)) {
+        Some(rule) => refused_part(alloc, fault, read, rule.line, &rule.pattern, false),
+        None => refused_whole(alloc, fault, Source::Option),
+    }
+}
+
+/// The rule with this number, from 1, and its object.
+fn object_of<'s, 'l>(
+    lines: &'s SpelledLines<'l>,
+    number: usize,
+) -> Option<(&'s GivenLine<'l>, &'s SpelledPart)> {
+    let rule = lines.rules.get(number.saturating_sub(1))?;
+    match &rule.object {
+        Some(object) => Some((rule.line, object)),
+        None => None,
+    }
+}
+
+/// What is written of a rule whose object can't be read.
+fn refused_object(
+    alloc: Global,
+    lines: &SpelledLines<'_>,
+    fault: DocumentFault,
+    number: usize,
+    read: ReadFault,
+) -> Result<String, AllocError> {
+    match object_of(lines, number) {
+        Some((line, object)) => refused_part(alloc, fault, read, line, object, true),
+        None => refused_whole(alloc, fault, Source::Option),
+    }
 }
 
 /// What is written of lines that are no rules since they have this fault. Refused only if memory runs out.
@@ -248,8 +271,19 @@ pub(crate) fn refused_lines(
     lines: &SpelledLines<'_>,
     fault: DocumentFault,
 ) -> Result<String, AllocError> {
-    match refused_reading(alloc, lines, fault)? {
-        Some(text) => Ok(text),
-        None => refused_whole(alloc, fault, source_of(lines, fault)),
+    match fault {
+        DocumentFault::PatternRead(number, read) => {
+            refused_definition(alloc, lines, fault, number, read)
+        }
+        DocumentFault::StatementPattern(number, read) => {
+            refused_pattern(alloc, lines, fault, number, read)
+        }
+        DocumentFault::StatementObject(number, read) => {
+            refused_object(alloc, lines, fault, number, read)
+        }
+        _ => {
+            let source = source_of(lines, fault);
+            refused_whole(alloc, fault, source)
+        }
     }
 }

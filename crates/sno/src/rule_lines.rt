@@ -131,7 +131,7 @@ pub(crate) fn rules_of_lines<R: Files + AllocGlobal>(
     trials: Trials,
 ) -> Result<EditRules, NoRules> {
     let ready = ready_paths(rt, alloc, &given.ready)?;
-    let lines = given_lines(rt, alloc, &ready, given)?;
+    let lines = given_lines(rt, alloc, &ready, &*given)?;
     let spelled = SpelledLines::of(alloc, &lines)?;
     rules_of_spelled(alloc, &spelled, anchor, trials)
 }

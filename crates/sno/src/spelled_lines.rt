@@ -2,11 +2,11 @@
 
 use crate::given_lines::{GivenLine, GivenLines, NoRules};
 use crate::line_faults::{refused_line, refused_spelling};
+use sno_pattern::is_letter;
 use sno_rules::{
     LineRule, SetName, Spelling, SpellingFault, first_piece, read_definition, read_rule, set_of,
     spelled,
 };
-use sno_pattern::is_letter;
 use std::alloc::{AllocError, Global};
 
 /// The most definitions that are looked at, with those that are ready.
