@@ -24,7 +24,7 @@ fn called(is_rule: bool) -> &'static str {
 }
 
 /// Adds where a line is, if it is in a file.
-fn put_source(text: &mut String, source: Source<'_>) -> Result<(), AllocError> {
+fn put_source(text: &mut String, source: &Source<'_>) -> Result<(), AllocError> {
     match source {
         Source::Option => Ok(()),
         Source::File(path, number) => write!(text, "{path}:{number}: "),
@@ -42,7 +42,7 @@ fn pointed<F: Display + Drop>(
     wanted: &str,
 ) -> Result<String, AllocError> {
     let mut text = String::new(alloc);
-    put_source(&mut text, line.source)?;
+    put_source(&mut text, &line.source)?;
     let called = called(is_rule);
     writeln!(text, "{called} {number}: {fault}")?;
     let excerpt = around(alloc, &line.text, 0, place)?;
@@ -165,7 +165,7 @@ fn refused_part(
         advice: String::from_str(alloc, advice)?,
     };
     let mut text = String::new(alloc);
-    put_source(&mut text, line.source)?;
+    put_source(&mut text, &line.source)?;
     put_mistake(&mut text, &mistake)?;
     Ok(text)
 }
@@ -174,7 +174,7 @@ fn refused_part(
 fn refused_whole(
     alloc: Global,
     fault: DocumentFault,
-    source: Source<'_>,
+    source: &Source<'_>,
 ) -> Result<String, AllocError> {
     let mistake = Mistake {
         fault,
@@ -221,7 +221,7 @@ fn refused_definition(
             let part = &definition.pattern;
             refused_part(alloc, fault, read, definition.line, part, false)
         }
-        None => refused_whole(alloc, fault, Source::Option),
+        None => refused_whole(alloc, fault, &Source::Option),
     }
 }
 
@@ -235,7 +235,7 @@ fn refused_pattern(
 ) -> Result<String, AllocError> {
     match lines.rules.get(number.saturating_sub(1)) {
         Some(rule) => refused_part(alloc, fault, read, rule.line, &rule.pattern, false),
-        None => refused_whole(alloc, fault, Source::Option),
+        None => refused_whole(alloc, fault, &Source::Option),
     }
 }
 
@@ -261,7 +261,7 @@ fn refused_object(
 ) -> Result<String, AllocError> {
     match object_of(lines, number) {
         Some((line, object)) => refused_part(alloc, fault, read, line, object, true),
-        None => refused_whole(alloc, fault, Source::Option),
+        None => refused_whole(alloc, fault, &Source::Option),
     }
 }
 
@@ -283,7 +283,7 @@ pub(crate) fn refused_lines(
         }
         _ => {
             let source = source_of(lines, fault);
-            refused_whole(alloc, fault, source)
+            refused_whole(alloc, fault, &source)
         }
     }
 }

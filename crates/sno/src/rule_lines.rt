@@ -90,32 +90,46 @@ fn rules_of_spelled(
     }
 }
 
-/// The paths of the files of definitions that are ready.
-fn ready_paths<R: Files + AllocGlobal>(
-    rt: &R,
-    alloc: Global,
-    names: &[&str],
-) -> Result<Vec<String>, NoRules> {
-    let mut paths = Vec::new(alloc);
-    for name in names {
-        paths.push(ready_path(rt, alloc, name)?)?;
-    }
-    Ok(paths)
+/// A file of lines.
+#[derive(Drop)]
+struct RuleFile {
+    path: String,
+    /// Whether it has definitions alone, which are left out if nothing refers to them.
+    ready: bool,
 }
 
-/// The lines that the options give. Files come before options: first those of definitions that are ready, then those of rules.
+/// The files that the options name: first those of definitions that are ready, then those of rules.
+fn rule_files<R: Files + AllocGlobal>(
+    rt: &R,
+    alloc: Global,
+    given: &RuleLines<'_>,
+) -> Result<Vec<RuleFile>, NoRules> {
+    let mut files = Vec::new(alloc);
+    for name in &given.ready {
+        files.push(RuleFile {
+            path: ready_path(rt, alloc, name)?,
+            ready: true,
+        })?;
+    }
+    for path in &given.files {
+        files.push(RuleFile {
+            path: String::from_str(alloc, path)?,
+            ready: false,
+        })?;
+    }
+    Ok(files)
+}
+
+/// The lines of the files, and after them those of options.
 fn given_lines<'p, R: Files>(
     rt: &R,
     alloc: Global,
-    ready: &'p [String],
-    given: &'p RuleLines<'_>,
+    files: &'p [RuleFile],
+    given: &RuleLines<'_>,
 ) -> Result<GivenLines<'p>, NoRules> {
     let mut lines = GivenLines::none(alloc);
-    for path in ready {
-        lines.put_file(rt, alloc, path.as_str(), true)?;
-    }
-    for path in &given.files {
-        lines.put_file(rt, alloc, path, false)?;
+    for file in files {
+        lines.put_file(rt, alloc, file.path.as_str(), file.ready)?;
     }
     put_options(alloc, &mut lines.definitions, &given.definitions)?;
     put_options(alloc, &mut lines.rules, &given.rules)?;
@@ -130,8 +144,8 @@ pub(crate) fn rules_of_lines<R: Files + AllocGlobal>(
     anchor: bool,
     trials: Trials,
 ) -> Result<EditRules, NoRules> {
-    let ready = ready_paths(rt, alloc, &given.ready)?;
-    let lines = given_lines(rt, alloc, &ready, &*given)?;
+    let files = rule_files(rt, alloc, given)?;
+    let lines = given_lines(rt, alloc, &files, given)?;
     let spelled = SpelledLines::of(alloc, &lines)?;
     rules_of_spelled(alloc, &spelled, anchor, trials)
 }
