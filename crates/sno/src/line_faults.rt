@@ -188,8 +188,8 @@ fn refused_whole(
 }
 
 /// From where the line comes that has the fault.
-fn source_of<'l>(lines: &SpelledLines<'l>, fault: DocumentFault) -> Source<'l> {
-    match fault {
+fn source_of<'l>(lines: &SpelledLines<'l>, fault: &DocumentFault) -> Source<'l> {
+    match *fault {
         DocumentFault::PatternName(number)
         | DocumentFault::PatternReserved(number)
         | DocumentFault::PatternDuplicate(number) => {
@@ -265,6 +265,16 @@ fn refused_object(
     }
 }
 
+/// What is written of a fault that isn't one of reading.
+fn refused_other(
+    alloc: Global,
+    lines: &SpelledLines<'_>,
+    fault: DocumentFault,
+) -> Result<String, AllocError> {
+    let source = source_of(lines, &fault);
+    refused_whole(alloc, fault, &source)
+}
+
 /// What is written of lines that are no rules since they have this fault. Refused only if memory runs out.
 pub(crate) fn refused_lines(
     alloc: Global,
@@ -281,9 +291,6 @@ pub(crate) fn refused_lines(
         DocumentFault::StatementObject(number, read) => {
             refused_object(alloc, lines, fault, number, read)
         }
-        _ => {
-            let source = source_of(lines, fault);
-            refused_whole(alloc, fault, &source)
-        }
+        _ => refused_other(alloc, lines, fault),
     }
 }

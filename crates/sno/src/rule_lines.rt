@@ -120,20 +120,31 @@ fn rule_files<R: Files + AllocGlobal>(
     Ok(files)
 }
 
-/// The lines of the files, and after them those of options.
-fn given_lines<'p, R: Files>(
+/// Adds the lines of the files, and after them those of options.
+fn put_given<'p, R: Files>(
     rt: &R,
     alloc: Global,
     files: &'p [RuleFile],
     given: &RuleLines<'_>,
-) -> Result<GivenLines<'p>, NoRules> {
-    let mut lines = GivenLines::none(alloc);
+    lines: &mut GivenLines<'p>,
+) -> Result<(), NoRules> {
     for file in files {
         lines.put_file(rt, alloc, file.path.as_str(), file.ready)?;
     }
     put_options(alloc, &mut lines.definitions, &given.definitions)?;
     put_options(alloc, &mut lines.rules, &given.rules)?;
-    Ok(lines)
+    Ok(())
+}
+
+/// The rules that these lines give.
+fn rules_of_given(
+    alloc: Global,
+    lines: &GivenLines<'_>,
+    anchor: bool,
+    trials: Trials,
+) -> Result<EditRules, NoRules> {
+    let spelled = SpelledLines::of(alloc, lines)?;
+    rules_of_spelled(alloc, &spelled, anchor, trials)
 }
 
 /// The rules that are given in lines, by options and in files.
@@ -145,7 +156,7 @@ pub(crate) fn rules_of_lines<R: Files + AllocGlobal>(
     trials: Trials,
 ) -> Result<EditRules, NoRules> {
     let files = rule_files(rt, alloc, given)?;
-    let lines = given_lines(rt, alloc, &files, given)?;
-    let spelled = SpelledLines::of(alloc, &lines)?;
-    rules_of_spelled(alloc, &spelled, anchor, trials)
+    let mut lines = GivenLines::none(alloc);
+    put_given(rt, alloc, &files, given, &mut lines)?;
+    rules_of_given(alloc, &lines, anchor, trials)
 }
