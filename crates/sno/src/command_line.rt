@@ -185,9 +185,9 @@ fn refused_with(alloc: Global, text: &str) -> Stop {
 /// Refused with
 ///
 /// - `Help` if `--help` or `--version` comes before any fault;
-/// - `Usage` for another first argument than `run`, `check`, `edit`, `find`, `trace` or `serve`, an argument that is not an option, an option that
-///   is given twice, a number that is not in its range, a second document, a service without a document, an edit without
-///   rules and files, or a search without rules;
+/// - `Usage` for another first argument than `run`, `check`, `edit`, `find`, `trace` or `serve`, an argument that is not an option,
+///   an option that is given twice, a number that is not in its range, a second document, a service without a document, an edit
+///   without rules and files, or a search without rules;
 /// - `Memory`.
 pub(crate) fn asked_for<'a>(alloc: Global, words: &'a [String]) -> Result<Request<'a>, Stop> {
     match matches(alloc, words) {

@@ -59,7 +59,7 @@ pub(crate) struct FindRequest<'a> {
     pub(crate) lines: RuleLines<'a>,
     /// The files and folders; `-` is standard input.
     pub(crate) paths: Vec<&'a str>,
-    /// Like what the names of the files in folders are; like anything if there are none.
+    /// What the names of the files in folders have to fit; without any, all of them are taken.
     pub(crate) names: Vec<&'a str>,
 }
 

@@ -180,7 +180,7 @@ fn find_each<R: Files, I: Read, W: Write, E: Write>(
     Ok(sought)
 }
 
-/// The status after files of which this became.
+/// The status for what was found in the files.
 fn status_of(sought: Sought) -> u8 {
     if sought.failed {
         TROUBLE

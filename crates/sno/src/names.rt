@@ -1,6 +1,6 @@
 //! Names of files, and patterns of them as `*.c`.
 
-/// Whether the name is like one of these, or there are none. In them `*` means any characters and `?` one.
+/// Whether the name fits one of these, or the list is empty. In them `*` means any characters and `?` one.
 pub(crate) fn is_named(name: &str, wanted: &[&str]) -> bool {
     wanted.is_empty()
         || wanted

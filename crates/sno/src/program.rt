@@ -139,8 +139,8 @@ fn run_words<
 /// - If the arguments ask for help or the version, it goes to `output`. The status is 0, or 4 if it can't be printed.
 /// - If they are refused, or one of them is not a text, `errors` says how the program is used, and the status is 3.
 /// - If the first of them is `run`, the program does what `sno_rewrite` does with the others, byte for byte.
-/// - Otherwise the status is that of the check, the edit, the search, the trace or the service. If that has a fault, the line of the fault goes to
-///   `errors`, and the status is 4, even if the line can't be printed.
+/// - Otherwise the status is that of the check, the edit, the search, the trace or the service. If that has a fault, the line of
+///   the fault goes to `errors`, and the status is 4, even if the line can't be printed.
 pub(crate) fn run<
     R: Files + Env + Threads + Wait + AllocGlobal + Clone + Drop + Sync,
     I: Read + Send + Drop,

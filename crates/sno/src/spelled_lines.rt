@@ -262,7 +262,7 @@ fn mark_in_rules(
     Ok(())
 }
 
-/// Marks the definitions that used ones mention, each of which is looked at once.
+/// Marks the definitions that used ones mention. Each used one is looked at once.
 fn mark_in_used(
     alloc: Global,
     definitions: &mut [SpelledDefinition<'_>],
