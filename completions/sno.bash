@@ -2,7 +2,7 @@
 
 _sno() {
     local word="${COMP_WORDS[COMP_CWORD]}" previous="${COMP_WORDS[COMP_CWORD - 1]}"
-    local options=" run check edit find trace serve --help -h --version -V "
+    local options=" run check edit find trace serve store --help -h --version -V "
     local given index
     # In --trials=4, bash makes the equals sign a word of its own.
     if [ "$word" = "=" ]; then
@@ -17,7 +17,16 @@ _sno() {
             edit) options=" --diff --check --sync --anchor --trials --rule -e --file -f --define -d --with -w --name -n --help -h " ;;
             find) options=" --paths -l --count -c --json --only --anchor --trials --rule -e --file -f --define -d --with -w --name -n --help -h " ;;
             trace) options=" --statement --match --lines --html --help -h " ;;
-            serve) options=" --seats --tries --trials --listing --help -h " ;;
+            serve) options=" --seats --tries --trials --listing --store --help -h " ;;
+            store)
+                options=" check list --help -h "
+                case "$previous" in
+                    check|list)
+                        COMPREPLY=()
+                        return
+                        ;;
+                esac
+                ;;
             *) options="" ;;
         esac
     fi
@@ -28,7 +37,7 @@ _sno() {
         --seats|--workers) options="1 2 4 8 16" ;;
         --tries) options="1 10 100 1000" ;;
         --with|-w) options="c html json markdown python shell" ;;
-        --listing|--file|-f)
+        --listing|--store|--file|-f)
             # A file: the option -o default below.
             COMPREPLY=()
             return

@@ -6,7 +6,11 @@ use crate::edit_options::{
 };
 use crate::find_options::{FindRequest, WITHOUT_RULES, find_command, find_request};
 use crate::rule_options::{TRIALS_OUT_OF_RANGE, WITHOUT_LINES, are_without_lines, trials};
-use crate::serve_command::{SERVE_OUT_OF_RANGE, ServeOptions, serve_command, serve_options};
+use crate::serve_command::{
+    SERVE_OUT_OF_RANGE, ServeOptions, StoreOptions, WITHOUT_DOCUMENT, has_seats, serve_command,
+    serve_options, store_options,
+};
+use crate::store_command::{StoreAction, StoreRequest, store_command, store_request};
 use crate::trace_command::{TRACE_OUT_OF_RANGE, TraceOptions, trace_command, trace_options};
 use clap::error::ErrorKind;
 use clap::{ArgMatches, Command, Error};
@@ -58,6 +62,10 @@ pub(crate) enum Request<'a> {
     Trace(TraceOptions<'a>),
     /// A document is to be served.
     Serve(ServeOptions<'a>),
+    /// A document is to be served over a store.
+    ServeStore(StoreOptions<'a>),
+    /// A store is to be looked at.
+    Store(StoreRequest<'a>),
 }
 
 /// Why the arguments ask for nothing that can be done.
@@ -94,7 +102,8 @@ fn program<'a>(alloc: Global) -> Result<Command<'a>, AllocError> {
         .subcommand(edit_command(alloc)?)?
         .subcommand(find_command(alloc)?)?
         .subcommand(trace_command(alloc)?)?
-        .subcommand(serve_command(alloc)?)
+        .subcommand(serve_command(alloc)?)?
+        .subcommand(store_command(alloc)?)
 }
 
 fn options_in<'a>(matches: &ArgMatches<'a>) -> CheckOptions<'a> {
@@ -134,6 +143,20 @@ fn find_request_in<'a>(alloc: Global, found: &ArgMatches<'a>) -> Result<Request<
     }
 }
 
+/// What is found under `sno serve`.
+fn serve_request_in<'a>(alloc: Global, found: &ArgMatches<'a>) -> Result<Request<'a>, Stop> {
+    let request = match (found.get_str("store"), found.get_str("document")) {
+        (Some(_), _) if has_seats(found) => return Err(refused_with(alloc, WITHOUT_DOCUMENT)),
+        (Some(store), _) => store_options(found, store).map(Request::ServeStore),
+        (None, Some(document)) => serve_options(found, document).map(Request::Serve),
+        (None, None) => return Err(refused_with(alloc, WITHOUT_DOCUMENT)),
+    };
+    match request {
+        Some(request) => Ok(request),
+        None => Err(refused_with(alloc, SERVE_OUT_OF_RANGE)),
+    }
+}
+
 /// What is found under a subcommand.
 fn request_in<'a>(alloc: Global, matches: &ArgMatches<'a>) -> Result<Request<'a>, Stop> {
     if let Some(found) = matches.subcommand_matches("edit") {
@@ -161,10 +184,10 @@ fn request_in<'a>(alloc: Global, matches: &ArgMatches<'a>) -> Result<Request<'a>
         };
     }
     if let Some(found) = matches.subcommand_matches("serve") {
-        return match serve_options(found) {
-            Some(options) => Ok(Request::Serve(options)),
-            None => Err(refused_with(alloc, SERVE_OUT_OF_RANGE)),
-        };
+        return serve_request_in(alloc, found);
+    }
+    if let Some(found) = matches.subcommand_matches("store") {
+        return Ok(Request::Store(store_request(found)));
     }
     match matches.subcommand_matches("check") {
         Some(found) => Ok(Request::Check(options_in(found))),
@@ -185,7 +208,7 @@ fn refused_with(alloc: Global, text: &str) -> Stop {
 /// Refused with
 ///
 /// - `Help` if `--help` or `--version` comes before any fault;
-/// - `Usage` for another first argument than `run`, `check`, `edit`, `find`, `trace` or `serve`, an argument that is not an option,
+/// - `Usage` for another first argument than `run`, `check`, `edit`, `find`, `trace`, `serve` or `store`, an argument that is not an option,
 ///   an option that is given twice, a number that is not in its range, a second document, a service without a document, an edit
 ///   without rules and files, or a search without rules;
 /// - `Memory`.

@@ -1,5 +1,6 @@
 //! The program `sno`, whose first argument says what it does: `sno run` performs a document, `sno check` checks one, `sno edit`
-//! edits files, `sno find` seeks in them, `sno trace` shows how a match goes, and `sno serve` serves a document over its streams.
+//! edits files, `sno find` seeks in them, `sno trace` shows how a match goes, `sno serve` serves a document over its streams, and `sno store`
+//! looks at a store.
 //!
 //! | File | What it does |
 //! |---|---|
@@ -20,6 +21,8 @@
 //! | `searches`, `rounds` | the search of a pass, or the round of a repeated statement, that a number asks for |
 //! | `trace_lines`, `trace_faults` | the lines of a trace, which `sno_trace` makes; why there are none |
 //! | `serve_command`, `serves` | `sno serve`: its arguments; a document is served by `sno_serve`, and the listing written |
+//! | `listing_files` | the file of a listing |
+//! | `store_command`, `stored` | `sno serve --store` and `sno store`: a document is served over a store by `sno_durable`, and a store looked at |
 //! | `program` | from the arguments and the streams to the status |
 #![tactic(auto)]
 
@@ -34,6 +37,7 @@ mod find_options;
 mod finds;
 mod given_lines;
 mod line_faults;
+mod listing_files;
 mod names;
 mod program;
 mod ready_files;
@@ -44,6 +48,8 @@ mod searches;
 mod serve_command;
 mod serves;
 mod spelled_lines;
+mod store_command;
+mod stored;
 mod streams;
 mod synced;
 mod trace_command;

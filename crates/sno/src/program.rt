@@ -6,6 +6,7 @@ use crate::edits::run_edit;
 use crate::faults::{FAILED, MISUSED, ProgramFault};
 use crate::finds::run_find;
 use crate::serves::run_serve;
+use crate::stored::{Stores, run_store, run_stored};
 use crate::streams::write_all;
 use crate::traces::run_trace;
 use sno_rewrite::run_program;
@@ -74,7 +75,7 @@ fn refuse_words<E: Write>(error: &io::Error, errors: &mut E) -> u8 {
 
 /// Does what is asked for, and returns the status.
 fn run_request<
-    R: Files + Env + Threads + Wait + AllocGlobal + Clone + Drop + Sync,
+    R: Files + Env + Stores + Threads + Wait + AllocGlobal + Clone + Drop + Sync,
     I: Read + Send + Drop,
     W: Write + IsTerminal + Send + Drop,
     E: Write,
@@ -95,6 +96,8 @@ fn run_request<
         Request::Find(find) => run_find(rt, alloc, find, input, output, errors),
         Request::Trace(options) => run_trace(rt, alloc, options, input, output, errors),
         Request::Serve(options) => run_serve(rt, alloc, options, input, output, errors),
+        Request::ServeStore(options) => run_stored(rt, alloc, options, input, output, errors),
+        Request::Store(request) => run_store(rt, alloc, request, output, errors),
     }
 }
 
@@ -120,7 +123,7 @@ fn run_document<T: Threads + Wait + Sync, I: Read, W: Write, E: Write>(
 }
 
 fn run_words<
-    R: Files + Env + Threads + Wait + AllocGlobal + Clone + Drop + Sync,
+    R: Files + Env + Stores + Threads + Wait + AllocGlobal + Clone + Drop + Sync,
     I: Read + Send + Drop,
     W: Write + IsTerminal + Send + Drop,
     E: Write,
@@ -142,7 +145,7 @@ fn run_words<
 /// - Otherwise the status is that of the check, the edit, the search, the trace or the service. If that has a fault, the line of
 ///   the fault goes to `errors`, and the status is 4, even if the line can't be printed.
 pub(crate) fn run<
-    R: Files + Env + Threads + Wait + AllocGlobal + Clone + Drop + Sync,
+    R: Files + Env + Stores + Threads + Wait + AllocGlobal + Clone + Drop + Sync,
     I: Read + Send + Drop,
     W: Write + IsTerminal + Send + Drop,
     E: Write,

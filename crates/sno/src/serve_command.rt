@@ -1,36 +1,45 @@
 //! The arguments of `sno serve`.
-ghost use Rattle.std.specs.Prelude.{◌≤◌};
+ghost use Rattle.std.specs.Prelude.{◌≤◌, IfSome};
 ghost use Rattle.sno_desk.specs.declared.desk.TheConstants.{MAX_SEATS, MAX_TRIES};
 ghost use Rattle.sno_statement.specs.Statement.{IsLimit};
 
-use crate::arguments::{is_up_to, number};
+use crate::arguments::{is_up_to, number, optional_number};
 use clap::{Arg, ArgAction, ArgMatches, Command};
 use sno_desk::{MAX_SEATS, MAX_TRIES};
-use sno_statement::MAX_TRIALS;
+use sno_statement::{MAX_TRIALS, USUAL_TRIALS};
 use std::alloc::{AllocError, Global};
 
 const ABOUT: &str =
     "Performs the statements of DOCUMENT, then answers each line of standard input by a line: a statement, a text to be read, or an index to list entries from";
 
 // The subcommand's own usage would leave out the program's name.
-const USAGE: &str = "sno serve [OPTIONS] DOCUMENT";
+const USAGE: &str =
+    "sno serve [OPTIONS] DOCUMENT\n       sno serve [OPTIONS] --store FILE [DOCUMENT]";
 
 const SEATS_HELP: &str = "How many threads take lines, 1 to 16";
 
 const TRIES_HELP: &str =
     "How often a statement is tried while its text changes under it, 1 to 1000";
 
-const TRIALS_HELP: &str = "How many trials a match may take, 1 to 1000000000";
+const TRIALS_HELP: &str =
+    "How many trials a match may take, 1 to 1000000000; 1000000 without the option, or as the store was made";
 
 const LISTING_HELP: &str = "Writes the listing as JSON to this file at the end of the input";
 
-const DOCUMENT_HELP: &str = "The file of the document";
+const STORE_HELP: &str =
+    "Keeps the entries in this file: a reply is written when its entry is on the disk. Takes one seat";
+
+const DOCUMENT_HELP: &str = "The file of the document; of a store that is there it may be missing";
 
 const EXAMPLE: &str = "Example: sno serve --listing listing.json document.json";
 
 /// What is written if a number is not in its range.
 pub(crate) const SERVE_OUT_OF_RANGE: &str =
     "error: '--seats' takes 1 to 16, '--tries' 1 to 1000, and '--trials' 1 to 1000000000\n\nFor more information, try '--help'.\n";
+
+/// What is written if there is neither a document nor a store, or a store and more than one seat.
+pub(crate) const WITHOUT_DOCUMENT: &str =
+    "error: a service takes DOCUMENT, or '--store' and one seat\n\nFor more information, try '--help'.\n";
 
 /// How `sno serve` is to be done. By its type each number is in its range.
 #[derive(Clone, Copy, Debug, PartialEq, Eq)]
@@ -56,9 +65,13 @@ pub(crate) fn serve_command<'a>(alloc: Global) -> Result<Command<'a>, AllocError
         .value_name("FILE")
         .action(ArgAction::Set)
         .help(LISTING_HELP);
+    let store = Arg::new(alloc, "store")
+        .long("store")
+        .value_name("FILE")
+        .action(ArgAction::Set)
+        .help(STORE_HELP);
     let document = Arg::new(alloc, "document")
         .value_name("DOCUMENT")
-        .required(true)
         .action(ArgAction::Set)
         .help(DOCUMENT_HELP);
     Command::new(alloc, "serve")
@@ -67,16 +80,45 @@ pub(crate) fn serve_command<'a>(alloc: Global) -> Result<Command<'a>, AllocError
         .after_help(EXAMPLE)
         .arg(number(alloc, "seats", "1", SEATS_HELP))?
         .arg(number(alloc, "tries", "100", TRIES_HELP))?
-        .arg(number(alloc, "trials", "1000000", TRIALS_HELP))?
+        .arg(optional_number(alloc, "trials", TRIALS_HELP))?
         .arg(listing)?
+        .arg(store)?
         .arg(document)
 }
 
+/// How a document is to be served over a store. By its type the number is in its range.
+#[derive(Clone, Copy, Debug, PartialEq, Eq)]
+pub(crate) struct StoreOptions<'a> {
+    /// The file of the store.
+    pub(crate) store: &'a str,
+    /// How many trials a match may take, if that is asked for.
+    pub(crate) trials: Option<u32>,
+    /// The file of the listing, if one is to be written.
+    pub(crate) listing: Option<&'a str>,
+    /// The file of the document, if one is given.
+    pub(crate) document: Option<&'a str>,
+    ghost limit: { IfSome trials IsLimit },
+}
+
+/// The number of trials that is asked for, if there is one; otherwise `None` if it is not in its range.
+fn trials_in(matches: &ArgMatches<'_>) -> Option<Option<u32>>
+    ensures { IfSome result (λ asked. IfSome asked IsLimit) }
+{
+    match matches.get_one::<u32>("trials") {
+        None => Some(None),
+        Some(trials) if is_up_to(MAX_TRIALS, trials) => Some(Some(trials)),
+        Some(_) => None,
+    }
+}
+
 /// The options that were found; `None` if a number is not in its range.
-pub(crate) fn serve_options<'a>(matches: &ArgMatches<'a>) -> Option<ServeOptions<'a>> {
+pub(crate) fn serve_options<'a>(
+    matches: &ArgMatches<'a>,
+    document: &'a str,
+) -> Option<ServeOptions<'a>> {
     let seats = matches.get_one::<u32>("seats").unwrap_or(0);
     let tries = matches.get_one::<u32>("tries").unwrap_or(0);
-    let trials = matches.get_one::<u32>("trials").unwrap_or(0);
+    let trials = trials_in(matches)?.unwrap_or(USUAL_TRIALS);
     if !is_up_to(MAX_SEATS, seats) || !is_up_to(MAX_TRIES, tries) || !is_up_to(MAX_TRIALS, trials) {
         return None;
     }
@@ -85,6 +127,24 @@ pub(crate) fn serve_options<'a>(matches: &ArgMatches<'a>) -> Option<ServeOptions
         tries,
         trials,
         listing: matches.get_str("listing"),
-        document: matches.get_str("document").unwrap_or(""),
+        document,
     })
+}
+
+/// The options of a service over this store; `None` if the number is not in its range.
+pub(crate) fn store_options<'a>(
+    matches: &ArgMatches<'a>,
+    store: &'a str,
+) -> Option<StoreOptions<'a>> {
+    Some(StoreOptions {
+        store,
+        trials: trials_in(matches)?,
+        listing: matches.get_str("listing"),
+        document: matches.get_str("document"),
+    })
+}
+
+/// Whether more than one seat is asked for.
+pub(crate) fn has_seats(matches: &ArgMatches<'_>) -> bool {
+    matches.get_one::<u32>("seats") != Some(1)
 }

@@ -2,13 +2,12 @@
 
 use crate::checks::document_bytes;
 use crate::faults::ProgramFault;
+use crate::listing_files::{open_listing, write_listing};
 use crate::serve_command::ServeOptions;
-use crate::streams::write_all;
 use sno_document::{DocumentFault, Mode, read_document};
 use sno_listing::listing_of;
-use sno_serve::{ServeFault, Served, serve};
+use sno_serve::{ServeFault, serve};
 use std::alloc::Global;
-use std::fs::OpenOptions;
 use std::io::{Read, Write};
 use std::rt::Files;
 use std::sync::Wait;
@@ -16,25 +15,6 @@ use std::thread::Threads;
 
 /// The status after a document that is refused.
 const INVALID: u8 = 2;
-
-/// Writes the listing to the file.
-fn write_listing<R: Files>(
-    rt: &R,
-    alloc: Global,
-    path: &str,
-    served: &Served,
-) -> Result<(), ProgramFault> {
-    let listing = listing_of(alloc, &served.book, &served.refused, true)?;
-    let opened = OpenOptions::new()
-        .write(true)
-        .create(true)
-        .truncate(true)
-        .open(rt, path);
-    let Ok(mut file) = opened else {
-        return Err(ProgramFault::Write);
-    };
-    write_all(&mut file, &listing)
-}
 
 /// What a fault of the service is to the program.
 fn fault_of(fault: ServeFault) -> ProgramFault {
@@ -48,8 +28,8 @@ fn fault_of(fault: ServeFault) -> ProgramFault {
 
 /// Serves a document over the streams, and returns the status: 0 at the end of the input; 2 if the document is refused.
 ///
-/// Refused with `Read`, `Write`, `Memory` or `Closing`. The listing is written even if a line could not be read, or a reply not be
-/// written.
+/// Refused with `Read`, `Write`, `Memory` or `Closing`. The file of the listing is opened before the first line is read. The listing
+/// is written even if a line could not be read, or a reply not be written.
 pub(crate) fn run_serve<
     R: Files + Threads + Wait + Sync,
     I: Read + Send + Drop,
@@ -77,6 +57,7 @@ pub(crate) fn run_serve<
         }
     };
     drop(bytes);
+    let listing = open_listing(rt, alloc, options.listing)?;
     let seats = options.seats as usize;
     let served = match serve(
         rt,
@@ -91,8 +72,9 @@ pub(crate) fn run_serve<
         Ok(served) => served,
         Err(fault) => return Err(fault_of(fault)),
     };
-    if let Some(path) = options.listing {
-        write_listing(rt, alloc, path, &served)?;
+    if options.listing.is_some() {
+        let bytes = listing_of(alloc, &served.book, &served.refused, true)?;
+        write_listing(rt, listing, &bytes)?;
     }
     match served.fault {
         None => Ok(0),

@@ -47,8 +47,9 @@ fn reason_in(fault: &SubmitFault) -> Option<Reason>
     }
 }
 
-/// What the listing has of a refused statement with this number.
-pub(crate) fn refusal_in(number: u32, reply: &Reply) -> Option<Refusal>
+/// What the listing has of a refused statement with this number: nothing of one that was accepted, or refused for a reason
+/// that the listing doesn't have.
+pub fn refusal_in(number: u32, reply: &Reply) -> Option<Refusal>
     ensures { result ≡ refusal_in number reply.now }
 {
     match reply {
@@ -60,9 +61,9 @@ pub(crate) fn refusal_in(number: u32, reply: &Reply) -> Option<Refusal>
     }
 }
 
-/// Submits a statement through the seat, at an open gate.
+/// Submits a statement through the seat, at an open gate, as by [`Desk::submit`]. `tries` is from 1 to 1,000.
 #[tactic(auto, using(crate::proofs::Accepting::taken))]
-pub(crate) fn submit<L: Naming, R: Wait>(
+pub fn submit<L: Naming, R: Wait>(
     rt: &R,
     alloc: Global,
     desk: &Desk<L>,

@@ -13,7 +13,7 @@ const CAPACITY: usize = 65_536;
 
 /// What comes next.
 #[derive(Drop)]
-pub(crate) enum Next {
+pub enum Next {
     /// A line, without its line feed.
     Line(Vec<u8>),
     /// A line that was longer than it may be, and was passed over.
@@ -30,9 +30,9 @@ struct Draft {
     is_any: bool,
 }
 
-/// Where the lines come from.
+/// Where the lines come from: a reader, whose bytes are divided at line feeds.
 #[derive(Drop)]
-pub(crate) struct Intake<I: Read> {
+pub struct Intake<I: Read> {
     reader: BufReader<I>,
     /// Whether the document's statements were performed.
     pub(crate) is_begun: bool,
@@ -82,7 +82,8 @@ fn add_piece<B: BufRead>(reader: &mut B, draft: &mut Draft) -> Result<bool, Serv
 }
 
 impl<I: Read + Drop> Intake<I> {
-    pub(crate) fn new(alloc: Global, reader: I) -> Result<Intake<I>, ServeFault>
+    /// The lines of the reader. Refused only if memory runs out.
+    pub fn new(alloc: Global, reader: I) -> Result<Intake<I>, ServeFault>
         ensures { IfErr result (λ e. e ≡ Memory) }
     {
         match BufReader::with_capacity(alloc, CAPACITY, reader) {
@@ -100,8 +101,15 @@ impl<I: Read + Drop> Intake<I> {
         self.is_ended = true;
     }
 
-    /// The next line.
-    pub(crate) fn next(&mut self, alloc: Global) -> Result<Next, ServeFault> {
+    /// Whether a whole line was read already, so that [`Intake::next`] returns it without a read.
+    pub fn has_line(&self) -> bool {
+        !self.is_ended && line_feed(self.reader.buffer()).is_some()
+    }
+
+    /// The next line, without its line feed, or that there are no more. It waits until the reader has a line or its end.
+    ///
+    /// Refused: `Read` if the reader fails, `Memory` if memory runs out.
+    pub fn next(&mut self, alloc: Global) -> Result<Next, ServeFault> {
         if self.is_ended {
             return Ok(Next::End);
         }

@@ -21,10 +21,10 @@ mod outlet;
 mod replies;
 mod service;
 
-pub use answers::{Answered, answer};
+pub use answers::{Answered, answer, refusal_in, submit};
 pub use asked::{Asked, Line, line_in};
 pub use faults::ServeFault;
-pub use intake::MAX_LINE;
+pub use intake::{Intake, MAX_LINE, Next};
 pub use service::{Served, serve};
 pub use sno_desk::{Desk, Entry, Naming, Seat};
 pub use sno_document::{Document, Mode, Rules};

@@ -1,0 +1,263 @@
+//! The lines of a client, their replies, and the store between the two.
+ghost use Rattle.std.specs.Prelude.{◌≡◌, ◌+◌, OnOk, OnErr, IfErr, true, length};
+ghost use Rattle.sno_statement.specs.Statement.{IsLimit};
+ghost use Rattle.sno_store.specs.Shown.{lines_left};
+ghost use Rattle.sno_durable.specs.Kept.{HasNoted, HasKept};
+
+use crate::DurableFault;
+use crate::records::{record_in, record_line};
+use crate::replies::{put_reply, too_long};
+use sno_desk::{Desk, Naming, Seat, SubmitFault};
+use sno_document::{Mode, Rules};
+use sno_listing::Refusal;
+use sno_serve::{Answered, Asked, Intake, Next, answer, line_in, refusal_in, submit};
+use sno_statement::Statement;
+use sno_store::{Lines, LinesIter, Store};
+use sqlite_disk::Disk;
+use std::alloc::Global;
+use std::io::{Read, Write};
+use std::sync::{Arc, Wait};
+
+/// The most lines that share one wait for the disk.
+const MAX_LINES: usize = 1_024;
+
+/// No further line is taken into a batch once its replies have as many bytes.
+const MAX_WAITING: usize = 4_194_304;
+
+/// A statement is tried once: no other seat can change its text.
+const TRIES: u32 = 1;
+
+/// What waits for the disk: the records of entries, and the replies that are shown when these are on it.
+#[derive(Drop)]
+struct Waiting {
+    records: Lines,
+    replies: Vec<u8>,
+}
+
+/// What stands between a client and the desk's only seat.
+#[derive(Drop)]
+pub(crate) struct Keeper<D: Disk, I: Read, W: Write> {
+    pub(crate) rules: Arc<Rules>,
+    pub(crate) mode: Mode,
+    /// The number of the next statement.
+    pub(crate) number: u32,
+    pub(crate) store: Store<D>,
+    pub(crate) intake: Intake<I>,
+    pub(crate) writer: W,
+    pub(crate) refused: Vec<Refusal>,
+    ghost limit: { IsLimit mode.trials },
+}
+
+impl<D: Disk + Drop, I: Read + Drop, W: Write + Drop> Keeper<D, I, W> {
+    /// Answers a line. The record of its entry, if it has one, and the reply wait for the disk.
+    fn reply<L: Naming, R: Wait>(
+        &mut self,
+        rt: &R,
+        alloc: Global,
+        desk: &Desk<L>,
+        seat: &mut Seat<L>,
+        line: &[u8],
+        waiting: &mut Waiting,
+    ) -> Result<(), DurableFault>
+        ensures noted { OnOk result (HasNoted waiting.old.records waiting.new.records seat.old.accepted seat.new.accepted) }
+        ensures same { self.new.store ≡ self.old.store }
+    {
+        let read = line_in(alloc, &self.rules, self.mode, self.number, line)?;
+        if matches!(&read.asked, Asked::Perform(_)) {
+            self.number = self.number.saturating_add(1);
+        }
+        let before = seat.accepted();
+        let Answered { reply, refused } = answer(rt, alloc, desk, seat, read, TRIES)?;
+        put_reply(alloc, &mut waiting.replies, &reply)?;
+        if let Some(refused) = refused {
+            self.refused.push(refused)?;
+        }
+        if seat.accepted() == before {
+            return Ok(());
+        }
+        let Ok(text) = str::from_utf8(line) else {
+            return Err(DurableFault::Read);
+        };
+        let record = record_line(alloc, text, reply)?;
+        waiting.records.push(&record)?;
+        Ok(())
+    }
+
+    /// Takes a line and answers it. Returns whether there may be more.
+    fn take<L: Naming, R: Wait>(
+        &mut self,
+        rt: &R,
+        alloc: Global,
+        desk: &Desk<L>,
+        seat: &mut Seat<L>,
+        waiting: &mut Waiting,
+    ) -> Result<bool, DurableFault>
+        ensures noted { OnOk result (HasNoted waiting.old.records waiting.new.records seat.old.accepted seat.new.accepted) }
+        ensures same { self.new.store ≡ self.old.store }
+    {
+        match self.intake.next(alloc)? {
+            Next::End => Ok(false),
+            Next::TooLong => {
+                let reply = too_long(alloc)?;
+                put_reply(alloc, &mut waiting.replies, &reply)?;
+                Ok(true)
+            }
+            Next::Line(line) => {
+                self.reply(rt, alloc, desk, seat, &line, waiting)?;
+                Ok(true)
+            }
+        }
+    }
+
+    /// Takes a line, and those after it that were read already, as many as share one wait. Returns whether there may be more.
+    fn gather<L: Naming, R: Wait>(
+        &mut self,
+        rt: &R,
+        alloc: Global,
+        desk: &Desk<L>,
+        seat: &mut Seat<L>,
+        waiting: &mut Waiting,
+    ) -> Result<bool, DurableFault>
+        ensures noted { OnOk result (HasNoted waiting.old.records waiting.new.records seat.old.accepted seat.new.accepted) }
+        ensures same { self.new.store ≡ self.old.store }
+    {
+        for _ in 0..MAX_LINES {
+            if !self.take(rt, alloc, desk, seat, waiting)? {
+                return Ok(false);
+            }
+            if !self.intake.has_line() || waiting.replies.len() >= MAX_WAITING {
+                break;
+            }
+        }
+        Ok(true)
+    }
+
+    /// Writes the replies.
+    fn show(&mut self, replies: &[u8]) -> Result<(), DurableFault>
+        ensures same { self.new.store ≡ self.old.store }
+    {
+        if self.writer.write_all(replies).is_err() || self.writer.flush().is_err() {
+            return Err(DurableFault::Write);
+        }
+        Ok(())
+    }
+
+    /// Answers some lines: their entries are put into the store, and when they are on the disk, the replies are written.
+    /// Returns whether there may be more lines.
+    fn turn<L: Naming, R: Wait>(
+        &mut self,
+        rt: &R,
+        alloc: Global,
+        desk: &Desk<L>,
+        seat: &mut Seat<L>,
+    ) -> Result<bool, DurableFault>
+        ensures kept { OnOk result (HasKept self.old.store self.new.store seat.old.accepted seat.new.accepted) }
+    {
+        let mut waiting = Waiting {
+            records: Lines::new(alloc),
+            replies: Vec::new(alloc),
+        };
+        let more = self.gather(rt, alloc, desk, seat, &mut waiting)?;
+        self.store.put(&waiting.records)?;
+        self.show(&waiting.replies)?;
+        Ok(more)
+    }
+
+    /// Answers lines until there are no more.
+    pub(crate) fn serve<L: Naming, R: Wait>(
+        &mut self,
+        rt: &R,
+        alloc: Global,
+        desk: &Desk<L>,
+        seat: &mut Seat<L>,
+    ) -> Result<(), DurableFault>
+        ensures kept { OnOk result (HasKept self.old.store self.new.store seat.old.accepted seat.new.accepted) }
+    {
+        for _ in 0..u64::MAX {
+            if !self.turn(rt, alloc, desk, seat)? {
+                break;
+            }
+        }
+        Ok(())
+    }
+
+    /// Performs the statements of the document.
+    ///
+    /// Refused: `Memory`, if one of them ran out of memory: the next time it might be accepted.
+    pub(crate) fn begin<L: Naming, R: Wait>(
+        &mut self,
+        rt: &R,
+        alloc: Global,
+        desk: &Desk<L>,
+        seat: &mut Seat<L>,
+        statements: &[Arc<Statement>],
+    ) -> Result<(), DurableFault>
+        ensures same { self.new.store ≡ self.old.store }
+    {
+        for statement in statements {
+            let number = statement.number();
+            let shared = Arc::try_clone(statement)?;
+            let reply = submit(rt, alloc, desk, seat, shared, TRIES);
+            if matches!(&reply, Err(SubmitFault::Memory) | Err(SubmitFault::Stopped)) {
+                return Err(DurableFault::Memory);
+            }
+            if let Some(refused) = refusal_in(number, &reply) {
+                self.refused.push(refused)?;
+            }
+        }
+        Ok(())
+    }
+
+    /// Performs the statements of these records again.
+    pub(crate) fn replay_all<L: Naming, R: Wait>(
+        &mut self,
+        rt: &R,
+        alloc: Global,
+        desk: &Desk<L>,
+        seat: &mut Seat<L>,
+        records: LinesIter<'_>,
+    ) -> Result<(), DurableFault>
+        ensures again { OnOk result (length (lines_left records) + seat.old.accepted ≡ seat.new.accepted) }
+        ensures same { self.new.store ≡ self.old.store }
+    {
+        let mut place: u64 = 1;
+        for record in records {
+            place = place.saturating_add(1);
+            self.replay(rt, alloc, desk, seat, record, place)?;
+        }
+        Ok(())
+    }
+
+    /// Performs the statement of a record again. `place` is the number of its line, from 1.
+    ///
+    /// Refused: `Record` if the line isn't a record; `Outcome` if the statement isn't accepted with the same reply.
+    fn replay<L: Naming, R: Wait>(
+        &mut self,
+        rt: &R,
+        alloc: Global,
+        desk: &Desk<L>,
+        seat: &mut Seat<L>,
+        stored: &[u8],
+        place: u64,
+    ) -> Result<(), DurableFault>
+        ensures again { OnOk result (seat.new.accepted ≡ seat.old.accepted + 1) }
+        ensures same { self.new.store ≡ self.old.store }
+    {
+        let Some(record) = record_in(alloc, stored)? else {
+            return Err(DurableFault::Record(place));
+        };
+        let line = record.line.as_bytes();
+        let read = line_in(alloc, &self.rules, self.mode, record.number, line)?;
+        let before = seat.accepted();
+        let Answered { reply, .. } = answer(rt, alloc, desk, seat, read, TRIES)?;
+        if seat.accepted() == before {
+            return Err(DurableFault::Outcome(place));
+        }
+        let again = record_line(alloc, &record.line, reply)?;
+        if again.as_slice() != stored {
+            return Err(DurableFault::Outcome(place));
+        }
+        self.number = record.number.saturating_add(1);
+        Ok(())
+    }
+}

@@ -1,0 +1,24 @@
+//! The lines that a client gets.
+
+use serde_json::{Map, Value, put};
+use std::alloc::{AllocError, Global};
+
+/// Puts a reply down as a line.
+pub(crate) fn put_reply(
+    alloc: Global,
+    replies: &mut Vec<u8>,
+    reply: &Value,
+) -> Result<(), AllocError> {
+    let line = reply.to_vec(alloc)?;
+    replies.extend_from_slice(&line)?;
+    replies.push(b'\n')?;
+    Ok(())
+}
+
+/// The reply to a line that is too long.
+pub(crate) fn too_long(alloc: Global) -> Result<Value, AllocError> {
+    let words = Value::try_from_str(alloc, "longer than 16777216 bytes")?;
+    let mut members = Map::new(alloc);
+    put(&mut members, alloc, "error", words)?;
+    Ok(Value::Object(members))
+}

@@ -1,0 +1,240 @@
+//! A service over a store, from its start to its end.
+ghost use Rattle.std.specs.Prelude.{◌≡◌, ◌≤◌, [], true, IfOk};
+ghost use Rattle.sno_book.specs.Books.{view_of};
+ghost use Rattle.sno_book.specs.Views.{IsValid};
+ghost use Rattle.sno_statement.specs.Statement.{IsLimit};
+
+use crate::DurableFault;
+use crate::keeper::Keeper;
+use crate::records::{Origin, origin_in, origin_line};
+use sno_book::Book;
+use sno_desk::{Blank, Desk, Naming, Seat, SubmitFault, close};
+use sno_document::{Document, DocumentFault, Mode, read_document};
+use sno_listing::Refusal;
+use sno_serve::Intake;
+use sno_statement::{MAX_TRIALS, Statement, USUAL_TRIALS};
+use sno_store::{Lines, Store};
+use sqlite_disk::Disk;
+use std::alloc::Global;
+use std::io::{Read, Write};
+use std::marker::Brand;
+use std::sync::{Arc, Wait};
+
+/// What a service begins with. What is missing is taken from the store.
+#[derive(Drop)]
+pub struct Given {
+    /// The bytes of the document.
+    pub document: Option<Vec<u8>>,
+    /// How many trials a match may take, 1 to 1,000,000,000; for a new store usually 1,000,000.
+    pub trials: Option<u32>,
+}
+
+/// What a durable service leaves.
+#[derive(Drop)]
+pub struct Kept<D: Disk> {
+    /// The book, whose journal has the entries that were accepted.
+    pub book: Book,
+    /// What the listing has of refused statements, by rising number.
+    pub refused: Vec<Refusal>,
+    /// The store.
+    pub store: Store<D>,
+    /// How many entries are of the document's own statements, if the input has ended; otherwise what ended the service.
+    pub ended: Result<u64, DurableFault>,
+}
+
+/// What the store was made of, by its first line; what is given, if it has no lines.
+fn origin_of(alloc: Global, lines: &Lines, given: Given) -> Result<Origin, DurableFault> {
+    let Given { document, trials } = given;
+    let Some(first) = lines.iter().next() else {
+        let Some(document) = document else {
+            return Err(DurableFault::NoDocument);
+        };
+        let trials = trials.unwrap_or(USUAL_TRIALS);
+        return Ok(Origin { document, trials });
+    };
+    let Some(origin) = origin_in(alloc, first)? else {
+        return Err(DurableFault::Format);
+    };
+    if !is_of(document, &origin.document) {
+        return Err(DurableFault::OtherDocument);
+    }
+    if trials.unwrap_or(origin.trials) != origin.trials {
+        return Err(DurableFault::OtherTrials(origin.trials));
+    }
+    Ok(origin)
+}
+
+/// Whether the document that is given, if one is, has these bytes.
+fn is_of(given: Option<Vec<u8>>, document: &[u8]) -> bool {
+    match given {
+        Some(given) => given.as_slice() == document,
+        None => true,
+    }
+}
+
+/// Whether a match may have this limit.
+fn is_limit(trials: u32) -> bool
+    ensures { result ≡ true → IsLimit trials }
+{
+    1 <= trials && trials <= MAX_TRIALS
+}
+
+/// The document of these bytes.
+fn document_of(alloc: Global, bytes: &[u8], mode: Mode) -> Result<Document, DurableFault>
+    requires { IsLimit mode.trials }
+{
+    match read_document(alloc, bytes, mode) {
+        Ok(document) => Ok(document),
+        Err(DocumentFault::Memory) => Err(DurableFault::Memory),
+        Err(fault) => Err(DurableFault::Document(fault)),
+    }
+}
+
+/// Puts the first line into a new store.
+fn begin_store<D: Disk>(
+    alloc: Global,
+    store: &mut Store<D>,
+    origin: &Origin,
+) -> Result<(), DurableFault> {
+    let Ok(text) = str::from_utf8(&origin.document) else {
+        return Err(DurableFault::Document(DocumentFault::NotJson));
+    };
+    let line = origin_line(alloc, text, origin.trials)?;
+    let mut first = Lines::new(alloc);
+    first.push(&line)?;
+    store.put(&first)?;
+    Ok(())
+}
+
+/// Works at the only seat: performs the statements of the document and of the records, then answers lines until there are
+/// no more.
+fn at_seat<L: Naming, D: Disk + Drop, I: Read + Drop, W: Write + Drop, R: Wait>(
+    rt: &R,
+    alloc: Global,
+    desk: &Desk<L>,
+    seat: &mut Seat<L>,
+    keeper: &mut Keeper<D, I, W>,
+    statements: &[Arc<Statement>],
+    lines: Lines,
+) -> Result<u64, DurableFault> {
+    keeper.begin(rt, alloc, desk, seat, statements)?;
+    let first = seat.accepted();
+    let mut records = lines.iter();
+    let _origin = records.next();
+    keeper.replay_all(rt, alloc, desk, seat, records)?;
+    // The lines may take much memory, and a service may go on for long.
+    drop(lines);
+    keeper.serve(rt, alloc, desk, seat)?;
+    Ok(first)
+}
+
+/// Opens a desk with this blank, works at its only seat, and closes it.
+fn at_named_desk<L: Naming, D: Disk + Drop, I: Read + Drop, W: Write + Drop, R: Wait>(
+    rt: &R,
+    alloc: Global,
+    blank: Blank,
+    book: Book,
+    keeper: &mut Keeper<D, I, W>,
+    statements: &[Arc<Statement>],
+    lines: Lines,
+) -> Result<(Book, Result<u64, DurableFault>), DurableFault>
+    requires name { (blank.ledger.name ≡ L.name) × (blank.ledger.parts ≡ L.parts) }
+    requires histories { (blank.history ≡ record { history = L.book; entries = [] }) × (blank.attempts.history ≡ L.tries) }
+    requires opening { book.opening ≡ L.opening }
+    requires one { blank.ledger.parts ≡ 1 }
+    requires empty { book.journal ≡ [] }
+    ensures opening { IfOk result (λ left. left.0.opening ≡ book.opening) }
+    ensures valid { IfOk result (λ left. IsValid (view_of left.0)) }
+{
+    let (desk, mut seats) = match Desk::<L>::new(rt, alloc, blank, book, 1) {
+        Ok(made) => made,
+        Err(_) => return Err(DurableFault::Desk),
+    };
+    let ended = match seats.first_mut() {
+        Some(seat) => at_seat(rt, alloc, &desk, seat, keeper, statements, lines),
+        None => Err(DurableFault::Desk),
+    };
+    match close(rt, desk, seats) {
+        Ok(book) => Ok((book, ended)),
+        Err(_) => Err(DurableFault::Desk),
+    }
+}
+
+/// Serves the document of a store: performs its statements and those of its records again, then answers each line of the
+/// reader by a line of the writer, until there are no more. A line is that of [`sno_serve::line_in`], and its reply that of
+/// [`sno_serve::answer`]. `lines` are those that the store had when it was opened. If it had none, the store is made of the
+/// document that is given.
+///
+/// Lines are answered in the order in which they come. Those that were read together, up to 1,024, share one wait for the
+/// disk: the records of their entries are put into the store, and the replies are written when these are on the disk. So no
+/// reply shows an entry that a crash could take back.
+///
+/// On `Ok` the journal of the book is legal. If the input has ended, `ended` is how many entries are of the document's own
+/// statements, and the store has its first line and one line for each further entry, as far as the disk gave no wrong answer.
+/// Otherwise it is the fault that ended the service.
+///
+/// Refused before the first line is answered:
+///
+/// - `NoDocument`, `Document`: the store is new, and no document is given, or it is refused. Nothing was written;
+/// - `Format`, `OtherDocument`, `OtherTrials`: the store is of another format, was made of another document than the one that
+///   is given, or with another limit. Nothing was written;
+/// - `Store` if the first line could not be put into a new store;
+/// - `Memory`; `Desk` if there is no place for the seat, or the desk could not be closed, which no legal run meets.
+///
+/// A fault in `ended`: `Record`, `Outcome` if a line isn't a record, or its statement has another outcome than the stored
+/// one; no line was answered then. `Store`, `Read`, `Write`, `Memory`: lines whose replies were not written may have entries in
+/// the store.
+pub fn serve_durably<
+    D: Disk + Drop,
+    I: Read + Drop,
+    W: Write + Drop,
+    R: Wait,
+>(
+    rt: &R,
+    alloc: Global,
+    store: Store<D>,
+    lines: Lines,
+    given: Given,
+    reader: I,
+    writer: W,
+) -> Result<Kept<D>, DurableFault>
+    ensures valid { IfOk result (λ k. IsValid (view_of k.book)) }
+{
+    let origin = origin_of(alloc, &lines, given)?;
+    if !is_limit(origin.trials) {
+        return Err(DurableFault::Format);
+    }
+    let mode = Mode {
+        anchor: false,
+        trials: origin.trials,
+    };
+    let Document {
+        rules,
+        book,
+        statements,
+    } = document_of(alloc, &origin.document, mode)?;
+    let mut store = store;
+    if lines.is_empty() {
+        begin_store(alloc, &mut store, &origin)?;
+    }
+    drop(origin);
+    let mut keeper = Keeper {
+        rules,
+        mode,
+        number: statements.len() as u32 + 1,
+        store,
+        intake: Intake::new(alloc, reader)?,
+        writer,
+        refused: Vec::new(alloc),
+    };
+    let blank = Blank::new(1);
+    let (book, ended) =
+        at_named_desk::<Brand, D, I, W, R>(rt, alloc, blank, book, &mut keeper, &statements, lines)?;
+    let Keeper { store, refused, .. } = keeper;
+    Ok(Kept {
+        book,
+        refused,
+        store,
+        ended,
+    })
+}
