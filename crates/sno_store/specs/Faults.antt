@@ -1,0 +1,52 @@
+-- The causes of faults.
+use Rattle.std.specs.Prelude.{◌≡◌, ◌≢◌, ◌<◌, ◌^◌, ℕ, true, false, List, length, slice_index, if◌then◌else◌, IsTrue, ⊤}
+use Rattle.std.specs.declared.io.Error.{Error}
+use Rattle.sqlite_disk.specs.declared.Disk.{Ghosts}
+use Rattle.sqlite_disk.specs.Disk.{MoreFaults}
+use Rattle.sqlite_disk.specs.Refusal.{is_no_room}
+use Rattle.sno_store.specs.declared.faults.StoreFault.{StoreFault}
+use Rattle.sno_store.specs.declared.faults.StoreFault.TheVariants.{Closed, Unsupported, TooLong, Memory, NoRoom, Read, Write, Sync}
+use Rattle.sno_store.specs.declared.faults.LineFault.{LineFault}
+use Rattle.sno_store.specs.declared.faults.LineFault.TheVariants.{NoBrace, LineFeed, Nul, Memory as LineMemory}
+use Rattle.sno_store.specs.Lines.{IsLine}
+
+abbrev pub of_write : Error → StoreFault
+of_write e = if is_no_room e then NoRoom else Write e
+
+abbrev pub of_sync : Error → StoreFault
+of_sync e = if is_no_room e then NoRoom else Sync e
+
+module _ {D : Type 0} (g : Ghosts D) where
+  -- The disk itself failed between these two moments, in the way that the fault says. After a failed sync it can't be used.
+  abbrev pub IsOfDisk : D → D → StoreFault → Type 0
+  IsOfDisk old new (Read e) = MoreFaults (g.faults old) (g.faults new)
+  IsOfDisk old new (Write e) = MoreFaults (g.faults old) (g.faults new) × (g.is_usable new ≡ true)
+  IsOfDisk old new (Sync e) = MoreFaults (g.faults old) (g.faults new) × (g.is_usable new ≡ false)
+  IsOfDisk old new NoRoom = MoreFaults (g.tally_of old).refused (g.tally_of new).refused
+  IsOfDisk old new Unsupported = g.is_mixing new ≡ false
+  IsOfDisk old new Closed = ⊥
+  IsOfDisk old new TooLong = ⊥
+  IsOfDisk old new Memory = ⊥
+
+  -- The causes of a read of the whole file. Its length is known if no wrong answer was taken as true.
+  abbrev pub IsReadFault : D → D → StoreFault → Type 0
+  IsReadFault old new TooLong = IsTrue (g.is_clean new) → 2 ^ 62 < length (g.seen new)
+  IsReadFault old new Memory = ⊤
+  IsReadFault old new Closed = ⊥
+  IsReadFault old new (Read e) = IsOfDisk old new (Read e)
+  IsReadFault old new (Write e) = ⊥
+  IsReadFault old new (Sync e) = IsOfDisk old new (Sync e)
+  IsReadFault old new NoRoom = IsOfDisk old new NoRoom
+  IsReadFault old new Unsupported = ⊥
+
+  -- the disk has not failed between these two moments
+  pub record IsSteady (old new : D) : Type 0 where
+    pub faults : g.faults new ≡ g.faults old
+    pub refused : (g.tally_of new).refused ≡ (g.tally_of old).refused
+
+-- why bytes are not added to lines; only a line is refused for want of memory
+abbrev pub IsCause : List ℕ → LineFault → Type 0
+IsCause line NoBrace = slice_index line 0 ≢ 123
+IsCause line LineFeed = (k : ℕ) × (k < length line) × (slice_index line k ≡ 10)
+IsCause line Nul = (k : ℕ) × (k < length line) × (slice_index line k ≡ 0)
+IsCause line LineMemory = IsLine line
