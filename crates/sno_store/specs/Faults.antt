@@ -1,5 +1,5 @@
 -- The causes of faults.
-use Rattle.std.specs.Prelude.{◌≡◌, ◌≢◌, ◌<◌, ◌^◌, ℕ, true, false, List, length, slice_index, if◌then◌else◌, IsTrue, ⊤}
+use Rattle.std.specs.Prelude.{◌≡◌, ◌≢◌, ◌<◌, ◌≤◌, ◌+◌, ◌^◌, max, ℕ, Bool, true, false, List, length, slice_index, if◌then◌else◌, IsTrue, ⊤}
 use Rattle.std.specs.declared.io.Error.{Error}
 use Rattle.sqlite_disk.specs.declared.Disk.{Ghosts}
 use Rattle.sqlite_disk.specs.Disk.{MoreFaults}
@@ -17,27 +17,49 @@ abbrev pub of_sync : Error → StoreFault
 of_sync e = if is_no_room e then NoRoom else Sync e
 
 module _ {D : Type 0} (g : Ghosts D) where
-  -- The disk itself failed between these two moments, in the way that the fault says. After a failed sync it can't be used.
-  abbrev pub IsOfDisk : D → D → StoreFault → Type 0
-  IsOfDisk old new (Read e) = MoreFaults (g.faults old) (g.faults new)
-  IsOfDisk old new (Write e) = MoreFaults (g.faults old) (g.faults new) × (g.is_usable new ≡ true)
-  IsOfDisk old new (Sync e) = MoreFaults (g.faults old) (g.faults new) × (g.is_usable new ≡ false)
-  IsOfDisk old new NoRoom = MoreFaults (g.tally_of old).refused (g.tally_of new).refused
-  IsOfDisk old new Unsupported = g.is_mixing new ≡ false
-  IsOfDisk old new Closed = ⊥
-  IsOfDisk old new TooLong = ⊥
-  IsOfDisk old new Memory = ⊥
+  -- The causes of a write that is waited for: the disk itself failed between these two moments. After a failed sync it can't be used.
+  abbrev pub IsWriteFault : D → D → StoreFault → Type 0
+  IsWriteFault old new Unsupported = g.is_mixing new ≡ false
+  IsWriteFault old new NoRoom = MoreFaults (g.tally_of old).refused (g.tally_of new).refused
+  IsWriteFault old new (Write e) = MoreFaults (g.faults old) (g.faults new) × (g.is_usable new ≡ true)
+  IsWriteFault old new (Sync e) = MoreFaults (g.faults old) (g.faults new) × (g.is_usable new ≡ false)
+  IsWriteFault old new Closed = ⊥
+  IsWriteFault old new TooLong = ⊥
+  IsWriteFault old new Memory = ⊥
+  IsWriteFault old new (Read e) = ⊥
 
   -- The causes of a read of the whole file. Its length is known if no wrong answer was taken as true.
   abbrev pub IsReadFault : D → D → StoreFault → Type 0
-  IsReadFault old new TooLong = IsTrue (g.is_clean new) → 2 ^ 62 < length (g.seen new)
+  IsReadFault old new TooLong = IsTrue (g.is_clean new) → 2 ^ 62 ≤ length (g.seen new)
   IsReadFault old new Memory = ⊤
+  IsReadFault old new NoRoom = IsWriteFault old new NoRoom
+  IsReadFault old new (Read e) = MoreFaults (g.faults old) (g.faults new)
+  IsReadFault old new (Sync e) = IsWriteFault old new (Sync e)
   IsReadFault old new Closed = ⊥
-  IsReadFault old new (Read e) = IsOfDisk old new (Read e)
-  IsReadFault old new (Write e) = ⊥
-  IsReadFault old new (Sync e) = IsOfDisk old new (Sync e)
-  IsReadFault old new NoRoom = IsOfDisk old new NoRoom
   IsReadFault old new Unsupported = ⊥
+  IsReadFault old new (Write e) = ⊥
+
+  -- the causes of a load
+  abbrev pub IsLoadFault : D → D → StoreFault → Type 0
+  IsLoadFault old new Closed = g.is_usable old ≡ false
+  IsLoadFault old new Unsupported = g.is_mixing old ≡ false
+  IsLoadFault old new TooLong = IsReadFault old new TooLong
+  IsLoadFault old new Memory = ⊤
+  IsLoadFault old new NoRoom = IsReadFault old new NoRoom
+  IsLoadFault old new (Read e) = IsReadFault old new (Read e)
+  IsLoadFault old new (Sync e) = IsReadFault old new (Sync e)
+  IsLoadFault old new (Write e) = ⊥
+
+  -- The causes why a store, which was open or not, doesn't take n bytes more. It grows by a MiB, or by as much as a longer batch has.
+  abbrev pub IsPutFault : Bool → ℕ → D → D → StoreFault → Type 0
+  IsPutFault was_open n old new Closed = was_open ≡ false
+  IsPutFault was_open n old new TooLong = IsTrue (g.is_clean new) → 2 ^ 62 < length (g.seen new) + max (2 ^ 20) n
+  IsPutFault was_open n old new Memory = ⊤
+  IsPutFault was_open n old new Unsupported = IsWriteFault old new Unsupported
+  IsPutFault was_open n old new NoRoom = IsWriteFault old new NoRoom
+  IsPutFault was_open n old new (Write e) = IsWriteFault old new (Write e)
+  IsPutFault was_open n old new (Sync e) = IsWriteFault old new (Sync e)
+  IsPutFault was_open n old new (Read e) = ⊥
 
   -- the disk has not failed between these two moments
   pub record IsSteady (old new : D) : Type 0 where

@@ -14,6 +14,7 @@
 //! | `files` | `open`: a store in a file of the system |
 #![tactic(auto)]
 
+mod content;
 mod disk_calls;
 mod faults;
 mod lines;

@@ -72,6 +72,11 @@ impl Lines {
         &self.bytes
     }
 
+    /// Where their memory comes from.
+    pub fn allocator(&self) -> Global {
+        *self.bytes.allocator()
+    }
+
     /// The lines in their order, each without its line feed. None is copied.
     pub fn iter(&self) -> LinesIter<'_>
         ensures { lines_left result ≡ lines_in self.now }
