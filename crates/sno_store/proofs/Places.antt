@@ -5,7 +5,7 @@ use Rattle.std.proofs.lemmas.Bool.{cases_lt}
 use Rattle.sqlite_disk.specs.Disk.{Holds, Torn, Mixed}
 use Rattle.sno_store.specs.Lines.{recovered, bytes_of}
 use Rattle.sno_store.specs.Store.{HasFirst}
-use Rattle.sno_store.proofs.Scans.{AreLines, are_lines, recovered-front, split, front, tail, within}
+use Rattle.sno_store.proofs.Scans.{AreLines, are_lines, bytes_of-append, recovered-front, split, front, tail, within}
 use Rattle.sno_store.proofs.Batches.{Mix, mix_of, torn_batch, torn_tail, one_byte, zeros_hold_none, only_zeros_hold_none, get_or-zeros, zeros_some}
 
 -- ---- one write, in three parts
@@ -53,6 +53,12 @@ module _ (olds news : List (List ℕ)) (are_old : AreLines olds) (are_new : AreL
       ∙ ap (λ (l : List ℕ). l ++ (take (length bytes) (drop end c) ++ drop (end + length bytes) file)) (ap (λ (l : List ℕ). take end l) is ∙ take_at (bytes_of olds) (replicate room 0) end (sym size))
       ∙ ap (λ (l : List ℕ). bytes_of olds ++ (take (length bytes) (drop end c) ++ l)) (sym (drop-drop (length bytes) end file) ∙ ap (λ (l : List ℕ). drop (length bytes) l) zeros_after ∙ drop-replicate (length bytes) room 0)
 
+  crash_lines : (c m : List ℕ) → Torn end (length bytes) file c → m ≡ take (length bytes) (drop end c) → (past : List ℕ) → replicate (room - length bytes) 0 ≡ 0 ∷ past
+      → recovered c ≡ olds ++ recovered (m ++ 0 ∷ past)
+  crash_lines c m t is_middle past gap =
+      ap recovered (parts c t ∙ ap (λ (l : List ℕ). bytes_of olds ++ (l ++ replicate (room - length bytes) 0)) (sym is_middle))
+      ∙ recovered-front olds (m ++ replicate (room - length bytes) 0) are_old ∙ ap (λ (l : List ℕ). olds ++ recovered (m ++ l)) gap
+
   -- a crash in the write leaves the first of the new lines
   pub batch_crash : (c : List ℕ) → Mixed end bytes file c → HasFirst olds news c
   batch_crash c mixed =
@@ -64,12 +70,18 @@ module _ (olds news : List (List ℕ)) (are_old : AreLines olds) (are_new : AreL
       ]) in
       let gap = zeros_some (room - length bytes) (omega (arith, fits)) in
       let first = torn_batch m news gap.0 are_new (subst (Mix m) whole mix) in
-      (first.0, ap recovered (parts c mixed.torn) ∙ recovered-front olds (m ++ replicate (room - length bytes) 0) are_old ∙ ap (λ (l : List ℕ). olds ++ recovered (m ++ l)) gap.1 ∙ ap (λ (ls : List (List ℕ)). olds ++ ls) first.1)
+      (first.0, crash_lines c m mixed.torn refl gap.0 gap.1 ∙ ap (λ (ls : List (List ℕ)). olds ++ ls) first.1)
 
-  -- the whole write leaves all of them
-  pub batch_done : (c : List ℕ) → Torn end (length bytes) file c → Holds c end bytes → c ≡ bytes_of olds ++ (bytes_of news ++ replicate (room - length bytes) 0)
-  batch_done c t holds =
-      parts c t ∙ ap (λ (l : List ℕ). bytes_of olds ++ (l ++ replicate (room - length bytes) 0)) (middle_held end (length bytes) file c (omega (arith, length-file)) t bytes refl holds ∙ whole)
+  -- the whole write leaves all of them, and the zeros after them
+  pub batch_added : (c : List ℕ) → Torn end (length bytes) file c → Holds c end bytes
+      → (end + length bytes ≡ length (bytes_of (olds ++ news))) × (c ≡ bytes_of (olds ++ news) ++ replicate (room - length bytes) 0)
+  batch_added c t holds =
+      let joined = bytes_of-append olds news in
+      let is_middle : take (length bytes) (drop end c) ≡ bytes_of news = middle_held end (length bytes) file c (omega (arith, length-file)) t bytes refl holds ∙ whole in (
+        omega (arith, size, ap length joined, length-append (bytes_of olds) (bytes_of news), ap length whole),
+        parts c t ∙ ap (λ (l : List ℕ). bytes_of olds ++ (l ++ replicate (room - length bytes) 0)) is_middle
+            ∙ sym (append_assoc (bytes_of olds) (bytes_of news) (replicate (room - length bytes) 0)) ∙ ap (λ (l : List ℕ). l ++ replicate (room - length bytes) 0) (sym joined),
+      )
 
 -- ---- zeros over the tail of a file, or one zero past its end
 
@@ -94,12 +106,12 @@ module _ (file : List ℕ) (end room n : ℕ) (size : end ≡ length (bytes_of (
             let same : length bytes ≡ room = omega (arith, count, length-bytes) in
             let len : length m ≡ length (drop end file) = omega (arith, length-middle end (length bytes) file c (omega (arith, all)) mixed.torn (omega (arith, mixed.torn.no_shorter, all, same)), length-drop end file, all) in
             torn_tail m (drop end file) (tail file end size) (mix_of m (drop end file) len (λ i low.
-                let below : i < length bytes = omega (arith, length-drop end file, all) in
-                let first = get_or-middle end (length bytes) file c (omega (arith, all)) mixed.torn i below in
-                elim (mixed.each i below (omega (arith, all))) [
-                  | inl old ↦ inr (first ∙ old ∙ sym (get_or-drop end file i 0))
-                  | inr new ↦ inl (first ∙ new ∙ ap (λ (l : List ℕ). get_or l i 0) are_zeros ∙ get_or-zeros n i)
-                ]))
+            let below : i < length bytes = omega (arith, length-drop end file, all) in
+            let first = get_or-middle end (length bytes) file c (omega (arith, all)) mixed.torn i below in
+            elim (mixed.each i below (omega (arith, all))) [
+              | inl old ↦ inr (first ∙ old ∙ sym (get_or-drop end file i 0))
+              | inr new ↦ inl (first ∙ new ∙ ap (λ (l : List ℕ). get_or l i 0) are_zeros ∙ get_or-zeros n i)
+            ]))
         | inr none ↦ one_byte m (omega (arith, count, length-bytes, length-take (length bytes) (drop end c)))
       ]
 
