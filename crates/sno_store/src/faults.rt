@@ -3,6 +3,8 @@ ghost use Rattle.std.specs.Prelude.{◌≡◌};
 ghost use Rattle.sno_store.specs.Faults.{of_write, of_sync};
 
 use sqlite_disk::is_no_room;
+use sqlite_std_file::OpenError;
+use std::alloc::AllocError;
 use std::io;
 use thiserror::Error;
 
@@ -72,4 +74,53 @@ pub enum LineFault {
     /// Out of memory.
     #[error("out of memory")]
     Memory,
+}
+
+/// Why the store of a file isn't opened.
+#[derive(Clone, Copy, Debug, Error)]
+pub enum OpenFault {
+    /// Another process has the file open, or this one.
+    #[error("the file is in use")]
+    Busy,
+    /// The file is a database of SQLite that only SQLite can put right, or has a file with its name and `-journal` beside it.
+    #[error("the file has a rollback journal beside it")]
+    Journal,
+    /// The file can't be made, opened, locked or synced, or isn't a regular file with one name.
+    #[error("{0}")]
+    Io(io::Error),
+    /// Out of memory.
+    #[error("out of memory")]
+    Memory,
+    /// The file was opened, and its lines weren't loaded.
+    #[error("{0}")]
+    Load(StoreFault),
+}
+
+impl From<OpenError> for OpenFault {
+    fn from(error: OpenError) -> OpenFault {
+        match error {
+            OpenError::Io(error) => OpenFault::Io(error),
+            OpenError::OutOfMemory => OpenFault::Memory,
+            OpenError::Busy => OpenFault::Busy,
+            OpenError::HotJournal => OpenFault::Journal,
+        }
+    }
+}
+
+impl From<io::Error> for OpenFault {
+    fn from(error: io::Error) -> OpenFault {
+        OpenFault::Io(error)
+    }
+}
+
+impl From<AllocError> for OpenFault {
+    fn from(_refused: AllocError) -> OpenFault {
+        OpenFault::Memory
+    }
+}
+
+impl From<StoreFault> for OpenFault {
+    fn from(fault: StoreFault) -> OpenFault {
+        OpenFault::Load(fault)
+    }
 }

@@ -17,10 +17,14 @@
 mod content;
 mod disk_calls;
 mod faults;
+mod files;
 mod lines;
 mod splitting;
 mod store;
 
-pub use faults::{LineFault, StoreFault};
+pub use faults::{LineFault, OpenFault, StoreFault};
+pub use files::{open, open_from};
 pub use lines::{Lines, LinesIter};
+pub use sqlite_disk::{Disk, Start, Unknown};
+pub use sqlite_std_file::{File, FileFrom};
 pub use store::Store;
