@@ -3,7 +3,7 @@ use Rattle.std.proofs.Common.{◌≡◌, ◌⊎◌, inl, inr, ⊎_elim, ℕ, zer
 use Rattle.std.proofs.lemmas.List.{length-take, drop-drop, take_at, drop_at, take_all, drop_all, append-nil, length-replicate, drop-replicate, replicate-append-replicate}
 use Rattle.std.proofs.lemmas.Bool.{cases_lt}
 use Rattle.sqlite_disk.specs.Disk.{Holds, Torn, Mixed}
-use Rattle.sno_store.specs.Lines.{recovered, bytes_of}
+use Rattle.sno_store.specs.Lines.{recovered, bytes_of, IsWhole}
 use Rattle.sno_store.specs.Store.{HasFirst}
 use Rattle.sno_store.proofs.Scans.{AreLines, are_lines, bytes_of-append, recovered-front, split, front, tail, within}
 use Rattle.sno_store.proofs.Batches.{Mix, mix_of, torn_batch, torn_tail, one_byte, zeros_hold_none, only_zeros_hold_none, get_or-zeros, zeros_some}
@@ -168,3 +168,12 @@ module _ (lines : List (List ℕ)) (are : AreLines lines) (file : List ℕ) (end
 
 pub file_is : (file : List ℕ) (end room : ℕ) → end ≡ length (bytes_of (recovered file)) → drop end file ≡ replicate room 0 → file ≡ bytes_of (recovered file) ++ replicate room 0
 file_is file end room size zeros = split file end size ∙ ap (λ (l : List ℕ). bytes_of (recovered file) ++ l) zeros
+
+-- zeros after the lines, by their number or by where the lines end
+pub whole_if : (file : List ℕ) (end room : ℕ) → end ≡ length (bytes_of (recovered file)) → end + room ≡ length file → room ≡ 0 → IsWhole file
+whole_if file end room size all none = (0, split file end size ∙ ap (λ (l : List ℕ). bytes_of (recovered file) ++ l) (drop_all end file (omega (arith, all, none))))
+
+pub whole_then : (file : List ℕ) (end room : ℕ) → end ≡ length (bytes_of (recovered file)) → end + room ≡ length file → IsWhole file → drop end file ≡ replicate room 0
+whole_then file end room size all (n, is) =
+    let count : n ≡ room = omega (arith, size, all, ap length is, length-append (bytes_of (recovered file)) (replicate n 0), length-replicate {A = ℕ} n 0) in
+    ap (λ (l : List ℕ). drop end l) is ∙ drop_at (bytes_of (recovered file)) (replicate n 0) end (sym size) ∙ ap (λ (k : ℕ). replicate k 0) count

@@ -1,5 +1,5 @@
 -- Which lines a file holds. A line begins with `{`, 123, and has neither a line feed, 10, nor a NUL, 0. A line feed ends it.
-use Rattle.std.specs.Prelude.{◌≡◌, ℕ, Bool, false, List, [], ◌∷◌, ◌++◌, if◌then◌else◌, ◌==◌, ⊤}
+use Rattle.std.specs.Prelude.{◌≡◌, ℕ, Bool, false, List, [], ◌∷◌, ◌++◌, replicate, if◌then◌else◌, ◌==◌, ⊤}
 
 -- The lines of the rest of a file, if this much of a line came before it. They end at a byte that begins no line, at a NUL, and at the
 -- end of the file. A line that is cut there doesn't count.
@@ -26,3 +26,7 @@ IsPlain (b ∷ rest) = ((b == 10) ≡ false) × ((b == 0) ≡ false) × IsPlain 
 abbrev pub IsLine : List ℕ → Type 0
 IsLine [] = ⊥
 IsLine (b ∷ rest) = (b ≡ 123) × IsPlain rest
+
+-- a file of lines and then nothing but zeros
+abbrev pub IsWhole : List ℕ → Type 0
+IsWhole file = (n : ℕ) × (file ≡ bytes_of (recovered file) ++ replicate n 0)

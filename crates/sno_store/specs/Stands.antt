@@ -9,6 +9,12 @@ is_open Closed = false
 is_open Found = true
 is_open Ready = true
 
+-- it was loaded, and what comes after its lines was not written over
+abbrev pub is_found : State → Bool
+is_found Closed = false
+is_found Found = true
+is_found Ready = false
+
 -- it has zeros ahead
 abbrev pub is_ready : State → Bool
 is_ready Closed = false

@@ -11,14 +11,28 @@ use std::fs::{self, OpenOptions};
 use std::io;
 use std::os::unix::fs::OpenOptionsExt;
 
-/// Opens the store in the file at `path`, or makes one of no lines. Returns it with its lines.
+/// Opens the store in the file at `path`, or makes one of no lines. Returns it with its lines, which are on the disk then.
+///
+/// A new file may be read and written by its owner alone. Its folder is waited for too. The file is locked until the store is dropped,
+/// against other processes and against this one. A torn tail stays as it is until the first write: see [`Store::is_torn`].
+/// While the file is opened, an empty file whose name ends with `-wal` is made beside it and removed again, so the folder has to be one
+/// in which files can be made. If a crash leaves it there, the next call removes it. The refusals, in their order:
+///
+/// - `Io`: the file can't be made, opened, locked or waited for, or is a link, a device or a file with a second name.
+/// - `Busy`: the file is in use.
+/// - `Journal`: SQLite left a rollback journal beside the file.
+/// - `Memory`: out of memory.
+/// - `Load`: what [`Store::load`] returned.
+///
+/// After each refusal the file has what it had. A missing one may have been made, empty.
 pub fn open(rt: &HostRuntime, path: &str) -> Result<(Store<File>, Lines), OpenFault>
     ensures { IfOk result (λ it. takes_lines it.0 ≡ true) }
 {
     open_from(rt, path, Unknown)
 }
 
-/// Opens the file at `path` as [`open`] does. `S` says what the file held before, for theorems over all contents.
+/// Opens the file at `path` as [`open`] does. The type `S` says what the file held before, and how a crash is read, for code that is
+/// proved for all contents; `start` is a value of it, which no other file is opened with.
 pub fn open_from<S: Start>(
     rt: &HostRuntime,
     path: &str,
@@ -59,7 +73,10 @@ fn remove_log<D: Disk + Drop>(rt: &HostRuntime, path: &str, mut log: D) -> Resul
     drop(log);
     if is_empty {
         let real = fs::canonicalize(rt, path)?;
-        fs::remove_file(rt, format!(in rt.alloc(); "{}-wal", real.as_str())?.as_str())?;
+        fs::remove_file(
+            rt,
+            format!(in rt.alloc(); "{}-wal", real.as_str())?.as_str(),
+        )?;
     }
     Ok(())
 }

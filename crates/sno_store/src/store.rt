@@ -1,7 +1,7 @@
 //! Lines on a disk.
 ghost use Rattle.std.specs.Prelude.{◌≡◌, ◌+◌, ◌<◌, ◌≤◌, ◌^◌, ℕ, List, drop, length, max, replicate, IfOk, IfErr, IsTrue};
 ghost use Rattle.sno_store.specs.declared.faults.StoreFault.TheVariants.{Memory};
-ghost use Rattle.sno_store.specs.Stands.{is_open, is_ready};
+ghost use Rattle.sno_store.specs.Stands.{is_open, is_found, is_ready};
 ghost use Rattle.sno_store.specs.Lines.{recovered, bytes_of};
 
 use crate::content::content_of;
@@ -23,7 +23,12 @@ enum State {
     Ready,
 }
 
-/// Lines in a file. See the crate's page for what the file holds.
+/// Lines in a file.
+///
+/// A new store is closed. [`Store::load`] opens it, and a call of the disk that fails closes it: what was written last is unknown
+/// then. Each call of a closed store but `load` returns `StoreFault::Closed` and changes nothing.
+///
+/// What the clauses say of contents holds if the disk is clean: if no wrong answer of it was taken as true.
 #[derive(Drop)]
 pub struct Store<D: Disk> {
     disk: D,
@@ -39,12 +44,13 @@ pub struct Store<D: Disk> {
     ghost all: { IsTrue (is_open state) → IsTrue (D.Disk.is_clean disk) → end + room ≡ length (D.Disk.seen disk) },
     ghost durable: { IsTrue (is_open state) → IsTrue (D.Disk.is_clean disk) → (c : List ℕ) → D.Disk.may_leave disk c → c ≡ D.Disk.seen disk },
     ghost zeros: { IsTrue (is_ready state) → IsTrue (D.Disk.is_clean disk) → drop end (D.Disk.seen disk) ≡ replicate room 0 },
+    ghost torn: { IsTrue (is_found state) → IsTrue (D.Disk.is_clean disk) → 0 < room → drop end (D.Disk.seen disk) ≡ replicate room 0 → ⊥ },
 }
 
 impl<D: Disk> Store<D> {
-    ghost use Rattle.std.specs.Prelude.{◌≡◌, ◌<◌, ◌++◌, ℕ, List, true, false, length, is_ok, IsTrue, OnOk, IfOk, IfErr, Err};
+    ghost use Rattle.std.specs.Prelude.{◌≡◌, ◌<◌, ◌++◌, ℕ, List, true, false, length, is_ok, IsTrue, ◌↔◌, OnOk, IfOk, IfErr, Err};
     ghost use Rattle.sno_store.specs.declared.faults.StoreFault.TheVariants.{Closed};
-    ghost use Rattle.sno_store.specs.Lines.{recovered, bytes_of};
+    ghost use Rattle.sno_store.specs.Lines.{recovered, bytes_of, IsWhole};
     ghost use Rattle.sno_store.specs.Shown.{lines_in};
     ghost use Rattle.sno_store.specs.Faults.{IsSteady, IsWriteFault, IsLoadFault, IsPutFault};
     ghost use Rattle.sno_store.specs.Store.{disk_of, takes_lines, is_settled, is_clean, file_of, lines_of, leaves_open, Leaves, LeavesLines, IsOnDisk, HasFirst};
@@ -62,7 +68,7 @@ impl<D: Disk> Store<D> {
         }
     }
 
-    /// The disk again, as it is.
+    /// The disk, as it is.
     pub fn into_disk(self) -> D
         ensures { result ≡ disk_of self }
     {
@@ -75,14 +81,39 @@ impl<D: Disk> Store<D> {
         disk
     }
 
-    /// Whether the store takes lines: it was loaded, and no call has failed since in a way that closes it.
+    /// Whether the store takes lines: it was loaded, and no call has closed it since.
     pub fn is_open(&self) -> bool
         ensures { result ≡ takes_lines self.now }
     {
         !matches!(self.state, State::Closed)
     }
 
-    /// Reads the file and opens the store. Returns its lines.
+    /// Whether something other than zeros comes after the lines, as after a crash that cut a batch. False of a closed store.
+    ///
+    /// A file that isn't a store has no lines, and is torn: [`Store::load`] doesn't change it, and the first write does.
+    pub fn is_torn(&self) -> bool
+        ensures closed { takes_lines self.now ≡ false → result ≡ false }
+        ensures torn { IsTrue (takes_lines self.now) → IsTrue (is_clean self.now) → (IsTrue result ↔ (IsWhole (file_of self.now) → ⊥)) }
+    {
+        match self.state {
+            State::Found => self.room > 0,
+            State::Closed => false,
+            State::Ready => false,
+        }
+    }
+
+    /// Reads the whole file into memory and opens the store. Returns the lines of the file. Nothing is written.
+    ///
+    /// The file is waited for first: what is returned is on the disk. A crash leaves nothing that it couldn't leave before.
+    /// At each refusal the store is closed, and the file is as it was. The refusals, in their order:
+    ///
+    /// - `Closed`: a sync of this disk has failed before, so it can't be used.
+    /// - `Unsupported`: a torn write on this disk may leave bytes that are neither old nor new.
+    /// - `Sync` or `NoRoom`: the disk could not be waited for.
+    /// - `Read`: its length could not be read.
+    /// - `TooLong`: the file has 2^62 bytes or more.
+    /// - `Memory`: there is no memory for the file.
+    /// - `Read`: the file could not be read.
     pub fn load(&mut self, alloc: Global) -> Result<Lines, StoreFault>
         ensures lines { IfOk result (λ lines. IsTrue (is_clean self.new) → lines_in lines ≡ lines_of self.old) }
         ensures same { file_of self.new ≡ file_of self.old }
@@ -112,7 +143,14 @@ impl<D: Disk> Store<D> {
         Ok(content.lines)
     }
 
-    /// Makes sure that nothing but zeros comes after the lines, at least one.
+    /// Makes sure that zeros come after the lines, at least one, and nothing else. They are on the disk then.
+    ///
+    /// A torn tail is overwritten. It isn't cut off: what is past a cut could come back as anything. Whatever becomes of the call, the
+    /// file has the same lines, also after a crash. [`Store::put`] begins with this call. The refusals, in their order:
+    ///
+    /// - `Closed`: the store is closed.
+    /// - `Memory`: there is no memory for as many zeros as the tail has bytes. Nothing is changed.
+    /// - `Unsupported`, `Write`, `NoRoom`, `Sync`: the disk failed, and the store is closed.
     pub fn repair(&mut self, alloc: Global) -> Result<(), StoreFault>
         ensures settled { OnOk result (is_settled self.new ≡ true) }
         ensures same { OnOk result (IsTrue (is_clean self.new) → (lines_of self.new ≡ lines_of self.old) × IsOnDisk self.new) }
@@ -130,7 +168,18 @@ impl<D: Disk> Store<D> {
         }
     }
 
-    /// Adds lines after those that are there.
+    /// Adds lines after those that are there, and waits until they are on the disk: at `Ok` each crash leaves all of them.
+    ///
+    /// A crash before that leaves the lines that were there and the first of the new ones, perhaps none or all. If there is no room,
+    /// zeros are written past the end first, a MiB of them or as many as the lines have bytes. No lines are added by no write but
+    /// that of [`Store::repair`]. The refusals, in their order:
+    ///
+    /// - `Closed`: the store is closed.
+    /// - `TooLong`: with more zeros the file would have more than 2^62 bytes.
+    /// - `Memory`: there is no memory for zeros.
+    /// - `Unsupported`, `Write`, `NoRoom`, `Sync`: the disk failed, and the store is closed.
+    ///
+    /// After `TooLong` and `Memory` the store is open, and has the lines that were there.
     pub fn put(&mut self, lines: &Lines) -> Result<(), StoreFault>
         ensures acknowledged { OnOk result (IsTrue (is_clean self.new) → (lines_of self.new ≡ lines_of self.old ++ lines_in lines.now) × IsOnDisk self.new) }
         ensures crash { IsTrue (takes_lines self.old) → IsTrue (is_clean self.new) → (c : List ℕ) → Leaves self.new c → HasFirst (lines_of self.old) (lines_in lines.now) c }

@@ -1,5 +1,5 @@
 -- Lines over zeros.
-use Rattle.std.proofs.Common.{◌≡◌, ◌+◌, ◌-◌, ◌≤◌, ◌<◌, ◌++◌, ℕ, true, List, length, replicate, refl, sym, ◌∙◌, ap, subst, arith, append_assoc}
+use Rattle.std.proofs.Common.{◌≡◌, ◌+◌, ◌-◌, ◌≤◌, ◌<◌, ◌++◌, ℕ, true, false, List, length, replicate, refl, sym, ◌∙◌, ap, subst, arith, append_assoc}
 use Rattle.sqlite_disk.specs.Disk.{Mixed}
 use Rattle.sno_store.specs.Lines.{recovered, bytes_of}
 use Rattle.sno_store.proofs.Scans.{are_lines, AreLines-append}
@@ -66,4 +66,5 @@ invariant_of-self-2 g c =
       all = λ o clean. let a = added (c.write_through.ensures.clean clean) in its_length (olds ++ news) are now (old.end + length bytes) (old.room - length bytes) a.0 a.1;
       durable = λ o clean. c.in_ok-write_through.ensures.durable;
       zeros = λ o clean. let a = added (c.write_through.ensures.clean clean) in its_zeros (olds ++ news) are now (old.end + length bytes) (old.room - length bytes) a.0 a.1;
+      torn = λ found. absurd (let e : false ≡ true = found in cc);
     }

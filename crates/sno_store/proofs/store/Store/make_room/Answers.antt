@@ -1,5 +1,5 @@
 -- Zeros past the end leave the lines.
-use Rattle.std.proofs.Common.{◌≡◌, ◌+◌, ◌-◌, ◌≤◌, ◌<◌, ◌++◌, ℕ, true, List, length, replicate, refl, sym, ◌∙◌, ap, subst, arith}
+use Rattle.std.proofs.Common.{◌≡◌, ◌+◌, ◌-◌, ◌≤◌, ◌<◌, ◌++◌, ℕ, true, false, List, length, replicate, refl, sym, ◌∙◌, ap, subst, arith}
 use Rattle.sqlite_disk.specs.Disk.{Mixed}
 use Rattle.sno_store.specs.Lines.{recovered, bytes_of}
 use Rattle.sno_store.proofs.Scans.{are_lines}
@@ -58,4 +58,5 @@ invariant_of-self-2 g c =
       all = λ o clean. let was = c.write_through.ensures.clean clean in its_length (recovered file) (are_lines file) now old.end (old.room + c.max-more.result) (old.lines is was) (done was);
       durable = λ o clean. c.in_ok-write_through.ensures.durable;
       zeros = λ o clean. let was = c.write_through.ensures.clean clean in its_zeros (recovered file) (are_lines file) now old.end (old.room + c.max-more.result) (old.lines is was) (done was);
+      torn = λ found. absurd (let e : false ≡ true = found in cc);
     }
