@@ -32,12 +32,8 @@ pub(crate) fn write_through<D: Disk>(
     if !disk.mixes() {
         return Err(StoreFault::Unsupported);
     }
-    if let Err(error) = disk.write_at(at, bytes) {
-        return Err(write_fault(error));
-    }
-    if let Err(error) = disk.sync() {
-        return Err(sync_fault(error));
-    }
+    disk.write_at(at, bytes).map_err(write_fault)?;
+    disk.sync().map_err(sync_fault)?;
     Ok(())
 }
 
@@ -65,8 +61,8 @@ pub(crate) fn read_all<D: Disk>(alloc: Global, disk: &mut D) -> Result<Vec<u8>, 
     let Ok(mut bytes) = vec![in alloc; 0; len] else {
         return Err(StoreFault::Memory);
     };
-    if let Err(error) = disk.read_at(0, &mut bytes) {
-        return Err(StoreFault::Read(error));
+    match disk.read_at(0, &mut bytes) {
+        Ok(()) => Ok(bytes),
+        Err(error) => Err(StoreFault::Read(error)),
     }
-    Ok(bytes)
 }

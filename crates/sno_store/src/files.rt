@@ -1,5 +1,6 @@
 //! A store in a file of the system.
-ghost use Rattle.std.specs.Prelude.{◌≡◌, true, IsTrue, IfOk};
+ghost use Rattle.std.specs.Prelude.{◌≡◌, true, false, IsTrue, IfOk};
+ghost use Rattle.sqlite_std_file.specs.File.{IsFresh};
 ghost use Rattle.sno_store.specs.Lines.{recovered};
 ghost use Rattle.sno_store.specs.Shown.{lines_in};
 ghost use Rattle.sno_store.specs.Store.{takes_lines, is_clean, file_of, IsOnDisk};
@@ -43,12 +44,19 @@ pub fn open_from<S: Start>(
     ensures lines { IfOk result (λ it. IsTrue (is_clean it.0) → lines_in it.1 ≡ recovered S.Start.db) }
     ensures durable { IfOk result (λ it. IsTrue (is_clean it.0) → IsOnDisk it.0) }
 {
+    let mut store = Store::new(open_alone(rt, path, start)?);
+    let lines = store.load(rt.alloc())?;
+    Ok((store, lines))
+}
+
+/// Opens and locks the file, and makes it if it is missing.
+fn open_alone<S: Start>(rt: &HostRuntime, path: &str, start: S) -> Result<FileFrom<S>, OpenFault>
+    ensures { IfOk result (λ file. IsFresh false file) }
+{
     make_if_missing(rt, path)?;
     let Files { log, db } = sqlite_std_file::open(rt, path, start)?;
     remove_log(rt, path, log)?;
-    let mut store = Store::new(db);
-    let lines = store.load(rt.alloc())?;
-    Ok((store, lines))
+    Ok(db)
 }
 
 /// Makes an empty file that only its owner may read and write.

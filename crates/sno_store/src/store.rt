@@ -171,8 +171,8 @@ impl<D: Disk> Store<D> {
     /// Adds lines after those that are there, and waits until they are on the disk: at `Ok` each crash leaves all of them.
     ///
     /// A crash before that leaves the lines that were there and the first of the new ones, perhaps none or all. If there is no room,
-    /// zeros are written past the end first, a MiB of them or as many as the lines have bytes. No lines are added by no write but
-    /// that of [`Store::repair`]. The refusals, in their order:
+    /// zeros are written past the end first, a MiB of them or as many as the lines have bytes. For no lines nothing is written, unless
+    /// [`Store::repair`] has to. The refusals, in their order:
     ///
     /// - `Closed`: the store is closed.
     /// - `TooLong`: with more zeros the file would have more than 2^62 bytes.
