@@ -8,7 +8,7 @@ use crate::store_command::{StoreAction, StoreRequest};
 use crate::streams::write_all;
 use sno_durable::{DurableFault, Given, Kept, serve_durably};
 use sno_listing::listing_of;
-use sno_store::{FileStore, Lines, OpenFault, open};
+use sno_store::{File, Lines, OpenFault, Store, open};
 use sqlite_disk::Disk;
 use std::alloc::Global;
 use std::fs;
@@ -22,11 +22,11 @@ const INVALID: u8 = 2;
 /// What opens stores.
 pub(crate) trait Stores {
     /// Opens the store in a file, which is made if it is missing.
-    fn open_store(&self, path: &str) -> Result<(FileStore, Lines), OpenFault>;
+    fn open_store(&self, path: &str) -> Result<(Store<File>, Lines), OpenFault>;
 }
 
 impl Stores for HostRuntime {
-    fn open_store(&self, path: &str) -> Result<(FileStore, Lines), OpenFault> {
+    fn open_store(&self, path: &str) -> Result<(Store<File>, Lines), OpenFault> {
         open(self, path)
     }
 }
@@ -61,11 +61,11 @@ fn opened<R: Stores, E: Write>(
     rt: &R,
     path: &str,
     errors: &mut E,
-) -> Result<(FileStore, Lines), u8> {
+) -> Result<(Store<File>, Lines), u8> {
     match rt.open_store(path) {
         Ok(opened) => Ok(opened),
         Err(fault) => {
-            let _printed = errors.writeln(fault);
+            let _printed = writeln!(errors, "store: {fault}");
             Err(FAILED)
         }
     }
@@ -131,8 +131,7 @@ fn end<R: Files, D: Disk + Drop, E: Write>(
 }
 
 /// Performs the statements of a store again, and returns the status: 0 if each has the outcome that is stored, otherwise as of
-/// [`run_stored`]. The number of entries, or the listing, goes to the output. No entry is added. What a crash has left after
-/// the last whole line is cleared.
+/// [`run_stored`]. The number of entries, or the listing, goes to the output. Nothing is written to the store.
 pub(crate) fn run_store<R: Files + Stores + Wait, W: Write, E: Write>(
     rt: &R,
     alloc: Global,
