@@ -3,6 +3,7 @@
 A script imports it by its name alone: Python looks into the script's own folder first.
 """
 import os
+import re
 import sys
 from importlib.machinery import SourceFileLoader
 from importlib.util import module_from_spec, spec_from_loader
@@ -12,6 +13,8 @@ TOP = Path(__file__).resolve().parent.parent
 SNO = TOP / "crates/sno/out/sno"
 SNO_REWRITE = TOP / "crates/sno_rewrite_main/out/sno_rewrite_main"
 ALLOCATIONS = TOP / "crates/test_allocations/out/test_allocations_tests"
+# The line that counts what `sno edit` did.
+COUNTED = re.compile(r"\d+ of \d+ files? changed, \d+ match(es)?(, \d+ not text)?")
 
 
 class Cases:
@@ -44,6 +47,14 @@ def cut(value, most):
     """A value as Python writes it, or the front of that."""
     written = repr(value)
     return written if len(written) <= most else written[:most] + ".."
+
+
+def uncounted(said):
+    """What `sno edit` wrote to standard error before the line that counts files and matches, which has to be there."""
+    before, _, last = said.removesuffix("\n").rpartition("\n")
+    if not COUNTED.fullmatch(last):
+        return f"no count after: {said}"
+    return before + "\n" if before else ""
 
 
 def built(script, *programs, by="./sno_rewrite or tools/prove builds it"):

@@ -1,3 +1,2 @@
-pub mod DiskLemmas
 mod SearchSteps
 mod RoundSteps

@@ -1,9 +1,7 @@
 //! What the arguments ask for.
 
 use crate::arguments::{document, flag};
-use crate::edit_options::{
-    EDIT_WITHOUT_FILES, EditRequest, edit_command, edit_options, edit_request,
-};
+use crate::edit_options::{EditRequest, edit_command, edit_options, edit_request};
 use crate::find_options::{FindRequest, WITHOUT_RULES, find_command, find_request};
 use crate::rule_options::{TRIALS_OUT_OF_RANGE, WITHOUT_LINES, are_without_lines, trials};
 use crate::serve_command::{
@@ -157,22 +155,27 @@ fn serve_request_in<'a>(alloc: Global, found: &ArgMatches<'a>) -> Result<Request
     }
 }
 
+/// What is found under `sno edit`.
+fn edit_request_in<'a>(alloc: Global, found: &ArgMatches<'a>) -> Result<Request<'a>, Stop> {
+    if are_without_lines(found) {
+        return Err(refused_with(alloc, WITHOUT_LINES));
+    }
+    let Some(options) = edit_options(found) else {
+        return Err(refused_with(alloc, TRIALS_OUT_OF_RANGE));
+    };
+    let Ok(request) = edit_request(alloc, found, options) else {
+        return Err(Stop::Memory);
+    };
+    match request.refusal() {
+        Some(refusal) => Err(refused_with(alloc, refusal)),
+        None => Ok(Request::Edit(request)),
+    }
+}
+
 /// What is found under a subcommand.
 fn request_in<'a>(alloc: Global, matches: &ArgMatches<'a>) -> Result<Request<'a>, Stop> {
     if let Some(found) = matches.subcommand_matches("edit") {
-        if are_without_lines(found) {
-            return Err(refused_with(alloc, WITHOUT_LINES));
-        }
-        return match edit_options(found) {
-            Some(options) => match edit_request(alloc, found, options) {
-                Ok(request) if request.paths.is_empty() => {
-                    Err(refused_with(alloc, EDIT_WITHOUT_FILES))
-                }
-                Ok(request) => Ok(Request::Edit(request)),
-                Err(_) => Err(Stop::Memory),
-            },
-            None => Err(refused_with(alloc, TRIALS_OUT_OF_RANGE)),
-        };
+        return edit_request_in(alloc, found);
     }
     if let Some(found) = matches.subcommand_matches("find") {
         return find_request_in(alloc, found);
@@ -210,7 +213,7 @@ fn refused_with(alloc: Global, text: &str) -> Stop {
 /// - `Help` if `--help` or `--version` comes before any fault;
 /// - `Usage` for another first argument than `run`, `check`, `edit`, `find`, `trace`, `serve` or `store`, an argument that is not an option,
 ///   an option that is given twice, a number that is not in its range, a second document, a service without a document, an edit
-///   without rules and files, or a search without rules;
+///   or a search without rules, or arguments that don't go together;
 /// - `Memory`.
 pub(crate) fn asked_for<'a>(alloc: Global, words: &'a [String]) -> Result<Request<'a>, Stop> {
     match matches(alloc, words) {

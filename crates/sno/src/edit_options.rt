@@ -1,6 +1,7 @@
 //! What the arguments of `sno edit` ask for.
 
 use crate::arguments::flag;
+use crate::file_options::{NamedFiles, named_files, with_file_options};
 use crate::rule_lines::RuleLines;
 use crate::rule_options::{rule_lines, trials, values, with_rule_options};
 use clap::{Arg, ArgAction, ArgMatches, Command};
@@ -12,7 +13,7 @@ const ABOUT: &str =
 
 // The subcommand's own usage would leave out the program's name.
 const USAGE: &str =
-    "sno edit [OPTIONS] RULES FILE..\n       sno edit [OPTIONS] -e RULE.. FILE..\n       sno edit [OPTIONS] -f RULES.. FILE..";
+    "sno edit [OPTIONS] RULES [FILE..]\n       sno edit [OPTIONS] -e RULE.. [FILE..]\n       sno edit [OPTIONS] -f RULES.. [FILE..]";
 
 const DIFF_HELP: &str = "Writes what would change as a unified diff, and no file";
 
@@ -21,18 +22,34 @@ const CHECK_HELP: &str = "Names the files that would change, and writes none";
 const SYNC_HELP: &str =
     "Waits until each new file is on the disk before it takes the place of the old one";
 
+const BACKUP_HELP: &str = "Keeps each old file under its path with SUFFIX after it";
+
+const JSON_HELP: &str =
+    "Writes what became of each file as a JSON object: path, changed, matches or refused";
+
 const RULES_HELP: &str =
     "The file of a document whose statements need no text; - is standard input; with -e the first file";
 
 const FILES_HELP: &str =
-    "The files, each a text by itself: any bytes, up to 16 MiB; of a folder the files in it that are text";
+    "The files, each a text by itself: any bytes, up to 16 MiB; of a folder the files in it that are text; without any, and for -, standard input, whose new text goes to standard output";
 
 const EXAMPLE: &str =
     "Examples: sno edit --diff rules.json src/*.c\n          sno edit -e \"'colour' = 'color'\" README.md\n          sno edit --with c -e \"'malloc(' ARG . SIZE ')' = 'xmalloc(' SIZE ')'\" src/*.c";
 
-/// What is written if there are rules, but no files.
-pub(crate) const EDIT_WITHOUT_FILES: &str =
-    "error: a file is wanted after the rules\n\nFor more information, try '--help'.\n";
+const WITHOUT_RULES: &str =
+    "error: RULES, '--rule' or '--file' is wanted\n\nFor more information, try '--help'.\n";
+
+const INPUT_AND_FILES: &str =
+    "error: '-' can't be given beside other files\n\nFor more information, try '--help'.\n";
+
+const INPUT_TWICE: &str =
+    "error: standard input can't be read twice\n\nFor more information, try '--help'.\n";
+
+const FILES_ALONE: &str =
+    "error: '--json', '--sync' and '--backup' are for files\n\nFor more information, try '--help'.\n";
+
+const NO_SUFFIX: &str =
+    "error: '--backup' takes a suffix without '/'\n\nFor more information, try '--help'.\n";
 
 /// What `sno edit` is to do.
 #[derive(Drop)]
@@ -41,10 +58,49 @@ pub(crate) struct EditRequest<'a> {
     pub(crate) options: EditOptions<'a>,
     /// The rules that are given as lines. Without any, the rules are in a file.
     pub(crate) lines: RuleLines<'a>,
-    /// The files and folders.
-    pub(crate) paths: Vec<&'a str>,
-    /// What the names of the files in folders have to fit; without any, all of them are taken.
-    pub(crate) names: Vec<&'a str>,
+    /// The files.
+    pub(crate) files: NamedFiles<'a>,
+}
+
+impl EditRequest<'_> {
+    /// Whether the text is on standard input, and no file is edited.
+    pub(crate) fn is_filter(&self) -> bool {
+        self.files.are_missing() || self.files.have_input()
+    }
+
+    /// Whether the rules are on standard input.
+    fn has_rules_on_input(&self) -> bool {
+        !self.lines.are_given() && self.options.rules == Some("-")
+    }
+
+    /// Whether standard input is wanted for two things.
+    fn reads_input_twice(&self) -> bool {
+        let listed = self.files.are_listed_on_input();
+        self.has_rules_on_input() && (listed || self.is_filter())
+    }
+
+    /// Why the arguments don't go together, if they don't.
+    pub(crate) fn refusal(&self) -> Option<&'static str> {
+        let options = &self.options;
+        let filters = self.is_filter();
+        let is_suffix = |suffix: &str| !suffix.is_empty() && !suffix.contains('/');
+        if !self.lines.are_given() && options.rules.is_none() {
+            return Some(WITHOUT_RULES);
+        }
+        if self.files.have_input() && (self.files.paths.len() > 1 || self.files.list.is_some()) {
+            return Some(INPUT_AND_FILES);
+        }
+        if self.reads_input_twice() {
+            return Some(INPUT_TWICE);
+        }
+        if filters && (options.json || options.sync || options.backup.is_some()) {
+            return Some(FILES_ALONE);
+        }
+        match options.backup {
+            Some(suffix) if !is_suffix(suffix) => Some(NO_SUFFIX),
+            _ => None,
+        }
+    }
 }
 
 /// How `sno edit` is to be done.
@@ -54,38 +110,47 @@ pub(crate) struct EditOptions<'a> {
     pub(crate) purpose: Purpose,
     /// Whether a new file has to be on the disk before it takes the old one's place.
     pub(crate) sync: bool,
+    /// What is added to the path of an old file that is kept.
+    pub(crate) backup: Option<&'a str>,
+    /// Whether what became of each file is written as JSON.
+    pub(crate) json: bool,
     /// Whether statements that don't say it are anchored.
     pub(crate) anchor: bool,
     /// How many trials a match may take.
     pub(crate) trials: Trials,
     /// The file of the rules, if they are in a file of JSON; `-` is standard input.
-    pub(crate) rules: &'a str,
-}
-
-fn positional<'a>(alloc: Global, id: &'a str, name: &'a str, help: &'a str) -> Arg<'a> {
-    Arg::new(alloc, id)
-        .value_name(name)
-        .required(true)
-        .help(help)
+    pub(crate) rules: Option<&'a str>,
 }
 
 /// The subcommand.
 pub(crate) fn edit_command<'a>(alloc: Global) -> Result<Command<'a>, AllocError> {
-    // With rules in lines the first positional argument is a file, and it may be the only one.
-    let files = positional(alloc, "files", "FILE", FILES_HELP)
-        .required(false)
+    // With rules in lines the first positional argument is a file.
+    let rules = Arg::new(alloc, "rules")
+        .value_name("RULES")
+        .action(ArgAction::Set)
+        .help(RULES_HELP);
+    let files = Arg::new(alloc, "files")
+        .value_name("FILE")
         .action(ArgAction::Append)
-        .num_args(1..);
+        .num_args(1..)
+        .help(FILES_HELP);
+    let backup = Arg::new(alloc, "backup")
+        .long("backup")
+        .value_name("SUFFIX")
+        .action(ArgAction::Set)
+        .help(BACKUP_HELP);
+    let json = flag(alloc, "json", JSON_HELP).conflicts_with("diff")?;
     let edit = Command::new(alloc, "edit")
         .about(ABOUT)
         .override_usage(USAGE)
         .after_help(EXAMPLE)
         .arg(flag(alloc, "diff", DIFF_HELP).conflicts_with("check")?)?
         .arg(flag(alloc, "check", CHECK_HELP))?
-        .arg(flag(alloc, "sync", SYNC_HELP))?;
-    with_rule_options(alloc, edit)?
-        .arg(positional(alloc, "rules", "RULES", RULES_HELP).action(ArgAction::Set))?
-        .arg(files)
+        .arg(json)?
+        .arg(flag(alloc, "sync", SYNC_HELP))?
+        .arg(backup.conflicts_with("diff")?.conflicts_with("check")?)?;
+    let edit = with_rule_options(alloc, edit)?;
+    with_file_options(alloc, edit)?.arg(rules)?.arg(files)
 }
 
 /// What `sno edit` is to do, with these options.
@@ -96,14 +161,13 @@ pub(crate) fn edit_request<'a>(
 ) -> Result<EditRequest<'a>, AllocError> {
     let lines = rule_lines(alloc, matches)?;
     let mut paths = values(alloc, matches, "files")?;
-    if lines.are_given() {
-        paths.insert(0, options.rules)?;
+    if let (true, Some(file)) = (lines.are_given(), options.rules) {
+        paths.insert(0, file)?;
     }
     Ok(EditRequest {
         options,
         lines,
-        paths,
-        names: values(alloc, matches, "name")?,
+        files: named_files(alloc, matches, paths)?,
     })
 }
 
@@ -120,8 +184,10 @@ pub(crate) fn edit_options<'a>(matches: &ArgMatches<'a>) -> Option<EditOptions<'
     Some(EditOptions {
         purpose,
         sync: matches.get_flag("sync"),
+        backup: matches.get_str("backup"),
+        json: matches.get_flag("json"),
         anchor: matches.get_flag("anchor"),
         trials,
-        rules: matches.get_str("rules").unwrap_or("-"),
+        rules: matches.get_str("rules"),
     })
 }

@@ -1,19 +1,21 @@
 //! `sno edit`.
 
-use crate::disk::{Disk, different_files};
 use crate::edit_options::{EditOptions, EditRequest};
-use crate::faults::{FAILED, ProgramFault};
+use crate::edit_reports::{Form, Show, done_of, put_end, put_shown, report_fault, report_tally};
+use crate::faults::{FAILED, INPUT, ProgramFault};
+use crate::filters::run_filter;
+use crate::found_files::found_files;
 use crate::given_lines::NoRules;
+use crate::rounds_left::{report_stopped, report_stopped_in};
 use crate::rule_lines::rules_of_lines;
 use crate::streams::{read_up_to, write_all};
-use crate::trees::Paths;
 use sno_check::{Warning, member_warnings};
 use sno_document::{DocumentFault, MAX_DOCUMENT};
-use sno_edit::{
-    Done, EditRules, FileFault, Purpose, Tally, edit_files, plan_file, script_of, unified_diff,
-};
+use sno_edit::{Done, EditRules, FileFault, Plan, Purpose, Tally, plan_file};
+use sno_files::{Paths, ReadOnly, Writing, edit_some, path_from_here};
 use std::alloc::{AllocError, Global};
 use std::fs;
+use std::fs::File;
 use std::io::{Read, Write};
 use std::rt::Files;
 
@@ -26,129 +28,123 @@ fn rules_bytes<R: Files, I: Read>(
     alloc: Global,
     input: &mut I,
     rules: &str,
-) -> Result<Vec<u8>, ProgramFault> {
-    if rules == "-" {
-        return read_up_to(alloc, input, MAX_DOCUMENT);
+) -> Result<Vec<u8>, NoRules> {
+    let read = if rules == "-" {
+        read_up_to(alloc, input, MAX_DOCUMENT)
+    } else {
+        match fs::open(rt, rules) {
+            Ok(mut file) => read_up_to(alloc, &mut file, MAX_DOCUMENT),
+            Err(_) => Err(ProgramFault::Read),
+        }
+    };
+    match read {
+        Err(ProgramFault::Read) => {
+            let called = if rules == "-" { INPUT } else { rules };
+            Err(NoRules::Unread(format!(in alloc; "{called}: read failed\n")?))
+        }
+        Err(fault) => Err(NoRules::Fault(fault)),
+        Ok(bytes) => Ok(bytes),
     }
-    match fs::open(rt, rules) {
-        Ok(mut file) => read_up_to(alloc, &mut file, MAX_DOCUMENT),
-        Err(_) => Err(ProgramFault::Read),
-    }
 }
 
-/// Writes why a file stays as it was. If the line can't be written, the status is the same.
-fn report_fault<E: Write>(errors: &mut E, path: &str, fault: &FileFault) {
-    let _printed = errors.writeln(format_args!("{path}: {fault}"));
-}
-
-/// How files are written, and how many of the folders' files are left out since they are no text.
-#[derive(Clone, Copy)]
-struct Writing {
-    sync: bool,
-    not_text: usize,
-}
-
-fn put_summary(lines: &mut String, tally: &Tally, not_text: usize) -> Result<(), AllocError> {
-    let changed = tally.changed;
-    let total = tally.files;
-    let matches = tally.matches;
-    let files = if total == 1 { "file" } else { "files" };
-    let ending = if matches == 1 { "match" } else { "matches" };
-    write!(
-        lines,
-        "{changed} of {total} {files} changed, {matches} {ending}"
-    )?;
-    if not_text > 0 {
-        write!(lines, ", {not_text} not text")?;
-    }
-    writeln!(lines)
-}
-
-/// Counts what became of files, and adds a line for each that changed.
-fn report_ends<E: Write>(
-    lines: &mut String,
-    tally: &mut Tally,
+/// Counts what became of files, and adds what is reported of each.
+fn report_ends<R: Files<File = File>, E: Write>(
+    rt: &R,
+    alloc: Global,
+    rules: &EditRules,
+    form: Form,
     paths: &[&str],
     ends: &[Result<Done, FileFault>],
+    tally: &mut Tally,
+    lines: &mut Vec<u8>,
     errors: &mut E,
 ) -> Result<(), AllocError> {
     for (path, end) in paths.iter().zip(ends.iter()) {
         tally.count(end);
         match end {
-            Ok(done) if done.changed => writeln!(lines, "{path}")?,
-            Ok(_) => {}
-            Err(fault) => report_fault(errors, path, fault),
+            Ok(done) => report_stopped_in(rt, alloc, rules, path, done, tally, errors),
+            Err(fault) => report_fault(errors, path, *fault),
         }
+        put_end(alloc, form, path, end, lines)?;
     }
     Ok(())
 }
 
-/// Edits the files, and writes a line for each that changed. Files that several paths lead to are edited once for each,
-/// one after the other.
-fn write_files<R: Files, W: Write, E: Write>(
+/// Edits the files, and then writes what is reported of each.
+fn write_files<R: Files<File = File>, W: Write, E: Write>(
     rt: &R,
     alloc: Global,
     rules: &EditRules,
     paths: &[&str],
-    writing: Writing,
+    writing: Writing<'_>,
+    form: Form,
     output: &mut W,
     errors: &mut E,
 ) -> Result<Tally, ProgramFault> {
-    let Writing { sync, not_text } = writing;
     let mut tally = Tally::of(paths.len());
-    let mut lines = String::new(alloc);
-    let mut begin = 0;
-    while begin < paths.len() {
-        let (_, rest) = paths.split_at(begin);
-        let (files, _) = rest.split_at(different_files(rt, alloc, rest));
-        let ends = edit_files(alloc, &mut Disk { rt, sync }, rules, files)?;
-        report_ends(&mut lines, &mut tally, files, &ends, errors)?;
-        begin += files.len();
+    let mut lines = Vec::new(alloc);
+    let mut rest = paths;
+    // Each step edits at least one file.
+    for _ in 0..paths.len() {
+        if rest.is_empty() {
+            break;
+        }
+        let ends = edit_some(rt, alloc, rules, writing, rest)?;
+        let (files, later) = rest.split_at(ends.len().min(rest.len()));
+        report_ends(
+            rt, alloc, rules, form, files, &ends, &mut tally, &mut lines, errors,
+        )?;
+        rest = later;
     }
-    put_summary(&mut lines, &tally, not_text)?;
-    write_all(output, lines.as_bytes())?;
+    write_all(output, &lines)?;
     Ok(tally)
 }
 
-/// What is written of a file that would change: its diff, or its path.
-fn shown<R: Files>(
+/// The path of a file in a diff: that from the current folder, or its own if it isn't in that.
+fn diff_path<R: Files>(rt: &R, alloc: Global, path: &str) -> Result<Option<String>, FileFault> {
+    match path_from_here(rt, alloc, path) {
+        Ok(path) => Ok(path),
+        Err(e) => Err(FileFault::Unread(e.kind())),
+    }
+}
+
+/// Adds what is shown of a file that is not written. `None` if its diff is left out, since the file is not in the current folder.
+fn put_file<R: Files<File = File>>(
     rt: &R,
     alloc: Global,
     rules: &EditRules,
     path: &str,
     show: Show,
-) -> Result<(Done, Vec<u8>), FileFault> {
-    let plan = plan_file(alloc, &Disk { rt, sync: false }, rules, path)?;
-    let done = Done {
-        changed: plan.changes(),
-        matches: plan.matches,
-    };
-    if !done.changed {
-        return Ok((done, Vec::new(alloc)));
+    out: &mut Vec<u8>,
+) -> Result<Option<Plan>, FileFault> {
+    let plan = plan_file(alloc, &ReadOnly { rt }, rules, path)?;
+    if !matches!(show, Show::Diff { .. }) {
+        put_shown(alloc, show, path, path, &plan, out)?;
+    } else if plan.changes() {
+        let Some(diff_path) = diff_path(rt, alloc, path)? else {
+            return Ok(None);
+        };
+        put_shown(alloc, show, path, diff_path.as_str(), &plan, out)?;
     }
-    match show {
-        Show::Path => Ok((done, format!(in alloc; "{path}\n")?.into_bytes())),
-        Show::Diff { coloured } => {
-            let script = script_of(alloc, plan.before.bytes(), plan.after.bytes())?;
-            Ok((done, unified_diff(alloc, path, &script, coloured)?))
-        }
-    }
+    Ok(Some(plan))
 }
 
-/// What is shown of a file that would change.
-#[derive(Clone, Copy)]
-enum Show {
-    /// Its path.
-    Path,
-    /// Its diff.
-    Diff {
-        /// Whether it is coloured.
-        coloured: bool,
-    },
+/// Adds what a file that could not be taken is in the form that is shown.
+fn put_refused(
+    alloc: Global,
+    path: &str,
+    fault: FileFault,
+    show: Show,
+    out: &mut Vec<u8>,
+) -> Result<(), AllocError> {
+    match show {
+        Show::End(form) => put_end(alloc, form, path, &Err(fault), out),
+        Show::Diff { .. } => Ok(()),
+    }
 }
 
 /// Shows what would change, and writes no file.
-fn show_files<R: Files, W: Write, E: Write>(
+fn show_files<R: Files<File = File>, W: Write, E: Write>(
     rt: &R,
     alloc: Global,
     rules: &EditRules,
@@ -159,16 +155,35 @@ fn show_files<R: Files, W: Write, E: Write>(
 ) -> Result<Tally, ProgramFault> {
     let mut tally = Tally::of(paths.len());
     for path in paths {
-        match shown(rt, alloc, rules, path, show) {
-            Ok((done, text)) => {
+        let mut out = Vec::new(alloc);
+        match put_file(rt, alloc, rules, path, show, &mut out) {
+            Ok(Some(plan)) => {
+                let done = done_of(&plan);
                 tally.count(&Ok(done));
-                write_all(output, &text)?;
+                report_stopped(
+                    alloc,
+                    rules,
+                    path,
+                    path,
+                    &done,
+                    &plan.after,
+                    &mut tally,
+                    errors,
+                );
+            }
+            Ok(None) => {
+                tally.failed = true;
+                let _printed = errors.writeln(format_args!(
+                    "{path}: not in the current folder, so no diff of it is written"
+                ));
             }
             Err(fault) => {
                 tally.count(&Err(fault));
-                report_fault(errors, path, &fault);
+                report_fault(errors, path, fault);
+                put_refused(alloc, path, fault, show, &mut out)?;
             }
         }
+        write_all(output, &out)?;
     }
     Ok(tally)
 }
@@ -192,14 +207,16 @@ fn rules_of_file<R: Files, I: Read, E: Write>(
     rt: &R,
     alloc: Global,
     options: &EditOptions<'_>,
+    rules: &str,
     input: &mut I,
     errors: &mut E,
 ) -> Result<EditRules, NoRules> {
-    let bytes = rules_bytes(rt, alloc, input, options.rules)?;
+    let bytes = rules_bytes(rt, alloc, input, rules)?;
     match EditRules::read(alloc, &bytes, options.anchor, options.trials) {
-        Ok(rules) => {
-            warn_of_members(alloc, options.rules, &bytes, errors)?;
-            Ok(rules)
+        Ok(read) => {
+            let called = if rules == "-" { INPUT } else { rules };
+            warn_of_members(alloc, called, &bytes, errors)?;
+            Ok(read)
         }
         Err(DocumentFault::Memory) => Err(NoRules::Fault(ProgramFault::Memory)),
         Err(fault) => Err(NoRules::Refused(format!(in alloc; "{fault}\n")?)),
@@ -214,38 +231,55 @@ fn rules_for<R: Files + AllocGlobal, I: Read, E: Write>(
     errors: &mut E,
 ) -> Result<EditRules, NoRules> {
     let options = &request.options;
-    if request.lines.are_given() {
-        return rules_of_lines(rt, alloc, &request.lines, options.anchor, options.trials);
+    match options.rules {
+        Some(rules) if !request.lines.are_given() => {
+            rules_of_file(rt, alloc, options, rules, input, errors)
+        }
+        _ => rules_of_lines(rt, alloc, &request.lines, options.anchor, options.trials),
     }
-    rules_of_file(rt, alloc, options, input, errors)
 }
 
-/// Edits the files, or shows what would become of them.
-fn edit<R: Files, W: Write, E: Write>(
+/// What is shown, if no file is written.
+fn show_of(options: &EditOptions<'_>, coloured: bool) -> Option<Show> {
+    match options.purpose {
+        Purpose::Write => None,
+        Purpose::Diff => Some(Show::Diff { coloured }),
+        Purpose::Check => Some(Show::End(form_of(options))),
+    }
+}
+
+/// How files are reported.
+fn form_of(options: &EditOptions<'_>) -> Form {
+    if options.json {
+        Form::Json
+    } else {
+        Form::Paths
+    }
+}
+
+/// Edits the files and writes how many changed, or shows what would become of them.
+fn edit<R: Files<File = File>, W: Write, E: Write>(
     rt: &R,
     alloc: Global,
     options: &EditOptions<'_>,
     found: &Paths,
     rules: &EditRules,
-    coloured: bool,
+    show: Option<Show>,
     output: &mut W,
     errors: &mut E,
 ) -> Result<Tally, ProgramFault> {
     let paths = &found.lent(alloc)?;
-    match options.purpose {
-        Purpose::Write => {
-            let writing = Writing {
-                sync: options.sync,
-                not_text: found.not_text,
-            };
-            write_files(rt, alloc, rules, paths, writing, output, errors)
-        }
-        Purpose::Diff => {
-            let show = Show::Diff { coloured };
-            show_files(rt, alloc, rules, paths, show, output, errors)
-        }
-        Purpose::Check => show_files(rt, alloc, rules, paths, Show::Path, output, errors),
+    if let Some(show) = show {
+        return show_files(rt, alloc, rules, paths, show, output, errors);
     }
+    let writing = Writing {
+        sync: options.sync,
+        backup: options.backup,
+    };
+    let form = form_of(options);
+    let tally = write_files(rt, alloc, rules, paths, writing, form, output, errors)?;
+    report_tally(alloc, &tally, found.not_text, errors)?;
+    Ok(tally)
 }
 
 /// The status after an edit: that of the files, or 4 if a folder could not be read.
@@ -257,16 +291,35 @@ fn status_of(tally: &Tally, purpose: Purpose, found: &Paths) -> u8 {
     }
 }
 
+/// The status after rules that can't be used. If their fault can't be written, it is the same.
+fn without_rules<E: Write>(refused: NoRules, errors: &mut E) -> Result<u8, ProgramFault> {
+    let (text, status) = match refused {
+        NoRules::Fault(fault) => return Err(fault),
+        NoRules::Refused(text) => (text, BAD_RULES),
+        NoRules::Unread(text) => (text, FAILED),
+    };
+    let _printed = write_all(errors, text.as_bytes());
+    Ok(status)
+}
+
 /// Edits files by rules and returns the status:
 ///
-/// - 4 if a file could not be taken or written, or a folder not be read;
-/// - otherwise 1 if a statement was refused on a file, or if there was no match in any, or, if files are only checked,
-///   if one would change;
+/// - 4 if a file could not be taken or written, or a folder, a list of files or the file of the rules not be read;
+/// - otherwise 1 if a statement was refused on a file, or stopped at the most rounds and matches once more, or if there was no
+///   match in any, or, if files are only checked, if one would change;
 /// - otherwise 0;
 /// - 2 if the rules are not rules. Then `errors` has their first fault, and no file was touched.
 ///
-/// Refused with `Read` if the rules can't be read, then no file was touched; with `Memory` or `Write`.
-pub(crate) fn run_edit<R: Files + AllocGlobal + Clone + Drop, I: Read, W: Write, E: Write>(
+/// A file that several paths lead to is edited once, under the first of them. Without files the text of `input` is edited, and
+/// written to `output`.
+///
+/// Refused with `Memory` or `Write`.
+pub(crate) fn run_edit<
+    R: Files<File = File> + AllocGlobal + Clone + Drop,
+    I: Read,
+    W: Write,
+    E: Write,
+>(
     rt: &R,
     alloc: Global,
     request: &EditRequest<'_>,
@@ -277,15 +330,18 @@ pub(crate) fn run_edit<R: Files + AllocGlobal + Clone + Drop, I: Read, W: Write,
 ) -> Result<u8, ProgramFault> {
     let rules = match rules_for(rt, alloc, request, input, errors) {
         Ok(rules) => rules,
-        Err(NoRules::Fault(fault)) => return Err(fault),
-        Err(NoRules::Refused(text)) => {
-            let _printed = write_all(errors, text.as_bytes());
-            return Ok(BAD_RULES);
-        }
+        Err(refused) => return without_rules(refused, errors),
     };
-    let found = Paths::at(rt, alloc, &request.paths, &request.names)?;
-    found.report_unread(errors);
     let options = &request.options;
-    let tally = edit(rt, alloc, options, &found, &rules, coloured, output, errors)?;
+    let show = show_of(options, coloured);
+    if request.is_filter() {
+        let purpose = options.purpose;
+        return run_filter(alloc, &rules, purpose, show, input, output, errors);
+    }
+    let Some(found) = found_files(rt, alloc, &request.files, input, errors)? else {
+        return Ok(FAILED);
+    };
+    let found = found.without_repeats(rt, alloc)?;
+    let tally = edit(rt, alloc, options, &found, &rules, show, output, errors)?;
     Ok(status_of(&tally, options.purpose, &found))
 }

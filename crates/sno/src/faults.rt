@@ -9,6 +9,9 @@ pub(crate) const FAILED: u8 = 4;
 /// The status after arguments that are refused.
 pub(crate) const MISUSED: u8 = 3;
 
+/// What standard input is called.
+pub(crate) const INPUT: &str = "(standard input)";
+
 /// Why nothing was done. Its printed form is the line for standard error.
 #[derive(Clone, Copy, Debug, PartialEq, Eq, Error)]
 pub(crate) enum ProgramFault {
@@ -18,6 +21,9 @@ pub(crate) enum ProgramFault {
     /// The document could not be opened or read.
     #[error("read failed")]
     Read,
+    /// A line of standard input could not be read.
+    #[error("(standard input): read failed")]
+    Input,
     /// The findings could not be written.
     #[error("write failed")]
     Write,

@@ -1,6 +1,8 @@
 //! What the arguments of `sno find` ask for.
 
-use crate::arguments::flag;
+use crate::arguments::{flag, optional_number};
+use crate::contexts::Context;
+use crate::file_options::{NamedFiles, named_files, with_file_options};
 use crate::rule_lines::RuleLines;
 use crate::rule_options::{rule_lines, values, with_rule_options};
 use clap::{Arg, ArgAction, ArgMatches, Command};
@@ -21,6 +23,12 @@ const JSON_HELP: &str = "Writes each match as a JSON object with its places and 
 
 const ONLY_HELP: &str = "Writes the value of this variable of each match alone";
 
+const BEFORE_HELP: &str = "Shows N lines before each line with a match too";
+
+const AFTER_HELP: &str = "Shows N lines after each line with a match too";
+
+const CONTEXT_HELP: &str = "Shows N lines before and after each line with a match too";
+
 const FILES_HELP: &str =
     "The files, and folders for the files in them that are text; standard input without any, and for -";
 
@@ -34,8 +42,8 @@ pub(crate) const WITHOUT_RULES: &str =
 /// What is shown of the matches.
 #[derive(Clone, Copy, Debug, PartialEq, Eq)]
 pub(crate) enum Shown<'a> {
-    /// The line of each.
-    Lines,
+    /// The line of each, with lines around it if they are asked for.
+    Lines(Option<Context>),
     /// The paths of the files that have one.
     Paths,
     /// How many each file has.
@@ -57,10 +65,20 @@ pub(crate) struct FindRequest<'a> {
     pub(crate) trials: Trials,
     /// The rules.
     pub(crate) lines: RuleLines<'a>,
-    /// The files and folders; `-` is standard input.
-    pub(crate) paths: Vec<&'a str>,
-    /// What the names of the files in folders have to fit; without any, all of them are taken.
-    pub(crate) names: Vec<&'a str>,
+    /// The files.
+    pub(crate) files: NamedFiles<'a>,
+}
+
+/// An option for lines around matches.
+fn around<'a>(
+    alloc: Global,
+    name: &'a str,
+    short: char,
+    help: &'a str,
+) -> Result<Arg<'a>, AllocError> {
+    optional_number(alloc, name, help)
+        .short(short)
+        .conflicts_with_all(&["paths", "count", "json", "only"])
 }
 
 /// The subcommand.
@@ -94,8 +112,27 @@ pub(crate) fn find_command<'a>(alloc: Global) -> Result<Command<'a>, AllocError>
             only.conflicts_with("paths")?
                 .conflicts_with("count")?
                 .conflicts_with("json")?,
-        )?;
-    with_rule_options(alloc, find)?.arg(files)
+        )?
+        .arg(around(alloc, "after-context", 'A', AFTER_HELP)?)?
+        .arg(around(alloc, "before-context", 'B', BEFORE_HELP)?)?
+        .arg(around(alloc, "context", 'C', CONTEXT_HELP)?)?;
+    let find = with_rule_options(alloc, find)?;
+    with_file_options(alloc, find)?.arg(files)
+}
+
+/// How many lines around matches are asked for.
+fn context_of(matches: &ArgMatches<'_>) -> Option<Context> {
+    let number = |name: &str| matches.get_one::<u32>(name);
+    let both = number("context");
+    let before = number("before-context").or(both);
+    let after = number("after-context").or(both);
+    if before.is_none() && after.is_none() {
+        return None;
+    }
+    Some(Context {
+        before: before.unwrap_or(0) as usize,
+        after: after.unwrap_or(0) as usize,
+    })
 }
 
 /// What is to be shown.
@@ -111,7 +148,7 @@ fn shown_by<'a>(matches: &ArgMatches<'a>) -> Shown<'a> {
     }
     match matches.get_str("only") {
         Some(name) => Shown::Only(name),
-        None => Shown::Lines,
+        None => Shown::Lines(context_of(matches)),
     }
 }
 
@@ -121,16 +158,16 @@ pub(crate) fn find_request<'a>(
     matches: &ArgMatches<'a>,
     trials: Trials,
 ) -> Result<FindRequest<'a>, AllocError> {
-    let mut paths = values(alloc, matches, "files")?;
-    if paths.is_empty() {
-        paths.push("-")?;
+    let paths = values(alloc, matches, "files")?;
+    let mut files = named_files(alloc, matches, paths)?;
+    if files.are_missing() {
+        files.paths.push("-")?;
     }
     Ok(FindRequest {
         shown: shown_by(matches),
         anchor: matches.get_flag("anchor"),
         trials,
         lines: rule_lines(alloc, matches)?,
-        paths,
-        names: values(alloc, matches, "name")?,
+        files,
     })
 }

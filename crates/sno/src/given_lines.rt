@@ -42,6 +42,8 @@ pub(crate) struct GivenLines<'a> {
 pub(crate) enum NoRules {
     /// What is written about what was given in their place.
     Refused(String),
+    /// What is written about rules that can't be read.
+    Unread(String),
     /// They can't be read, or memory ran out.
     Fault(ProgramFault),
 }

@@ -10,13 +10,17 @@
 //! | `streams` | bytes in and out |
 //! | `checks` | `sno check`: a document is checked by `sno_check`, and its report written |
 //! | `edit_options`, `edits` | `sno edit`: its arguments; files are edited by `sno_edit` |
+//! | `filters` | `sno edit` of standard input |
+//! | `edit_reports` | what is written of edited files |
 //! | `find_options`, `finds` | `sno find`: its arguments; rules are sought in files by `sno_find` |
+//! | `contexts` | the lines around those on which matches start |
+//! | `first_matches`, `variables` | whether rules match at all; the variables of rules |
+//! | `rounds_left` | repeated rules that stop at the most rounds that a rule may have |
 //! | `rule_options` | the options that give rules in lines, and say how they are performed |
 //! | `rule_lines` | rules in lines, as rows: from options, files and files of definitions that are ready |
 //! | `given_lines`, `ready_files` | the lines that are given; where the files of ready definitions are |
 //! | `spelled_lines`, `line_faults` | the lines as they are spelled; what is written of those that are no rules |
-//! | `trees`, `names` | folders, as the files in them; names of files, and patterns of them as `*.c` |
-//! | `disk`, `synced` | the files of the system; new files that have to be on the disk |
+//! | `file_options`, `found_files` | the options that say which files are taken; the files that they name |
 //! | `trace_command`, `traces` | `sno trace`: its arguments; the statements before the one that is traced are performed |
 //! | `searches`, `rounds` | the search of a pass, or the round of a repeated statement, that a number asks for |
 //! | `trace_lines`, `trace_faults` | the lines of a trace, which `sno_trace` makes; why there are none |
@@ -29,19 +33,24 @@
 mod arguments;
 mod checks;
 mod command_line;
-mod disk;
+mod contexts;
 mod edit_options;
+mod edit_reports;
 mod edits;
 mod faults;
+mod file_options;
+mod filters;
 mod find_options;
 mod finds;
+mod first_matches;
+mod found_files;
 mod given_lines;
 mod line_faults;
 mod listing_files;
-mod names;
 mod program;
 mod ready_files;
 mod rounds;
+mod rounds_left;
 mod rule_lines;
 mod rule_options;
 mod searches;
@@ -51,12 +60,11 @@ mod spelled_lines;
 mod store_command;
 mod stored;
 mod streams;
-mod synced;
 mod trace_command;
 mod trace_faults;
 mod trace_lines;
 mod traces;
-mod trees;
+mod variables;
 
 use std::env;
 use std::process::ExitCode;

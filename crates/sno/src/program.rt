@@ -3,7 +3,7 @@
 use crate::checks::run_check;
 use crate::command_line::{RUN, Request, Stop, asked_for};
 use crate::edits::run_edit;
-use crate::faults::{FAILED, MISUSED, ProgramFault};
+use crate::faults::{FAILED, INPUT, MISUSED, ProgramFault};
 use crate::finds::run_find;
 use crate::serves::run_serve;
 use crate::stored::{Stores, run_store, run_stored};
@@ -12,6 +12,7 @@ use crate::traces::run_trace;
 use sno_rewrite::run_program;
 use std::alloc::{AllocError, Global};
 use std::env::{Args, FillError};
+use std::fs::File;
 use std::io;
 use std::io::{ErrorKind, IsTerminal, Read, Write};
 use std::rt::{Env, Files};
@@ -47,6 +48,26 @@ fn report<E: Write>(fault: ProgramFault, errors: &mut E) -> u8 {
     FAILED
 }
 
+/// What a request reads first.
+fn read_by<'a>(request: &Request<'a>) -> &'a str {
+    match request {
+        Request::Check(options) => options.document.unwrap_or(INPUT),
+        Request::Trace(options) => options.document.unwrap_or(INPUT),
+        Request::Serve(options) => options.document,
+        Request::Edit(_) | Request::Find(_) => INPUT,
+    }
+}
+
+/// Writes the line of a request's fault, which names what could not be read, and returns its status.
+fn report_of<E: Write>(request: &Request<'_>, fault: ProgramFault, errors: &mut E) -> u8 {
+    if fault != ProgramFault::Read {
+        return report(fault, errors);
+    }
+    let called = read_by(request);
+    let _printed = errors.writeln(format_args!("{called}: {fault}"));
+    FAILED
+}
+
 /// Writes help to the output, or how the program is used to `errors`, and returns the status.
 fn explain<W: Write, E: Write>(stop: &Stop, output: &mut W, errors: &mut E) -> u8 {
     match stop {
@@ -75,7 +96,7 @@ fn refuse_words<E: Write>(error: &io::Error, errors: &mut E) -> u8 {
 
 /// Does what is asked for, and returns the status.
 fn run_request<
-    R: Files + Env + Stores + Threads + Wait + AllocGlobal + Clone + Drop + Sync,
+    R: Files<File = File> + Env + Stores + Threads + Wait + AllocGlobal + Clone + Drop + Sync,
     I: Read + Send + Drop,
     W: Write + IsTerminal + Send + Drop,
     E: Write,
@@ -123,7 +144,7 @@ fn run_document<T: Threads + Wait + Sync, I: Read, W: Write, E: Write>(
 }
 
 fn run_words<
-    R: Files + Env + Stores + Threads + Wait + AllocGlobal + Clone + Drop + Sync,
+    R: Files<File = File> + Env + Stores + Threads + Wait + AllocGlobal + Clone + Drop + Sync,
     I: Read + Send + Drop,
     W: Write + IsTerminal + Send + Drop,
     E: Write,
@@ -131,7 +152,7 @@ fn run_words<
     match asked_for(alloc, words) {
         Ok(request) => match run_request(rt, alloc, &request, input, output, errors) {
             Ok(status) => status,
-            Err(fault) => report(fault, errors),
+            Err(fault) => report_of(&request, fault, errors),
         },
         Err(stop) => explain(&stop, output, errors),
     }
@@ -145,7 +166,7 @@ fn run_words<
 /// - Otherwise the status is that of the check, the edit, the search, the trace or the service. If that has a fault, the line of
 ///   the fault goes to `errors`, and the status is 4, even if the line can't be printed.
 pub(crate) fn run<
-    R: Files + Env + Stores + Threads + Wait + AllocGlobal + Clone + Drop + Sync,
+    R: Files<File = File> + Env + Stores + Threads + Wait + AllocGlobal + Clone + Drop + Sync,
     I: Read + Send + Drop,
     W: Write + IsTerminal + Send + Drop,
     E: Write,

@@ -22,9 +22,6 @@ const ANCHOR_HELP: &str = "Anchors each statement that does not say whether it i
 const TRIALS_HELP: &str =
     "How many trials a match may take, 1 to 1000000000; by default enough for any plain rule on a file of its length";
 
-const NAME_HELP: &str =
-    "Of the files in folders only those with such a name, as '*.c': * means any characters, ? one";
-
 /// What is written if a number is not in its range.
 pub(crate) const TRIALS_OUT_OF_RANGE: &str =
     "error: '--trials' takes 1 to 1000000000\n\nFor more information, try '--help'.\n";
@@ -34,7 +31,7 @@ pub(crate) const WITHOUT_LINES: &str =
     "error: '--define' and '--with' are for rules of '--rule' or '--file'\n\nFor more information, try '--help'.\n";
 
 /// An option that may be given several times, each time with a value.
-fn repeated<'a>(
+pub(crate) fn repeated<'a>(
     alloc: Global,
     name: &'a str,
     short: char,
@@ -49,7 +46,7 @@ fn repeated<'a>(
         .help(help)
 }
 
-/// The command with the options for rules, and for the files of folders.
+/// The command with the options for rules.
 pub(crate) fn with_rule_options<'a>(
     alloc: Global,
     command: Command<'a>,
@@ -60,8 +57,7 @@ pub(crate) fn with_rule_options<'a>(
         .arg(repeated(alloc, "rule", 'e', "RULE", RULE_HELP))?
         .arg(repeated(alloc, "file", 'f', "RULES", RULE_FILE_HELP))?
         .arg(repeated(alloc, "define", 'd', "DEFINITION", DEFINE_HELP))?
-        .arg(repeated(alloc, "with", 'w', "NAME", WITH_HELP))?
-        .arg(repeated(alloc, "name", 'n', "GLOB", NAME_HELP))
+        .arg(repeated(alloc, "with", 'w', "NAME", WITH_HELP))
 }
 
 /// How many trials are asked for; `None` if the number is not in its range.

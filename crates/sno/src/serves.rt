@@ -21,15 +21,15 @@ fn fault_of(fault: ServeFault) -> ProgramFault {
     match fault {
         ServeFault::Memory => ProgramFault::Memory,
         ServeFault::Desk => ProgramFault::Closing,
-        ServeFault::Read => ProgramFault::Read,
+        ServeFault::Read => ProgramFault::Input,
         ServeFault::Write => ProgramFault::Write,
     }
 }
 
 /// Serves a document over the streams, and returns the status: 0 at the end of the input; 2 if the document is refused.
 ///
-/// Refused with `Read`, `Write`, `Memory` or `Closing`. The file of the listing is opened before the first line is read. The listing
-/// is written even if a line could not be read, or a reply not be written.
+/// Refused with `Read`, `Input`, `Write`, `Memory` or `Closing`. The file of the listing is opened before the first line is read. The
+/// listing is written even if a line could not be read, or a reply not be written.
 pub(crate) fn run_serve<
     R: Files + Threads + Wait + Sync,
     I: Read + Send + Drop,

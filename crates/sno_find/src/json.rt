@@ -43,8 +43,10 @@ fn put_bytes(bytes: &[u8], out: &mut Vec<u8>) -> Result<(), AllocError>
     Ok(())
 }
 
-/// Appends bytes as a string. What isn't UTF-8 in them becomes U+FFFD.
-fn put_string(alloc: Global, bytes: &[u8], out: &mut Vec<u8>) -> Result<(), AllocError>
+/// Appends bytes as a string of JSON, with its quotes. What isn't UTF-8 in them becomes U+FFFD.
+///
+/// Refused only if memory runs out. Then a part of the string may be there.
+pub fn put_string(alloc: Global, bytes: &[u8], out: &mut Vec<u8>) -> Result<(), AllocError>
     ensures { OnOk result (out.new.items ≡ out.old.items ++ json_string bytes.now) }
 {
     let text = String::from_utf8_lossy(alloc, bytes)?;

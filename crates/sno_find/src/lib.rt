@@ -9,7 +9,8 @@
 //!   nothing is found then.
 //!
 //! [`put_line`] writes a finding as `path:line:column:` with the whole line on which it starts, and [`put_count`] how many there
-//! are (`specs/Lines.antt`). [`put_json`] writes a finding as a JSON object, with the values of its variables (`specs/Json.antt`).
+//! are (`specs/Lines.antt`). [`put_json`] writes a finding as a JSON object, with the values of its variables, and
+//! [`put_string`] a string (`specs/Json.antt`).
 //!
 //! | File | What it does |
 //! |---|---|
@@ -32,7 +33,7 @@ mod places;
 
 pub use faults::FindFault;
 pub use findings::{Finding, find_in};
-pub use json::put_json;
+pub use json::{put_json, put_string};
 pub use lines::{put_count, put_line};
 pub use sno_edit::{EditRules, Position};
 pub use sno_pattern::ByteText;

@@ -1,7 +1,7 @@
 -- There is a result for each file.
 use Rattle.std.proofs.Common.{◌≡◌, ◌+◌, length, ap, arith, refl}
-use Rattle.sno.proofs.DiskLemmas.{none_claimed}
-use Rattle.sno.proofs.disk.DiskFolder.replace_all.Goals as goal
+use Rattle.sno_files.proofs.FolderLemmas.{none_claimed}
+use Rattle.sno_files.proofs.held.HeldFilesFolder.replace_all.Goals as goal
 
 pub returns-clause-replaced : goal.returns-clause-replaced
 returns-clause-replaced g c =

@@ -1,7 +1,7 @@
 //! Folders, as the files in them.
 
-use crate::faults::ProgramFault;
 use crate::names::is_named;
+use crate::repeats::Reached;
 use std::alloc::{AllocError, Global};
 use std::io::{ErrorKind, Read, Write};
 use std::rt::Files;
@@ -12,13 +12,13 @@ const LOOKED_AT: usize = 8_192;
 
 /// The files that are named, and those in the folders that are named.
 #[derive(Drop)]
-pub(crate) struct Paths {
+pub struct Paths {
     /// Their paths: those of a folder in order, where the folder was named.
-    pub(crate) files: Vec<String>,
+    pub files: Vec<String>,
     /// How many files of folders were left out since they are no text.
-    pub(crate) not_text: usize,
+    pub not_text: usize,
     /// The folders that could not be read, with the reason.
-    pub(crate) unread: Vec<(String, ErrorKind)>,
+    pub unread: Vec<(String, ErrorKind)>,
 }
 
 /// Whether a file has no NUL in its first bytes. One that can't be read counts as text: what is wrong with it is found later.
@@ -86,14 +86,14 @@ fn list_folder<R: Files + AllocGlobal + Clone + Drop>(
 
 impl Paths {
     /// Writes a line for each folder that could not be read. If a line can't be written, the others are.
-    pub(crate) fn report_unread<E: Write>(&self, errors: &mut E) {
+    pub fn report_unread<E: Write>(&self, errors: &mut E) {
         for (folder, kind) in &self.unread {
             let _printed = errors.writeln(format_args!("{folder}: read failed: {kind}"));
         }
     }
 
-    /// The paths of the files.
-    pub(crate) fn lent(&self, alloc: Global) -> Result<Vec<&str>, AllocError> {
+    /// The paths of the files, in order. Refused only if memory runs out.
+    pub fn lent(&self, alloc: Global) -> Result<Vec<&str>, AllocError> {
         let mut paths = Vec::with_capacity(alloc, self.files.len())?;
         for file in &self.files {
             paths.push(file.as_str())?;
@@ -102,7 +102,7 @@ impl Paths {
     }
 
     /// Adds the files of a folder that are text.
-    fn put_files<R: Files>(&mut self, rt: &R, files: Vec<String>) -> Result<(), ProgramFault> {
+    fn put_files<R: Files>(&mut self, rt: &R, files: Vec<String>) -> Result<(), AllocError> {
         for file in files {
             if is_text(rt, file.as_str()) {
                 self.files.push(file)?;
@@ -120,7 +120,7 @@ impl Paths {
         alloc: Global,
         folder: &str,
         names: &[&str],
-    ) -> Result<(), ProgramFault> {
+    ) -> Result<(), AllocError> {
         let mut folders = Vec::new(alloc);
         let mut files = Vec::new(alloc);
         folders.push(String::from_str(alloc, folder)?)?;
@@ -133,7 +133,7 @@ impl Paths {
                     folders.append(&mut found.folders)?;
                     files.append(&mut found.files)?;
                 }
-                Err(e) if e.kind() == ErrorKind::OutOfMemory => return Err(ProgramFault::Memory),
+                Err(e) if e.kind() == ErrorKind::OutOfMemory => return Err(AllocError),
                 Err(e) => self.unread.push((folder, e.kind()))?,
             }
         }
@@ -142,13 +142,18 @@ impl Paths {
     }
 
     /// The files at these paths, and in the folders among them. Of files in folders only those count whose name is like one of
-    /// `names`, if there are any.
-    pub(crate) fn at<R: Files + AllocGlobal + Clone + Drop>(
+    /// `names`, if there are any; in those `*` means any characters and `?` one.
+    ///
+    /// Left out of a folder are names that begin with a dot, links to folders, and files with a NUL in their first 8,192 bytes, which
+    /// are counted. A folder that can't be read is noted. A path of nothing is kept: what is wrong with it is found later.
+    ///
+    /// Refused only if memory runs out.
+    pub fn at<R: Files + AllocGlobal + Clone + Drop>(
         rt: &R,
         alloc: Global,
         paths: &[&str],
         names: &[&str],
-    ) -> Result<Paths, ProgramFault> {
+    ) -> Result<Paths, AllocError> {
         let mut found = Paths {
             files: Vec::new(alloc),
             not_text: 0,
@@ -161,5 +166,29 @@ impl Paths {
             }
         }
         Ok(found)
+    }
+
+    /// The same files without those paths that lead to the file of an earlier one: through a symbolic link, another spelling, or a
+    /// name that is given twice. Names of one file that are hard links are kept.
+    ///
+    /// Refused only if memory runs out.
+    pub fn without_repeats<R: Files>(self, rt: &R, alloc: Global) -> Result<Paths, AllocError> {
+        let Paths {
+            files,
+            not_text,
+            unread,
+        } = self;
+        let mut reached = Reached::none(alloc);
+        let mut kept = Vec::new(alloc);
+        for file in files {
+            if reached.add(rt, alloc, file.as_str())? {
+                kept.push(file)?;
+            }
+        }
+        Ok(Paths {
+            files: kept,
+            not_text,
+            unread,
+        })
     }
 }

@@ -1,0 +1,92 @@
+//! `sno edit` of standard input.
+
+use crate::edit_reports::{Show, done_of, put_shown, report_fault, report_tally};
+use crate::faults::{FAILED, INPUT, ProgramFault};
+use crate::rounds_left::report_stopped;
+use crate::streams::{read_up_to, write_all};
+use sno_edit::{EditRules, FileFault, Plan, Purpose, Tally, plan_file};
+use sno_files::OneText;
+use sno_pattern::MAX_BYTES;
+use std::alloc::Global;
+use std::io::{Read, Write};
+
+/// The path under which rules for one file know standard input.
+const PATH: &str = "-";
+
+/// What is written of the text, and what became of it.
+fn filtered(
+    alloc: Global,
+    rules: &EditRules,
+    show: Option<Show>,
+    text: &OneText,
+    out: &mut Vec<u8>,
+) -> Result<Plan, FileFault> {
+    let plan = plan_file(alloc, text, rules, PATH)?;
+    match show {
+        None => out.extend_from_slice(plan.after.bytes())?,
+        Some(show) => put_shown(alloc, show, INPUT, INPUT, &plan, out)?,
+    }
+    Ok(plan)
+}
+
+/// What is written of a text that stays as it was for this cause: all of it if a statement was refused on it.
+fn kept_of<'t>(text: &'t OneText, fault: &FileFault) -> &'t [u8] {
+    match fault {
+        FileFault::Refused(_) | FileFault::Cut(_) => &text.bytes,
+        _ => &[],
+    }
+}
+
+/// Performs the rules on the text of standard input, and writes what they leave, or what is shown of that, to the output. A text on
+/// which a statement is refused is written as it was. Returns the status, as for a file.
+///
+/// Refused with `Memory` or `Write`.
+pub(crate) fn run_filter<I: Read, W: Write, E: Write>(
+    alloc: Global,
+    rules: &EditRules,
+    purpose: Purpose,
+    show: Option<Show>,
+    input: &mut I,
+    output: &mut W,
+    errors: &mut E,
+) -> Result<u8, ProgramFault> {
+    let bytes = match read_up_to(alloc, input, MAX_BYTES) {
+        Ok(bytes) => bytes,
+        Err(ProgramFault::Read) => {
+            let _printed = errors.writeln(format_args!("{INPUT}: read failed"));
+            return Ok(FAILED);
+        }
+        Err(fault) => return Err(fault),
+    };
+    let text = OneText { bytes };
+    let mut tally = Tally::of(1);
+    let mut out = Vec::new(alloc);
+    match filtered(alloc, rules, show, &text, &mut out) {
+        Ok(plan) => {
+            let done = done_of(&plan);
+            tally.count(&Ok(done));
+            report_stopped(
+                alloc,
+                rules,
+                INPUT,
+                PATH,
+                &done,
+                &plan.after,
+                &mut tally,
+                errors,
+            );
+            write_all(output, &out)?;
+        }
+        Err(fault) => {
+            tally.count(&Err(fault));
+            report_fault(errors, INPUT, fault);
+            if show.is_none() {
+                write_all(output, kept_of(&text, &fault))?;
+            }
+        }
+    }
+    if show.is_none() {
+        report_tally(alloc, &tally, 0, errors)?;
+    }
+    Ok(tally.status(purpose))
+}

@@ -1,0 +1,79 @@
+//! Repeated rules that stop at the most rounds that a rule may have.
+
+use crate::first_matches::matches;
+use sno_edit::{Done, EditRules, Folder, Statement, Tally, is_for};
+use sno_files::ReadOnly;
+use sno_pattern::{ByteText, MAX_BYTES};
+use sno_statement::MAX_ROUNDS;
+use std::alloc::Global;
+use std::fs::File;
+use std::io::Write;
+use std::rt::Files;
+
+/// Whether the statement is for the file with this path and has as many rounds as a rule may have.
+fn has_most_rounds(statement: &Statement, path: &str) -> bool {
+    statement.repeat() == Some(MAX_ROUNDS) && is_for(statement, path)
+}
+
+/// Whether so many matches may be those of a statement that stopped at the most rounds.
+fn may_stop(done: &Done) -> bool {
+    done.matches >= u64::from(MAX_ROUNDS)
+}
+
+/// The number of the first statement that had the most rounds, and matches once more in the text that the rules left. One whose
+/// search is refused is passed over.
+fn stopped(alloc: Global, rules: &EditRules, path: &str, left: &ByteText) -> Option<u32> {
+    for statement in rules.statements() {
+        if !has_most_rounds(statement, path) {
+            continue;
+        }
+        if let Ok(true) = matches(alloc, statement, rules.trials(), left) {
+            return Some(statement.number());
+        }
+    }
+    None
+}
+
+/// Says of a file on which a statement stopped at the most rounds, and matches once more, which one it is. Such a file counts as one on
+/// which a statement was refused.
+pub(crate) fn report_stopped<E: Write>(
+    alloc: Global,
+    rules: &EditRules,
+    called: &str,
+    path: &str,
+    done: &Done,
+    left: &ByteText,
+    tally: &mut Tally,
+    errors: &mut E,
+) {
+    if !may_stop(done) {
+        return;
+    }
+    if let Some(number) = stopped(alloc, rules, path, left) {
+        tally.refused = true;
+        let _printed = errors.writeln(format_args!(
+            "{called}: statement {number}: stopped after {MAX_ROUNDS} rounds, and matches once more"
+        ));
+    }
+}
+
+/// The same of a file that was written. It is read again, if it may be one.
+pub(crate) fn report_stopped_in<R: Files<File = File>, E: Write>(
+    rt: &R,
+    alloc: Global,
+    rules: &EditRules,
+    path: &str,
+    done: &Done,
+    tally: &mut Tally,
+    errors: &mut E,
+) {
+    if !may_stop(done) || !rules.statements().iter().any(|s| has_most_rounds(s, path)) {
+        return;
+    }
+    let Ok(bytes) = (ReadOnly { rt }).read(alloc, path, MAX_BYTES) else {
+        return;
+    };
+    if let Ok(left) = ByteText::new(bytes) {
+        report_stopped(alloc, rules, path, path, done, &left, tally, errors);
+    }
+}

@@ -1,0 +1,48 @@
+//! The files of the system: which files paths lead to, how they are read, and how they are edited.
+//!
+//! What a file of the system holds is not claimed here: the system is no part of the proof. What the code does:
+//!
+//! - A file that is edited is held: opened and locked, by `flock`, from before it is read until its new text has its place. So
+//!   two runs on one file edit it one after the other. On a file system without locks only the next item remains.
+//! - Before a new text takes its place, the path has to lead to the same file as before, of the same length and times. If
+//!   another program changed it meanwhile, the file is edited anew.
+//! - A new text is written to a new file beside the old one, and takes its place by being renamed. So each file is whole at any
+//!   moment. Through a symbolic link its target is replaced.
+//!
+//! | File | What it does |
+//! |---|---|
+//! | `names` | names of files, and patterns of them as `*.c` |
+//! | `trees` | `Paths`: the files that are named, and those in folders |
+//! | `repeats` | paths that lead to a file that another path leads to |
+//! | `lists` | lists of paths |
+//! | `reading` | `ReadOnly`: files that are only read |
+//! | `one_text` | `OneText`: a text that is in no file |
+//! | `relative` | paths of files from the current folder |
+//! | `held` | `HeldFiles`: files that are held while they are edited |
+//! | `new_files` | new files, and how they take their places |
+//! | `synced` | new files that have to be on the disk |
+//! | `editing` | `edit_some`: files edited by rules |
+//! | `reasons` | `Reason`: why a file stays as it was, in words |
+#![tactic(auto)]
+
+mod editing;
+mod held;
+mod lists;
+mod names;
+mod new_files;
+mod one_text;
+mod reading;
+mod reasons;
+mod relative;
+mod repeats;
+mod synced;
+mod trees;
+
+pub use editing::edit_some;
+pub use lists::{ListFault, paths_in};
+pub use new_files::Writing;
+pub use one_text::OneText;
+pub use reading::ReadOnly;
+pub use reasons::Reason;
+pub use relative::path_from_here;
+pub use trees::Paths;

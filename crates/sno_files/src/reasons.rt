@@ -1,0 +1,24 @@
+//! Why a file of the system stays as it was, in words.
+
+use crate::new_files::OVERTAKEN;
+use sno_edit::FileFault;
+use std::fmt;
+use std::io::ErrorKind;
+
+/// Why a file of the system stays as it was. Its printed form is what a line for standard error says after the path: that of
+/// the fault, but for two causes that only files of the system have.
+#[derive(Clone, Copy, Debug, PartialEq, Eq)]
+pub struct Reason(pub FileFault);
+
+impl fmt::Display for Reason {
+    fn fmt<W: fmt::Write>(&self, f: &mut fmt::Formatter<W>) -> fmt::Result {
+        let Reason(fault) = self;
+        match fault {
+            FileFault::Unread(ErrorKind::InvalidInput) => f.write_str("not a regular file"),
+            FileFault::Unwritten(kind) | FileFault::Unread(kind) if *kind == OVERTAKEN => {
+                f.write_str("changed by another program each time that it was edited")
+            }
+            fault => write!(f, "{fault}"),
+        }
+    }
+}
