@@ -79,12 +79,7 @@ fn is_there<R: Files>(rt: &R, path: &str) -> bool {
 /// Serves a document over a store, and returns the status: 0 at the end of the input; 2 if the store or the document is
 /// refused; 4 after a fault of the machine. The line of a fault is on `errors`. The listing is written at the end of the
 /// input alone, since otherwise it might show what is not in the store.
-pub(crate) fn run_stored<
-    R: Files + Stores + Wait,
-    I: Read + Drop,
-    W: Write + Drop,
-    E: Write,
->(
+pub(crate) fn run_stored<R: Files + Stores + Wait, I: Read + Drop, W: Write + Drop, E: Write>(
     rt: &R,
     alloc: Global,
     options: &StoreOptions<'_>,

@@ -217,7 +217,7 @@ impl<D: Disk + Drop, I: Read + Drop, W: Write + Drop> Keeper<D, I, W> {
         seat: &mut Seat<L>,
         records: LinesIter<'_>,
     ) -> Result<(), DurableFault>
-        ensures again { OnOk result (length (lines_left records) + seat.old.accepted ≡ seat.new.accepted) }
+        ensures again { OnOk result (length (lines_left records.entry) + seat.old.accepted ≡ seat.new.accepted) }
         ensures same { self.new.store ≡ self.old.store }
     {
         let mut place: u64 = 1;

@@ -30,11 +30,7 @@ pub(crate) struct Record {
 }
 
 /// The first line of a store.
-pub(crate) fn origin_line(
-    alloc: Global,
-    document: &str,
-    trials: u32,
-) -> Result<Vec<u8>, AllocError>
+pub(crate) fn origin_line(alloc: Global, document: &str, trials: u32) -> Result<Vec<u8>, AllocError>
     ensures { IfOk result (λ b. read b.items ≡ Some (origin_data document.now trials)) }
 {
     let text = Value::try_from_str(alloc, document)?;
@@ -80,7 +76,11 @@ pub(crate) fn origin_in(alloc: Global, line: &[u8]) -> Result<Option<Origin>, Al
         return Ok(None);
     };
     let text = value.get("document").and_then(Value::as_str);
-    match (number_at(&value, "nomyake"), number_at(&value, "trials"), text) {
+    match (
+        number_at(&value, "nomyake"),
+        number_at(&value, "trials"),
+        text,
+    ) {
         (Some(FORMAT), Some(trials), Some(text)) if trials <= u32::MAX as u64 => {
             let document = String::from_str(alloc, text)?.into_bytes();
             Ok(Some(Origin {
@@ -98,7 +98,9 @@ pub(crate) fn record_in(alloc: Global, line: &[u8]) -> Result<Option<Record>, Al
         return Ok(None);
     };
     let text = value.get("line").and_then(Value::as_str);
-    let number = value.get("reply").and_then(|reply| number_at(reply, "statement"));
+    let number = value
+        .get("reply")
+        .and_then(|reply| number_at(reply, "statement"));
     match (text, number) {
         (Some(text), Some(number)) if number <= u32::MAX as u64 => {
             let line = String::from_str(alloc, text)?;

@@ -184,12 +184,7 @@ fn at_named_desk<L: Naming, D: Disk + Drop, I: Read + Drop, W: Write + Drop, R: 
 /// A fault in `ended`: `Record`, `Outcome` if a line isn't a record, or its statement has another outcome than the stored
 /// one; no line was answered then. `Store`, `Read`, `Write`, `Memory`: lines whose replies were not written may have entries in
 /// the store.
-pub fn serve_durably<
-    D: Disk + Drop,
-    I: Read + Drop,
-    W: Write + Drop,
-    R: Wait,
->(
+pub fn serve_durably<D: Disk + Drop, I: Read + Drop, W: Write + Drop, R: Wait>(
     rt: &R,
     alloc: Global,
     store: Store<D>,
@@ -228,8 +223,15 @@ pub fn serve_durably<
         refused: Vec::new(alloc),
     };
     let blank = Blank::new(1);
-    let (book, ended) =
-        at_named_desk::<Brand, D, I, W, R>(rt, alloc, blank, book, &mut keeper, &statements, lines)?;
+    let (book, ended) = at_named_desk::<Brand, D, I, W, R>(
+        rt,
+        alloc,
+        blank,
+        book,
+        &mut keeper,
+        &statements,
+        lines,
+    )?;
     let Keeper { store, refused, .. } = keeper;
     Ok(Kept {
         book,

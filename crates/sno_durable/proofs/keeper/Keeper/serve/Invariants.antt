@@ -1,0 +1,6 @@
+-- the store has kept up
+use Rattle.sno_durable.specs.Kept.{HasKept}
+use Rattle.sno_durable.proofs.keeper.Keeper.serve.Given as goal
+
+abbrev pub invariant-loop : goal.invariant-loop
+invariant-loop g l = HasKept l.fn.self.store l.self.store l.fn.seat.accepted l.seat.accepted
