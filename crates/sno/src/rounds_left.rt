@@ -15,7 +15,7 @@ fn has_most_rounds(statement: &Statement, path: &str) -> bool {
     statement.repeat() == Some(MAX_ROUNDS) && is_for(statement, path)
 }
 
-/// Whether so many matches may be those of a statement that stopped at the most rounds.
+/// Whether this number of matches may be that of a statement that stopped at the most rounds.
 fn may_stop(done: &Done) -> bool {
     done.matches >= u64::from(MAX_ROUNDS)
 }

@@ -2,7 +2,7 @@
 ghost use Rattle.std.specs.Prelude.{◌≡◌, ◌≤◌, ◌<◌, ◌+◌, length, vec_len, vec_capacity, OnOk};
 
 use crate::new_files::{OVERTAKEN, Writing, put_in_place, stage, write_fault};
-use crate::reading::{open_regular, read_fault, read_open};
+use crate::reading::{bytes_of, open_regular};
 use crate::synced::{replace_synced, replace_together};
 use sno_edit::{Folder, NewText, ReadFault, WriteFault};
 use std::alloc::{AllocError, Global};
@@ -159,6 +159,12 @@ impl<'a, R: Files<File = File>> HeldFiles<'a, R> {
         }
     }
 
+    /// The bytes of the file that is held for this path, or only the first ones if there are more than `most`: then one more.
+    fn bytes(&self, alloc: Global, path: &str, most: usize) -> io::Result<Vec<u8>> {
+        let held = self.file(path).map_err(io::Error::from)?;
+        bytes_of(alloc, &held.file, most)
+    }
+
     /// Puts a new file with these bytes in place of the one that is held for this path.
     fn replace_one(&self, alloc: Global, path: &str, bytes: &[u8]) -> io::Result<()> {
         let held = self.file(path).map_err(io::Error::from)?;
@@ -211,9 +217,17 @@ impl<R: Files<File = File>> Folder for HeldFiles<'_, R> {
     ghost holds = { λ _ _ _. Unit {0} };
 
     fn read(&self, alloc: Global, path: &str, most: usize) -> Result<Vec<u8>, ReadFault> {
-        match self.file(path) {
-            Ok(held) => read_open(alloc, &held.file, most),
-            Err(kind) => Err(read_fault(kind)),
+        match self.bytes(alloc, path, most) {
+            Ok(bytes) => {
+                if bytes.len() > most {
+                    return Err(ReadFault::TooLong);
+                }
+                Ok(bytes)
+            }
+            Err(e) => match e.kind() {
+                ErrorKind::OutOfMemory => Err(ReadFault::Memory),
+                kind => Err(ReadFault::Failed(kind)),
+            },
         }
     }
 

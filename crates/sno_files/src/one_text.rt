@@ -25,12 +25,7 @@ impl Folder for OneText {
     }
 
     /// Refused with `Failed`.
-    fn replace(
-        &mut self,
-        _alloc: Global,
-        _path: &str,
-        _bytes: &[u8],
-    ) -> Result<(), WriteFault> {
+    fn replace(&mut self, _alloc: Global, _path: &str, _bytes: &[u8]) -> Result<(), WriteFault> {
         Err(WriteFault::Failed(ErrorKind::Unsupported))
     }
 

@@ -31,7 +31,7 @@ fn room_for(metadata: &Metadata, most: u64) -> usize {
 }
 
 /// The bytes of an open file up to its end, or only the first ones if there are more than `most`: then one more.
-fn bytes_of(alloc: Global, file: &File, most: usize) -> io::Result<Vec<u8>> {
+pub(crate) fn bytes_of(alloc: Global, file: &File, most: usize) -> io::Result<Vec<u8>> {
     let metadata = file.metadata()?;
     let mut bytes = Vec::with_capacity(alloc, room_for(&metadata, most as u64))?;
     let mut reader = file.take((most as u64).saturating_add(1));
@@ -39,21 +39,15 @@ fn bytes_of(alloc: Global, file: &File, most: usize) -> io::Result<Vec<u8>> {
     Ok(bytes)
 }
 
-/// Why a file is not read.
-pub(crate) fn read_fault(kind: ErrorKind) -> ReadFault {
-    match kind {
-        ErrorKind::OutOfMemory => ReadFault::Memory,
-        kind => ReadFault::Failed(kind),
-    }
-}
-
-/// The bytes of an open file that was not read yet. `TooLong` if there are more than `most`.
-pub(crate) fn read_open(alloc: Global, file: &File, most: usize) -> Result<Vec<u8>, ReadFault> {
-    match bytes_of(alloc, file, most) {
-        Ok(bytes) if bytes.len() > most => Err(ReadFault::TooLong),
-        Ok(bytes) => Ok(bytes),
-        Err(e) => Err(read_fault(e.kind())),
-    }
+/// The bytes of a regular file up to its end, or only the first ones if there are more than `most`: then one more.
+fn bytes_at<R: Files<File = File>>(
+    rt: &R,
+    alloc: Global,
+    path: &str,
+    most: usize,
+) -> io::Result<Vec<u8>> {
+    let file = open_regular(rt, path)?;
+    bytes_of(alloc, &file, most)
 }
 
 /// The files of the system, for those who only read them. They are not locked, and each replacement is refused.
@@ -71,9 +65,17 @@ impl<R: Files<File = File>> Folder for ReadOnly<'_, R> {
     /// Refused with `TooLong` if there are more than `most`; with `Failed` if it can't be opened or read, if it is a folder
     /// (`IsADirectory`) or no regular file (`InvalidInput`); with `Memory`.
     fn read(&self, alloc: Global, path: &str, most: usize) -> Result<Vec<u8>, ReadFault> {
-        match open_regular(self.rt, path) {
-            Ok(file) => read_open(alloc, &file, most),
-            Err(e) => Err(read_fault(e.kind())),
+        match bytes_at(self.rt, alloc, path, most) {
+            Ok(bytes) => {
+                if bytes.len() > most {
+                    return Err(ReadFault::TooLong);
+                }
+                Ok(bytes)
+            }
+            Err(e) => match e.kind() {
+                ErrorKind::OutOfMemory => Err(ReadFault::Memory),
+                kind => Err(ReadFault::Failed(kind)),
+            },
         }
     }
 
