@@ -5,7 +5,7 @@ use Rattle.sno_store.specs.declared.faults.StoreFault.{StoreFault}
 use Rattle.sno_store.specs.declared.faults.StoreFault.TheVariants.{Closed, Unsupported, TooLong, Memory, NoRoom, Read, Write, Sync}
 use Rattle.sno_store.specs.declared.store.State.{State}
 use Rattle.sno_store.specs.declared.store.State.TheVariants.{Closed as Shut, Found, Ready}
-use Rattle.sno_store.specs.Stands.{is_open, is_ready}
+use Rattle.sno_store.specs.States.{is_open, is_ready}
 use Rattle.sno_store.specs.Faults.{IsWriteFault, IsPutFault}
 
 module _ {D : Type 0} (g : Ghosts D) where

@@ -28,7 +28,7 @@ module _ {D : Type 0} (g : Ghosts D) where
   IsWriteFault old new Memory = ⊥
   IsWriteFault old new (Read e) = ⊥
 
-  -- The causes of a read of the whole file. Its length is known if no wrong answer was taken as true.
+  -- The causes of a read of the whole file. Its length is known if no wrong result was taken as true.
   abbrev pub IsReadFault : D → D → StoreFault → Type 0
   IsReadFault old new TooLong = IsTrue (g.is_clean new) → 2 ^ 62 ≤ length (g.seen new)
   IsReadFault old new Memory = ⊤
@@ -66,7 +66,7 @@ module _ {D : Type 0} (g : Ghosts D) where
     pub faults : g.faults new ≡ g.faults old
     pub refused : (g.tally_of new).refused ≡ (g.tally_of old).refused
 
--- why bytes are not added to lines; only a line is refused for want of memory
+-- why bytes are not added to lines; only a line runs out of memory
 abbrev pub IsCause : List ℕ → LineFault → Type 0
 IsCause line NoBrace = slice_index line 0 ≢ 123
 IsCause line LineFeed = (k : ℕ) × (k < length line) × (slice_index line k ≡ 10)

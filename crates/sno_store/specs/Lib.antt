@@ -1,5 +1,5 @@
 pub mod Lines
 pub mod Shown
-pub mod Stands
+pub mod States
 pub mod Store
 pub mod Faults

@@ -4,7 +4,7 @@ use Rattle.sqlite_disk.specs.declared.Disk.{Ghosts}
 use Rattle.sno_store.specs.declared.faults.StoreFault.{StoreFault}
 use Rattle.sno_store.specs.declared.faults.StoreFault.TheVariants.{Closed, Unsupported, TooLong, Memory, NoRoom, Read, Write, Sync}
 use Rattle.sno_store.specs.declared.store.Store.{Store}
-use Rattle.sno_store.specs.Stands.{is_open, is_ready}
+use Rattle.sno_store.specs.States.{is_open, is_ready}
 use Rattle.sno_store.specs.Lines.{recovered}
 
 -- the file holds the old lines, and the first of the new ones
@@ -34,7 +34,7 @@ module _ {D : Type 0} {g : Ghosts D} where
   abbrev pub is_settled : Store D g → Bool
   is_settled store = is_ready store.state
 
-  -- its disk has told no lie that was taken as true
+  -- no wrong result of its disk was taken as true
   abbrev pub is_clean : Store D g → Bool
   is_clean store = g.is_clean store.disk
 

@@ -1,7 +1,7 @@
 //! Lines on a disk.
 ghost use Rattle.std.specs.Prelude.{◌≡◌, ◌+◌, ◌<◌, ◌≤◌, ◌^◌, ℕ, List, drop, length, max, replicate, IfOk, IfErr, IsTrue};
 ghost use Rattle.sno_store.specs.declared.faults.StoreFault.TheVariants.{Memory};
-ghost use Rattle.sno_store.specs.Stands.{is_open, is_found, is_ready};
+ghost use Rattle.sno_store.specs.States.{is_open, is_found, is_ready};
 ghost use Rattle.sno_store.specs.Lines.{recovered, bytes_of};
 
 use crate::content::content_of;
@@ -28,7 +28,7 @@ enum State {
 /// A new store is closed. [`Store::load`] opens it, and a call of the disk that fails closes it: what was written last is unknown
 /// then. Each call of a closed store but `load` returns `StoreFault::Closed` and changes nothing.
 ///
-/// What the clauses say of contents holds if the disk is clean: if no wrong answer of it was taken as true.
+/// What the clauses say of contents holds if the disk is clean: if no wrong result of it was taken as true.
 #[derive(Drop)]
 pub struct Store<D: Disk> {
     disk: D,

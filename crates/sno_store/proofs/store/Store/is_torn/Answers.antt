@@ -1,7 +1,7 @@
 -- A file isn't whole if something follows its lines that isn't zeros.
 use Rattle.std.proofs.Common.{◌≡◌, ◌<◌, ◌∙◌, ap, refl, inl, inr, true, false, ℕ, arith, nat_lt, IsTrue}
 use Rattle.std.proofs.lemmas.Bool.{cases_lt, lt-ltb, ltb-true}
-use Rattle.sno_store.specs.Stands.{is_found, is_ready}
+use Rattle.sno_store.specs.States.{is_found, is_ready}
 use Rattle.sno_store.proofs.Places.{whole_if, whole_then, file_is}
 use Rattle.sno_store.proofs.store.Store.is_torn.Goals as goal
 

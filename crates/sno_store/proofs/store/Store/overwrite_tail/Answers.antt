@@ -3,7 +3,7 @@ use Rattle.std.proofs.Common.{◌≡◌, ◌+◌, ◌≤◌, ◌<◌, ℕ, max, 
 use Rattle.std.proofs.lemmas.List.{length-replicate}
 use Rattle.std.proofs.lemmas.Result.{err_from_is_err_and}
 use Rattle.sqlite_disk.specs.Disk.{Mixed, Torn, Holds}
-use Rattle.sno_store.specs.Stands.{is_open}
+use Rattle.sno_store.specs.States.{is_open}
 use Rattle.sno_store.specs.Lines.{recovered, bytes_of}
 use Rattle.sno_store.proofs.Scans.{are_lines}
 use Rattle.sno_store.proofs.Causes.{put_fault}

@@ -1,4 +1,4 @@
--- How a store stands.
+-- The states of a store.
 use Rattle.std.specs.Prelude.{Bool, true, false}
 use Rattle.sno_store.specs.declared.store.State.{State}
 use Rattle.sno_store.specs.declared.store.State.TheVariants.{Closed, Found, Ready}
