@@ -176,7 +176,7 @@ fn at_named_desk<L: Naming, D: Disk + Drop, I: Read + Drop, W: Write + Drop, R: 
 /// Refused before the first line is answered:
 ///
 /// - `NoDocument`, `Document`: the store is new, and no document is given, or it is refused. Nothing was written;
-/// - `Format`, `OtherDocument`, `OtherTrials`: the store is of another format, was made of another document than the one that
+/// - `Format`, `OtherDocument`, `OtherTrials`: the file is of another format or has no whole line, was made of another document than the one that
 ///   is given, or with another limit. Nothing was written;
 /// - `Store` if the first line could not be put into a new store;
 /// - `Memory`; `Desk` if there is no place for the seat, or the desk could not be closed, which no legal run meets.
@@ -209,6 +209,10 @@ pub fn serve_durably<D: Disk + Drop, I: Read + Drop, W: Write + Drop, R: Wait>(
         statements,
     } = document_of(alloc, &origin.document, mode)?;
     let mut store = store;
+    // A file that has something but no lines is another program's, or was cut while it was made.
+    if lines.is_empty() && store.is_torn() {
+        return Err(DurableFault::Format);
+    }
     if lines.is_empty() {
         begin_store(alloc, &mut store, &origin)?;
     }
