@@ -54,6 +54,8 @@ fn read_by<'a>(request: &Request<'a>) -> &'a str {
         Request::Check(options) => options.document.unwrap_or(INPUT),
         Request::Trace(options) => options.document.unwrap_or(INPUT),
         Request::Serve(options) => options.document,
+        Request::ServeStore(options) => options.document.unwrap_or(options.store),
+        Request::Store(request) => request.store,
         Request::Edit(_) | Request::Find(_) => INPUT,
     }
 }
