@@ -10,6 +10,7 @@ use Rattle.sno_desk.specs.Answers.{Answer, Answers, AnswersAt, receipts_in}
 use Rattle.sno_desk.specs.Turns.{Position, position}
 use Rattle.sno_serve.specs.Accepted.{Accepts, AsksFor, HasAccepted, HasLooked, HasServed, HasTaken, IsGiven}
 use Rattle.sno_serve.specs.Asked.{asked_in}
+use Rattle.sno_serve.specs.AtVersion.{AtResult, IsResultAt, receipts_at}
 use Rattle.sno_serve.specs.declared.asked.Asked.{Asked}
 use Rattle.sno_pattern.specs.Definitions.{Definitions}
 use Rattle.sno_document.specs.declared.modes.Mode.{Mode}
@@ -91,11 +92,27 @@ taken tries opening count counted before after s (Ok receipt) answers at begins 
 )
 taken tries opening count counted before after s (Err fault) answers at begins risen = inl (record { begins = begins; same = omega (arith, risen) })
 
+-- one attempt at a version takes at most one statement
+pub taken_at : (opening : Opening) (count counted : ℕ) (before after : List Entry) (s : Statement) (version : ℕ) (gave : AtResult) → IsResultAt opening before after s version gave
+    → Begins before after → counted ≡ count + receipts_at gave → HasTaken (λ t. t ≡ s) (position count before) (position counted after)
+taken_at opening count counted before after s version (Ok receipt) done begins risen = inr (
+  receipt.entry,
+  record {
+    asked = done.statement;
+    front = done.shown.front;
+    begins = begins;
+    later = let index : length done.shown.front ≡ receipt.index = done.shown.many in let later : length before ≤ receipt.index = done.later in omega (arith, index, later);
+    seen = done.shown.begins;
+    counted = risen;
+  },
+)
+taken_at opening count counted before after s version (Err fault) done begins risen = inl (record { begins = begins; same = omega (arith, risen) })
+
 -- what a seat took for a line that asks for a statement is of a statement that was read
 pub line_served : (rules : Definitions) (statements : List Statement) (mode : Mode) (number : ℕ) (line : List ℕ) (asked : Asked) (first after : Position)
     → asked ≡ asked_in rules mode number line → HasTaken (AsksFor asked) first after → HasServed (IsGiven rules statements mode) first after
 line_served rules statements mode number line asked first after is took =
-    let read : (s : Statement) → AsksFor asked s → IsGiven rules statements mode s = λ s q. inr (record { number = number; line = line; asked = sym is ∙ q }) in
+    let read : (s : Statement) → AsksFor asked s → IsGiven rules statements mode s = λ s q. inr (record { number = number; line = line; asked = subst (λ (a : Asked). AsksFor a s) is q }) in
     served_taken (IsGiven rules statements mode) first after (taken_wider (AsksFor asked) (IsGiven rules statements mode) read first after took)
 
 -- what a seat took for a statement of the document is of that statement

@@ -1,1 +1,3 @@
 pub mod Accepting
+pub mod AtVersion
+pub mod Excerpts

@@ -10,7 +10,8 @@ use Rattle.sno_document.specs.declared.modes.Mode.{Mode}
 use Rattle.sno_desk.specs.Answers.{Answer, receipts_in}
 use Rattle.sno_desk.specs.Turns.{Position}
 use Rattle.sno_serve.specs.Asked.{asked_in}
-use Rattle.sno_serve.specs.Replies.{submit_reply}
+use Rattle.sno_serve.specs.Replies.{submit_reply, at_reply}
+use Rattle.sno_serve.specs.AtVersion.{AtResult, receipts_at}
 use Rattle.sno_serve.specs.declared.asked.Asked.{Asked}
 use Rattle.sno_serve.specs.declared.asked.Asked.TheVariants as asks
 
@@ -20,11 +21,18 @@ pub record IsCountedOnce (before after : ℕ) (id : Option Data) (d : Data) : Ty
   pub reply : d ≡ submit_reply id answer
   pub counted : after ≡ before + receipts_in answer
 
+-- the same for a statement at one version of its text
+pub record IsCountedAt (before after : ℕ) (id : Option Data) (d : Data) : Type 0 where
+  pub gave : AtResult
+  pub reply : d ≡ at_reply id gave
+  pub counted : after ≡ before + receipts_at gave
+
 -- the seat's count rises only with a statement
 abbrev pub IsCounted : ℕ → ℕ → Option Data → Asked → Data → Type 0
 IsCounted before after id (asks.Perform s) d = IsCountedOnce before after id d
+IsCounted before after id (asks.PerformAt s version) d = IsCountedAt before after id d
 IsCounted before after id (asks.Read name) d = after ≡ before
-IsCounted before after id (asks.Since n) d = after ≡ before
+IsCounted before after id (asks.Since excerpt) d = after ≡ before
 IsCounted before after id (asks.Fault fault) d = after ≡ before
 
 -- nothing was accepted through the seat
@@ -56,9 +64,11 @@ pub record HasServed (may : Statement → Type 0) (before after : Position) : Ty
   pub entries : List Entry
   pub accepted : Accepts may entries before after
 
--- the line asks for this statement
+-- the line asks for this statement, at any version of its text or at one
 abbrev pub AsksFor : Asked → Statement → Type 0
-AsksFor asked s = asked ≡ asks.Perform s
+AsksFor (asks.Perform s) t = t ≡ s
+AsksFor (asks.PerformAt s version) t = t ≡ s
+AsksFor asked t = ⊥
 
 -- the statement is at a place of the list
 pub record IsAmong (statements : List Statement) (s : Statement) : Type 0 where

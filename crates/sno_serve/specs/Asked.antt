@@ -1,5 +1,5 @@
 -- What a line asks for: a JSON value that names a text to be read, an index to list from, or a statement.
-use Rattle.std.specs.Prelude.{ℕ, List, Option, Some, None, Result, Ok, Err, codes, if◌then◌else◌, option_and_then}
+use Rattle.std.specs.Prelude.{ℕ, Bool, ◌&&◌, nat_le, List, Option, Some, None, Result, Ok, Err, codes, if◌then◌else◌, option_and_then}
 use Rattle.serde_json.specs.Data.{Num, unsigned, negative, float, Data, null, boolean, number, string, array, object}
 use Rattle.serde_json.specs.Find.{get}
 use Rattle.sno_pattern.specs.Definitions.{Definitions}
@@ -10,6 +10,10 @@ use Rattle.sno_document.specs.Single.{statement_in}
 use Rattle.sno_document.specs.declared.faults.DocumentFault.{DocumentFault}
 use Rattle.sno_document.specs.declared.faults.DocumentFault.TheVariants as fault
 use Rattle.sno_document.specs.declared.modes.Mode.{Mode}
+use Rattle.sno_statement.specs.declared.statements.TheConstants.{MAX_TRIALS}
+use Rattle.sno_serve.specs.declared.faults.LineFault.{LineFault}
+use Rattle.sno_serve.specs.declared.faults.LineFault.TheVariants as of_line
+use Rattle.sno_serve.specs.declared.excerpt.Excerpt.{Excerpt}
 use Rattle.sno_serve.specs.declared.asked.Asked.{Asked}
 use Rattle.sno_serve.specs.declared.asked.Asked.TheVariants as asks
 
@@ -23,32 +27,78 @@ id_or_none d = None
 abbrev pub id_in : List ℕ → Option Data
 id_in line = option_and_then (λ d. id_or_none (get (codes "id") d)) (json_of line)
 
--- the text with this name is to be read
-abbrev pub asks_read : ℕ → Data → Asked
-asks_read s (string name) = if is_text_name name then asks.Read name else asks.Fault (fault.StatementName s)
-asks_read s d = asks.Fault fault.Shape
+-- a member of another kind than it has to be
+abbrev pub shape : LineFault
+shape = of_line.Document fault.Shape
 
--- the entries from this index on are asked for
-abbrev pub asks_since : Data → Asked
-asks_since (number (unsigned n)) = asks.Since n
-asks_since d = asks.Fault fault.Shape
+-- the name of a text
+abbrev pub name_of : ℕ → Data → Result (List ℕ) LineFault
+name_of s (string name) = if is_text_name name then Ok name else Err (of_line.Document (fault.StatementName s))
+name_of s d = Err shape
+
+-- the name of a text, if the member is there
+abbrev pub some_name : Result (List ℕ) LineFault → Result (Option (List ℕ)) LineFault
+some_name (Ok name) = Ok (Some name)
+some_name (Err e) = Err e
+
+abbrev pub name_or_none : ℕ → Option Data → Result (Option (List ℕ)) LineFault
+name_or_none s None = Ok None
+name_or_none s (Some d) = some_name (name_of s d)
+
+-- a whole number from 0, if the member is there
+abbrev pub whole_or_none : Option Data → Result (Option ℕ) LineFault
+whole_or_none None = Ok None
+whole_or_none (Some (number (unsigned n))) = Ok (Some n)
+whole_or_none (Some d) = Err shape
+
+-- the limit of trials: the usual one if the member is missing, and otherwise from 1 to the highest that there is
+abbrev pub trials_in : ℕ → Option Data → Result ℕ LineFault
+trials_in usual None = Ok usual
+trials_in usual (Some (number (unsigned n))) = if nat_le 1 n && nat_le n MAX_TRIALS then Ok n else Err of_line.Trials
+trials_in usual (Some d) = Err of_line.Trials
+
+-- the text with this name is to be read
+abbrev pub asks_read : Result (List ℕ) LineFault → Asked
+asks_read (Ok name) = asks.Read name
+asks_read (Err e) = asks.Fault e
+
+-- the entries from an index on are asked for: no more than the limit, if there is one, and those of one text, if it is named
+abbrev pub asks_excerpt : ℕ → Result (Option ℕ) LineFault → Result (Option (List ℕ)) LineFault → Asked
+asks_excerpt from (Err e) name = asks.Fault e
+asks_excerpt from (Ok limit) (Err e) = asks.Fault e
+asks_excerpt from (Ok limit) (Ok name) = asks.Since (record { from = from; limit = limit; name = name })
+
+abbrev pub asks_since : Data → Result (Option ℕ) LineFault → Result (Option (List ℕ)) LineFault → Asked
+asks_since (number (unsigned n)) limit name = asks_excerpt n limit name
+asks_since d limit name = asks.Fault shape
+
+-- the statement is to be performed: at the version that the member `if_version` is, if there is one
+abbrev pub asks_at : Option Data → Statement → Asked
+asks_at None s = asks.Perform s
+asks_at (Some (number (unsigned version))) s = asks.PerformAt s version
+asks_at (Some d) s = asks.Fault shape
 
 -- the statement is to be performed, or can't be read
-abbrev pub asks_statement : Result Statement DocumentFault → Asked
-asks_statement (Ok s) = asks.Perform s
-asks_statement (Err e) = asks.Fault e
+abbrev pub asks_read_statement : Option Data → Result Statement DocumentFault → Asked
+asks_read_statement version (Ok s) = asks_at version s
+asks_read_statement version (Err e) = asks.Fault (of_line.Document e)
+
+-- the line is statement number s, with this limit of trials
+abbrev pub asks_statement : Definitions → Bool → ℕ → List ℕ → Option Data → Result ℕ LineFault → Asked
+asks_statement rules anchor s line version (Err e) = asks.Fault e
+asks_statement rules anchor s line version (Ok trials) = asks_read_statement version (statement_in rules (record { anchor = anchor; trials = trials }) s line)
 
 -- a member `read` comes before a member `since`, and without either the line is statement number s
-abbrev pub asked_by : Option Data → Option Data → ℕ → Result Statement DocumentFault → Asked
-asked_by (Some d) since s statement = asks_read s d
-asked_by None (Some d) s statement = asks_since d
-asked_by None None s statement = asks_statement statement
+abbrev pub asked_by : Definitions → Mode → ℕ → List ℕ → Data → Option Data → Option Data → Asked
+asked_by rules mode s line d (Some read) since = asks_read (name_of s read)
+asked_by rules mode s line d None (Some since) = asks_since since (whole_or_none (get (codes "limit") d)) (name_or_none s (get (codes "text") d))
+asked_by rules mode s line d None None = asks_statement rules mode.anchor s line (get (codes "if_version") d) (trials_in mode.trials (get (codes "trials") d))
 
 -- what the value of the line asks for
-abbrev pub asked_for : Option Data → ℕ → Result Statement DocumentFault → Asked
-asked_for None s statement = asks.Fault fault.NotJson
-asked_for (Some d) s statement = asked_by (get (codes "read") d) (get (codes "since") d) s statement
+abbrev pub asked_for : Definitions → Mode → ℕ → List ℕ → Option Data → Asked
+asked_for rules mode s line None = asks.Fault (of_line.Document fault.NotJson)
+asked_for rules mode s line (Some d) = asked_by rules mode s line d (get (codes "read") d) (get (codes "since") d)
 
 -- what a line asks for
 abbrev pub asked_in : Definitions → Mode → ℕ → List ℕ → Asked
-asked_in rules mode s line = asked_for (json_of line) s (statement_in rules mode s line)
+asked_in rules mode s line = asked_for rules mode s line (json_of line)

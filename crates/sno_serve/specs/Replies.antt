@@ -1,12 +1,12 @@
 -- Replies: JSON objects with the caller's id.
-use Rattle.std.specs.Prelude.{◌≡◌, ◌⊎◌, ℕ, List, Option, Some, None, Result, Ok, Err, codes, drop, nat_lt, if◌then◌else◌}
+use Rattle.std.specs.Prelude.{◌≡◌, ◌⊎◌, ℕ, List, Option, Some, None, Result, Ok, Err, codes, nat_lt, if◌then◌else◌}
 use Rattle.serde_json.specs.Data.{Data, string, object, Members, no_members, member, put}
 use Rattle.sno_statement.specs.Statement.{Statement}
 use Rattle.sno_book.specs.Entries.{Entry}
 use Rattle.sno_book.specs.Openings.{Opening}
 use Rattle.sno_book.specs.Snapshots.{Snapshot}
 use Rattle.sno_listing.specs.Listing.{reason_words}
-use Rattle.sno_listing.specs.JsonListing.{array_of, text_members, done_members, entries_data}
+use Rattle.sno_listing.specs.JsonListing.{array_of, count, text_members, done_members}
 use Rattle.sno_listing.specs.declared.refusals.Reason.{Reason}
 use Rattle.sno_listing.specs.declared.refusals.Reason.TheVariants as reason
 use Rattle.sno_listing.specs.declared.refusals.Refusal.{Refusal}
@@ -16,6 +16,9 @@ use Rattle.sno_desk.specs.declared.faults.SnapshotFault.{SnapshotFault}
 use Rattle.sno_desk.specs.declared.faults.SnapshotFault.TheVariants as snapshot
 use Rattle.sno_desk.specs.declared.faults.SubmitFault.{SubmitFault}
 use Rattle.sno_desk.specs.declared.faults.SubmitFault.TheVariants as submit
+use Rattle.sno_serve.specs.Excerpts.{excerpt_of}
+use Rattle.sno_serve.specs.AtVersion.{AtResult, IsResultAt}
+use Rattle.sno_serve.specs.declared.at_version.AtFault.TheVariants as at
 use Rattle.sno_serve.specs.declared.answers.TheConstants.{MAX_INDEX}
 use Rattle.sno_serve.specs.declared.asked.Asked.{Asked}
 use Rattle.sno_serve.specs.declared.asked.Asked.TheVariants as asks
@@ -45,13 +48,23 @@ abbrev pub submit_reply : Option Data → Answer → Data
 submit_reply id (Ok receipt) = with_id id (done_members receipt.index receipt.entry receipt.entry.outcome)
 submit_reply id (Err fault) = word_reply id (codes "reason") (submit_words fault)
 
+-- the reply to a statement whose text has another version than the line names: the version that it has
+abbrev pub changed_reply : Option Data → ℕ → Data
+changed_reply id now = with_id id (member (codes "reason") (string (codes "changed")) (member (codes "version") (count now) no_members))
+
+-- the reply to a statement at one version of its text
+abbrev pub at_reply : Option Data → AtResult → Data
+at_reply id (Ok receipt) = submit_reply id (Ok receipt)
+at_reply id (Err (at.Changed now)) = changed_reply id now
+at_reply id (Err (at.Refused fault)) = submit_reply id (Err fault)
+
 -- the reply to a read: the text, as the listing has it
 abbrev pub read_reply : Option Data → List ℕ → Snapshot → Data
 read_reply id name taken = with_id id (text_members (record { name = name; text = taken.text; version = taken.version }))
 
--- the entries from an index on
-abbrev pub since_reply : Option Data → ℕ → List Entry → Data
-since_reply id from entries = with_id id (member (codes "entries") (array_of (entries_data from entries)) no_members)
+-- the reply with these entries
+abbrev pub since_reply : Option Data → List Data → Data
+since_reply id entries = with_id id (member (codes "entries") (array_of entries) no_members)
 
 -- the reply to a read by what the seat's snapshot gave
 abbrev pub look_reply : Option Data → List ℕ → Result Snapshot SnapshotFault → Data
@@ -80,6 +93,12 @@ abbrev pub refusal_in : ℕ → Answer → Option Refusal
 refusal_in s (Ok receipt) = None
 refusal_in s (Err fault) = refusal_by s (reason_in fault)
 
+-- what the listing has of a statement that was to be performed at one version: nothing if its text has another version
+abbrev pub at_refusal : ℕ → AtResult → Option Refusal
+at_refusal s (Ok receipt) = None
+at_refusal s (Err (at.Changed now)) = None
+at_refusal s (Err (at.Refused fault)) = refusal_by s (reason_in fault)
+
 -- no journal has an entry past the highest index
 abbrev pub capped : ℕ → ℕ
 capped n = if nat_lt n MAX_INDEX then n else MAX_INDEX
@@ -91,6 +110,13 @@ pub record IsPerformed (tries : ℕ) (opening : Opening) (before after : List En
   pub at : AnswersAt tries opening before after s answer
   pub reply : d ≡ submit_reply id answer
   pub refusal : refused ≡ refusal_in s.number answer
+
+-- one attempt by the seat at a version of the text, with its reply and what the listing has of its refusal
+pub record IsPerformedAt (opening : Opening) (before after : List Entry) (id : Option Data) (s : Statement) (version : ℕ) (d : Data) (refused : Option Refusal) : Type 0 where
+  pub gave : AtResult
+  pub attempt : IsResultAt opening before after s version gave
+  pub reply : d ≡ at_reply id gave
+  pub refusal : refused ≡ at_refusal s.number gave
 
 -- a snapshot by the seat, with its reply
 pub record IsLooked (opening : Opening) (after : List Entry) (id : Option Data) (name : List ℕ) (d : Data) : Type 0 where
@@ -106,7 +132,8 @@ pub record IsFaulted (id : Option Data) (d : Data) : Type 0 where
 -- the reply to what was asked at a seat: what it had seen before, and has seen now
 abbrev pub IsReplied : ℕ → Opening → List Entry → List Entry → Option Data → Asked → Data → Option Refusal → Type 0
 IsReplied tries opening before after id (asks.Perform s) d refused = IsPerformed tries opening before after id s d refused
+IsReplied tries opening before after id (asks.PerformAt s version) d refused = IsPerformedAt opening before after id s version d refused
 IsReplied tries opening before after id (asks.Read name) d refused = IsLooked opening after id name d × (refused ≡ None)
-IsReplied tries opening before after id (asks.Since n) d refused =
-    ((d ≡ since_reply id (capped n) (drop (capped n) after)) ⊎ (d ≡ word_reply id (codes "reason") (codes "stopped"))) × (refused ≡ None)
+IsReplied tries opening before after id (asks.Since excerpt) d refused =
+    ((d ≡ since_reply id (excerpt_of excerpt (capped excerpt.from) after)) ⊎ (d ≡ word_reply id (codes "reason") (codes "stopped"))) × (refused ≡ None)
 IsReplied tries opening before after id (asks.Fault fault) d refused = IsFaulted id d × (refused ≡ None)

@@ -1,5 +1,5 @@
 //! A line with its reply, at a seat.
-ghost use Rattle.std.specs.Prelude.{◌≡◌, ◌≤◌, ◌⊎◌, ◌+◌, IfOk, None, codes, drop};
+ghost use Rattle.std.specs.Prelude.{◌≡◌, ◌≤◌, ◌⊎◌, ◌+◌, IfOk, None, codes};
 ghost use Rattle.std.specs.Arc.{arc_value};
 ghost use Rattle.std.specs.Option.{option_map};
 ghost use mathlib.Core.List.{IsPrefix as Begins};
@@ -7,13 +7,17 @@ ghost use Rattle.serde_json.specs.View.{view};
 ghost use Rattle.sno_desk.specs.declared.desk.TheConstants.{MAX_TRIES};
 ghost use Rattle.sno_desk.specs.Answers.{Answers, AnswersAt, receipts_in};
 ghost use Rattle.sno_desk.specs.Turns.{position};
-ghost use Rattle.sno_serve.specs.Accepted.{AsksFor, HasTaken, IsCounted, IsCountedOnce};
-ghost use Rattle.sno_serve.specs.Replies.{IsReplied, IsPerformed, IsLooked, capped, refusal_in, reason_in, since_reply, word_reply};
+ghost use Rattle.sno_serve.specs.Accepted.{AsksFor, HasTaken, IsCounted, IsCountedAt, IsCountedOnce};
+ghost use Rattle.sno_serve.specs.Excerpts.{excerpt_of};
+ghost use Rattle.sno_serve.specs.Replies.{IsReplied, IsPerformed, IsPerformedAt, IsLooked, at_refusal, capped, refusal_in, reason_in, since_reply, word_reply};
 
-use crate::replies::{fault_reply, read_reply, reason_reply, since_reply, submit_reply};
-use crate::{Asked, Line};
+use crate::at_version::{AtFault, submit_at};
+use crate::replies::{at_reply, fault_reply, read_reply, reason_reply, since_reply, submit_reply};
+use crate::{Asked, Excerpt, Line};
 use serde_json::Value;
-use sno_desk::{Desk, Naming, OpenGate, Reply, Seat, SinceFault, SnapshotFault, SubmitFault};
+use sno_desk::{
+    Desk, Naming, OpenGate, Receipt, Reply, Seat, SinceFault, SnapshotFault, SubmitFault,
+};
 use sno_listing::{Reason, Refusal};
 use sno_pattern::TextName;
 use sno_statement::Statement;
@@ -106,6 +110,41 @@ fn perform<L: Naming, R: Wait>(
     Ok(Answered { reply, refused })
 }
 
+/// What the listing has of a statement that was to be performed at one version of its text.
+fn at_refusal(number: u32, gave: &Result<Receipt, AtFault>) -> Option<Refusal>
+    ensures { result ≡ at_refusal number gave.now }
+{
+    let Err(AtFault::Refused(fault)) = gave else {
+        return None;
+    };
+    let reason = reason_in(fault)?;
+    Some(Refusal { number, reason })
+}
+
+/// Submits a statement if its text has this version, and puts its result into a reply.
+#[tactic(auto, using(crate::proofs::Accepting::taken_at))]
+fn perform_at<L: Naming, R: Wait>(
+    rt: &R,
+    alloc: Global,
+    desk: &Desk<L>,
+    seat: &mut Seat<L>,
+    id: Option<Value>,
+    statement: Statement,
+    version: u64,
+) -> Result<Answered, AllocError>
+    ensures performed { IfOk result (λ a. IsPerformedAt L.opening seat.old.viewer.seen seat.new.viewer.seen (option_map view id) statement version (view a.reply) a.refused) }
+    ensures counted { IfOk result (λ a. IsCountedAt seat.old.accepted seat.new.accepted (option_map view id) (view a.reply)) }
+    ensures taken { HasTaken (λ s. s ≡ statement) (position seat.old.accepted seat.old.viewer.seen) (position seat.new.accepted seat.new.viewer.seen) }
+    ensures begins { Begins seat.old.viewer.seen seat.new.viewer.seen }
+{
+    let number = statement.number();
+    let statement = Arc::new(alloc, statement)?;
+    let gave = submit_at(rt, alloc, desk, seat, &statement, version);
+    let refused = at_refusal(number, &gave);
+    let reply = at_reply(alloc, id, gave)?;
+    Ok(Answered { reply, refused })
+}
+
 /// Reads a text, as the seat sees it now.
 fn look<L: Naming>(
     alloc: Global,
@@ -136,32 +175,39 @@ fn capped(index: u64) -> usize
     }
 }
 
-/// Lists the entries from an index on.
+/// Lists entries.
 fn list<L: Naming, R: Wait>(
     rt: &R,
     alloc: Global,
     desk: &Desk<L>,
     seat: &mut Seat<L>,
     id: Option<Value>,
-    index: u64,
+    excerpt: &Excerpt,
 ) -> Result<Value, AllocError>
-    ensures listed { IfOk result (λ v. (view v ≡ since_reply (option_map view id) (capped index) (drop (capped index) seat.new.viewer.seen)) ⊎ (view v ≡ word_reply (option_map view id) (codes "reason") (codes "stopped"))) }
+    ensures listed { IfOk result (λ v. (view v ≡ since_reply (option_map view id) (excerpt_of excerpt.now (capped excerpt.now.from) seat.new.viewer.seen)) ⊎ (view v ≡ word_reply (option_map view id) (codes "reason") (codes "stopped"))) }
     ensures same { seat.new.accepted ≡ seat.old.accepted }
     ensures begins { Begins seat.old.viewer.seen seat.new.viewer.seen }
 {
-    let from = capped(index);
+    let from = capped(excerpt.from);
     match desk.since(rt, seat, from) {
-        Ok(entries) => since_reply(alloc, id, from, &entries),
+        Ok(entries) => {
+            let values = excerpt.values(alloc, from, &entries)?;
+            since_reply(alloc, id, values)
+        }
         Err(SinceFault::Stopped) => reason_reply(alloc, id, "stopped"),
         Err(SinceFault::Memory) => Err(AllocError),
     }
 }
 
-/// Answers a line at a seat. `tries` is from 1 to 1,000.
+/// Does what a line asks for at a seat, and returns the reply. `tries` is from 1 to 1,000.
 ///
 /// The reply to a statement is that of [`Desk::submit`]: its entry at its index, as the JSON listing has it, or the reason
-/// why it was refused. The reply to a read is what [`Seat::snapshot`] gives, and that to an index what [`Desk::since`] does.
+/// why it was refused. The reply to a read is what [`Seat::snapshot`] gives, and that to an index those of the
+/// entries of [`Desk::since`] that are asked for, in their order: of one text if it is named, and the first ones up to the limit.
 /// A line that can't be read gets words that say why. Each has the line's id, if there is one.
+///
+/// A statement with a version is tried once. Its reply is its entry only if the entry has that version. If the text has another version
+/// after what the seat has seen, the reply is `changed` with the text's version, and the listing has nothing of it.
 ///
 /// The seat's count rises by one if the reply is an entry, and is the same otherwise.
 ///
@@ -183,6 +229,9 @@ pub fn answer<L: Naming, R: Wait>(
     let Line { id, asked } = line;
     match asked {
         Asked::Perform(statement) => perform(rt, alloc, desk, seat, id, statement, tries),
+        Asked::PerformAt(statement, version) => {
+            perform_at(rt, alloc, desk, seat, id, statement, version)
+        }
         Asked::Read(name) => {
             let reply = look(alloc, seat, id, &name)?;
             Ok(Answered {
@@ -190,8 +239,8 @@ pub fn answer<L: Naming, R: Wait>(
                 refused: None,
             })
         }
-        Asked::Since(index) => {
-            let reply = list(rt, alloc, desk, seat, id, index)?;
+        Asked::Since(excerpt) => {
+            let reply = list(rt, alloc, desk, seat, id, &excerpt)?;
             Ok(Answered {
                 reply,
                 refused: None,

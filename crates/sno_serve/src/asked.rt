@@ -7,11 +7,13 @@ ghost use Rattle.serde_json.specs.View.{view};
 ghost use Rattle.sno_statement.specs.Statement.{IsLimit};
 ghost use Rattle.sno_document.specs.Json.{json_of};
 ghost use Rattle.sno_document.specs.Single.{statement_in};
-ghost use Rattle.sno_serve.specs.Asked.{id_or_none, id_in, asks_read, asks_since, asks_statement, asked_by, asked_in};
+ghost use Rattle.sno_serve.specs.Asked.{id_or_none, id_in, name_of, name_or_none, whole_or_none, trials_in, asks_read, asks_since, asks_at, asks_statement, asked_by, asked_in};
 
+use crate::{Excerpt, LineFault};
 use serde_json::{Category, Value};
 use sno_document::{DocumentFault, Mode, Rules, Statement, read_statement};
 use sno_pattern::{NameFault, TextName};
+use sno_statement::MAX_TRIALS;
 use std::alloc::{AllocError, Global};
 use std::sync::Arc;
 
@@ -20,12 +22,14 @@ use std::sync::Arc;
 pub enum Asked {
     /// This statement is to be performed.
     Perform(Statement),
+    /// This statement is to be performed if its text has this version.
+    PerformAt(Statement, u64),
     /// The text with this name is to be read.
     Read(TextName),
-    /// The entries from this index on are to be listed.
-    Since(u64),
+    /// These entries are to be listed.
+    Since(Excerpt),
     /// The line can't be read.
-    Fault(DocumentFault),
+    Fault(LineFault),
 }
 
 /// A line.
@@ -51,27 +55,132 @@ fn id_or_none(member: Option<&Value>) -> Result<Option<Value>, AllocError>
     }
 }
 
-/// A text is to be read.
-fn asks_read(alloc: Global, number: u32, member: &Value) -> Result<Asked, AllocError>
-    ensures { IfOk result (λ a. a ≡ asks_read number (view member.now)) }
+/// The name of a text that a member is.
+fn name_of(
+    alloc: Global,
+    number: u32,
+    member: &Value,
+) -> Result<Result<TextName, LineFault>, AllocError>
+    ensures { IfOk result (λ n. n ≡ name_of number (view member.now)) }
 {
     let Some(name) = member.as_str() else {
-        return Ok(Asked::Fault(DocumentFault::Shape));
+        return Ok(Err(LineFault::Document(DocumentFault::Shape)));
     };
     match TextName::new(alloc, name.as_bytes()) {
-        Ok(name) => Ok(Asked::Read(name)),
-        Err(NameFault::Bad) => Ok(Asked::Fault(DocumentFault::StatementName(number as usize))),
+        Ok(name) => Ok(Ok(name)),
+        Err(NameFault::Bad) => Ok(Err(LineFault::Document(DocumentFault::StatementName(
+            number as usize,
+        )))),
         Err(NameFault::Memory) => Err(AllocError),
     }
 }
 
-/// Entries are to be listed.
-fn asks_since(member: &Value) -> Asked
-    ensures { result ≡ asks_since (view member.now) }
+/// A text is to be read.
+fn asks_read(alloc: Global, number: u32, member: &Value) -> Result<Asked, AllocError>
+    ensures { IfOk result (λ a. a ≡ asks_read (name_of number (view member.now))) }
 {
+    match name_of(alloc, number, member)? {
+        Ok(name) => Ok(Asked::Read(name)),
+        Err(fault) => Ok(Asked::Fault(fault)),
+    }
+}
+
+/// The name of a text that a member is, if it is there.
+fn name_or_none(
+    alloc: Global,
+    number: u32,
+    member: Option<&Value>,
+) -> Result<Result<Option<TextName>, LineFault>, AllocError>
+    ensures { IfOk result (λ n. n ≡ name_or_none number (option_map (λ v. view v.now) member.entry)) }
+{
+    let Some(member) = member else {
+        return Ok(Ok(None));
+    };
+    match name_of(alloc, number, member)? {
+        Ok(name) => Ok(Ok(Some(name))),
+        Err(fault) => Ok(Err(fault)),
+    }
+}
+
+/// A whole number from 0 that a member is, if it is there.
+fn whole_or_none(member: Option<&Value>) -> Result<Option<u64>, LineFault>
+    ensures { result ≡ whole_or_none (option_map (λ v. view v.now) member.entry) }
+{
+    let Some(member) = member else {
+        return Ok(None);
+    };
     match member.as_u64() {
-        Some(index) => Asked::Since(index),
-        None => Asked::Fault(DocumentFault::Shape),
+        Some(whole) => Ok(Some(whole)),
+        None => Err(LineFault::Document(DocumentFault::Shape)),
+    }
+}
+
+/// Entries are to be listed.
+fn asks_since(
+    alloc: Global,
+    number: u32,
+    member: &Value,
+    limit: Option<&Value>,
+    text: Option<&Value>,
+) -> Result<Asked, AllocError>
+    ensures { IfOk result (λ a. a ≡ asks_since (view member.now) (whole_or_none (option_map (λ v. view v.now) limit.entry)) (name_or_none number (option_map (λ v. view v.now) text.entry))) }
+{
+    let Some(from) = member.as_u64() else {
+        return Ok(Asked::Fault(LineFault::Document(DocumentFault::Shape)));
+    };
+    let limit = match whole_or_none(limit) {
+        Ok(limit) => limit,
+        Err(fault) => return Ok(Asked::Fault(fault)),
+    };
+    match name_or_none(alloc, number, text)? {
+        Ok(name) => Ok(Asked::Since(Excerpt { from, limit, name })),
+        Err(fault) => Ok(Asked::Fault(fault)),
+    }
+}
+
+/// A statement is to be performed, at the version that the member is if there is one.
+fn asks_at(version: Option<&Value>, statement: Statement) -> Asked
+    ensures { result ≡ asks_at (option_map (λ v. view v.now) version.entry) statement }
+{
+    let Some(member) = version else {
+        return Asked::Perform(statement);
+    };
+    match member.as_u64() {
+        Some(version) => Asked::PerformAt(statement, version),
+        None => Asked::Fault(LineFault::Document(DocumentFault::Shape)),
+    }
+}
+
+/// The statement that the line is, or its fault.
+fn statement_of(
+    alloc: Global,
+    rules: &Arc<Rules>,
+    mode: Mode,
+    number: u32,
+    line: &[u8],
+) -> Result<Result<Statement, DocumentFault>, AllocError>
+    requires { IsLimit mode.trials }
+    ensures { IfOk result (λ s. s ≡ statement_in (arc_value rules.now) mode number line.now) }
+{
+    match read_statement(alloc, rules, mode, number, line) {
+        Ok(statement) => Ok(Ok(statement)),
+        Err(DocumentFault::Memory) => Err(AllocError),
+        Err(fault) => Ok(Err(fault)),
+    }
+}
+
+/// The limit of trials of a line: the usual one, or the one that the member is.
+fn trials_in(usual: u32, member: Option<&Value>) -> Result<u32, LineFault>
+    requires { IsLimit usual }
+    ensures value { result ≡ trials_in usual (option_map (λ v. view v.now) member.entry) }
+    ensures limit { IfOk result (λ n. IsLimit n) }
+{
+    let Some(member) = member else {
+        return Ok(usual);
+    };
+    match member.as_u64() {
+        Some(trials) if 1 <= trials && trials <= MAX_TRIALS as u64 => Ok(trials as u32),
+        _ => Err(LineFault::Trials),
     }
 }
 
@@ -82,14 +191,19 @@ fn asks_statement(
     mode: Mode,
     number: u32,
     line: &[u8],
+    value: &Value,
 ) -> Result<Asked, AllocError>
     requires { IsLimit mode.trials }
-    ensures { IfOk result (λ a. a ≡ asks_statement (statement_in (arc_value rules.now) mode number line.now)) }
+    ensures { IfOk result (λ a. a ≡ asks_statement (arc_value rules.now) mode.anchor number line.now (get (codes "if_version") (view value.now)) (trials_in mode.trials (get (codes "trials") (view value.now)))) }
 {
-    match read_statement(alloc, rules, mode, number, line) {
-        Ok(statement) => Ok(Asked::Perform(statement)),
-        Err(DocumentFault::Memory) => Err(AllocError),
-        Err(fault) => Ok(Asked::Fault(fault)),
+    let trials = match trials_in(mode.trials, value.get("trials")) {
+        Ok(trials) => trials,
+        Err(fault) => return Ok(Asked::Fault(fault)),
+    };
+    let anchor = mode.anchor;
+    match statement_of(alloc, rules, Mode { anchor, trials }, number, line)? {
+        Ok(statement) => Ok(asks_at(value.get("if_version"), statement)),
+        Err(fault) => Ok(Asked::Fault(LineFault::Document(fault))),
     }
 }
 
@@ -103,12 +217,14 @@ fn asked_by(
     value: &Value,
 ) -> Result<Asked, AllocError>
     requires { IsLimit mode.trials }
-    ensures { IfOk result (λ a. a ≡ asked_by (get (codes "read") (view value.now)) (get (codes "since") (view value.now)) number (statement_in (arc_value rules.now) mode number line.now)) }
+    ensures { IfOk result (λ a. a ≡ asked_by (arc_value rules.now) mode number line.now (view value.now) (get (codes "read") (view value.now)) (get (codes "since") (view value.now))) }
 {
     match (value.get("read"), value.get("since")) {
         (Some(member), _) => asks_read(alloc, number, member),
-        (None, Some(member)) => Ok(asks_since(member)),
-        (None, None) => asks_statement(alloc, rules, mode, number, line),
+        (None, Some(member)) => {
+            asks_since(alloc, number, member, value.get("limit"), value.get("text"))
+        }
+        (None, None) => asks_statement(alloc, rules, mode, number, line, value),
     }
 }
 
@@ -127,8 +243,10 @@ fn value_of(alloc: Global, line: &[u8]) -> Result<Option<Value>, AllocError>
 }
 
 /// Returns what a line asks for, with the caller's id. A statement is read for these definitions, with this number and
-/// mode, as by `read_statement`. A member `read` is the name of a text, and a member `since` an index. Where a line can't be
-/// read, it asks for the fault. Refused only if memory runs out.
+/// mode, as by `read_statement`. A member `read` is the name of a text, and a member `since` an index. With `since`, `limit` is
+/// the most entries and `text` the name of the text whose entries are meant. A statement's `trials` is the limit in place of the
+/// mode's, from 1 to 1,000,000,000, and its `if_version` the version at which it is to be performed. If a line can't be read,
+/// it asks for the first fault: of `trials`, then of the statement, then of `if_version`. Refused only if memory runs out.
 pub fn line_in(
     alloc: Global,
     rules: &Arc<Rules>,
@@ -143,7 +261,7 @@ pub fn line_in(
     let Some(value) = value_of(alloc, line)? else {
         return Ok(Line {
             id: None,
-            asked: Asked::Fault(DocumentFault::NotJson),
+            asked: Asked::Fault(LineFault::Document(DocumentFault::NotJson)),
         });
     };
     let id = id_or_none(value.get("id"))?;

@@ -1,7 +1,8 @@
-//! Why a service ended early.
+//! Why a service ended early, and why a line can't be read.
 ghost use Rattle.std.specs.Prelude.{◌≡◌};
 ghost use Rattle.sno_serve.specs.declared.faults.ServeFault.TheVariants.{Memory};
 
+use sno_document::DocumentFault;
 use std::alloc::{AllocError, AllocFailed};
 use thiserror::Error;
 
@@ -20,6 +21,15 @@ pub enum ServeFault {
     /// There was no place for a seat, or the desk could not be closed.
     #[error("desk failed")]
     Desk,
+}
+
+/// Why a line can't be read.
+#[derive(Clone, Copy, Debug, PartialEq, Eq)]
+pub enum LineFault {
+    /// As a document with this statement can't be read.
+    Document(DocumentFault),
+    /// The line's limit of trials is not one of 1 to 1,000,000,000.
+    Trials,
 }
 
 impl From<AllocError> for ServeFault {

@@ -1,6 +1,6 @@
 //! A desk that is served over streams: a JSON value a line, and a JSON object a line in reply.
 //!
-//! [`line_in`] reads one line, [`answer`] answers it, and [`serve`] reads lines until there are no more and writes the replies. What a
+//! [`line_in`] reads one line, [`answer`] returns its reply, and [`serve`] reads lines until there are no more and writes the replies. What a
 //! line asks for is said by `asked_in` of `specs/Asked.antt`, and the replies by `specs/Replies.antt`.
 //!
 //! | File | What it does |
@@ -8,13 +8,17 @@
 //! | `asked` | what a line asks for |
 //! | `replies` | the JSON of each reply |
 //! | `answers` | a line with its reply, at a seat |
+//! | `at_version` | a statement that is accepted only at one version of its text |
+//! | `excerpt` | which entries a line asks for |
 //! | `intake`, `outlet` | lines of a reader; lines to a writer, and what was refused |
 //! | `service` | seats that take lines until there are no more |
-//! | `faults` | why a service ended early |
+//! | `faults` | why a service ended early, and why a line can't be read |
 #![tactic(auto)]
 
 mod answers;
 mod asked;
+mod at_version;
+mod excerpt;
 mod faults;
 mod intake;
 mod outlet;
@@ -23,7 +27,8 @@ mod service;
 
 pub use answers::{Answered, answer, refusal_in, submit};
 pub use asked::{Asked, Line, line_in};
-pub use faults::ServeFault;
+pub use excerpt::Excerpt;
+pub use faults::{LineFault, ServeFault};
 pub use intake::{Intake, MAX_LINE, Next};
 pub use service::{Served, serve};
 pub use sno_desk::{Desk, Entry, Naming, Seat};

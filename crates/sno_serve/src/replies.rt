@@ -1,14 +1,16 @@
 //! The JSON of replies.
-ghost use Rattle.std.specs.Prelude.{◌≡◌, ◌<◌, ◌+◌, ◌^◌, codes, length, IfOk};
+ghost use Rattle.std.specs.Prelude.{◌≡◌, codes, map, IfOk};
 ghost use Rattle.std.specs.Option.{option_map};
 ghost use Rattle.serde_json.specs.Data.{string, no_members, member};
 ghost use Rattle.serde_json.specs.View.{view, members_view};
-ghost use Rattle.sno_serve.specs.Replies.{IsFaulted, with_id, word_reply, submit_words, submit_reply, read_reply, since_reply};
+ghost use Rattle.sno_serve.specs.Replies.{IsFaulted, with_id, word_reply, submit_words, submit_reply, changed_reply, at_reply, read_reply, since_reply};
 
+use crate::LineFault;
+use crate::at_version::AtFault;
 use serde_json::{Map, Value, put};
-use sno_desk::{Entry, Reply, Snapshot, SubmitFault, TextName};
+use sno_desk::{Receipt, Reply, Snapshot, SubmitFault, TextName};
 use sno_document::DocumentFault;
-use sno_listing::{Reason, done_members, entry_values, reason_value, text_members};
+use sno_listing::{Reason, done_members, reason_value, text_members};
 use std::alloc::{AllocError, Global};
 
 /// The object with these members and the id.
@@ -81,6 +83,32 @@ pub(crate) fn submit_reply(
     }
 }
 
+/// The reply to a statement whose text has another version than the line names: the version that it has, with the id.
+fn changed_reply(alloc: Global, id: Option<Value>, now: u64) -> Result<Value, AllocError>
+    ensures { IfOk result (λ v. view v ≡ changed_reply (option_map view id) now) }
+{
+    let reason = Value::try_from_str(alloc, "changed")?;
+    let mut members = Map::new(alloc);
+    put(&mut members, alloc, "version", Value::from(now))?;
+    put(&mut members, alloc, "reason", reason)?;
+    with_id(alloc, id, members)
+}
+
+/// The reply to a statement at one version of its text, with the id.
+pub(crate) fn at_reply(
+    alloc: Global,
+    id: Option<Value>,
+    gave: Result<Receipt, AtFault>,
+) -> Result<Value, AllocError>
+    ensures { IfOk result (λ v. view v ≡ at_reply (option_map view id) gave) }
+{
+    match gave {
+        Ok(receipt) => submit_reply(alloc, id, &Ok(receipt)),
+        Err(AtFault::Changed(now)) => changed_reply(alloc, id, now),
+        Err(AtFault::Refused(fault)) => submit_reply(alloc, id, &Err(fault)),
+    }
+}
+
 /// The reply to a read: name, text and version, with the id.
 pub(crate) fn read_reply(
     alloc: Global,
@@ -94,18 +122,15 @@ pub(crate) fn read_reply(
     with_id(alloc, id, members)
 }
 
-/// The reply with entries from an index on, with the id.
+/// The reply with these entries, with the id.
 pub(crate) fn since_reply(
     alloc: Global,
     id: Option<Value>,
-    from: usize,
-    entries: &[Entry],
+    entries: Vec<Value>,
 ) -> Result<Value, AllocError>
-    requires { from + length entries.now < 2 ^ 64 }
-    ensures { IfOk result (λ v. view v ≡ since_reply (option_map view id) from entries.now) }
+    ensures { IfOk result (λ v. view v ≡ since_reply (option_map view id) (map view entries.items)) }
 {
-    let entries = Value::Array(entry_values(alloc, from, entries)?);
-    word_reply(alloc, id, "entries", entries)
+    word_reply(alloc, id, "entries", Value::Array(entries))
 }
 
 /// The reply with the reason why nothing was done, and the id.
@@ -120,9 +145,17 @@ pub(crate) fn reason_reply(
     word_reply(alloc, id, "reason", words)
 }
 
-/// The words of the fault of a line, without the number of a statement.
-fn fault_words(alloc: Global, fault: &DocumentFault) -> Result<String, AllocError> {
+/// The words of the fault of a line.
+fn fault_words(alloc: Global, fault: &LineFault) -> Result<String, AllocError> {
     match *fault {
+        LineFault::Document(fault) => document_words(alloc, fault),
+        LineFault::Trials => format!(in alloc; "bad trials"),
+    }
+}
+
+/// The words of a document's fault, without the number of a statement.
+fn document_words(alloc: Global, fault: DocumentFault) -> Result<String, AllocError> {
+    match fault {
         DocumentFault::StatementPattern(_, fault) => format!(in alloc; "pattern: {fault}"),
         DocumentFault::StatementObject(_, fault) => format!(in alloc; "object: {fault}"),
         DocumentFault::StatementName(_) => format!(in alloc; "bad name"),
@@ -151,7 +184,7 @@ pub(crate) fn error_reply(
 pub(crate) fn fault_reply(
     alloc: Global,
     id: Option<Value>,
-    fault: &DocumentFault,
+    fault: &LineFault,
 ) -> Result<Value, AllocError>
     ensures { IfOk result (λ v. IsFaulted (option_map view id) (view v)) }
 {

@@ -117,13 +117,13 @@ impl<I: Read + Drop, W: Write + Drop> Service<I, W> {
     {
         let mut number = self.numbers.lock(rt);
         let line = line_in(alloc, &self.rules, self.mode, *number, line)?;
-        if matches!(&line.asked, Asked::Perform(_)) {
+        if matches!(&line.asked, Asked::Perform(_) | Asked::PerformAt(_, _)) {
             *number = (*number).saturating_add(1);
         }
         Ok(line)
     }
 
-    /// Answers a line, and writes the reply.
+    /// Writes the reply to a line.
     #[tactic(auto, using(crate::proofs::Accepting::served_on, crate::proofs::Accepting::served_self))]
     fn reply<L: Naming, R: Wait>(
         &self,
@@ -152,7 +152,7 @@ impl<I: Read + Drop, W: Write + Drop> Service<I, W> {
         Ok(())
     }
 
-    /// Takes one line and answers it. Returns whether there may be more.
+    /// Takes one line and replies to it. Returns whether there may be more.
     #[tactic(auto, using(crate::proofs::Accepting::served_on, crate::proofs::Accepting::served_self))]
     fn step<L: Naming, R: Wait>(
         &self,

@@ -9,7 +9,7 @@ const DOCUMENT: &[u8] =
     b"{\"texts\":[{\"name\":\"T\",\"text\":\"the cat\"}],\"statements\":[{\"text\":\"T\",\"pattern\":\"'the'\",\"object\":\"'a'\"}]}";
 
 /// Lines, each with its reply.
-static LINES: [(&'static str, &'static str); 8] = [
+static LINES: [(&'static str, &'static str); 13] = [
     (
         r#"{"id":1,"text":"T","pattern":"'cat'","object":"'dog'"}"#,
         r#"{"after":"a dog","bindings":[],"end":5,"entry":1,"id":1,"matched":true,"start":2,"statement":2,"text":"T","version":1}"#,
@@ -33,6 +33,26 @@ static LINES: [(&'static str, &'static str); 8] = [
         r#"{"bindings":[],"entry":2,"matched":false,"statement":4,"text":"T","version":2}"#,
     ),
     (r#"{"id":5,"read":"V"}"#, r#"{"id":5,"reason":"no text"}"#),
+    (
+        r#"{"id":6,"text":"T","pattern":"'dog'","object":"'cow'","if_version":1}"#,
+        r#"{"id":6,"reason":"changed","version":2}"#,
+    ),
+    (
+        r#"{"id":6,"text":"T","pattern":"'dog'","object":"'cow'","if_version":2}"#,
+        r#"{"after":"a cow","bindings":[],"end":5,"entry":3,"id":6,"matched":true,"start":2,"statement":6,"text":"T","version":2}"#,
+    ),
+    (
+        r#"{"id":7,"text":"T","pattern":"'cow'","trials":0}"#,
+        r#"{"error":"bad trials","id":7}"#,
+    ),
+    (
+        r#"{"id":8,"since":0,"limit":3,"text":"U"}"#,
+        r#"{"entries":[],"id":8}"#,
+    ),
+    (
+        r#"{"id":8,"since":2,"limit":1,"text":"T"}"#,
+        r#"{"entries":[{"bindings":[],"entry":2,"matched":false,"statement":4,"text":"T","version":2}],"id":8}"#,
+    ),
 ];
 
 /// Compares the numbers of the entries' statements.
@@ -82,7 +102,7 @@ fn lines_are_answered(rt: HostRuntime) -> Result<(), Fail> {
     .ok()
     .ok_or("served")?;
     assert!(rt; served.fault.is_none());
-    check_numbers(&rt, served.book.journal(), &[1, 2, 4]);
+    check_numbers(&rt, served.book.journal(), &[1, 2, 4, 6]);
     check_refused(&rt, &served.refused, &[3]);
     assert!(rt; output.as_slice() == wanted.as_slice());
     Ok(())

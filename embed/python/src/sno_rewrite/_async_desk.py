@@ -11,7 +11,7 @@ from os import PathLike
 from types import TracebackType
 
 from ._lines import DeskEnded, DeskError, DeskTimeout, NamelessError, Reply
-from ._lines import entries, read, result, statement, written
+from ._lines import entries, excerpt, read, result, statement, written
 
 _PIECE = 1 << 16
 
@@ -69,17 +69,21 @@ class AsyncDesk:
         anchored: bool | None = None,
         repeat: int | None = None,
         all: bool | None = None,
+        if_version: int | None = None,
+        trials: int | None = None,
     ) -> Reply:
-        """The entry of a statement, or its `reason` if it is refused."""
-        return await self._ask(statement(text, pattern, object, anchored=anchored, repeat=repeat, all=all))
+        """The entry of a statement, or its `reason` if it is refused. If the text's version isn't `if_version`, the
+        reason is `changed`, with that version."""
+        members = {"anchored": anchored, "repeat": repeat, "all": all, "if_version": if_version, "trials": trials}
+        return await self._ask(statement(text, pattern, object, **members))
 
     async def read(self, text: str) -> Reply:
         """The name, characters and version of a text, or a `reason`."""
         return await self._ask({"read": text})
 
-    async def since(self, index: int) -> list[Reply]:
-        """The entries from this index on."""
-        return entries(await self._ask({"since": index}))
+    async def since(self, index: int, *, limit: int | None = None, text: str | None = None) -> list[Reply]:
+        """The entries from this index on: at most `limit`, and of this text alone."""
+        return entries(await self._ask(excerpt(index, limit=limit, text=text)))
 
     async def close(self) -> int:
         """Ends the input, waits for all replies, and returns the status of the program. If it doesn't end in time, it

@@ -15,7 +15,7 @@ from os import PathLike
 from types import TracebackType
 
 from ._lines import DeskEnded, DeskError, DeskTimeout, NamelessError, Reply
-from ._lines import entries, read, result, statement, written
+from ._lines import entries, excerpt, read, result, statement, written
 
 # How many seconds the end of the program is waited for after the end of its output.
 _SOON = 1.0
@@ -73,17 +73,21 @@ class Desk:
         anchored: bool | None = None,
         repeat: int | None = None,
         all: bool | None = None,
+        if_version: int | None = None,
+        trials: int | None = None,
     ) -> Reply:
-        """The entry of a statement, or its `reason` if it is refused."""
-        return self._ask(statement(text, pattern, object, anchored=anchored, repeat=repeat, all=all))
+        """The entry of a statement, or its `reason` if it is refused. If the text's version isn't `if_version`, the
+        reason is `changed`, with that version."""
+        members = {"anchored": anchored, "repeat": repeat, "all": all, "if_version": if_version, "trials": trials}
+        return self._ask(statement(text, pattern, object, **members))
 
     def read(self, text: str) -> Reply:
         """The name, characters and version of a text, or a `reason`."""
         return self._ask({"read": text})
 
-    def since(self, index: int) -> list[Reply]:
-        """The entries from this index on."""
-        return entries(self._ask({"since": index}))
+    def since(self, index: int, *, limit: int | None = None, text: str | None = None) -> list[Reply]:
+        """The entries from this index on: at most `limit`, and of this text alone."""
+        return entries(self._ask(excerpt(index, limit=limit, text=text)))
 
     def close(self) -> int:
         """Ends the input, waits for all replies, and returns the status of the program. If it doesn't end in time, it

@@ -44,6 +44,11 @@ def statement(text: str, pattern: str, object: str | None, **members: Any) -> Re
     return {name: value for name, value in given.items() if value is not None}
 
 
+def excerpt(index: int, **members: Any) -> Reply:
+    """The members of a line that asks for entries, without those that are None."""
+    return {name: value for name, value in {"since": index, **members}.items() if value is not None}
+
+
 def written(members: Reply, number: int) -> bytes:
     """The line with this id. ValueError is raised for what the program couldn't read as JSON: its reply has no id."""
     line = _JSON.encode({**members, "id": number}).encode()
