@@ -1,9 +1,9 @@
 -- How what is on the disk keeps up with what is accepted.
-use Rattle.std.specs.Prelude.{◌≡◌, ◌+◌, ℕ, length, IsTrue}
+use Rattle.std.specs.Prelude.{◌≡◌, ◌+◌, ◌++◌, ℕ, List, length, IsTrue}
 use Rattle.sqlite_disk.specs.declared.Disk.{Ghosts}
 use Rattle.sno_store.specs.declared.lines.Lines.{Lines}
 use Rattle.sno_store.specs.declared.store.Store.{Store}
-use Rattle.sno_store.specs.Store.{lines_of, is_clean}
+use Rattle.sno_store.specs.Store.{lines_of, is_clean, IsOnDisk}
 use Rattle.sno_store.specs.Shown.{lines_in}
 
 -- as many records have come to those that wait as entries were accepted
@@ -14,3 +14,7 @@ module _ {D : Type 0} {g : Ghosts D} where
   -- as many lines have come to the store as entries were accepted, unless the disk has given a wrong answer
   abbrev pub HasKept : Store D g → Store D g → ℕ → ℕ → Type 0
   HasKept old new before after = IsTrue (is_clean new) → length (lines_of new) + before ≡ length (lines_of old) + after
+
+  -- these records are the last lines of the store, and all its lines are on the disk, unless the disk has given a wrong answer
+  abbrev pub AreKept : Store D g → Lines → Type 0
+  AreKept store records = IsTrue (is_clean store) → ((olds : List (List ℕ)) × (lines_of store ≡ olds ++ lines_in records)) × IsOnDisk store

@@ -2,7 +2,7 @@
 ghost use Rattle.std.specs.Prelude.{◌≡◌, ◌+◌, OnOk, OnErr, IfErr, true, length};
 ghost use Rattle.sno_statement.specs.Statement.{IsLimit};
 ghost use Rattle.sno_store.specs.Shown.{lines_left};
-ghost use Rattle.sno_durable.specs.Kept.{HasNoted, HasKept};
+ghost use Rattle.sno_durable.specs.Kept.{AreKept, HasNoted, HasKept};
 
 use crate::DurableFault;
 use crate::records::{record_in, record_line};
@@ -63,7 +63,7 @@ impl<D: Disk + Drop, I: Read + Drop, W: Write + Drop> Keeper<D, I, W> {
         ensures same { self.new.store ≡ self.old.store }
     {
         let read = line_in(alloc, &self.rules, self.mode, self.number, line)?;
-        if matches!(&read.asked, Asked::Perform(_)) {
+        if matches!(&read.asked, Asked::Perform(_) | Asked::PerformAt(_, _)) {
             self.number = self.number.saturating_add(1);
         }
         let before = seat.accepted();
@@ -132,11 +132,12 @@ impl<D: Disk + Drop, I: Read + Drop, W: Write + Drop> Keeper<D, I, W> {
         Ok(true)
     }
 
-    /// Writes the replies.
-    fn show(&mut self, replies: &[u8]) -> Result<(), DurableFault>
+    /// Writes the replies that waited. Their records have to be on the disk.
+    fn show(&mut self, waiting: &Waiting) -> Result<(), DurableFault>
+        requires kept { AreKept self.old.store waiting.now.records }
         ensures same { self.new.store ≡ self.old.store }
     {
-        if self.writer.write_all(replies).is_err() || self.writer.flush().is_err() {
+        if self.writer.write_all(&waiting.replies).is_err() || self.writer.flush().is_err() {
             return Err(DurableFault::Write);
         }
         Ok(())
@@ -159,7 +160,7 @@ impl<D: Disk + Drop, I: Read + Drop, W: Write + Drop> Keeper<D, I, W> {
         };
         let more = self.gather(rt, alloc, desk, seat, &mut waiting)?;
         self.store.put(&waiting.records)?;
-        self.show(&waiting.replies)?;
+        self.show(&waiting)?;
         Ok(more)
     }
 
