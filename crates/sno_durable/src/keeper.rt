@@ -1,7 +1,8 @@
 //! The lines of a client, their replies, and the store between the two.
-ghost use Rattle.std.specs.Prelude.{◌≡◌, ◌+◌, OnOk, OnErr, IfErr, true, length};
+ghost use Rattle.std.specs.Prelude.{◌≡◌, ◌+◌, OnOk, IsTrue, length};
 ghost use Rattle.sno_statement.specs.Statement.{IsLimit};
 ghost use Rattle.sno_store.specs.Shown.{lines_left};
+ghost use Rattle.sno_store.specs.Store.{is_clean};
 ghost use Rattle.sno_durable.specs.Kept.{AreKept, HasNoted, HasKept};
 
 use crate::DurableFault;
@@ -153,6 +154,7 @@ impl<D: Disk + Drop, I: Read + Drop, W: Write + Drop> Keeper<D, I, W> {
         seat: &mut Seat<L>,
     ) -> Result<bool, DurableFault>
         ensures kept { OnOk result (HasKept self.old.store self.new.store seat.old.accepted seat.new.accepted) }
+        ensures clean { OnOk result (IsTrue (is_clean self.new.store) → IsTrue (is_clean self.old.store)) }
     {
         let mut waiting = Waiting {
             records: Lines::new(alloc),
@@ -176,7 +178,7 @@ impl<D: Disk + Drop, I: Read + Drop, W: Write + Drop> Keeper<D, I, W> {
     {
         for _ in 0..u64::MAX {
             if !self.turn(rt, alloc, desk, seat)? {
-                break;
+                return Ok(());
             }
         }
         Ok(())

@@ -3,6 +3,7 @@ ghost use Rattle.std.specs.Prelude.{◌≡◌, ◌≤◌, [], true, IfOk};
 ghost use Rattle.sno_book.specs.Books.{view_of};
 ghost use Rattle.sno_book.specs.Views.{IsValid};
 ghost use Rattle.sno_statement.specs.Statement.{IsLimit};
+ghost use Rattle.sno_document.specs.Reads.{IsReady};
 
 use crate::DurableFault;
 use crate::keeper::Keeper;
@@ -82,6 +83,7 @@ fn is_limit(trials: u32) -> bool
 /// The document of these bytes.
 fn document_of(alloc: Global, bytes: &[u8], mode: Mode) -> Result<Document, DurableFault>
     requires { IsLimit mode.trials }
+    ensures ready { IfOk result (λ d. IsReady d) }
 {
     match read_document(alloc, bytes, mode) {
         Ok(document) => Ok(document),
