@@ -177,9 +177,10 @@ fn at_named_desk<L: Naming, D: Disk + Drop, I: Read + Drop, W: Write + Drop, R: 
 ///
 /// Refused before the first line is answered:
 ///
+/// - `Format`: the file is of another format, or has something but no whole line. Nothing was written;
 /// - `NoDocument`, `Document`: the store is new, and no document is given, or it is refused. Nothing was written;
-/// - `Format`, `OtherDocument`, `OtherTrials`: the file is of another format or has no whole line, was made of another document than the one that
-///   is given, or with another limit. Nothing was written;
+/// - `OtherDocument`, `OtherTrials`: the store was made of another document than the one that is given, or with another limit.
+///   Nothing was written;
 /// - `Store` if the first line could not be put into a new store;
 /// - `Memory`; `Desk` if there is no place for the seat, or the desk could not be closed, which no legal run meets.
 ///
@@ -197,6 +198,10 @@ pub fn serve_durably<D: Disk + Drop, I: Read + Drop, W: Write + Drop, R: Wait>(
 ) -> Result<Kept<D>, DurableFault>
     ensures valid { IfOk result (λ k. IsValid (view_of k.book)) }
 {
+    // A file that has something but no lines is another program's, or was cut while it was made.
+    if lines.is_empty() && store.is_torn() {
+        return Err(DurableFault::Format);
+    }
     let origin = origin_of(alloc, &lines, given)?;
     if !is_limit(origin.trials) {
         return Err(DurableFault::Format);
@@ -211,10 +216,6 @@ pub fn serve_durably<D: Disk + Drop, I: Read + Drop, W: Write + Drop, R: Wait>(
         statements,
     } = document_of(alloc, &origin.document, mode)?;
     let mut store = store;
-    // A file that has something but no lines is another program's, or was cut while it was made.
-    if lines.is_empty() && store.is_torn() {
-        return Err(DurableFault::Format);
-    }
     if lines.is_empty() {
         begin_store(alloc, &mut store, &origin)?;
     }
