@@ -86,18 +86,17 @@ pub(crate) fn serve_command<'a>(alloc: Global) -> Result<Command<'a>, AllocError
         .arg(document)
 }
 
-/// How a document is to be served over a store. By its type the number is in its range.
+/// How a document is to be served over a store.
 #[derive(Clone, Copy, Debug, PartialEq, Eq)]
 pub(crate) struct StoreOptions<'a> {
     /// The file of the store.
     pub(crate) store: &'a str,
-    /// How many trials a match may take, if that is asked for.
+    /// How many trials a match may take, 1 to 1,000,000,000, if that is asked for.
     pub(crate) trials: Option<u32>,
     /// The file of the listing, if one is to be written.
     pub(crate) listing: Option<&'a str>,
     /// The file of the document, if one is given.
     pub(crate) document: Option<&'a str>,
-    ghost limit: { IfSome trials IsLimit },
 }
 
 /// The number of trials that is asked for, if there is one; otherwise `None` if it is not in its range.

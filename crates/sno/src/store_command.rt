@@ -9,7 +9,11 @@ const ABOUT: &str =
 // The subcommand's own usage would leave out the program's name.
 const USAGE: &str = "sno store check FILE\n       sno store list FILE";
 
+const CHECK: &str = "check";
+
 const CHECK_ABOUT: &str = "Says how many entries the store has, or what is wrong with it";
+
+const LIST: &str = "list";
 
 const LIST_ABOUT: &str = "Writes the listing of the store as JSON";
 
@@ -60,14 +64,14 @@ pub(crate) fn store_command<'a>(alloc: Global) -> Result<Command<'a>, AllocError
         .after_help(EXAMPLE)
         .subcommand_required(true)
         .disable_help_subcommand(true)
-        .subcommand(with_file(alloc, "check", CHECK_ABOUT, "sno store check FILE")?)?
-        .subcommand(with_file(alloc, "list", LIST_ABOUT, "sno store list FILE")?)
+        .subcommand(with_file(alloc, CHECK, CHECK_ABOUT, "sno store check FILE")?)?
+        .subcommand(with_file(alloc, LIST, LIST_ABOUT, "sno store list FILE")?)
 }
 
 /// What was found.
 pub(crate) fn store_request<'a>(matches: &ArgMatches<'a>) -> StoreRequest<'a> {
-    let list = matches.subcommand_matches("list");
-    let check = matches.subcommand_matches("check");
+    let list = matches.subcommand_matches(LIST);
+    let check = matches.subcommand_matches(CHECK);
     let (action, found) = match (list, check) {
         (Some(found), _) => (StoreAction::List, found.get_str("file")),
         (None, Some(found)) => (StoreAction::Check, found.get_str("file")),

@@ -11,10 +11,10 @@ abbrev pub HasNoted : Lines → Lines → ℕ → ℕ → Type 0
 HasNoted waited waits before after = length (lines_in waits) + before ≡ length (lines_in waited) + after
 
 module _ {D : Type 0} {g : Ghosts D} where
-  -- as many lines have come to the store as entries were accepted, unless the disk has given a wrong answer
+  -- as many lines have come to the store as entries were accepted, unless the disk has given other bytes than it has
   abbrev pub HasKept : Store D g → Store D g → ℕ → ℕ → Type 0
   HasKept old new before after = IsTrue (is_clean new) → length (lines_of new) + before ≡ length (lines_of old) + after
 
-  -- these records are the last lines of the store, and all its lines are on the disk, unless the disk has given a wrong answer
+  -- these records are the last lines of the store, and all its lines are on the disk, unless the disk has given other bytes than it has
   abbrev pub AreKept : Store D g → Lines → Type 0
   AreKept store records = IsTrue (is_clean store) → ((olds : List (List ℕ)) × (lines_of store ≡ olds ++ lines_in records)) × IsOnDisk store

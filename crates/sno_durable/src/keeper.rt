@@ -35,7 +35,7 @@ struct Waiting {
     replies: Vec<u8>,
 }
 
-/// What stands between a client and the desk's only seat.
+/// What is between a client and the desk's only seat.
 #[derive(Drop)]
 pub(crate) struct Keeper<D: Disk, I: Read, W: Write> {
     pub(crate) rules: Arc<Rules>,
@@ -50,7 +50,7 @@ pub(crate) struct Keeper<D: Disk, I: Read, W: Write> {
 }
 
 impl<D: Disk + Drop, I: Read + Drop, W: Write + Drop> Keeper<D, I, W> {
-    /// Answers a line. The record of its entry, if it has one, and the reply wait for the disk.
+    /// Replies to a line. The record of its entry, if it has one, and the reply wait for the disk.
     fn reply<L: Naming, R: Wait>(
         &mut self,
         rt: &R,
@@ -84,7 +84,7 @@ impl<D: Disk + Drop, I: Read + Drop, W: Write + Drop> Keeper<D, I, W> {
         Ok(())
     }
 
-    /// Takes a line and answers it. Returns whether there may be more.
+    /// Takes a line and replies to it. Returns whether there may be more.
     fn take<L: Naming, R: Wait>(
         &mut self,
         rt: &R,
@@ -144,7 +144,7 @@ impl<D: Disk + Drop, I: Read + Drop, W: Write + Drop> Keeper<D, I, W> {
         Ok(())
     }
 
-    /// Answers some lines: their entries are put into the store, and when they are on the disk, the replies are written.
+    /// Replies to some lines: their entries are put into the store, and when they are on the disk, the replies are written.
     /// Returns whether there may be more lines.
     fn turn<L: Naming, R: Wait>(
         &mut self,
@@ -166,7 +166,7 @@ impl<D: Disk + Drop, I: Read + Drop, W: Write + Drop> Keeper<D, I, W> {
         Ok(more)
     }
 
-    /// Answers lines until there are no more.
+    /// Replies to lines until there are no more.
     pub(crate) fn serve<L: Naming, R: Wait>(
         &mut self,
         rt: &R,

@@ -108,7 +108,7 @@ fn begin_store<D: Disk>(
     Ok(())
 }
 
-/// Works at the only seat: performs the statements of the document and of the records, then answers lines until there are
+/// Works at the only seat: performs the statements of the document and of the records, then replies to lines until there are
 /// no more.
 fn at_seat<L: Naming, D: Disk + Drop, I: Read + Drop, W: Write + Drop, R: Wait>(
     rt: &R,
@@ -162,20 +162,20 @@ fn at_named_desk<L: Naming, D: Disk + Drop, I: Read + Drop, W: Write + Drop, R: 
     }
 }
 
-/// Serves the document of a store: performs its statements and those of its records again, then answers each line of the
-/// reader by a line of the writer, until there are no more. A line is that of [`sno_serve::line_in`], and its reply that of
+/// Serves the document of a store: performs its statements and those of its records again, then replies to each line of
+/// the reader by a line of the writer, until there are no more. A line is that of [`sno_serve::line_in`], and its reply that of
 /// [`sno_serve::answer`]. `lines` are those that the store had when it was opened. If it had none, the store is made of the
 /// document that is given.
 ///
-/// Lines are answered in the order in which they come. Those that were read together, up to 1,024, share one wait for the
+/// Lines get their replies in the order in which they come. Those that were read together, up to 1,024, share one wait for the
 /// disk: the records of their entries are put into the store, and the replies are written when these are on the disk. So no
 /// reply shows an entry that a crash could take back.
 ///
 /// On `Ok` the journal of the book is legal. If the input has ended, `ended` is how many entries are of the document's own
-/// statements, and the store has its first line and one line for each further entry, as far as the disk gave no wrong answer.
+/// statements, and the store has its first line and one line for each further entry, as far as the disk gave no other bytes than it has.
 /// Otherwise it is the fault that ended the service.
 ///
-/// Refused before the first line is answered:
+/// Refused before the first reply:
 ///
 /// - `Format`: the file is of another format, or has something but no whole line. Nothing was written;
 /// - `NoDocument`, `Document`: the store is new, and no document is given, or it is refused. Nothing was written;
@@ -185,7 +185,7 @@ fn at_named_desk<L: Naming, D: Disk + Drop, I: Read + Drop, W: Write + Drop, R: 
 /// - `Memory`; `Desk` if there is no place for the seat, or the desk could not be closed, which no legal run meets.
 ///
 /// A fault in `ended`: `Record`, `Outcome` if a line isn't a record, or its statement has another outcome than the stored
-/// one; no line was answered then. `Store`, `Read`, `Write`, `Memory`: lines whose replies were not written may have entries in
+/// one; no line got a reply then. `Store`, `Read`, `Write`, `Memory`: lines whose replies were not written may have entries in
 /// the store.
 pub fn serve_durably<D: Disk + Drop, I: Read + Drop, W: Write + Drop, R: Wait>(
     rt: &R,
