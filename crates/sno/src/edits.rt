@@ -83,18 +83,19 @@ fn write_files<R: Files<File = File>, W: Write, E: Write>(
 ) -> Result<Tally, ProgramFault> {
     let mut tally = Tally::of(paths.len());
     let mut lines = Vec::new(alloc);
-    let mut rest = paths;
+    let mut edited = 0;
     // Each step edits at least one file.
     for _ in 0..paths.len() {
+        let (_before, rest) = paths.split_at(paths.len().min(edited));
         if rest.is_empty() {
             break;
         }
         let ends = edit_some(rt, alloc, rules, writing, rest)?;
-        let (files, later) = rest.split_at(ends.len().min(rest.len()));
+        let (files, _later) = rest.split_at(ends.len().min(rest.len()));
         report_ends(
             rt, alloc, rules, form, files, &ends, &mut tally, &mut lines, errors,
         )?;
-        rest = later;
+        edited = edited.saturating_add(ends.len());
     }
     write_all(output, &lines)?;
     Ok(tally)

@@ -25,7 +25,26 @@ fn list_bytes<R: Files, I: Read>(
     }
 }
 
-/// The files at these paths, and at those of the list. A `-` in the list is the path of a file.
+/// The path of a list as that of a file: `-` is one there.
+fn as_file<'x>(path: &'x str) -> &'x str {
+    if path == "-" { "./-" } else { path }
+}
+
+/// The paths that are named, and after them those of the list.
+fn all_paths<'x>(
+    alloc: Global,
+    named: &[&'x str],
+    list: &'x [u8],
+    end: u8,
+) -> Result<Vec<&'x str>, ListFault> {
+    let mut paths = Vec::from_slice(alloc, named)?;
+    for path in paths_in(alloc, list, end)? {
+        paths.push(as_file(path))?;
+    }
+    Ok(paths)
+}
+
+/// The files at the paths that are named, and at those of the list.
 fn listed_files<R: Files + AllocGlobal + Clone + Drop>(
     rt: &R,
     alloc: Global,
@@ -33,10 +52,7 @@ fn listed_files<R: Files + AllocGlobal + Clone + Drop>(
     list: &[u8],
     end: u8,
 ) -> Result<Paths, ListFault> {
-    let mut paths = Vec::from_slice(alloc, &named.paths)?;
-    for path in paths_in(alloc, list, end)? {
-        paths.push(if path == "-" { "./-" } else { path })?;
-    }
+    let paths = all_paths(alloc, &named.paths, list, end)?;
     Ok(Paths::at(rt, alloc, &paths, &named.names)?)
 }
 
