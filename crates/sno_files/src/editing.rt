@@ -5,6 +5,7 @@ use crate::new_files::{OVERTAKEN, Writing};
 use sno_edit::{Done, EditRules, FileFault, edit_file, edit_files};
 use std::alloc::{AllocError, Global};
 use std::fs::File;
+use std::io::ErrorKind;
 use std::rt::Files;
 
 /// The most files that are held together.
@@ -19,6 +20,12 @@ fn is_overtaken(end: &Result<Done, FileFault>) -> bool {
         Err(FileFault::Unread(kind) | FileFault::Unwritten(kind)) => *kind == OVERTAKEN,
         _ => false,
     }
+}
+
+/// Whether the file is to be edited anew, alone: another program changed it, or there was no room for it while the old files of
+/// others were held.
+fn is_left(end: &Result<Done, FileFault>) -> bool {
+    is_overtaken(end) || matches!(end, Err(FileFault::Unwritten(ErrorKind::StorageFull)))
 }
 
 /// Edits a file, and anew if another program changes it meanwhile.
@@ -42,7 +49,7 @@ fn edit_anew<R: Files<File = File>>(
 
 /// Edits the first of these files by the rules, and returns what became of each: of one file or, if new files have to be on the
 /// disk, of up to 64. They are held while they are edited: a run that would edit one of them waits. A file that another program
-/// changes meanwhile is edited anew, up to ten times.
+/// changes meanwhile is edited anew, up to ten times, and one for which there was no room once more, after the others.
 ///
 /// Of one file the refusals are those of `edit_file` of `sno_edit`, with `Unread` also if the path doesn't lead to a regular
 /// file, and `Unwritten` also if another program changed it each time; `Reason` says both in words. Then it stays as it was.
@@ -60,7 +67,7 @@ pub fn edit_some<R: Files<File = File>>(
     let mut ends = edit_files(alloc, &mut held, rules, files)?;
     drop(held);
     for (path, end) in files.iter().zip(ends.iter_mut()) {
-        if is_overtaken(end) {
+        if is_left(end) {
             *end = edit_anew(rt, alloc, rules, writing, path);
         }
     }
