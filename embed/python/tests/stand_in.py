@@ -57,6 +57,11 @@ class Book:
             raise Refused("error", "bad name")
 
     def matched(self, line: dict[str, Any], pattern: re.Match[str], text: dict[str, Any]) -> dict[str, Any]:
+        if line.get("if_version", text["version"]) != text["version"]:
+            raise Refused("reason", "changed", text["version"])
+        # A trial for each start, if the literal is at none of them.
+        if "trials" in line and len(text["text"]) > line["trials"] - 1 and (pattern[1] or "") not in text["text"]:
+            raise Refused("reason", "too many trials")
         literal = pattern[1] or ""
         start = text["text"].find(literal) if pattern[1] is not None else len(text["text"])
         matches = start == 0 if line.get("anchored") else start >= 0
@@ -89,8 +94,8 @@ class Book:
         try:
             return self.kind(members) | identity
         except Refused as refused:
-            member, words = refused.args
-            return {member: words, **identity}
+            member, words, *version = refused.args
+            return {member: words, **({"version": version[0]} if version else {}), **identity}
 
     def kind(self, members: dict[str, Any]) -> dict[str, Any]:
         if "read" in members:
@@ -101,7 +106,9 @@ class Book:
         if "since" in members:
             if not isinstance(members["since"], int) or members["since"] < 0:
                 raise Refused("error", "wrong shape")
-            return {"entries": self.entries[members["since"] :]}
+            named = members.get("text")
+            entries = [it for it in self.entries[members["since"] :] if named in (None, it["text"])]
+            return {"entries": entries[: members.get("limit")]}
         return self.perform(members)
 
     def listing(self) -> str:

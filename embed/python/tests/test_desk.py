@@ -71,7 +71,7 @@ class Calls(Documents):
             self.assertEqual(desk.submit("U", "'a'"), {"reason": "no text"})
             self.assertFalse(desk.submit("T", "'dog'", anchored=True)["matched"])
             self.assertEqual(desk.submit("T", "'dog'", if_version=1), {"reason": "changed", "version": 2})
-            self.assertEqual(desk.submit("T", "ARB 'z'", trials=5), {"reason": "too many trials"})
+            self.assertEqual(desk.submit("T", "'z'", trials=5), {"reason": "too many trials"})
             self.assertEqual([it["entry"] for it in desk.since(0, limit=2, text="T")], [0, 1])
             with self.assertRaisesRegex(DeskError, "pattern: unknown name at 0"):
                 desk.submit("T", "CAT")
@@ -142,7 +142,7 @@ class AsyncCalls(Documents):
             self.assertEqual(await desk.submit("U", "'a'"), {"reason": "no text"})
             self.assertFalse((await desk.submit("T", "'dog'", anchored=True))["matched"])
             self.assertEqual(await desk.submit("T", "'dog'", if_version=1), {"reason": "changed", "version": 2})
-            self.assertEqual(await desk.submit("T", "ARB 'z'", trials=5), {"reason": "too many trials"})
+            self.assertEqual(await desk.submit("T", "'z'", trials=5), {"reason": "too many trials"})
             self.assertEqual([it["entry"] for it in await desk.since(0, limit=2, text="T")], [0, 1])
             with self.assertRaisesRegex(DeskError, "pattern: unknown name at 0"):
                 await desk.submit("T", "CAT")
