@@ -43,7 +43,7 @@ fn first_fault_of_rows<'t>(
 /// Refused only if memory runs out.
 pub fn check_rules(alloc: Global, bytes: &[u8]) -> Result<Report, AllocError>
     // Without an error the bytes are rules. Otherwise they are not, and the first error is their first fault.
-    ensures tells { IfOk result (λ report. TellsRules USUAL bytes.now report.errors.items) }
+    ensures says { IfOk result (λ report. TellsRules USUAL bytes.now report.errors.items) }
 {
     let first = first_fault(alloc, bytes)?;
     let Collector {
@@ -70,7 +70,7 @@ pub fn check_rule_rows<'t>(
     used: u64,
 ) -> Result<Report, AllocError>
     // Without an error the rows are those of rules. Otherwise they are not, and the first error is their first fault.
-    ensures tells { IfOk result (λ report. TellsRows USUAL (record { patterns = map pair_seen patterns.entry.items; texts = []; statements = map statement_seen statements.entry.items }) report.errors.items) }
+    ensures says { IfOk result (λ report. TellsRows USUAL (record { patterns = map pair_seen patterns.entry.items; texts = []; statements = map statement_seen statements.entry.items }) report.errors.items) }
 {
     let mut findings = Collector::new(alloc, Form::Lines);
     let rows = rows_of_lines(alloc, &patterns, &statements, used)?;
