@@ -22,7 +22,7 @@
 //! | `line_rows` | rules and definitions in lines, as rows |
 //! | `given_lines`, `ready_files` | the lines that options and files give; where the files of ready definitions are |
 //! | `file_options`, `found_files` | the options that say which files are taken; the files that they name |
-//! | `trace_command`, `traces` | `sno trace`: its arguments; a statement or a rule is traced by `sno_traces` |
+//! | `trace_command`, `trace_modes`, `traces` | `sno trace`: its arguments; a statement or a rule is traced by `sno_traces` |
 //! | `serve_command`, `serves` | `sno serve`: its arguments; a document is served by `sno_serve`, and the listing written |
 //! | `listing_files` | the file of a listing |
 //! | `store_command`, `stored` | `sno serve --store` and `sno store`: a document is served over a store by `sno_durable`, and a store looked at |
@@ -59,6 +59,7 @@ mod store_command;
 mod stored;
 mod streams;
 mod trace_command;
+mod trace_modes;
 mod traces;
 mod variables;
 

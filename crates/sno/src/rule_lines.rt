@@ -3,7 +3,8 @@
 pub(crate) use crate::given_lines::RuleLines;
 use crate::given_lines::{NoRules, no_rules, read_lines, rule_files};
 use crate::line_rows::{PatternRows, RuleRows, rows_of};
-use sno_document::{Document, DocumentFault, Mode, rules_of_rows};
+use crate::trace_modes::mode_on;
+use sno_document::{Document, DocumentFault, rules_of_rows};
 use sno_edit::{EditRules, Trials};
 use sno_lines::{SpelledLines, lines_of_mistake, mistake_of_fault};
 use std::alloc::{AllocError, Global};
@@ -50,10 +51,10 @@ fn rules_of_spelled(
 fn document_of_spelled(
     alloc: Global,
     lines: &SpelledLines<'_>,
-    mode: Mode,
+    bytes: usize,
 ) -> Result<Document, NoRules> {
     let (definitions, rules) = whole_rows(alloc, lines)?;
-    match rules_of_rows(alloc, definitions, rules, mode) {
+    match rules_of_rows(alloc, definitions, rules, mode_on(bytes)) {
         Ok(document) => Ok(document),
         Err(fault) => Err(refused(alloc, lines, fault)),
     }
@@ -77,18 +78,18 @@ pub(crate) fn rules_of_lines<R: Files + AllocGlobal>(
     }
 }
 
-/// The rules that are given in lines, as the statements of a document without texts.
+/// The rules that are given in lines, as the statements of a document without texts, for a text of this many bytes.
 pub(crate) fn document_of_lines<R: Files + AllocGlobal>(
     rt: &R,
     alloc: Global,
     given: &RuleLines<'_>,
-    mode: Mode,
+    bytes: usize,
 ) -> Result<Document, NoRules> {
     let files = rule_files(rt, alloc, given)?;
     match read_lines(alloc, &files, given) {
         Ok(lines) => {
             let spelled = SpelledLines::of(alloc, &lines)?;
-            document_of_spelled(alloc, &spelled, mode)
+            document_of_spelled(alloc, &spelled, bytes)
         }
         Err(reason) => Err(no_rules(alloc, reason)),
     }

@@ -6,8 +6,10 @@ use crate::given_lines::NoRules;
 use crate::rule_lines::document_of_lines;
 use crate::streams::{read_up_to, write_all};
 use crate::trace_command::{TraceOptions, TraceRequest};
+use crate::trace_modes::mode_on;
 use sno_document::{Document, DocumentFault, Mode, read_document, read_rules};
-use sno_edit::{Trials, is_for, next_column, next_line};
+use sno_edit::is_for;
+use sno_findings::{Position, position_of};
 use sno_pattern::{MAX_TEXT, Text, TextFault};
 use sno_statement::USUAL_TRIALS;
 use sno_trace::page_of;
@@ -128,15 +130,10 @@ fn shown_of_document<R: Files, I: Read>(
     }
 }
 
-/// The line and the column of a byte, each from 1.
-fn line_and_column(bytes: &[u8], place: usize) -> (usize, usize) {
-    let mut line = 1;
-    let mut column = 1;
-    for byte in bytes.iter().take(place) {
-        line = next_line(line, *byte);
-        column = next_column(column, *byte);
-    }
-    (line, column)
+/// The position of the first byte above 127, which has this place.
+fn position_in(bytes: &[u8], place: usize) -> Position {
+    let before = bytes.get(..place).unwrap_or(&[]);
+    position_of(str::from_utf8(before).unwrap_or(""), place)
 }
 
 /// What is written of a file whose bytes are not a text.
@@ -153,7 +150,7 @@ fn refused_text(
             )
         }
         TextFault::NonAscii(place) => {
-            let (line, column) = line_and_column(bytes, place);
+            let Position { line, column, .. } = position_in(bytes, place);
             format!(in alloc;
                 "{path}: not ASCII at line {line}, column {column}: a rule is traced on ASCII alone\n"
             )
@@ -182,15 +179,12 @@ fn rules_for<R: Files + AllocGlobal, I: Read>(
     text: &Text,
     input: &mut I,
 ) -> Result<Document, Unshown> {
-    let mode = Mode {
-        anchor: false,
-        trials: Trials::Usual.on(text.bytes().len()),
-    };
+    let count = text.bytes().len();
     if request.lines.are_given() {
-        return Ok(document_of_lines(rt, alloc, &request.lines, mode)?);
+        return Ok(document_of_lines(rt, alloc, &request.lines, count)?);
     }
     let bytes = document_bytes(rt, alloc, input, request.options.document)?;
-    match read_rules(alloc, &bytes, mode) {
+    match read_rules(alloc, &bytes, mode_on(count)) {
         Ok(document) => Ok(document),
         Err(fault) => Err(refused_by(alloc, fault)),
     }
