@@ -109,7 +109,7 @@ fn has_names(characters: &[u8]) -> bool {
     // A piece has at least one character.
     for _ in 0..characters.len() {
         let (piece, after) = first_piece(rest);
-        if piece.first().is_some_and(|first| is_letter(*first)) {
+        if is_name(piece) {
             return true;
         }
         rest = after;
@@ -293,6 +293,19 @@ fn spelled_rule<'l>(
     }
 }
 
+/// Whether a piece begins as a name does.
+fn is_name(piece: &[u8]) -> bool {
+    piece.first().is_some_and(|first| is_letter(*first))
+}
+
+/// The place of the definition with this name. Any other piece than a name is no definition's.
+fn place_of(definitions: &[SpelledDefinition<'_>], piece: &[u8]) -> Option<usize> {
+    if !is_name(piece) {
+        return None;
+    }
+    definitions.iter().position(|other| other.name == piece)
+}
+
 /// The places of the definitions that the characters mention outside quotes.
 pub(crate) fn mentioned(
     alloc: Global,
@@ -304,7 +317,7 @@ pub(crate) fn mentioned(
     // A piece has at least one character.
     for _ in 0..characters.len() {
         let (piece, after) = first_piece(rest);
-        if let Some(place) = definitions.iter().position(|other| other.name == piece) {
+        if let Some(place) = place_of(definitions, piece) {
             places.push(place)?;
         }
         rest = after;
