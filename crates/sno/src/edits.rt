@@ -77,14 +77,16 @@ fn report_ends<R: Files<File = File>, E: Write>(
 
 /// Edits the first of these files, at least one, and returns what became of each: up to 64 of them together, if new files have to be on
 /// the disk, and otherwise a share for each thread.
-fn edit_first<R: Files<File = File> + Threads + Sync>(
+fn edit_first<R: Files<File = File, Dir: Send> + Threads + Sync>(
     rt: &R,
     alloc: Global,
     rules: &EditRules,
     paths: &[&str],
     writing: Writing<'_>,
     threads: usize,
-) -> Result<Vec<Result<Done, FileFault>>, AllocError> {
+) -> Result<Vec<Result<Done, FileFault>>, AllocError>
+    requires { 0 < threads }
+{
     if writing.sync {
         let ends = edit_some(rt, alloc, rules, writing, paths)?;
         return Ok(ends);
@@ -96,7 +98,7 @@ fn edit_first<R: Files<File = File> + Threads + Sync>(
 }
 
 /// Edits the files, and then writes what is reported of each.
-fn write_files<R: Files<File = File> + Threads + Sync, W: Write, E: Write>(
+fn write_files<R: Files<File = File, Dir: Send> + Threads + Sync, W: Write, E: Write>(
     rt: &R,
     alloc: Global,
     rules: &EditRules,
@@ -106,7 +108,9 @@ fn write_files<R: Files<File = File> + Threads + Sync, W: Write, E: Write>(
     form: Form,
     output: &mut W,
     errors: &mut E,
-) -> Result<Tally, ProgramFault> {
+) -> Result<Tally, ProgramFault>
+    requires { 0 < threads }
+{
     let mut tally = Tally::of(paths.len());
     let mut lines = Vec::new(alloc);
     let mut edited = 0;
@@ -260,7 +264,7 @@ fn show_seen<R: Files<File = File>, W: Write, E: Write>(
 }
 
 /// Shows what would change, and writes no file. Several files are planned by this many threads.
-fn show_files<R: Files<File = File> + Threads + Sync, W: Write, E: Write>(
+fn show_files<R: Files<File = File, Dir: Send> + Threads + Sync, W: Write, E: Write>(
     rt: &R,
     alloc: Global,
     rules: &EditRules,
@@ -269,7 +273,9 @@ fn show_files<R: Files<File = File> + Threads + Sync, W: Write, E: Write>(
     threads: usize,
     output: &mut W,
     errors: &mut E,
-) -> Result<Tally, ProgramFault> {
+) -> Result<Tally, ProgramFault>
+    requires { 0 < threads }
+{
     let mut tally = Tally::of(paths.len());
     if threads == 1 || paths.len() == 1 {
         show_each(rt, alloc, rules, paths, show, &mut tally, output, errors)?;
@@ -362,18 +368,20 @@ fn threads_for<R: Threads>(rt: &R, options: &EditOptions<'_>) -> usize
 }
 
 /// Edits the files and writes how many changed, or shows what would become of them.
-fn edit<R: Files<File = File> + Threads + Sync, W: Write, E: Write>(
+fn edit<R: Files<File = File, Dir: Send> + Threads + Sync, W: Write, E: Write>(
     rt: &R,
     alloc: Global,
     options: &EditOptions<'_>,
     found: &Paths,
     rules: &EditRules,
     show: Option<Show>,
+    threads: usize,
     output: &mut W,
     errors: &mut E,
-) -> Result<Tally, ProgramFault> {
+) -> Result<Tally, ProgramFault>
+    requires { 0 < threads }
+{
     let paths = &found.lent(alloc)?;
-    let threads = threads_for(rt, options);
     if let Some(show) = show {
         return show_files(rt, alloc, rules, paths, show, threads, output, errors);
     }
@@ -422,7 +430,7 @@ fn without_rules<E: Write>(refused: NoRules, errors: &mut E) -> Result<u8, Progr
 ///
 /// Refused with `Memory` or `Write`.
 pub(crate) fn run_edit<
-    R: Files<File = File> + Threads + AllocGlobal + Clone + Drop + Sync,
+    R: Files<File = File, Dir: Send> + Threads + AllocGlobal + Clone + Drop + Sync,
     I: Read,
     W: Write,
     E: Write,
@@ -445,10 +453,13 @@ pub(crate) fn run_edit<
         let purpose = options.purpose;
         return run_filter(alloc, &rules, purpose, show, input, output, errors);
     }
-    let Some(found) = found_files(rt, alloc, &request.files, input, errors)? else {
+    let threads = threads_for(rt, options);
+    let Some(found) = found_files(rt, alloc, threads, &request.files, input, errors)? else {
         return Ok(FAILED);
     };
-    let found = found.without_repeats(rt, alloc)?;
-    let tally = edit(rt, alloc, options, &found, &rules, show, output, errors)?;
+    let found = found.without_repeats(rt, alloc, threads)?;
+    let tally = edit(
+        rt, alloc, options, &found, &rules, show, threads, output, errors,
+    )?;
     Ok(status_of(&tally, options.purpose, &found))
 }

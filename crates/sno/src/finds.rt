@@ -1,4 +1,5 @@
 //! `sno find`.
+ghost use Rattle.std.specs.Prelude.{◌<◌};
 
 use crate::contexts::{Around, Last, line_end, line_start};
 use crate::faults::{INPUT, MISUSED, ProgramFault};
@@ -359,7 +360,7 @@ fn find_each<R: Files<File = File>, I: Read, W: Write, E: Write>(
 }
 
 /// Seeks the rules in the files, by this many threads, and writes what is shown of each.
-fn find_all<R: Files<File = File> + Threads + Sync, I: Read, W: Write, E: Write>(
+fn find_all<R: Files<File = File, Dir: Send> + Threads + Sync, I: Read, W: Write, E: Write>(
     rt: &R,
     alloc: Global,
     shown: Shown<'_>,
@@ -369,7 +370,9 @@ fn find_all<R: Files<File = File> + Threads + Sync, I: Read, W: Write, E: Write>
     input: &mut I,
     output: &mut W,
     errors: &mut E,
-) -> Result<Sought, ProgramFault> {
+) -> Result<Sought, ProgramFault>
+    requires { 0 < threads }
+{
     let mut sought = Sought {
         found: false,
         failed: !paths.unread.is_empty(),
@@ -429,7 +432,7 @@ fn unknown_variable<'s>(rules: &EditRules, shown: Shown<'s>) -> Option<&'s str> 
 ///
 /// Refused with `Write` or `Memory`.
 pub(crate) fn run_find<
-    R: Files<File = File> + Threads + AllocGlobal + Clone + Drop + Sync,
+    R: Files<File = File, Dir: Send> + Threads + AllocGlobal + Clone + Drop + Sync,
     I: Read,
     W: Write,
     E: Write,
@@ -455,11 +458,11 @@ pub(crate) fn run_find<
         ));
         return Ok(MISUSED);
     }
-    let Some(paths) = found_files(rt, alloc, &request.files, input, errors)? else {
+    let threads = thread_count(rt, request.threads);
+    let Some(paths) = found_files(rt, alloc, threads, &request.files, input, errors)? else {
         return Ok(TROUBLE);
     };
     let shown = request.shown;
-    let threads = thread_count(rt, request.threads);
     let sought = find_all(
         rt, alloc, shown, &rules, threads, &paths, input, output, errors,
     )?;

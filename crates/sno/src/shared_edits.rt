@@ -1,4 +1,5 @@
 //! `sno edit` by several threads.
+ghost use Rattle.std.specs.Prelude.{◌<◌};
 
 use crate::edit_reports::{Show, done_of};
 use crate::edits::put_file;
@@ -27,14 +28,16 @@ fn end_at<R: Files<File = File>>(
 
 /// Edits these files by this many threads, and returns what became of each, in the order of the paths. Refused only if out of memory.
 /// Then files may have been edited.
-pub(crate) fn edit_shared<R: Files<File = File> + Threads + Sync>(
+pub(crate) fn edit_shared<R: Files<File = File, Dir: Send> + Threads + Sync>(
     rt: &R,
     alloc: Global,
     rules: &EditRules,
     writing: Writing<'_>,
     threads: usize,
     paths: &[&str],
-) -> Result<Vec<Result<Done, FileFault>>, AllocError> {
+) -> Result<Vec<Result<Done, FileFault>>, AllocError>
+    requires { 0 < threads }
+{
     let mut places = places_of(alloc, paths)?;
     let mut ends = Vec::with_capacity(alloc, paths.len())?;
     side_by_side(
@@ -82,14 +85,16 @@ fn see<R: Files<File = File>>(
 }
 
 /// Plans these files by this many threads: what is known of each, in the order of the paths.
-pub(crate) fn see_shared<'p, R: Files<File = File> + Threads + Sync>(
+pub(crate) fn see_shared<'p, R: Files<File = File, Dir: Send> + Threads + Sync>(
     rt: &R,
     alloc: Global,
     rules: &EditRules,
     show: Show,
     threads: usize,
     paths: &[&'p str],
-) -> Result<Vec<Place<'p, Seen>>, AllocError> {
+) -> Result<Vec<Place<'p, Seen>>, AllocError>
+    requires { 0 < threads }
+{
     let mut places = places_of(alloc, paths)?;
     side_by_side(
         rt,

@@ -1,4 +1,5 @@
 //! `sno find` by several threads.
+ghost use Rattle.std.specs.Prelude.{◌<◌};
 
 use crate::faults::ProgramFault;
 use crate::find_options::Shown;
@@ -109,7 +110,12 @@ fn write_each<R: Files<File = File>, I: Read, W: Write, E: Write>(
 }
 
 /// Seeks the rules in each file, by several threads, and writes what is shown of it, in the order of the paths.
-pub(crate) fn find_shared<R: Files<File = File> + Threads + Sync, I: Read, W: Write, E: Write>(
+pub(crate) fn find_shared<
+    R: Files<File = File, Dir: Send> + Threads + Sync,
+    I: Read,
+    W: Write,
+    E: Write,
+>(
     rt: &R,
     alloc: Global,
     shown: Shown<'_>,
@@ -120,7 +126,9 @@ pub(crate) fn find_shared<R: Files<File = File> + Threads + Sync, I: Read, W: Wr
     input: &mut I,
     output: &mut W,
     errors: &mut E,
-) -> Result<(), ProgramFault> {
+) -> Result<(), ProgramFault>
+    requires { 0 < threads }
+{
     for share in paths.chunks(threads.saturating_mul(SHARE).max(1)) {
         let mut places = places_of(alloc, share)?;
         side_by_side(

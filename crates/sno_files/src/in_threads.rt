@@ -2,6 +2,7 @@
 ghost use Rattle.std.specs.Prelude.{◌≡◌, ◌<◌, ℕ, length, slice_index_or};
 ghost use Rattle.sno_files.specs.InThreads.{IsDone};
 
+use std::alloc::{AllocError, Global};
 use std::thread;
 use std::thread::Threads;
 
@@ -12,6 +13,21 @@ pub struct Place<'p, X: Drop> {
     pub path: &'p str,
     /// What the call returned, once there was one.
     pub result: Option<X>,
+}
+
+/// A place for each of the paths.
+pub(crate) fn places_of<'p, X: Drop>(
+    alloc: Global,
+    paths: &'p [String],
+) -> Result<Vec<Place<'p, X>>, AllocError> {
+    let mut places = Vec::with_capacity(alloc, paths.len())?;
+    for path in paths {
+        places.push(Place {
+            path: path.as_str(),
+            result: None,
+        })?;
+    }
+    Ok(places)
 }
 
 /// Calls `f` with the path of a place, and keeps there what it returns.

@@ -1,4 +1,4 @@
-use Rattle.std.proofs.Common.{subst, slice_index_or}
+use Rattle.std.proofs.Common.{slice_index_or, subst}
 use Rattle.sno_files.specs.InThreads.{IsDone}
 use Rattle.sno_files.proofs.in_threads.side_by_side.Goals as goal
 
@@ -6,5 +6,7 @@ use Rattle.sno_files.proofs.in_threads.side_by_side.Goals as goal
 pub returns : goal.returns
 returns g c i d h =
     let k = (c.for_each_mut.ensures i d h).1 in
-    subst (λ now. IsDone g.F.Fn c.args.f.now (slice_index_or c.args.places.now i d) now) k.left
-    (subst (λ old. IsDone g.F.Fn c.args.f.now old k.after_call.now) k.argument_is k.call)
+    let old = slice_index_or c.args.places.now i d in
+    let new = slice_index_or c.for_each_mut.new.s i d in
+    subst (λ now. IsDone g.F.Fn c.args.f.now old now) {y = new} k.left
+    (subst (λ was. IsDone g.F.Fn c.args.f.now was k.after_call.now) {y = old} k.argument_is k.call)
