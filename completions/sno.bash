@@ -14,8 +14,8 @@ _sno() {
         case "${COMP_WORDS[1]}" in
             run) options=" --anchor --json --workers --tries --trials --help -h --version -V " ;;
             check) options=" --json --strict --help -h " ;;
-            edit) options=" --diff --check --json --sync --backup --anchor --trials --rule -e --file -f --define -d --with -w --name -n --files-from --null -0 --help -h " ;;
-            find) options=" --paths -l --count -c --json --only --after-context -A --before-context -B --context -C --anchor --trials --rule -e --file -f --define -d --with -w --name -n --files-from --null -0 --help -h " ;;
+            edit) options=" --diff --check --json --sync --backup --anchor --trials --rule -e --file -f --define -d --with -w --name -n --files-from --null -0 --threads --help -h " ;;
+            find) options=" --paths -l --count -c --json --only --after-context -A --before-context -B --context -C --anchor --trials --rule -e --file -f --define -d --with -w --name -n --files-from --null -0 --threads --help -h " ;;
             trace) options=" --statement --match --lines --html --help -h " ;;
             serve) options=" --seats --tries --trials --listing --store --help -h " ;;
             store)
@@ -34,7 +34,7 @@ _sno() {
         --trials) options="1000 1000000 1000000000" ;;
         --statement|--match) options="1 2 3 4 5 6 7 8 9" ;;
         --lines) options="100 1000 10000" ;;
-        --seats|--workers) options="1 2 4 8 16" ;;
+        --seats|--threads|--workers) options="1 2 4 8 16" ;;
         --tries) options="1 10 100 1000" ;;
         --after-context|-A|--before-context|-B|--context|-C) options="1 2 3 5 10" ;;
         --backup) options=".bak .orig" ;;

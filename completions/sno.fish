@@ -32,6 +32,7 @@ complete -c sno -n '__fish_seen_subcommand_from edit find' -l trials -x -a '1000
 complete -c sno -n '__fish_seen_subcommand_from edit find' -s n -l name -x -d 'Of the files in folders only those with such a name'
 complete -c sno -n '__fish_seen_subcommand_from edit find' -l files-from -r -d 'Take the files whose paths are in this file too'
 complete -c sno -n '__fish_seen_subcommand_from edit find' -s 0 -l null -d 'In the list each path ends with a NUL'
+complete -c sno -n '__fish_seen_subcommand_from edit find' -l threads -x -a '1 2 4 8 16' -d 'How many threads share the files'
 complete -c sno -n '__fish_seen_subcommand_from find' -s A -l after-context -x -a '1 2 3 5 10' -d 'Show lines after each line with a match too'
 complete -c sno -n '__fish_seen_subcommand_from find' -s B -l before-context -x -a '1 2 3 5 10' -d 'Show lines before each line with a match too'
 complete -c sno -n '__fish_seen_subcommand_from find' -s C -l context -x -a '1 2 3 5 10' -d 'Show lines around each line with a match too'
