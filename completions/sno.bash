@@ -14,8 +14,8 @@ _sno() {
         case "${COMP_WORDS[1]}" in
             run) options=" --workers --tries --anchor --json --trials --help -h --version -V " ;;
             check) options=" --json --strict --rules --rule -e --file -f --define -d --with -w --help -h " ;;
-            edit) options=" --diff --check --json --sync --backup --anchor --trials --rule -e --file -f --define -d --with -w --name -n --files-from --null -0 --help -h " ;;
-            find) options=" --paths -l --count -c --json --only --after-context -A --before-context -B --context -C --anchor --trials --rule -e --file -f --define -d --with -w --name -n --files-from --null -0 --help -h " ;;
+            edit) options=" --diff --check --json --sync --backup --anchor --trials --rule -e --file -f --define -d --with -w --name -n --files-from --null -0 --threads --help -h " ;;
+            find) options=" --paths -l --count -c --json --only --after-context -A --before-context -B --context -C --anchor --trials --rule -e --file -f --define -d --with -w --name -n --files-from --null -0 --threads --help -h " ;;
             trace) options=" --statement --match --lines --html --on --rule -e --file -f --define -d --with -w --help -h " ;;
             serve) options=" --seats --tries --trials --listing --store --help -h " ;;
             store)
@@ -36,6 +36,7 @@ _sno() {
         --trials) options="1000 1000000 1000000000" ;;
         --with|-w) options="c html json markdown python shell" ;;
         --backup) options=".bak .orig" ;;
+        --threads) options="1 2 4 8 16" ;;
         --after-context|-A) options="1 2 3 5 10" ;;
         --before-context|-B) options="1 2 3 5 10" ;;
         --context|-C) options="1 2 3 5 10" ;;

@@ -31,6 +31,7 @@ complete -c sno -n '__fish_seen_subcommand_from edit' -l backup -x -a '.bak .ori
 complete -c sno -n '__fish_seen_subcommand_from edit find' -s n -l name -x -d 'Of the files in folders only those with such a name, as *.c'
 complete -c sno -n '__fish_seen_subcommand_from edit find' -l files-from -r -d 'Takes the files and folders whose paths are in this file too, each in a line'
 complete -c sno -n '__fish_seen_subcommand_from edit find' -s 0 -l null -d 'In the file of --files-from each path ends with a NUL'
+complete -c sno -n '__fish_seen_subcommand_from edit find' -l threads -x -a '1 2 4 8 16' -d 'How many threads share the files'
 complete -c sno -n '__fish_seen_subcommand_from find' -s l -l paths -d 'Writes the path of each file that has a match, and no line'
 complete -c sno -n '__fish_seen_subcommand_from find' -s c -l count -d 'Writes how many matches each file has'
 complete -c sno -n '__fish_seen_subcommand_from find' -l json -d 'Writes each match as a JSON object with its places and variables'

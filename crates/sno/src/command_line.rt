@@ -9,6 +9,7 @@ use crate::serve_command::{
     serve_options, store_options,
 };
 use crate::store_command::{StoreAction, StoreRequest, store_command, store_request};
+use crate::thread_options::{THREADS_OUT_OF_RANGE, are_threads_in_range};
 use crate::trace_command::{
     TRACE_OUT_OF_RANGE, TraceRequest, trace_command, trace_options, trace_request,
 };
@@ -97,6 +98,9 @@ fn find_request_in<'a>(alloc: Global, found: &ArgMatches<'a>) -> Result<Request<
     let Some(trials) = trials(found) else {
         return Err(refused_with(alloc, TRIALS_OUT_OF_RANGE));
     };
+    if !are_threads_in_range(found) {
+        return Err(refused_with(alloc, THREADS_OUT_OF_RANGE));
+    }
     match find_request(alloc, found, trials) {
         Ok(request) if request.lines.are_given() => Ok(Request::Find(request)),
         Ok(_) => Err(refused_with(alloc, WITHOUT_RULES)),
@@ -126,6 +130,9 @@ fn edit_request_in<'a>(alloc: Global, found: &ArgMatches<'a>) -> Result<Request<
     let Some(options) = edit_options(found) else {
         return Err(refused_with(alloc, TRIALS_OUT_OF_RANGE));
     };
+    if !are_threads_in_range(found) {
+        return Err(refused_with(alloc, THREADS_OUT_OF_RANGE));
+    }
     let Ok(request) = edit_request(alloc, found, options) else {
         return Err(Stop::Memory);
     };

@@ -4,6 +4,7 @@ use crate::arguments::flag;
 use crate::file_options::{NamedFiles, named_files, with_file_options};
 use crate::rule_lines::RuleLines;
 use crate::rule_options::{rule_lines, trials, values, with_rule_options};
+use crate::thread_options::{threads_asked_for, threads_option};
 use clap::{Arg, ArgAction, ArgMatches, Command};
 use sno_edit::{Purpose, Trials};
 use std::alloc::{AllocError, Global};
@@ -118,6 +119,8 @@ pub(crate) struct EditOptions<'a> {
     pub(crate) anchor: bool,
     /// How many trials a match may take.
     pub(crate) trials: Trials,
+    /// How many threads are to share the files.
+    pub(crate) threads: Option<u32>,
     /// The file of the rules, if they are in a file of JSON; `-` is standard input.
     pub(crate) rules: Option<&'a str>,
 }
@@ -150,7 +153,10 @@ pub(crate) fn edit_command<'a>(alloc: Global) -> Result<Command<'a>, AllocError>
         .arg(flag(alloc, "sync", SYNC_HELP))?
         .arg(backup.conflicts_with("diff")?.conflicts_with("check")?)?;
     let edit = with_rule_options(alloc, edit)?;
-    with_file_options(alloc, edit)?.arg(rules)?.arg(files)
+    with_file_options(alloc, edit)?
+        .arg(threads_option(alloc))?
+        .arg(rules)?
+        .arg(files)
 }
 
 /// What `sno edit` is to do, with these options.
@@ -188,6 +194,7 @@ pub(crate) fn edit_options<'a>(matches: &ArgMatches<'a>) -> Option<EditOptions<'
         json: matches.get_flag("json"),
         anchor: matches.get_flag("anchor"),
         trials,
+        threads: threads_asked_for(matches),
         rules: matches.get_str("rules"),
     })
 }

@@ -1,4 +1,5 @@
 //! `sno edit`.
+ghost use Rattle.std.specs.Prelude.{◌≡◌, ◌≤◌, ◌<◌};
 
 use crate::edit_options::{EditOptions, EditRequest};
 use crate::edit_reports::{Form, Show, done_of, put_end, put_shown, report_fault, report_tally};
@@ -8,16 +9,20 @@ use crate::found_files::found_files;
 use crate::given_lines::NoRules;
 use crate::rounds_left::{report_stopped, report_stopped_in};
 use crate::rule_lines::rules_of_lines;
+use crate::shared_edits::{Seen, edit_shared, see_shared};
+use crate::shared_files::SHARE;
 use crate::streams::{read_up_to, write_all};
+use crate::thread_options::thread_count;
 use sno_check::{Warning, member_warnings};
 use sno_document::{DocumentFault, MAX_DOCUMENT};
 use sno_edit::{Done, EditRules, FileFault, Plan, Purpose, Tally, plan_file};
-use sno_files::{Paths, ReadOnly, Writing, edit_some, path_from_here};
+use sno_files::{Paths, Place, ReadOnly, Writing, edit_some, path_from_here};
 use std::alloc::{AllocError, Global};
 use std::fs;
 use std::fs::File;
 use std::io::{Read, Write};
 use std::rt::Files;
+use std::thread::Threads;
 
 /// The status after rules that are not rules.
 const BAD_RULES: u8 = 2;
@@ -70,17 +75,42 @@ fn report_ends<R: Files<File = File>, E: Write>(
     Ok(())
 }
 
-/// Edits the files, and then writes what is reported of each.
-fn write_files<R: Files<File = File>, W: Write, E: Write>(
+/// Edits the first of these files, at least one, and returns what became of each: up to 64 of them together, if new files have to be on
+/// the disk, and otherwise a share for each thread.
+fn edit_first<R: Files<File = File, Dir: Send> + Threads + Sync>(
     rt: &R,
     alloc: Global,
     rules: &EditRules,
     paths: &[&str],
     writing: Writing<'_>,
+    threads: usize,
+) -> Result<Vec<Result<Done, FileFault>>, AllocError>
+    requires { 0 < threads }
+{
+    if writing.sync {
+        let ends = edit_some(rt, alloc, rules, writing, paths)?;
+        return Ok(ends);
+    }
+    let most = threads.saturating_mul(SHARE);
+    let (share, _later) = paths.split_at(most.min(paths.len()));
+    let ends = edit_shared(rt, alloc, rules, writing, threads, share)?;
+    Ok(ends)
+}
+
+/// Edits the files, and then writes what is reported of each.
+fn write_files<R: Files<File = File, Dir: Send> + Threads + Sync, W: Write, E: Write>(
+    rt: &R,
+    alloc: Global,
+    rules: &EditRules,
+    paths: &[&str],
+    writing: Writing<'_>,
+    threads: usize,
     form: Form,
     output: &mut W,
     errors: &mut E,
-) -> Result<Tally, ProgramFault> {
+) -> Result<Tally, ProgramFault>
+    requires { 0 < threads }
+{
     let mut tally = Tally::of(paths.len());
     let mut lines = Vec::new(alloc);
     let mut edited = 0;
@@ -90,7 +120,7 @@ fn write_files<R: Files<File = File>, W: Write, E: Write>(
         if rest.is_empty() {
             break;
         }
-        let ends = edit_some(rt, alloc, rules, writing, rest)?;
+        let ends = edit_first(rt, alloc, rules, rest, writing, threads)?;
         let (files, _later) = rest.split_at(ends.len().min(rest.len()));
         report_ends(
             rt, alloc, rules, form, files, &ends, &mut tally, &mut lines, errors,
@@ -110,7 +140,7 @@ fn diff_path<R: Files>(rt: &R, alloc: Global, path: &str) -> Result<Option<Strin
 }
 
 /// Adds what is shown of a file that is not written. `None` if its diff is left out, since the file is not in the current folder.
-fn put_file<R: Files<File = File>>(
+pub(crate) fn put_file<R: Files<File = File>>(
     rt: &R,
     alloc: Global,
     rules: &EditRules,
@@ -144,47 +174,116 @@ fn put_refused(
     }
 }
 
-/// Shows what would change, and writes no file.
-fn show_files<R: Files<File = File>, W: Write, E: Write>(
+/// Adds what is shown of a file that is not written, and counts it.
+fn show_file<R: Files<File = File>, E: Write>(
+    rt: &R,
+    alloc: Global,
+    rules: &EditRules,
+    path: &str,
+    show: Show,
+    tally: &mut Tally,
+    out: &mut Vec<u8>,
+    errors: &mut E,
+) -> Result<(), AllocError> {
+    match put_file(rt, alloc, rules, path, show, out) {
+        Ok(Some(plan)) => {
+            let done = done_of(&plan);
+            tally.count(&Ok(done));
+            report_stopped(alloc, rules, path, path, &done, &plan.after, tally, errors);
+        }
+        Ok(None) => {
+            tally.failed = true;
+            let _printed = errors.writeln(format_args!(
+                "{path}: not in the current folder, so no diff of it is written"
+            ));
+        }
+        Err(fault) => show_fault(alloc, path, fault, show, tally, out, errors)?,
+    }
+    Ok(())
+}
+
+/// Adds what is shown of a file that could not be taken, and counts it.
+fn show_fault<E: Write>(
+    alloc: Global,
+    path: &str,
+    fault: FileFault,
+    show: Show,
+    tally: &mut Tally,
+    out: &mut Vec<u8>,
+    errors: &mut E,
+) -> Result<(), AllocError> {
+    tally.count(&Err(fault));
+    report_fault(errors, path, fault);
+    put_refused(alloc, path, fault, show, out)
+}
+
+/// Shows what would change in each of the files.
+fn show_each<R: Files<File = File>, W: Write, E: Write>(
     rt: &R,
     alloc: Global,
     rules: &EditRules,
     paths: &[&str],
     show: Show,
+    tally: &mut Tally,
     output: &mut W,
     errors: &mut E,
-) -> Result<Tally, ProgramFault> {
-    let mut tally = Tally::of(paths.len());
+) -> Result<(), ProgramFault> {
     for path in paths {
         let mut out = Vec::new(alloc);
-        match put_file(rt, alloc, rules, path, show, &mut out) {
-            Ok(Some(plan)) => {
-                let done = done_of(&plan);
-                tally.count(&Ok(done));
-                report_stopped(
-                    alloc,
-                    rules,
-                    path,
-                    path,
-                    &done,
-                    &plan.after,
-                    &mut tally,
-                    errors,
-                );
+        show_file(rt, alloc, rules, path, show, tally, &mut out, errors)?;
+        write_all(output, &out)?;
+    }
+    Ok(())
+}
+
+/// Writes what is shown of each file that threads have planned.
+fn show_seen<R: Files<File = File>, W: Write, E: Write>(
+    rt: &R,
+    alloc: Global,
+    rules: &EditRules,
+    places: &[Place<'_, Seen>],
+    show: Show,
+    tally: &mut Tally,
+    output: &mut W,
+    errors: &mut E,
+) -> Result<(), ProgramFault> {
+    for place in places {
+        let path = place.path;
+        let mut out = Vec::new(alloc);
+        match &place.result {
+            Some(Ok(Some(sight))) => {
+                tally.count(&Ok(sight.done));
+                write_all(output, &sight.bytes)?;
             }
-            Ok(None) => {
-                tally.failed = true;
-                let _printed = errors.writeln(format_args!(
-                    "{path}: not in the current folder, so no diff of it is written"
-                ));
-            }
-            Err(fault) => {
-                tally.count(&Err(fault));
-                report_fault(errors, path, fault);
-                put_refused(alloc, path, fault, show, &mut out)?;
-            }
+            Some(Err(fault)) => show_fault(alloc, path, *fault, show, tally, &mut out, errors)?,
+            _ => show_file(rt, alloc, rules, path, show, tally, &mut out, errors)?,
         }
         write_all(output, &out)?;
+    }
+    Ok(())
+}
+
+/// Shows what would change, and writes no file. Several files are planned by this many threads.
+fn show_files<R: Files<File = File, Dir: Send> + Threads + Sync, W: Write, E: Write>(
+    rt: &R,
+    alloc: Global,
+    rules: &EditRules,
+    paths: &[&str],
+    show: Show,
+    threads: usize,
+    output: &mut W,
+    errors: &mut E,
+) -> Result<Tally, ProgramFault>
+    requires { 0 < threads }
+{
+    let mut tally = Tally::of(paths.len());
+    if threads == 1 || paths.len() == 1 {
+        show_each(rt, alloc, rules, paths, show, &mut tally, output, errors)?;
+        return Ok(tally);
+    }
+    for share in paths.chunks(threads.saturating_mul(SHARE).max(1)) {
+        let seen = see_shared(rt, alloc, rules, show, threads, share)?;
+        show_seen(rt, alloc, rules, &seen, show, &mut tally, output, errors)?;
     }
     Ok(tally)
 }
@@ -258,27 +357,42 @@ fn form_of(options: &EditOptions<'_>) -> Form {
     }
 }
 
+/// How many threads share the files. If old files are kept it is one: what is kept of a file may be the next one.
+fn threads_for<R: Threads>(rt: &R, options: &EditOptions<'_>) -> usize
+    ensures { (0 < result) × (result ≤ 16) }
+{
+    if options.backup.is_some() {
+        return 1;
+    }
+    thread_count(rt, options.threads)
+}
+
 /// Edits the files and writes how many changed, or shows what would become of them.
-fn edit<R: Files<File = File>, W: Write, E: Write>(
+fn edit<R: Files<File = File, Dir: Send> + Threads + Sync, W: Write, E: Write>(
     rt: &R,
     alloc: Global,
     options: &EditOptions<'_>,
     found: &Paths,
     rules: &EditRules,
     show: Option<Show>,
+    threads: usize,
     output: &mut W,
     errors: &mut E,
-) -> Result<Tally, ProgramFault> {
+) -> Result<Tally, ProgramFault>
+    requires { 0 < threads }
+{
     let paths = &found.lent(alloc)?;
     if let Some(show) = show {
-        return show_files(rt, alloc, rules, paths, show, output, errors);
+        return show_files(rt, alloc, rules, paths, show, threads, output, errors);
     }
     let writing = Writing {
         sync: options.sync,
         backup: options.backup,
     };
     let form = form_of(options);
-    let tally = write_files(rt, alloc, rules, paths, writing, form, output, errors)?;
+    let tally = write_files(
+        rt, alloc, rules, paths, writing, threads, form, output, errors,
+    )?;
     report_tally(alloc, &tally, found.not_text, errors)?;
     Ok(tally)
 }
@@ -316,7 +430,7 @@ fn without_rules<E: Write>(refused: NoRules, errors: &mut E) -> Result<u8, Progr
 ///
 /// Refused with `Memory` or `Write`.
 pub(crate) fn run_edit<
-    R: Files<File = File> + AllocGlobal + Clone + Drop,
+    R: Files<File = File, Dir: Send> + Threads + AllocGlobal + Clone + Drop + Sync,
     I: Read,
     W: Write,
     E: Write,
@@ -339,10 +453,13 @@ pub(crate) fn run_edit<
         let purpose = options.purpose;
         return run_filter(alloc, &rules, purpose, show, input, output, errors);
     }
-    let Some(found) = found_files(rt, alloc, &request.files, input, errors)? else {
+    let threads = threads_for(rt, options);
+    let Some(found) = found_files(rt, alloc, threads, &request.files, input, errors)? else {
         return Ok(FAILED);
     };
-    let found = found.without_repeats(rt, alloc)?;
-    let tally = edit(rt, alloc, options, &found, &rules, show, output, errors)?;
+    let found = found.without_repeats(rt, alloc, threads)?;
+    let tally = edit(
+        rt, alloc, options, &found, &rules, show, threads, output, errors,
+    )?;
     Ok(status_of(&tally, options.purpose, &found))
 }

@@ -5,6 +5,7 @@ use crate::contexts::Context;
 use crate::file_options::{NamedFiles, named_files, with_file_options};
 use crate::rule_lines::RuleLines;
 use crate::rule_options::{rule_lines, values, with_rule_options};
+use crate::thread_options::{threads_asked_for, threads_option};
 use clap::{Arg, ArgAction, ArgMatches, Command};
 use sno_edit::Trials;
 use std::alloc::{AllocError, Global};
@@ -67,6 +68,8 @@ pub(crate) struct FindRequest<'a> {
     pub(crate) lines: RuleLines<'a>,
     /// The files.
     pub(crate) files: NamedFiles<'a>,
+    /// How many threads are to share them.
+    pub(crate) threads: Option<u32>,
 }
 
 /// An option for lines around matches.
@@ -117,7 +120,9 @@ pub(crate) fn find_command<'a>(alloc: Global) -> Result<Command<'a>, AllocError>
         .arg(around(alloc, "before-context", 'B', BEFORE_HELP)?)?
         .arg(around(alloc, "context", 'C', CONTEXT_HELP)?)?;
     let find = with_rule_options(alloc, find)?;
-    with_file_options(alloc, find)?.arg(files)
+    with_file_options(alloc, find)?
+        .arg(threads_option(alloc))?
+        .arg(files)
 }
 
 /// How many lines around matches are asked for.
@@ -169,5 +174,6 @@ pub(crate) fn find_request<'a>(
         trials,
         lines: rule_lines(alloc, matches)?,
         files,
+        threads: threads_asked_for(matches),
     })
 }

@@ -1,4 +1,5 @@
 //! `sno find`.
+ghost use Rattle.std.specs.Prelude.{◌<◌};
 
 use crate::contexts::{Around, Last, line_end, line_start};
 use crate::faults::{INPUT, MISUSED, ProgramFault};
@@ -7,7 +8,9 @@ use crate::first_matches::have_match;
 use crate::found_files::found_files;
 use crate::given_lines::NoRules;
 use crate::rule_lines::rules_of_lines;
+use crate::shared_finds::find_shared;
 use crate::streams::{read_up_to, write_all};
+use crate::thread_options::thread_count;
 use crate::variables::has_variable;
 use sno_edit::{EditRules, FileFault, Folder, ReadFault, RefusedStatement, StatementFault};
 use sno_files::{Paths, ReadOnly, Reason};
@@ -18,6 +21,7 @@ use std::fs::File;
 use std::io::{Read, Write};
 use std::mem;
 use std::rt::Files;
+use std::thread::Threads;
 
 /// The status if something was found.
 const FOUND: u8 = 0;
@@ -33,9 +37,9 @@ const PIECE: usize = 65_536;
 
 /// What became of the files so far.
 #[derive(Clone, Copy)]
-struct Sought {
+pub(crate) struct Sought {
     /// Whether one has a match.
-    found: bool,
+    pub(crate) found: bool,
     /// Whether of one nothing is known.
     failed: bool,
 }
@@ -60,19 +64,12 @@ fn input_bytes<I: Read>(alloc: Global, input: &mut I) -> Result<Vec<u8>, ReadFau
     }
 }
 
-/// The text of a file, or of standard input.
-fn text_at<R: Files<File = File>, I: Read>(
-    rt: &R,
-    alloc: Global,
-    path: &str,
-    input: &mut I,
-) -> Result<ByteText, FileFault> {
-    let bytes = if path == "-" {
-        input_bytes(alloc, input)?
-    } else {
-        ReadOnly { rt }.read(alloc, path, MAX_BYTES)?
-    };
-    ByteText::new(bytes).map_err(|_| FileFault::TooLong)
+/// These bytes as a text.
+fn text_of(bytes: Vec<u8>) -> Result<ByteText, FileFault> {
+    match ByteText::new(bytes) {
+        Ok(text) => Ok(text),
+        Err(_) => Err(FileFault::TooLong),
+    }
 }
 
 /// Adds the value of a variable as a line; nothing if the match didn't assign it.
@@ -217,7 +214,7 @@ fn write_path<W: Write>(
 
 /// Why nothing is shown of a file.
 #[derive(Clone, Copy)]
-enum NotFound {
+pub(crate) enum NotFound {
     /// Nothing is known of it.
     File(FileFault),
     /// The program has to end.
@@ -236,8 +233,72 @@ impl From<ProgramFault> for NotFound {
     }
 }
 
-/// Writes what is shown of a file, and returns whether it has a match.
-fn find_at<R: Files<File = File>, I: Read, W: Write>(
+/// Writes what is shown of a text, and returns whether it has a match.
+fn find_text<W: Write>(
+    alloc: Global,
+    rules: &EditRules,
+    shown: Shown<'_>,
+    path: &str,
+    text: &ByteText,
+    grouped: bool,
+    output: &mut W,
+) -> Result<bool, NotFound> {
+    let called = name_of(path);
+    if shown == Shown::Paths {
+        return write_path(alloc, rules, path, called, text, output);
+    }
+    let findings = match find_in(alloc, rules, path, text) {
+        Ok(findings) => findings,
+        Err(fault) => return Err(NotFound::File(fault_of(fault))),
+    };
+    write_findings(alloc, shown, called, text, &findings, grouped, output)?;
+    Ok(!findings.is_empty())
+}
+
+/// Writes what is shown of a file, and returns whether it has a match. `grouped` says whether there were lines of other files before.
+pub(crate) fn find_file<R: Files<File = File>, W: Write>(
+    rt: &R,
+    alloc: Global,
+    rules: &EditRules,
+    shown: Shown<'_>,
+    path: &str,
+    grouped: bool,
+    output: &mut W,
+) -> Result<bool, NotFound> {
+    let bytes = read_file(rt, alloc, path)?;
+    let text = text_of(bytes)?;
+    find_text(alloc, rules, shown, path, &text, grouped, output)
+}
+
+/// The bytes of a file.
+fn read_file<R: Files<File = File>>(
+    rt: &R,
+    alloc: Global,
+    path: &str,
+) -> Result<Vec<u8>, FileFault> {
+    let bytes = ReadOnly { rt }.read(alloc, path, MAX_BYTES)?;
+    Ok(bytes)
+}
+
+/// Writes what is shown of standard input, and returns whether it has a match.
+fn find_input<I: Read, W: Write>(
+    alloc: Global,
+    rules: &EditRules,
+    shown: Shown<'_>,
+    grouped: bool,
+    input: &mut I,
+    output: &mut W,
+) -> Result<bool, NotFound> {
+    let bytes = match input_bytes(alloc, input) {
+        Ok(bytes) => bytes,
+        Err(fault) => return Err(NotFound::File(FileFault::from(fault))),
+    };
+    let text = text_of(bytes)?;
+    find_text(alloc, rules, shown, "-", &text, grouped, output)
+}
+
+/// Writes what is shown of the file with this path, or of standard input for `-`, and returns whether it has a match.
+pub(crate) fn find_named<R: Files<File = File>, I: Read, W: Write>(
     rt: &R,
     alloc: Global,
     rules: &EditRules,
@@ -247,22 +308,35 @@ fn find_at<R: Files<File = File>, I: Read, W: Write>(
     input: &mut I,
     output: &mut W,
 ) -> Result<bool, NotFound> {
-    let text = text_at(rt, alloc, path, input)?;
-    let called = name_of(path);
-    if shown == Shown::Paths {
-        return write_path(alloc, rules, path, called, &text, output);
+    if path == "-" {
+        return find_input(alloc, rules, shown, grouped, input, output);
     }
-    let findings = match find_in(alloc, rules, path, &text) {
-        Ok(findings) => findings,
-        Err(fault) => return Err(NotFound::File(fault_of(fault))),
-    };
-    write_findings(alloc, shown, called, &text, &findings, grouped, output)?;
-    Ok(!findings.is_empty())
+    find_file(rt, alloc, rules, shown, path, grouped, output)
 }
 
 /// What a file is called: its path, or what standard input is called.
 fn name_of(path: &str) -> &str {
     if path == "-" { INPUT } else { path }
+}
+
+/// Notes what became of a file; why nothing is known of it goes to `errors`. Refused as the program has to end.
+pub(crate) fn keep<E: Write>(
+    path: &str,
+    found: Result<bool, NotFound>,
+    sought: &mut Sought,
+    errors: &mut E,
+) -> Result<(), ProgramFault> {
+    match found {
+        Ok(found) => sought.found = sought.found || found,
+        Err(NotFound::Program(fault)) => return Err(fault),
+        Err(NotFound::File(fault)) => {
+            sought.failed = true;
+            let called = name_of(path);
+            let reason = Reason(fault);
+            let _printed = errors.writeln(format_args!("{called}: {reason}"));
+        }
+    }
+    Ok(())
 }
 
 /// Seeks the rules in each file, and writes what is shown of it.
@@ -271,27 +345,64 @@ fn find_each<R: Files<File = File>, I: Read, W: Write, E: Write>(
     alloc: Global,
     shown: Shown<'_>,
     rules: &EditRules,
+    paths: &[&str],
+    sought: &mut Sought,
+    input: &mut I,
+    output: &mut W,
+    errors: &mut E,
+) -> Result<(), ProgramFault> {
+    for path in paths {
+        let grouped = sought.found;
+        let found = find_named(rt, alloc, rules, shown, path, grouped, input, output);
+        keep(path, found, sought, errors)?;
+    }
+    Ok(())
+}
+
+/// Seeks the rules in the files, by this many threads, and writes what is shown of each.
+fn find_all<R: Files<File = File, Dir: Send> + Threads + Sync, I: Read, W: Write, E: Write>(
+    rt: &R,
+    alloc: Global,
+    shown: Shown<'_>,
+    rules: &EditRules,
+    threads: usize,
     paths: &Paths,
     input: &mut I,
     output: &mut W,
     errors: &mut E,
-) -> Result<Sought, ProgramFault> {
+) -> Result<Sought, ProgramFault>
+    requires { 0 < threads }
+{
     let mut sought = Sought {
         found: false,
         failed: !paths.unread.is_empty(),
     };
-    for path in &paths.files {
-        let path = path.as_str();
-        match find_at(rt, alloc, rules, shown, path, sought.found, input, output) {
-            Ok(found) => sought.found = sought.found || found,
-            Err(NotFound::Program(fault)) => return Err(fault),
-            Err(NotFound::File(fault)) => {
-                sought.failed = true;
-                let called = name_of(path);
-                let reason = Reason(fault);
-                let _printed = errors.writeln(format_args!("{called}: {reason}"));
-            }
-        }
+    let files = paths.lent(alloc)?;
+    if threads > 1 && files.len() > 1 {
+        find_shared(
+            rt,
+            alloc,
+            shown,
+            rules,
+            threads,
+            &files,
+            &mut sought,
+            input,
+            output,
+            errors,
+        )?;
+    } else {
+        find_each(
+            rt,
+            alloc,
+            shown,
+            rules,
+            &files,
+            &mut sought,
+            input,
+            output,
+            errors,
+        )?;
     }
     Ok(sought)
 }
@@ -321,7 +432,7 @@ fn unknown_variable<'s>(rules: &EditRules, shown: Shown<'s>) -> Option<&'s str> 
 ///
 /// Refused with `Write` or `Memory`.
 pub(crate) fn run_find<
-    R: Files<File = File> + AllocGlobal + Clone + Drop,
+    R: Files<File = File, Dir: Send> + Threads + AllocGlobal + Clone + Drop + Sync,
     I: Read,
     W: Write,
     E: Write,
@@ -347,10 +458,13 @@ pub(crate) fn run_find<
         ));
         return Ok(MISUSED);
     }
-    let Some(paths) = found_files(rt, alloc, &request.files, input, errors)? else {
+    let threads = thread_count(rt, request.threads);
+    let Some(paths) = found_files(rt, alloc, threads, &request.files, input, errors)? else {
         return Ok(TROUBLE);
     };
     let shown = request.shown;
-    let sought = find_each(rt, alloc, shown, &rules, &paths, input, output, errors)?;
+    let sought = find_all(
+        rt, alloc, shown, &rules, threads, &paths, input, output, errors,
+    )?;
     Ok(status_of(sought))
 }

@@ -1,4 +1,5 @@
 //! The files that the arguments name, and those in folders and lists that they name.
+ghost use Rattle.std.specs.Prelude.{◌<◌};
 
 use crate::faults::{INPUT, ProgramFault};
 use crate::file_options::{NamedFiles, PathList};
@@ -6,8 +7,10 @@ use crate::streams::read_up_to;
 use sno_files::{ListFault, Paths, paths_in};
 use std::alloc::Global;
 use std::fs;
+use std::fs::File;
 use std::io::{Read, Write};
 use std::rt::Files;
+use std::thread::Threads;
 
 /// The bytes of a list.
 fn list_bytes<R: Files, I: Read>(
@@ -45,26 +48,36 @@ fn all_paths<'x>(
 }
 
 /// The files at the paths that are named, and at those of the list.
-fn listed_files<R: Files + AllocGlobal + Clone + Drop>(
+fn listed_files<R: Files<File = File, Dir: Send> + Threads + AllocGlobal + Clone + Drop + Sync>(
     rt: &R,
     alloc: Global,
+    threads: usize,
     named: &NamedFiles<'_>,
     list: &[u8],
     end: u8,
-) -> Result<Paths, ListFault> {
+) -> Result<Paths, ListFault>
+    requires { 0 < threads }
+{
     let paths = all_paths(alloc, &named.paths, list, end)?;
-    Ok(Paths::at(rt, alloc, &paths, &named.names)?)
+    Ok(Paths::at(rt, alloc, threads, &paths, &named.names)?)
 }
 
 /// The files of a list, with those that are named. `None` if it can't be read, which `errors` then says.
-fn files_of_list<R: Files + AllocGlobal + Clone + Drop, I: Read, E: Write>(
+fn files_of_list<
+    R: Files<File = File, Dir: Send> + Threads + AllocGlobal + Clone + Drop + Sync,
+    I: Read,
+    E: Write,
+>(
     rt: &R,
     alloc: Global,
+    threads: usize,
     named: &NamedFiles<'_>,
     list: PathList<'_>,
     input: &mut I,
     errors: &mut E,
-) -> Result<Option<Paths>, ProgramFault> {
+) -> Result<Option<Paths>, ProgramFault>
+    requires { 0 < threads }
+{
     let called = if list.path == "-" { INPUT } else { list.path };
     let bytes = match list_bytes(rt, alloc, list.path, input) {
         Ok(bytes) => bytes,
@@ -74,7 +87,7 @@ fn files_of_list<R: Files + AllocGlobal + Clone + Drop, I: Read, E: Write>(
             return Ok(None);
         }
     };
-    match listed_files(rt, alloc, named, &bytes, list.end) {
+    match listed_files(rt, alloc, threads, named, &bytes, list.end) {
         Ok(found) => Ok(Some(found)),
         Err(ListFault::Memory) => Err(ProgramFault::Memory),
         Err(ListFault::NotUtf8(number)) => {
@@ -84,18 +97,25 @@ fn files_of_list<R: Files + AllocGlobal + Clone + Drop, I: Read, E: Write>(
     }
 }
 
-/// The files that are named, and those in the folders that are named; `errors` says which folders could not be read. `None` if a list
-/// of files can't be read, which `errors` says too.
-pub(crate) fn found_files<R: Files + AllocGlobal + Clone + Drop, I: Read, E: Write>(
+/// The files that are named, and those in the folders that are named; `errors` says which folders could not be read. Files of folders are
+/// looked at by this many threads. `None` if a list of files can't be read, which `errors` says too.
+pub(crate) fn found_files<
+    R: Files<File = File, Dir: Send> + Threads + AllocGlobal + Clone + Drop + Sync,
+    I: Read,
+    E: Write,
+>(
     rt: &R,
     alloc: Global,
+    threads: usize,
     named: &NamedFiles<'_>,
     input: &mut I,
     errors: &mut E,
-) -> Result<Option<Paths>, ProgramFault> {
+) -> Result<Option<Paths>, ProgramFault>
+    requires { 0 < threads }
+{
     let found = match named.list {
-        None => Some(Paths::at(rt, alloc, &named.paths, &named.names)?),
-        Some(list) => files_of_list(rt, alloc, named, list, input, errors)?,
+        None => Some(Paths::at(rt, alloc, threads, &named.paths, &named.names)?),
+        Some(list) => files_of_list(rt, alloc, threads, named, list, input, errors)?,
     };
     if let Some(paths) = &found {
         paths.report_unread(errors);

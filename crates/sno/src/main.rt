@@ -14,6 +14,8 @@
 //! | `filters` | `sno edit` of standard input |
 //! | `edit_reports` | what is written of edited files |
 //! | `find_options`, `finds` | `sno find`: its arguments; rules are sought in files by `sno_find` |
+//! | `thread_options`, `shared_files` | the option for threads; files that several threads share |
+//! | `shared_finds`, `shared_edits` | `sno find` and `sno edit` by several threads |
 //! | `contexts` | the lines around those on which matches start |
 //! | `first_matches`, `variables` | whether rules match at all; the variables of rules |
 //! | `rounds_left` | repeated rules that stop at the most rounds that a rule may have |
@@ -55,9 +57,13 @@ mod rule_lines;
 mod rule_options;
 mod serve_command;
 mod serves;
+mod shared_edits;
+mod shared_files;
+mod shared_finds;
 mod store_command;
 mod stored;
 mod streams;
+mod thread_options;
 mod trace_command;
 mod trace_modes;
 mod traces;

@@ -98,7 +98,15 @@ fn refuse_words<E: Write>(error: &io::Error, errors: &mut E) -> u8 {
 
 /// Does what is asked for, and returns the status.
 fn run_request<
-    R: Files<File = File> + Env + Stores + Threads + Wait + AllocGlobal + Clone + Drop + Sync,
+    R: Files<File = File, Dir: Send>
+        + Env
+        + Stores
+        + Threads
+        + Wait
+        + AllocGlobal
+        + Clone
+        + Drop
+        + Sync,
     I: Read + Send + Drop,
     W: Write + IsTerminal + Send + Drop,
     E: Write,
@@ -146,7 +154,15 @@ fn run_document<T: Threads + Wait + Sync, I: Read, W: Write, E: Write>(
 }
 
 fn run_words<
-    R: Files<File = File> + Env + Stores + Threads + Wait + AllocGlobal + Clone + Drop + Sync,
+    R: Files<File = File, Dir: Send>
+        + Env
+        + Stores
+        + Threads
+        + Wait
+        + AllocGlobal
+        + Clone
+        + Drop
+        + Sync,
     I: Read + Send + Drop,
     W: Write + IsTerminal + Send + Drop,
     E: Write,
@@ -168,7 +184,15 @@ fn run_words<
 /// - Otherwise the status is that of the check, the edit, the search, the trace or the service. If that has a fault, the line of
 ///   the fault goes to `errors`, and the status is 4, even if the line can't be printed.
 pub(crate) fn run<
-    R: Files<File = File> + Env + Stores + Threads + Wait + AllocGlobal + Clone + Drop + Sync,
+    R: Files<File = File, Dir: Send>
+        + Env
+        + Stores
+        + Threads
+        + Wait
+        + AllocGlobal
+        + Clone
+        + Drop
+        + Sync,
     I: Read + Send + Drop,
     W: Write + IsTerminal + Send + Drop,
     E: Write,

@@ -16,7 +16,7 @@ fn has_most_rounds(statement: &Statement, path: &str) -> bool {
 }
 
 /// Whether this number of matches may be that of a statement that stopped at the most rounds.
-fn may_stop(done: &Done) -> bool {
+pub(crate) fn may_stop(done: &Done) -> bool {
     done.matches >= u64::from(MAX_ROUNDS)
 }
 

@@ -1,7 +1,8 @@
 //! Files that are held while they are edited.
 ghost use Rattle.std.specs.Prelude.{◌≡◌, ◌≤◌, ◌<◌, ◌+◌, length, vec_len, vec_capacity, OnOk};
 
-use crate::new_files::{OVERTAKEN, Writing, put_in_place, stage, write_fault};
+use crate::new_files::{Writing, put_in_place, stage, write_fault};
+use crate::overtaken::OVERTAKEN;
 use crate::reading::{bytes_of, open_regular};
 use crate::synced::{replace_synced, replace_together};
 use sno_edit::{Folder, NewText, ReadFault, WriteFault};
@@ -116,6 +117,26 @@ struct Slot<'p> {
     held: Result<HeldFile<'p>, ErrorKind>,
 }
 
+/// Holds the file at a path; `None` if another run holds it and that is not to be waited for.
+fn held_at<'p, R: Files<File = File>>(
+    rt: &R,
+    alloc: Global,
+    path: &'p str,
+    waits: bool,
+) -> Option<Slot<'p>> {
+    match hold(rt, alloc, path, waits) {
+        Ok(Some(file)) => Some(Slot {
+            path,
+            held: Ok(file),
+        }),
+        Ok(None) => None,
+        Err(e) => Some(Slot {
+            path,
+            held: Err(e.kind()),
+        }),
+    }
+}
+
 /// Files that are held, each under its path.
 #[derive(Drop)]
 pub(crate) struct HeldFiles<'a, R: Files<File = File>> {
@@ -136,12 +157,10 @@ impl<'a, R: Files<File = File>> HeldFiles<'a, R> {
     ) -> Result<HeldFiles<'a, R>, AllocError> {
         let mut slots = Vec::new(alloc);
         for path in paths.iter().take(most) {
-            let held = match hold(rt, alloc, path, slots.is_empty()) {
-                Ok(None) => break,
-                Ok(Some(file)) => Ok(file),
-                Err(e) => Err(e.kind()),
+            let Some(held) = held_at(rt, alloc, path, slots.is_empty()) else {
+                break;
             };
-            slots.push(Slot { path, held })?;
+            slots.push(held)?;
         }
         Ok(HeldFiles { rt, writing, slots })
     }

@@ -21,16 +21,20 @@
 //! | `held` | `HeldFiles`: files that are held while they are edited |
 //! | `new_files` | new files, and how they take their places |
 //! | `synced` | new files that have to be on the disk |
-//! | `editing` | `edit_some`: files edited by rules |
+//! | `overtaken` | files that are to be edited anew |
+//! | `editing` | `edit_one`, `edit_some`: files edited by rules |
+//! | `in_threads` | `side_by_side`: work on several files in threads |
 //! | `reasons` | `Reason`: why a file stays as it was, in words |
 #![tactic(auto)]
 
 mod editing;
 mod held;
+mod in_threads;
 mod lists;
 mod names;
 mod new_files;
 mod one_text;
+mod overtaken;
 mod reading;
 mod reasons;
 mod relative;
@@ -38,10 +42,12 @@ mod repeats;
 mod synced;
 mod trees;
 
-pub use editing::edit_some;
+pub use editing::{edit_one, edit_some};
+pub use in_threads::{Place, side_by_side};
 pub use lists::{ListFault, paths_in};
 pub use new_files::Writing;
 pub use one_text::OneText;
+pub use overtaken::lacks_room;
 pub use reading::ReadOnly;
 pub use reasons::Reason;
 pub use relative::path_from_here;

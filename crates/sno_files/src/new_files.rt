@@ -1,6 +1,7 @@
 //! New files, and how they take the places of old ones.
 
 use crate::held::HeldFile;
+use crate::overtaken::OVERTAKEN;
 use sno_edit::WriteFault;
 use std::alloc::Global;
 use std::fs::{File, Metadata, OpenFile, OpenOptions};
@@ -11,9 +12,6 @@ use std::rt::Files;
 
 /// How many names are tried for a new file.
 const NAMES: u32 = 1_000;
-
-/// What an edit fails with if another program changed the file meanwhile. A file that is gone on a server fails with it too.
-pub(crate) const OVERTAKEN: ErrorKind = ErrorKind::StaleNetworkFileHandle;
 
 /// How new texts are written.
 #[derive(Clone, Copy, Debug, PartialEq, Eq)]
@@ -30,29 +28,58 @@ pub(crate) struct NewFile {
     pub(crate) path: String,
 }
 
+/// The folder of this file.
+fn folder_of(target: &str) -> &str {
+    match target.rsplit_once('/') {
+        Some((folder, _)) => folder,
+        None => ".",
+    }
+}
+
+/// Makes a file with this name; `None` if there is one.
+fn create<R: Files<File = File>>(rt: &R, name: &str) -> io::Result<Option<File>> {
+    match OpenOptions::new()
+        .write(true)
+        .create_new(true)
+        .open(rt, name)
+    {
+        Ok(file) => Ok(Some(file)),
+        Err(e) => match e.kind() {
+            ErrorKind::AlreadyExists => Ok(None),
+            _ => Err(e),
+        },
+    }
+}
+
+/// A new file with this number in the folder, and its path; `None` if the number is taken.
+fn numbered<R: Files<File = File>>(
+    rt: &R,
+    alloc: Global,
+    folder: &str,
+    old: u64,
+    number: u32,
+) -> io::Result<Option<(File, String)>> {
+    let name = format!(in alloc; "{folder}/.sno-edit-{old}-{number}")?;
+    let made = create(rt, name.as_str())?;
+    match made {
+        Some(file) => Ok(Some((file, name))),
+        None => Ok(None),
+    }
+}
+
 /// A new file in the folder of this file, and its path. Its name has the number of the file, so that those of several
 /// files are different.
 fn new_file<R: Files<File = File>>(
     rt: &R,
     alloc: Global,
     target: &str,
-    old: &Metadata,
+    old: u64,
 ) -> io::Result<(File, String)> {
-    let folder = match target.rsplit_once('/') {
-        Some((folder, _)) => folder,
-        None => ".",
-    };
-    let file = old.ino();
+    let folder = folder_of(target);
     for number in 0..NAMES {
-        let name = format!(in alloc; "{folder}/.sno-edit-{file}-{number}")?;
-        match OpenOptions::new()
-            .write(true)
-            .create_new(true)
-            .open(rt, name.as_str())
-        {
-            Ok(file) => return Ok((file, name)),
-            Err(e) if e.kind() == ErrorKind::AlreadyExists => {}
-            Err(e) => return Err(e),
+        let made = numbered(rt, alloc, folder, old, number)?;
+        if let Some(file) = made {
+            return Ok(file);
         }
     }
     Err(io::Error::from(ErrorKind::AlreadyExists))
@@ -84,7 +111,7 @@ pub(crate) fn stage<R: Files<File = File>>(
     bytes: &[u8],
 ) -> io::Result<NewFile> {
     let old = &held.old;
-    let (mut file, path) = new_file(rt, alloc, held.target.as_str(), old)?;
+    let (mut file, path) = new_file(rt, alloc, held.target.as_str(), old.ino())?;
     let filled = fill(rt, &mut file, path.as_str(), old, bytes);
     drop(file);
     match filled {

@@ -1,6 +1,6 @@
 //! Why a file of the system stays as it was, in words.
 
-use crate::new_files::OVERTAKEN;
+use crate::overtaken::is_of_overtaken;
 use sno_edit::FileFault;
 use std::fmt;
 use std::io::ErrorKind;
@@ -15,7 +15,7 @@ impl fmt::Display for Reason {
         let Reason(fault) = self;
         match fault {
             FileFault::Unread(ErrorKind::InvalidInput) => f.write_str("not a regular file"),
-            FileFault::Unwritten(kind) | FileFault::Unread(kind) if *kind == OVERTAKEN => {
+            FileFault::Unwritten(kind) | FileFault::Unread(kind) if is_of_overtaken(*kind) => {
                 f.write_str("changed by another program each time that it was edited")
             }
             fault => write!(f, "{fault}"),

@@ -1,10 +1,14 @@
 //! Folders, as the files in them.
+ghost use Rattle.std.specs.Prelude.{◌<◌};
 
+use crate::in_threads::{Place, places_of, side_by_side};
 use crate::names::is_named;
-use crate::repeats::Reached;
+use crate::repeats::without_repeats;
 use std::alloc::{AllocError, Global};
+use std::fs::{File, Metadata};
 use std::io::{ErrorKind, Read, Write};
 use std::rt::Files;
+use std::thread::Threads;
 use std::{fs, io};
 
 /// How many bytes of a file are looked at to know whether it is text.
@@ -50,12 +54,29 @@ fn path_in(alloc: Global, folder: &str, name: &str) -> Result<String, AllocError
     }
 }
 
-/// Whether the path leads to a file, through symbolic links too.
-fn is_file<R: Files>(rt: &R, path: &str) -> bool {
+/// Whether the path leads to a file, through symbolic links too. `metadata` is of the path itself.
+fn is_file<R: Files>(rt: &R, path: &str, metadata: &Metadata) -> bool {
+    if !metadata.is_symlink() {
+        return metadata.is_file();
+    }
     match rt.metadata(path) {
-        Ok(metadata) => metadata.is_file(),
+        Ok(target) => target.is_file(),
         Err(_) => false,
     }
+}
+
+/// Looks at each of these files in threads, and says at its place whether it is text.
+fn look_at<'f, R: Files<File = File, Dir: Send> + Threads + Sync>(
+    rt: &R,
+    alloc: Global,
+    threads: usize,
+    files: &'f [String],
+) -> Result<Vec<Place<'f, bool>>, AllocError>
+    requires { 0 < threads }
+{
+    let mut places = places_of(alloc, files)?;
+    side_by_side(rt, threads, &mut places, &|path: &str| is_text(rt, path));
+    Ok(places)
 }
 
 fn list_folder<R: Files + AllocGlobal + Clone + Drop>(
@@ -75,9 +96,10 @@ fn list_folder<R: Files + AllocGlobal + Clone + Drop>(
             continue;
         }
         let path = path_in(alloc, folder, name)?;
-        if entry.metadata()?.is_dir() {
+        let metadata = entry.metadata()?;
+        if metadata.is_dir() {
             found.folders.push(path)?;
-        } else if is_named(name, names) && is_file(rt, path.as_str()) {
+        } else if is_named(name, names) && is_file(rt, path.as_str(), &metadata) {
             found.files.push(path)?;
         }
     }
@@ -101,26 +123,45 @@ impl Paths {
         Ok(paths)
     }
 
+    /// Adds this file of a folder if it is text.
+    fn put_file(&mut self, alloc: Global, path: &str, is_text: bool) -> Result<(), AllocError> {
+        if is_text {
+            let file = String::from_str(alloc, path)?;
+            self.files.push(file)?;
+        } else {
+            self.not_text = self.not_text.saturating_add(1);
+        }
+        Ok(())
+    }
+
     /// Adds the files of a folder that are text.
-    fn put_files<R: Files>(&mut self, rt: &R, files: Vec<String>) -> Result<(), AllocError> {
-        for file in files {
-            if is_text(rt, file.as_str()) {
-                self.files.push(file)?;
-            } else {
-                self.not_text = self.not_text.saturating_add(1);
-            }
+    fn put_files<R: Files<File = File, Dir: Send> + Threads + Sync>(
+        &mut self,
+        rt: &R,
+        alloc: Global,
+        threads: usize,
+        files: &[String],
+    ) -> Result<(), AllocError>
+        requires { 0 < threads }
+    {
+        let looked_at = look_at(rt, alloc, threads, files)?;
+        for place in &looked_at {
+            self.put_file(alloc, place.path, place.result.unwrap_or(true))?;
         }
         Ok(())
     }
 
     /// Adds the files in a folder, at any depth, in the order of their paths.
-    fn put_folder<R: Files + AllocGlobal + Clone + Drop>(
+    fn put_folder<R: Files<File = File, Dir: Send> + Threads + AllocGlobal + Clone + Drop + Sync>(
         &mut self,
         rt: &R,
         alloc: Global,
+        threads: usize,
         folder: &str,
         names: &[&str],
-    ) -> Result<(), AllocError> {
+    ) -> Result<(), AllocError>
+        requires { 0 < threads }
+    {
         let mut folders = Vec::new(alloc);
         let mut files = Vec::new(alloc);
         folders.push(String::from_str(alloc, folder)?)?;
@@ -138,7 +179,7 @@ impl Paths {
             }
         }
         files.sort()?;
-        self.put_files(rt, files)
+        self.put_files(rt, alloc, threads, &files)
     }
 
     /// The files at these paths, and in the folders among them. Of files in folders only those count whose name is like one of
@@ -147,13 +188,16 @@ impl Paths {
     /// Left out of a folder are names that begin with a dot, links to folders, and files with a NUL in their first 8,192 bytes, which
     /// are counted. A folder that can't be read is noted. A path of nothing is kept: what is wrong with it is found later.
     ///
-    /// Refused only if memory runs out.
-    pub fn at<R: Files + AllocGlobal + Clone + Drop>(
+    /// The files of a folder are looked at in at most `threads` threads. Refused only if memory runs out.
+    pub fn at<R: Files<File = File, Dir: Send> + Threads + AllocGlobal + Clone + Drop + Sync>(
         rt: &R,
         alloc: Global,
+        threads: usize,
         paths: &[&str],
         names: &[&str],
-    ) -> Result<Paths, AllocError> {
+    ) -> Result<Paths, AllocError>
+        requires { 0 < threads }
+    {
         let mut found = Paths {
             files: Vec::new(alloc),
             not_text: 0,
@@ -161,7 +205,9 @@ impl Paths {
         };
         for path in paths {
             match rt.metadata(path) {
-                Ok(metadata) if metadata.is_dir() => found.put_folder(rt, alloc, path, names)?,
+                Ok(metadata) if metadata.is_dir() => {
+                    found.put_folder(rt, alloc, threads, path, names)?;
+                }
                 _ => found.files.push(String::from_str(alloc, path)?)?,
             }
         }
@@ -171,24 +217,20 @@ impl Paths {
     /// The same files without those paths that lead to the file of an earlier one: through a symbolic link, another spelling, or a
     /// name that is given twice. Names of one file that are hard links are kept.
     ///
-    /// Refused only if memory runs out.
-    pub fn without_repeats<R: Files>(self, rt: &R, alloc: Global) -> Result<Paths, AllocError> {
-        let Paths {
-            files,
-            not_text,
-            unread,
-        } = self;
-        let mut reached = Reached::none(alloc);
-        let mut kept = Vec::new(alloc);
-        for file in files {
-            if reached.add(rt, alloc, file.as_str())? {
-                kept.push(file)?;
-            }
-        }
+    /// The paths are followed in at most `threads` threads. Refused only if memory runs out.
+    pub fn without_repeats<R: Files<File = File, Dir: Send> + Threads + Sync>(
+        self,
+        rt: &R,
+        alloc: Global,
+        threads: usize,
+    ) -> Result<Paths, AllocError>
+        requires { 0 < threads }
+    {
+        let kept = without_repeats(rt, alloc, threads, &self.files)?;
         Ok(Paths {
             files: kept,
-            not_text,
-            unread,
+            not_text: self.not_text,
+            unread: self.unread,
         })
     }
 }

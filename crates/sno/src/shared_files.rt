@@ -1,0 +1,25 @@
+//! Files that several threads share.
+ghost use Rattle.std.specs.Prelude.{◌≡◌, length, IfOk};
+
+use sno_files::Place;
+use std::alloc::{AllocError, Global};
+
+/// How many files a thread takes before what became of them is written.
+pub(crate) const SHARE: usize = 64;
+
+/// The most bytes that are kept of what is shown of a file, until what comes before it is written.
+pub(crate) const KEPT: usize = 1_048_576;
+
+/// A place for each of the paths.
+pub(crate) fn places_of<'p, X: Drop>(
+    alloc: Global,
+    paths: &[&'p str],
+) -> Result<Vec<Place<'p, X>>, AllocError>
+    ensures { IfOk result (λ places. length places.items ≡ length paths.now) }
+{
+    let mut places = Vec::with_capacity(alloc, paths.len())?;
+    for path in paths {
+        places.push(Place { path, result: None })?;
+    }
+    Ok(places)
+}

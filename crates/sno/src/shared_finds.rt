@@ -1,0 +1,145 @@
+//! `sno find` by several threads.
+ghost use Rattle.std.specs.Prelude.{◌<◌};
+
+use crate::faults::ProgramFault;
+use crate::find_options::Shown;
+use crate::finds::{NotFound, Sought, find_file, find_named, keep};
+use crate::shared_files::{KEPT, SHARE, places_of};
+use crate::streams::write_all;
+use sno_edit::{EditRules, FileFault};
+use sno_files::{Place, side_by_side};
+use std::alloc::Global;
+use std::fs::File;
+use std::io;
+use std::io::{ErrorKind, Read, Write};
+use std::rt::Files;
+use std::thread::Threads;
+
+/// What is shown of a file, and whether it has a match.
+#[derive(Drop)]
+struct Sight {
+    bytes: Vec<u8>,
+    found: bool,
+}
+
+/// What a thread knows of a file: what is shown of it. `None` if that is too long to be kept, or if the file is standard input; then
+/// it is sought again, when what comes before it is written.
+type Seen = Result<Option<Sight>, FileFault>;
+
+/// Bytes that are kept until what comes before them is written. No more than [`KEPT`] are taken.
+#[derive(Drop)]
+struct Kept {
+    bytes: Vec<u8>,
+}
+
+impl Write for Kept {
+    fn write(&mut self, bytes: &[u8]) -> io::Result<usize> {
+        if bytes.len() > KEPT.saturating_sub(self.bytes.len()) {
+            return Err(io::Error::from(ErrorKind::FileTooLarge));
+        }
+        self.bytes.extend_from_slice(bytes)?;
+        Ok(bytes.len())
+    }
+
+    fn flush(&mut self) -> io::Result<()> {
+        Ok(())
+    }
+}
+
+/// Seeks the rules in a file.
+fn see<R: Files<File = File>>(
+    rt: &R,
+    alloc: Global,
+    rules: &EditRules,
+    shown: Shown<'_>,
+    path: &str,
+) -> Seen {
+    if path == "-" {
+        return Ok(None);
+    }
+    let mut kept = Kept {
+        bytes: Vec::new(alloc),
+    };
+    match find_file(rt, alloc, rules, shown, path, false, &mut kept) {
+        Ok(found) => Ok(Some(Sight {
+            bytes: kept.bytes,
+            found,
+        })),
+        Err(NotFound::File(fault)) => Err(fault),
+        Err(NotFound::Program(_)) => Ok(None),
+    }
+}
+
+/// Writes what is shown of a file, and returns whether it has a match. `grouped` says whether there were lines of other files before.
+fn write_sight<W: Write>(
+    shown: Shown<'_>,
+    sight: &Sight,
+    grouped: bool,
+    output: &mut W,
+) -> Result<bool, NotFound> {
+    if grouped && sight.found && matches!(shown, Shown::Lines(Some(_))) {
+        write_all(output, b"--\n")?;
+    }
+    write_all(output, &sight.bytes)?;
+    Ok(sight.found)
+}
+
+/// Writes what is shown of each of the files.
+fn write_each<R: Files<File = File>, I: Read, W: Write, E: Write>(
+    rt: &R,
+    alloc: Global,
+    shown: Shown<'_>,
+    rules: &EditRules,
+    places: &[Place<'_, Seen>],
+    sought: &mut Sought,
+    input: &mut I,
+    output: &mut W,
+    errors: &mut E,
+) -> Result<(), ProgramFault> {
+    for place in places {
+        let path = place.path;
+        let grouped = sought.found;
+        let found = match &place.result {
+            Some(Ok(Some(sight))) => write_sight(shown, sight, grouped, output),
+            Some(Err(fault)) => Err(NotFound::File(*fault)),
+            _ => find_named(rt, alloc, rules, shown, path, grouped, input, output),
+        };
+        keep(path, found, sought, errors)?;
+    }
+    Ok(())
+}
+
+/// Seeks the rules in each file, by several threads, and writes what is shown of it, in the order of the paths.
+pub(crate) fn find_shared<
+    R: Files<File = File, Dir: Send> + Threads + Sync,
+    I: Read,
+    W: Write,
+    E: Write,
+>(
+    rt: &R,
+    alloc: Global,
+    shown: Shown<'_>,
+    rules: &EditRules,
+    threads: usize,
+    paths: &[&str],
+    sought: &mut Sought,
+    input: &mut I,
+    output: &mut W,
+    errors: &mut E,
+) -> Result<(), ProgramFault>
+    requires { 0 < threads }
+{
+    for share in paths.chunks(threads.saturating_mul(SHARE).max(1)) {
+        let mut places = places_of(alloc, share)?;
+        side_by_side(
+            rt,
+            threads,
+            &mut places,
+            &|path: &str| see(rt, alloc, rules, shown, path),
+        );
+        write_each(
+            rt, alloc, shown, rules, &places, sought, input, output, errors,
+        )?;
+    }
+    Ok(())
+}
