@@ -14,7 +14,7 @@ use crate::texts::check_texts;
 use json::{Scratch, Value};
 use sno_document::{DocumentFault, MAX_DOCUMENT, Mode, read_document};
 use sno_findings::{
-    Collector, Form, Mistake, Place, Report, Warning, advice_of, element_lines, json_mistake,
+    Collector, Form, Mistake, Place, Report, Warning, advice_of, json_mistake, lines_of_elements,
 };
 use sno_statement::USUAL_TRIALS;
 use std::alloc::{AllocError, Global};
@@ -137,7 +137,7 @@ fn check_text(findings: &mut Collector, kind: Kind, bytes: &[u8]) -> Result<(), 
 
 /// Gives each finding in a text of JSON the line on which its part begins.
 fn number_lines(findings: &mut Collector, bytes: &[u8]) -> Result<(), AllocError> {
-    let lines = element_lines(findings.alloc, str::from_utf8(bytes).unwrap_or(""))?;
+    let lines = lines_of_elements(findings.alloc, str::from_utf8(bytes).unwrap_or(""))?;
     findings.number_errors(&lines);
     findings.number_warnings(&lines);
     Ok(())

@@ -138,7 +138,7 @@ impl LineWalk {
 }
 
 /// The lines of the elements of a document that is JSON. Refused only if memory runs out.
-pub fn element_lines(alloc: Global, text: &str) -> Result<ElementLines, AllocError> {
+pub fn lines_of_elements(alloc: Global, text: &str) -> Result<ElementLines, AllocError> {
     let mut scratch = Scratch::new(alloc);
     let mut reader = Reader::new(text, &mut scratch)?;
     let mut walk = LineWalk {

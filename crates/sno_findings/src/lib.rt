@@ -46,7 +46,7 @@ pub use advice::advice_of;
 pub use ascii::text_of;
 pub use collector::Collector;
 pub use edges::Blocked;
-pub use element_lines::{ElementLines, element_lines};
+pub use element_lines::{ElementLines, lines_of_elements};
 pub use excerpts::{Position, around, position_of, shown};
 pub use facts::{Facts, bit, facts_of};
 pub use findings::{Excerpt, Form, Mistake, Place, Report, Warning};
