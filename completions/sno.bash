@@ -1,4 +1,4 @@
-# Completion of sno for bash.
+# Completion of sno for bash. Made by tools/pages_of.
 
 _sno() {
     local word="${COMP_WORDS[COMP_CWORD]}" previous="${COMP_WORDS[COMP_CWORD - 1]}"
@@ -12,11 +12,11 @@ _sno() {
     fi
     if [ "$COMP_CWORD" -gt 1 ]; then
         case "${COMP_WORDS[1]}" in
-            run) options=" --anchor --json --workers --tries --trials --help -h --version -V " ;;
-            check) options=" --json --strict --help -h " ;;
+            run) options=" --workers --tries --anchor --json --trials --help -h --version -V " ;;
+            check) options=" --json --strict --rules --rule -e --file -f --define -d --with -w --help -h " ;;
             edit) options=" --diff --check --json --sync --backup --anchor --trials --rule -e --file -f --define -d --with -w --name -n --files-from --null -0 --threads --help -h " ;;
             find) options=" --paths -l --count -c --json --only --after-context -A --before-context -B --context -C --anchor --trials --rule -e --file -f --define -d --with -w --name -n --files-from --null -0 --threads --help -h " ;;
-            trace) options=" --statement --match --lines --html --help -h " ;;
+            trace) options=" --statement --match --lines --html --on --rule -e --file -f --define -d --with -w --help -h " ;;
             serve) options=" --seats --tries --trials --listing --store --help -h " ;;
             store)
                 options=" check list --help -h "
@@ -31,15 +31,20 @@ _sno() {
         esac
     fi
     case "$previous" in
-        --trials) options="1000 1000000 1000000000" ;;
-        --statement|--match) options="1 2 3 4 5 6 7 8 9" ;;
-        --lines) options="100 1000 10000" ;;
-        --seats|--threads|--workers) options="1 2 4 8 16" ;;
+        --workers) options="1 2 3 4 5 6 7 8 9 10 11 12 13 14 15 16" ;;
         --tries) options="1 10 100 1000" ;;
-        --after-context|-A|--before-context|-B|--context|-C) options="1 2 3 5 10" ;;
-        --backup) options=".bak .orig" ;;
+        --trials) options="1000 1000000 1000000000" ;;
         --with|-w) options="c html json markdown python shell" ;;
-        --listing|--store|--file|-f|--files-from)
+        --backup) options=".bak .orig" ;;
+        --threads) options="1 2 4 8 16" ;;
+        --after-context|-A) options="1 2 3 5 10" ;;
+        --before-context|-B) options="1 2 3 5 10" ;;
+        --context|-C) options="1 2 3 5 10" ;;
+        --statement) options="1 2 3 4 5 6 7 8 9" ;;
+        --match) options="1 2 3 4 5 6 7 8 9" ;;
+        --lines) options="100 1000 10000" ;;
+        --seats) options="1 2 4 8 16" ;;
+        --listing|--store|--file|-f|--files-from|--on)
             # A file: the option -o default below.
             COMPREPLY=()
             return

@@ -1,8 +1,8 @@
-# Completion of sno_rewrite for bash.
+# Completion of sno_rewrite for bash. Made by tools/pages_of.
 
 _sno_rewrite() {
     local word="${COMP_WORDS[COMP_CWORD]}" previous="${COMP_WORDS[COMP_CWORD - 1]}"
-    local options=" --anchor --json --workers --tries --trials --help -h --version -V "
+    local options=" --workers --tries --anchor --json --trials --help -h --version -V "
     local given index
     # In --workers=4, bash makes the equals sign a word of its own.
     if [ "$word" = "=" ]; then

@@ -1,6 +1,6 @@
 //! What the arguments ask for.
 
-use crate::arguments::{document, flag};
+use crate::check_command::{CheckRequest, LINES_AND_DOCUMENT, check_command, check_request};
 use crate::edit_options::{EditRequest, edit_command, edit_options, edit_request};
 use crate::find_options::{FindRequest, WITHOUT_RULES, find_command, find_request};
 use crate::rule_options::{TRIALS_OUT_OF_RANGE, WITHOUT_LINES, are_without_lines, trials};
@@ -10,7 +10,9 @@ use crate::serve_command::{
 };
 use crate::store_command::{StoreAction, StoreRequest, store_command, store_request};
 use crate::thread_options::{THREADS_OUT_OF_RANGE, are_threads_in_range};
-use crate::trace_command::{TRACE_OUT_OF_RANGE, TraceOptions, trace_command, trace_options};
+use crate::trace_command::{
+    TRACE_OUT_OF_RANGE, TraceRequest, trace_command, trace_options, trace_request,
+};
 use clap::error::ErrorKind;
 use clap::{ArgMatches, Command, Error};
 use std::alloc::{AllocError, Global};
@@ -23,42 +25,21 @@ pub(crate) const RUN: &str = "run";
 const RUN_ABOUT: &str =
     "Performs the document on standard input, as sno_rewrite does; sno run --help has its options";
 
-const CHECK_ABOUT: &str =
-    "Checks a document without performing it: every fault at once, and what is probably not meant";
-
-// The subcommand's own usage would leave out the program's name.
-const CHECK_USAGE: &str = "sno check [OPTIONS] [DOCUMENT]";
-
-const JSON_HELP: &str = "Writes the findings as JSON";
-
-const STRICT_HELP: &str = "Ends with status 1 for warnings too";
-
 const EXAMPLE: &str = "Example: sno check --strict document.json";
 
 const VERSION: &str = "1.0.0";
-
-/// How `sno check` is to be done.
-#[derive(Clone, Copy, Debug, PartialEq, Eq)]
-pub(crate) struct CheckOptions<'a> {
-    /// Whether the findings are written as JSON.
-    pub(crate) json: bool,
-    /// Whether warnings count as errors do.
-    pub(crate) strict: bool,
-    /// The file of the document; standard input if there is none.
-    pub(crate) document: Option<&'a str>,
-}
 
 /// What is to be done.
 #[derive(Drop)]
 pub(crate) enum Request<'a> {
     /// A document is to be checked.
-    Check(CheckOptions<'a>),
+    Check(CheckRequest<'a>),
     /// Files are to be edited.
     Edit(EditRequest<'a>),
     /// Rules are to be sought in files.
     Find(FindRequest<'a>),
     /// A match is to be traced.
-    Trace(TraceOptions<'a>),
+    Trace(TraceRequest<'a>),
     /// A document is to be served.
     Serve(ServeOptions<'a>),
     /// A document is to be served over a store.
@@ -78,16 +59,6 @@ pub(crate) enum Stop {
     Memory,
 }
 
-fn check_command<'a>(alloc: Global) -> Result<Command<'a>, AllocError> {
-    Command::new(alloc, "check")
-        .about(CHECK_ABOUT)
-        .override_usage(CHECK_USAGE)
-        .after_help(EXAMPLE)
-        .arg(flag(alloc, "json", JSON_HELP))?
-        .arg(flag(alloc, "strict", STRICT_HELP))?
-        .arg(document(alloc))
-}
-
 fn program<'a>(alloc: Global) -> Result<Command<'a>, AllocError> {
     Command::new(alloc, "sno")
         .no_binary_name(true)
@@ -103,14 +74,6 @@ fn program<'a>(alloc: Global) -> Result<Command<'a>, AllocError> {
         .subcommand(trace_command(alloc)?)?
         .subcommand(serve_command(alloc)?)?
         .subcommand(store_command(alloc)?)
-}
-
-fn options_in<'a>(matches: &ArgMatches<'a>) -> CheckOptions<'a> {
-    CheckOptions {
-        json: matches.get_one::<bool>("json").unwrap_or(false),
-        strict: matches.get_one::<bool>("strict").unwrap_or(false),
-        document: matches.get_str("document"),
-    }
 }
 
 /// What an error of `clap` means, with `clap`'s own text.
@@ -179,6 +142,34 @@ fn edit_request_in<'a>(alloc: Global, found: &ArgMatches<'a>) -> Result<Request<
     }
 }
 
+/// What is found under `sno check`.
+fn check_request_in<'a>(alloc: Global, found: &ArgMatches<'a>) -> Result<Request<'a>, Stop> {
+    let Ok(request) = check_request(alloc, found) else {
+        return Err(Stop::Memory);
+    };
+    if request.has_both() {
+        return Err(refused_with(alloc, LINES_AND_DOCUMENT));
+    }
+    Ok(Request::Check(request))
+}
+
+/// What is found under `sno trace`.
+fn trace_request_in<'a>(alloc: Global, found: &ArgMatches<'a>) -> Result<Request<'a>, Stop> {
+    if are_without_lines(found) {
+        return Err(refused_with(alloc, WITHOUT_LINES));
+    }
+    let Some(options) = trace_options(found) else {
+        return Err(refused_with(alloc, TRACE_OUT_OF_RANGE));
+    };
+    let Ok(request) = trace_request(alloc, found, options) else {
+        return Err(Stop::Memory);
+    };
+    match request.refusal() {
+        Some(refusal) => Err(refused_with(alloc, refusal)),
+        None => Ok(Request::Trace(request)),
+    }
+}
+
 /// What is found under a subcommand.
 fn request_in<'a>(alloc: Global, matches: &ArgMatches<'a>) -> Result<Request<'a>, Stop> {
     if let Some(found) = matches.subcommand_matches("edit") {
@@ -188,10 +179,7 @@ fn request_in<'a>(alloc: Global, matches: &ArgMatches<'a>) -> Result<Request<'a>
         return find_request_in(alloc, found);
     }
     if let Some(found) = matches.subcommand_matches("trace") {
-        return match trace_options(found) {
-            Some(options) => Ok(Request::Trace(options)),
-            None => Err(refused_with(alloc, TRACE_OUT_OF_RANGE)),
-        };
+        return trace_request_in(alloc, found);
     }
     if let Some(found) = matches.subcommand_matches("serve") {
         return serve_request_in(alloc, found);
@@ -200,8 +188,8 @@ fn request_in<'a>(alloc: Global, matches: &ArgMatches<'a>) -> Result<Request<'a>
         return Ok(Request::Store(store_request(found)));
     }
     match matches.subcommand_matches("check") {
-        Some(found) => Ok(Request::Check(options_in(found))),
-        None => Ok(Request::Check(options_in(matches))),
+        Some(found) => check_request_in(alloc, found),
+        None => check_request_in(alloc, matches),
     }
 }
 

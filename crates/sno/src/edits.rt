@@ -296,7 +296,7 @@ fn warn_of_members<E: Write>(
     errors: &mut E,
 ) -> Result<(), AllocError> {
     for warning in member_warnings(alloc, bytes)? {
-        let Warning { place, message } = warning;
+        let Warning { place, message, .. } = warning;
         let _printed = errors.writeln(format_args!("{path}: {place}: warning: {message}"));
     }
     Ok(())

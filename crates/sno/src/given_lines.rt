@@ -1,40 +1,37 @@
 //! Lines of rules that are given, by options and in files.
 
 use crate::faults::ProgramFault;
+use crate::ready_files::ready_path;
 use crate::streams::read_up_to;
 use sno_document::MAX_DOCUMENT;
-use sno_rules::{FileLine, LineKind, RuleFileFault, lines_of};
+use sno_lines::{GivenLines, NoLines, lines_of_mistake};
 use std::alloc::{AllocError, AllocFailed, Global};
 use std::fs;
 use std::rt::Files;
 
-/// From where a line comes.
-#[derive(Clone, Copy)]
-pub(crate) enum Source<'a> {
-    /// An option.
-    Option,
-    /// The file with this path. It begins there on the line with this number.
-    File(&'a str, usize),
-}
-
-/// A line of rules.
+/// What the options give: rules and definitions in lines, and files of them.
 #[derive(Drop)]
-pub(crate) struct GivenLine<'a> {
-    /// From where it comes.
-    pub(crate) source: Source<'a>,
-    /// Whether it is a definition that is left out if nothing refers to it.
-    pub(crate) ready: bool,
-    /// Its characters.
-    pub(crate) text: String,
-}
-
-/// Definitions and rules, each in a line.
-#[derive(Drop)]
-pub(crate) struct GivenLines<'a> {
+pub(crate) struct RuleLines<'a> {
+    /// The names or paths of files of definitions that are ready, in order.
+    pub(crate) ready: Vec<&'a str>,
+    /// The paths of files of rules, in order.
+    pub(crate) files: Vec<&'a str>,
     /// The definitions, in order.
-    pub(crate) definitions: Vec<GivenLine<'a>>,
+    pub(crate) definitions: Vec<&'a str>,
     /// The rules, in order.
-    pub(crate) rules: Vec<GivenLine<'a>>,
+    pub(crate) rules: Vec<&'a str>,
+}
+
+impl RuleLines<'_> {
+    /// Whether there are rules in lines.
+    pub(crate) fn are_given(&self) -> bool {
+        !self.rules.is_empty() || !self.files.is_empty()
+    }
+
+    /// Whether there is any line, or a file of them.
+    pub(crate) fn has_any(&self) -> bool {
+        self.are_given() || !self.definitions.is_empty() || !self.ready.is_empty()
+    }
 }
 
 /// Why there are no lines, or no rules.
@@ -66,7 +63,7 @@ impl From<ProgramFault> for NoRules {
     }
 }
 
-/// What is written of a file that has no lines of rules.
+/// What is written of a file that isn't read.
 fn refused_file(alloc: Global, path: &str, why: &str) -> NoRules {
     match format!(in alloc; "{path}: {why}\n") {
         Ok(text) => NoRules::Refused(text),
@@ -74,100 +71,72 @@ fn refused_file(alloc: Global, path: &str, why: &str) -> NoRules {
     }
 }
 
-/// The bytes of a file of rules.
-fn file_bytes<R: Files>(rt: &R, alloc: Global, path: &str) -> Result<Vec<u8>, NoRules> {
-    let Ok(mut file) = fs::open(rt, path) else {
-        return Err(refused_file(alloc, path, "can't be read"));
+/// Why there are no rules, if a file has no lines of them.
+pub(crate) fn no_rules(alloc: Global, reason: NoLines<'_>) -> NoRules {
+    match reason {
+        NoLines::Memory => NoRules::Fault(ProgramFault::Memory),
+        NoLines::Refused(mistake) => match lines_of_mistake(alloc, &mistake) {
+            Ok(text) => NoRules::Refused(text),
+            Err(refused) => NoRules::from(refused),
+        },
+    }
+}
+
+/// A file of lines.
+#[derive(Drop)]
+pub(crate) struct RuleFile {
+    path: String,
+    /// Whether it has definitions alone, which are left out if nothing refers to them.
+    ready: bool,
+    bytes: Vec<u8>,
+}
+
+/// A file of lines, as it is read.
+fn rule_file<R: Files>(
+    rt: &R,
+    alloc: Global,
+    path: String,
+    ready: bool,
+) -> Result<RuleFile, NoRules> {
+    let Ok(mut file) = fs::open(rt, path.as_str()) else {
+        return Err(refused_file(alloc, &path, "can't be read"));
     };
     let bytes = read_up_to(alloc, &mut file, MAX_DOCUMENT)?;
     if bytes.len() > MAX_DOCUMENT {
-        return Err(refused_file(alloc, path, "longer than 16777216 bytes"));
+        return Err(refused_file(alloc, &path, "longer than 16777216 bytes"));
     }
-    Ok(bytes)
+    Ok(RuleFile { path, ready, bytes })
 }
 
-fn rule_file_fault(alloc: Global, path: &str, fault: RuleFileFault) -> NoRules {
-    match fault {
-        RuleFileFault::Memory => NoRules::Fault(ProgramFault::Memory),
-        RuleFileFault::UnknownLine(_) | RuleFileFault::NothingBefore(_) => {
-            match format!(in alloc;
-                "{path}: {fault}\n    a rule begins with a blank, a definition with its name, a comment with *\n"
-            ) {
-                Ok(text) => NoRules::Refused(text),
-                Err(_) => NoRules::Fault(ProgramFault::Memory),
-            }
-        }
-    }
-}
-
-impl<'a> GivenLines<'a> {
-    /// No lines.
-    pub(crate) fn none(alloc: Global) -> GivenLines<'a> {
-        GivenLines {
-            definitions: Vec::new(alloc),
-            rules: Vec::new(alloc),
-        }
-    }
-
-    /// Adds a line of a file.
-    fn put_line(&mut self, path: &'a str, ready: bool, line: FileLine) -> Result<(), NoRules> {
-        let FileLine {
-            number,
-            kind,
-            characters,
-        } = line;
-        let alloc = *characters.allocator();
-        let Ok(text) = String::from_utf8(characters) else {
-            return Err(refused_file(alloc, path, "not UTF-8"));
-        };
-        let given = GivenLine {
-            source: Source::File(path, number),
-            ready,
-            text,
-        };
-        match kind {
-            LineKind::Definition => self.definitions.push(given)?,
-            LineKind::Rule if ready => {
-                return Err(refused_file(alloc, path, "has a rule; --with takes definitions alone"));
-            }
-            LineKind::Rule => self.rules.push(given)?,
-        }
-        Ok(())
-    }
-
-    /// Adds the lines of a file. `ready` says that it has definitions alone, which are left out if nothing refers to them.
-    pub(crate) fn put_file<R: Files>(
-        &mut self,
-        rt: &R,
-        alloc: Global,
-        path: &'a str,
-        ready: bool,
-    ) -> Result<(), NoRules> {
-        let bytes = file_bytes(rt, alloc, path)?;
-        match lines_of(alloc, &bytes) {
-            Err(fault) => Err(rule_file_fault(alloc, path, fault)),
-            Ok(lines) => {
-                for line in lines {
-                    self.put_line(path, ready, line)?;
-                }
-                Ok(())
-            }
-        }
-    }
-}
-
-/// Adds the values of an option, each a line.
-pub(crate) fn put_options<'a>(
+/// The files that the options name: first those of definitions that are ready, then those of rules.
+pub(crate) fn rule_files<R: Files + AllocGlobal>(
+    rt: &R,
     alloc: Global,
-    lines: &mut Vec<GivenLine<'a>>,
-    values: &[&str],
-) -> Result<(), AllocError> {
-    for value in values {
-        lines.push(GivenLine {
-            source: Source::Option,
-            ready: false,
-            text: String::from_str(alloc, value)?,
-        })?;
+    given: &RuleLines<'_>,
+) -> Result<Vec<RuleFile>, NoRules> {
+    let mut files = Vec::new(alloc);
+    for name in &given.ready {
+        let path = ready_path(rt, alloc, name)?;
+        files.push(rule_file(rt, alloc, path, true)?)?;
     }
-    Ok(())
+    for path in &given.files {
+        let path = String::from_str(alloc, path)?;
+        files.push(rule_file(rt, alloc, path, false)?)?;
+    }
+    Ok(files)
+}
+
+/// The lines of the files, and after them those of options.
+pub(crate) fn read_lines<'p>(
+    alloc: Global,
+    files: &'p [RuleFile],
+    given: &RuleLines<'_>,
+) -> Result<GivenLines<'p>, NoLines<'p>> {
+    let mut lines = GivenLines::none(alloc);
+    for file in files {
+        lines.put_file(alloc, &file.path, file.ready, &file.bytes)?;
+    }
+    lines.put_definitions(alloc, &given.definitions)?;
+    lines.put_rules(alloc, &given.rules)?;
+    Ok(lines)
 }

@@ -8,7 +8,8 @@
 //! | `arguments` | arguments that several subcommands have |
 //! | `faults` | why nothing was done, with the line and the status of each reason |
 //! | `streams` | bytes in and out |
-//! | `checks` | `sno check`: a document is checked by `sno_check`, and its report written |
+//! | `check_command`, `checks` | `sno check`: its arguments; a document or rules in JSON are checked by `sno_check`, and the report written |
+//! | `line_checks` | `sno check` of rules in lines |
 //! | `edit_options`, `edits` | `sno edit`: its arguments; files are edited by `sno_edit` |
 //! | `filters` | `sno edit` of standard input |
 //! | `edit_reports` | what is written of edited files |
@@ -19,13 +20,11 @@
 //! | `first_matches`, `variables` | whether rules match at all; the variables of rules |
 //! | `rounds_left` | repeated rules that stop at the most rounds that a rule may have |
 //! | `rule_options` | the options that give rules in lines, and say how they are performed |
-//! | `rule_lines` | rules in lines, as rows: from options, files and files of definitions that are ready |
-//! | `given_lines`, `ready_files` | the lines that are given; where the files of ready definitions are |
-//! | `spelled_lines`, `line_faults` | the lines as they are spelled; what is written of those that are no rules |
+//! | `rule_lines` | rules in lines, which `sno_lines` spells, as statements |
+//! | `line_rows` | rules and definitions in lines, as rows |
+//! | `given_lines`, `ready_files` | the lines that options and files give; where the files of ready definitions are |
 //! | `file_options`, `found_files` | the options that say which files are taken; the files that they name |
-//! | `trace_command`, `traces` | `sno trace`: its arguments; the statements before the one that is traced are performed |
-//! | `searches`, `rounds` | the search of a pass, or the round of a repeated statement, that a number asks for |
-//! | `trace_lines`, `trace_faults` | the lines of a trace, which `sno_trace` makes; why there are none |
+//! | `trace_command`, `trace_modes`, `traces` | `sno trace`: its arguments; a statement or a rule is traced by `sno_traces` |
 //! | `serve_command`, `serves` | `sno serve`: its arguments; a document is served by `sno_serve`, and the listing written |
 //! | `listing_files` | the file of a listing |
 //! | `store_command`, `stored` | `sno serve --store` and `sno store`: a document is served over a store by `sno_durable`, and a store looked at |
@@ -33,6 +32,7 @@
 #![tactic(auto)]
 
 mod arguments;
+mod check_command;
 mod checks;
 mod command_line;
 mod contexts;
@@ -47,28 +47,25 @@ mod finds;
 mod first_matches;
 mod found_files;
 mod given_lines;
-mod line_faults;
+mod line_checks;
+mod line_rows;
 mod listing_files;
 mod program;
 mod ready_files;
-mod rounds;
 mod rounds_left;
 mod rule_lines;
 mod rule_options;
-mod searches;
 mod serve_command;
 mod serves;
 mod shared_edits;
 mod shared_files;
 mod shared_finds;
-mod spelled_lines;
 mod store_command;
 mod stored;
 mod streams;
 mod thread_options;
 mod trace_command;
-mod trace_faults;
-mod trace_lines;
+mod trace_modes;
 mod traces;
 mod variables;
 

@@ -51,8 +51,8 @@ fn report<E: Write>(fault: ProgramFault, errors: &mut E) -> u8 {
 /// What a request reads first.
 fn read_by<'a>(request: &Request<'a>) -> &'a str {
     match request {
-        Request::Check(options) => options.document.unwrap_or(INPUT),
-        Request::Trace(options) => options.document.unwrap_or(INPUT),
+        Request::Check(request) => request.options.document.unwrap_or(INPUT),
+        Request::Trace(request) => request.options.document.unwrap_or(INPUT),
         Request::Serve(options) => options.document,
         Request::ServeStore(options) => options.document.unwrap_or(options.store),
         Request::Store(request) => request.store,
@@ -119,13 +119,13 @@ fn run_request<
     errors: &mut E,
 ) -> Result<u8, ProgramFault> {
     match request {
-        Request::Check(options) => run_check(rt, alloc, options, input, output),
+        Request::Check(check) => run_check(rt, alloc, check, input, output, errors),
         Request::Edit(edit) => {
             let coloured = output.is_terminal() && !is_set(rt, "NO_COLOR");
             run_edit(rt, alloc, edit, coloured, input, output, errors)
         }
         Request::Find(find) => run_find(rt, alloc, find, input, output, errors),
-        Request::Trace(options) => run_trace(rt, alloc, options, input, output, errors),
+        Request::Trace(trace) => run_trace(rt, alloc, trace, input, output, errors),
         Request::Serve(options) => run_serve(rt, alloc, options, input, output, errors),
         Request::ServeStore(options) => run_stored(rt, alloc, options, input, output, errors),
         Request::Store(request) => run_store(rt, alloc, request, output, errors),

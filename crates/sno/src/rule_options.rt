@@ -46,18 +46,27 @@ pub(crate) fn repeated<'a>(
         .help(help)
 }
 
+/// The command with the options that give rules and definitions in lines.
+pub(crate) fn with_line_options<'a>(
+    alloc: Global,
+    command: Command<'a>,
+) -> Result<Command<'a>, AllocError> {
+    command
+        .arg(repeated(alloc, "rule", 'e', "RULE", RULE_HELP))?
+        .arg(repeated(alloc, "file", 'f', "RULES", RULE_FILE_HELP))?
+        .arg(repeated(alloc, "define", 'd', "DEFINITION", DEFINE_HELP))?
+        .arg(repeated(alloc, "with", 'w', "NAME", WITH_HELP))
+}
+
 /// The command with the options for rules.
 pub(crate) fn with_rule_options<'a>(
     alloc: Global,
     command: Command<'a>,
 ) -> Result<Command<'a>, AllocError> {
-    command
+    let command = command
         .arg(flag(alloc, "anchor", ANCHOR_HELP))?
-        .arg(optional_number(alloc, "trials", TRIALS_HELP))?
-        .arg(repeated(alloc, "rule", 'e', "RULE", RULE_HELP))?
-        .arg(repeated(alloc, "file", 'f', "RULES", RULE_FILE_HELP))?
-        .arg(repeated(alloc, "define", 'd', "DEFINITION", DEFINE_HELP))?
-        .arg(repeated(alloc, "with", 'w', "NAME", WITH_HELP))
+        .arg(optional_number(alloc, "trials", TRIALS_HELP))?;
+    with_line_options(alloc, command)
 }
 
 /// How many trials are asked for; `None` if the number is not in its range.

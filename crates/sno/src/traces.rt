@@ -2,24 +2,27 @@
 
 use crate::checks::document_bytes;
 use crate::faults::{FAILED, MISUSED, ProgramFault};
-use crate::streams::write_all;
-use crate::trace_command::TraceOptions;
-use crate::trace_faults::NoTrace;
-use crate::trace_lines::{TraceLines, match_lines, pass_lines, round_lines};
-use sno_book::{Book, CommitFault, SnapshotFault, fresh_is_related, propose};
-use sno_document::{Document, DocumentFault, Mode, read_document};
-use sno_pattern::Text;
-use sno_statement::{Statement, StatementFault, USUAL_TRIALS};
+use crate::given_lines::NoRules;
+use crate::rule_lines::document_of_lines;
+use crate::streams::{read_up_to, write_all};
+use crate::trace_command::{TraceOptions, TraceRequest};
+use crate::trace_modes::mode_on;
+use sno_document::{Document, DocumentFault, Mode, read_document, read_rules};
+use sno_edit::is_for;
+use sno_findings::{Position, position_of};
+use sno_pattern::{MAX_TEXT, Text, TextFault};
+use sno_statement::USUAL_TRIALS;
 use sno_trace::page_of;
+use sno_traces::{NoTrace, TraceLines, Wanted, take_statement, trace_of_document, trace_on_text};
 use std::alloc::{AllocError, Global};
+use std::fs;
 use std::io::{Read, Write};
 use std::rt::Files;
-use std::sync::Arc;
 
-/// The status after a document that is refused.
+/// The status after a document, rules or a text that are refused.
 const INVALID: u8 = 2;
 
-/// What is written if the text of the statement isn't there.
+/// What is written if the text of the statement isn't there, or the rule isn't for the file.
 const NO_TEXT: &[u8] = b"no text\n";
 
 /// What is written, and the status after it.
@@ -29,81 +32,50 @@ struct Written {
     status: u8,
 }
 
-/// Performs one statement on the current text of its name. If it is refused, nothing changes.
-fn advance(alloc: Global, book: &mut Book, statement: &Arc<Statement>) -> Result<(), AllocError> {
-    let snapshot = match book.snapshot(statement.text()) {
-        Ok(snapshot) => snapshot,
-        Err(SnapshotFault::NoText) => return Ok(()),
-        Err(SnapshotFault::Memory) => return Err(AllocError),
+/// Why nothing is shown.
+#[derive(Debug, Drop)]
+enum Unshown {
+    /// There is no trace.
+    NoTrace(NoTrace),
+    /// What is written about what was given in place of a document, of rules or of a text.
+    Refused(String),
+    /// They can't be read, or memory ran out.
+    Fault(ProgramFault),
+}
+
+impl From<AllocError> for Unshown {
+    fn from(_refused: AllocError) -> Unshown {
+        Unshown::Fault(ProgramFault::Memory)
+    }
+}
+
+impl From<ProgramFault> for Unshown {
+    fn from(fault: ProgramFault) -> Unshown {
+        Unshown::Fault(fault)
+    }
+}
+
+impl From<NoTrace> for Unshown {
+    fn from(reason: NoTrace) -> Unshown {
+        Unshown::NoTrace(reason)
+    }
+}
+
+impl From<NoRules> for Unshown {
+    fn from(reason: NoRules) -> Unshown {
+        match reason {
+            NoRules::Fault(fault) => Unshown::Fault(fault),
+            NoRules::Refused(text) | NoRules::Unread(text) => Unshown::Refused(text),
+        }
+    }
+}
+
+/// What is written of a trace; `None` is a text that isn't there.
+fn bytes_of(alloc: Global, shown: Option<TraceLines>, html: bool) -> Result<Written, AllocError> {
+    let Some(shown) = shown else {
+        let bytes = Vec::from_slice(alloc, NO_TEXT)?;
+        return Ok(Written { bytes, status: 1 });
     };
-    let proposal = match propose(alloc, Arc::try_clone(statement)?, snapshot) {
-        Ok(proposal) => proposal,
-        Err(StatementFault::Memory) => return Err(AllocError),
-        Err(StatementFault::TextTooLong) | Err(StatementFault::TooManyTrials) => return Ok(()),
-    };
-    // for the proof
-    fresh_is_related();
-    match book.commit(proposal) {
-        Ok(_) => Ok(()),
-        Err((CommitFault::Memory, _)) => Err(AllocError),
-        Err(_) => Ok(()),
-    }
-}
-
-/// Performs the statements in order.
-fn advance_all(
-    alloc: Global,
-    book: &mut Book,
-    statements: &[Arc<Statement>],
-) -> Result<(), AllocError> {
-    for statement in statements {
-        advance(alloc, book, statement)?;
-    }
-    Ok(())
-}
-
-/// The statement in one round, if it is repeated; otherwise as it is.
-fn in_one_round(statement: Statement) -> Statement {
-    match statement.repeat() {
-        None => statement,
-        Some(_) => statement.repeated(1),
-    }
-}
-
-/// Refused with `NoMatch` if the statement can't have a match with this number, whatever its text.
-fn check_number(statement: &Statement, number: u32) -> Result<(), NoTrace> {
-    let most = statement.repeat().unwrap_or(1);
-    if !statement.is_for_all() && number > most {
-        return Err(NoTrace::NoMatch(most));
-    }
-    Ok(())
-}
-
-/// The lines of the match with this number, on this text.
-fn lines_on(
-    alloc: Global,
-    statement: Arc<Statement>,
-    text: Arc<Text>,
-    options: &TraceOptions<'_>,
-) -> Result<TraceLines, NoTrace> {
-    let earlier = options.number.saturating_sub(1);
-    let most = options.lines;
-    if statement.is_for_all() {
-        return Ok(pass_lines(alloc, &statement, text, earlier, most)?);
-    }
-    if statement.repeat().is_none() {
-        return Ok(match_lines(alloc, &statement, text, most)?);
-    }
-    // No one else has a statement of the document that wasn't performed.
-    let Ok(statement) = Arc::try_unwrap(statement) else {
-        return Err(NoTrace::Memory);
-    };
-    let once = in_one_round(statement);
-    Ok(round_lines(alloc, &once, text, earlier, most)?)
-}
-
-/// What is written of a trace.
-fn bytes_of(alloc: Global, shown: TraceLines, html: bool) -> Result<Written, AllocError> {
     let TraceLines {
         text,
         lines,
@@ -118,86 +90,177 @@ fn bytes_of(alloc: Global, shown: TraceLines, html: bool) -> Result<Written, All
     Ok(Written { bytes, status })
 }
 
-/// The trace of the statement with this number, on the text as the statements before it leave it.
-fn shown(
-    alloc: Global,
-    document: Document,
-    options: &TraceOptions<'_>,
-) -> Result<Written, NoTrace> {
-    let Document {
-        mut book,
-        mut statements,
-        ..
-    } = document;
-    statements.truncate(options.statement as usize);
-    if statements.len() < options.statement as usize {
-        return Err(NoTrace::NoStatement);
-    }
-    let Some(statement) = statements.pop() else {
-        return Err(NoTrace::NoStatement);
-    };
-    check_number(&statement, options.number)?;
-    advance_all(alloc, &mut book, &statements)?;
-    match book.snapshot(statement.text()) {
-        Ok(snapshot) => {
-            let text = Arc::try_clone(&snapshot.text)?;
-            let shown = lines_on(alloc, statement, text, options)?;
-            Ok(bytes_of(alloc, shown, options.html)?)
-        }
-        Err(SnapshotFault::NoText) => Ok(Written {
-            bytes: Vec::from_slice(alloc, NO_TEXT)?,
-            status: 1,
-        }),
-        Err(SnapshotFault::Memory) => Err(NoTrace::Memory),
+/// Which match is shown, and how much of it.
+fn wanted(options: &TraceOptions<'_>) -> Wanted {
+    Wanted {
+        number: options.number,
+        lines: options.lines,
     }
 }
 
-/// The status after this fault.
-fn status_of(fault: NoTrace) -> u8 {
-    match fault {
-        NoTrace::NoStatement | NoTrace::NoMatch(_) => MISUSED,
-        NoTrace::TooDeep | NoTrace::Memory => FAILED,
+/// Why a document or rules that have this fault aren't traced.
+fn refused_by(alloc: Global, fault: DocumentFault) -> Unshown {
+    if fault == DocumentFault::Memory {
+        return Unshown::from(AllocError);
+    }
+    match format!(in alloc; "{fault}\n") {
+        Ok(text) => Unshown::Refused(text),
+        Err(refused) => Unshown::from(refused),
     }
 }
 
-/// Shows how a match of a statement goes, and returns the status:
-///
-/// - 0 if the match that is asked for is there, and 1 if it isn't, or is refused;
-/// - 2 if the document is refused, after the line of its fault in `errors`;
-/// - 3 if the document has no such statement, or the statement can't have such a match, which `errors` says;
-/// - 4 if calls would nest too deep, which `errors` says.
-///
-/// Refused with `Read`, `Memory` or `Write`. Unless it is `Write`, nothing was written to `output`.
-pub(crate) fn run_trace<R: Files, I: Read, W: Write, E: Write>(
+/// The trace of a document's statement, on the text as the statements before it leave it.
+fn shown_of_document<R: Files, I: Read>(
     rt: &R,
     alloc: Global,
     options: &TraceOptions<'_>,
     input: &mut I,
-    output: &mut W,
-    errors: &mut E,
-) -> Result<u8, ProgramFault> {
+) -> Result<Written, Unshown> {
     let bytes = document_bytes(rt, alloc, input, options.document)?;
     let mode = Mode {
         anchor: false,
         trials: USUAL_TRIALS,
     };
-    let document = match read_document(alloc, &bytes, mode) {
-        Ok(document) => document,
-        Err(DocumentFault::Memory) => return Err(ProgramFault::Memory),
-        Err(fault) => {
-            let _printed = errors.writeln(fault);
-            return Ok(INVALID);
+    match read_document(alloc, &bytes, mode) {
+        Ok(document) => {
+            let shown = trace_of_document(alloc, document, options.statement, wanted(options))?;
+            Ok(bytes_of(alloc, shown, options.html)?)
         }
+        Err(fault) => Err(refused_by(alloc, fault)),
+    }
+}
+
+/// The position of the first byte above 127, which has this place.
+fn position_in(bytes: &[u8], place: usize) -> Position {
+    let before = bytes.get(..place).unwrap_or(&[]);
+    position_of(str::from_utf8(before).unwrap_or(""), place)
+}
+
+/// What is written of a file whose bytes are not a text.
+fn refused_text(
+    alloc: Global,
+    path: &str,
+    fault: TextFault,
+    bytes: &[u8],
+) -> Result<String, AllocError> {
+    match fault {
+        TextFault::TooLong => {
+            format!(in alloc;
+                "{path}: too long: a rule is traced on at most {MAX_TEXT} characters\n"
+            )
+        }
+        TextFault::NonAscii(place) => {
+            let Position { line, column, .. } = position_in(bytes, place);
+            format!(in alloc;
+                "{path}: not ASCII at line {line}, column {column}: a rule is traced on ASCII alone\n"
+            )
+        }
+    }
+}
+
+/// The text of a file.
+fn text_of_file<R: Files>(rt: &R, alloc: Global, path: &str) -> Result<Text, Unshown> {
+    let Ok(mut file) = fs::open(rt, path) else {
+        return Err(Unshown::Refused(format!(in alloc; "{path}: can't be read\n")?));
     };
-    match shown(alloc, document, options) {
+    let bytes = read_up_to(alloc, &mut file, MAX_TEXT)?;
+    let kept = Vec::from_slice(alloc, &bytes)?;
+    match Text::new(bytes) {
+        Ok(text) => Ok(text),
+        Err(fault) => Err(Unshown::Refused(refused_text(alloc, path, fault, &kept)?)),
+    }
+}
+
+/// The rules, which may take as many trials as on a file of this text.
+fn rules_for<R: Files + AllocGlobal, I: Read>(
+    rt: &R,
+    alloc: Global,
+    request: &TraceRequest<'_>,
+    text: &Text,
+    input: &mut I,
+) -> Result<Document, Unshown> {
+    let count = text.bytes().len();
+    if request.lines.are_given() {
+        return Ok(document_of_lines(rt, alloc, &request.lines, count)?);
+    }
+    let bytes = document_bytes(rt, alloc, input, request.options.document)?;
+    match read_rules(alloc, &bytes, mode_on(count)) {
+        Ok(document) => Ok(document),
+        Err(fault) => Err(refused_by(alloc, fault)),
+    }
+}
+
+/// The trace of a rule on the text of a file, as the rules before it that are for the file leave it.
+fn shown_of_rules<R: Files + AllocGlobal, I: Read>(
+    rt: &R,
+    alloc: Global,
+    request: &TraceRequest<'_>,
+    path: &str,
+    input: &mut I,
+) -> Result<Written, Unshown> {
+    let options = &request.options;
+    let text = text_of_file(rt, alloc, path)?;
+    let Document { mut statements, .. } = rules_for(rt, alloc, request, &text, input)?;
+    let rule = take_statement(&mut statements, options.statement)?;
+    let mut shown = None;
+    if is_for(&rule, path) {
+        statements.retain(|earlier| is_for(earlier, path));
+        shown = Some(trace_on_text(alloc, &statements, rule, text, wanted(options))?);
+    }
+    Ok(bytes_of(alloc, shown, options.html)?)
+}
+
+/// What is shown.
+fn shown<R: Files + AllocGlobal, I: Read>(
+    rt: &R,
+    alloc: Global,
+    request: &TraceRequest<'_>,
+    input: &mut I,
+) -> Result<Written, Unshown> {
+    match request.options.on {
+        Some(path) => shown_of_rules(rt, alloc, request, path, input),
+        None => shown_of_document(rt, alloc, &request.options, input),
+    }
+}
+
+/// Writes why there is no trace, and returns the status after it.
+fn without_trace<E: Write>(reason: NoTrace, errors: &mut E) -> Result<u8, ProgramFault> {
+    if reason == NoTrace::Memory {
+        return Err(ProgramFault::Memory);
+    }
+    let _printed = errors.writeln(reason);
+    match reason {
+        NoTrace::NoStatement | NoTrace::NoMatch(_) => Ok(MISUSED),
+        NoTrace::TooDeep | NoTrace::Memory => Ok(FAILED),
+    }
+}
+
+/// Shows how a match of a statement goes, or of a rule on the text of a file, and returns the status:
+///
+/// - 0 if the match that is asked for is there, and 1 if it isn't, or is refused;
+/// - 2 if the document, the rules or the text of the file are refused, after the line of their fault in `errors`;
+/// - 3 if there is no such statement, or the statement can't have such a match, which `errors` says;
+/// - 4 if calls would nest too deep, which `errors` says.
+///
+/// Refused with `Read`, `Memory` or `Write`. Unless it is `Write`, nothing was written to `output`.
+pub(crate) fn run_trace<R: Files + AllocGlobal, I: Read, W: Write, E: Write>(
+    rt: &R,
+    alloc: Global,
+    request: &TraceRequest<'_>,
+    input: &mut I,
+    output: &mut W,
+    errors: &mut E,
+) -> Result<u8, ProgramFault> {
+    match shown(rt, alloc, request, input) {
         Ok(written) => {
             write_all(output, &written.bytes)?;
             Ok(written.status)
         }
-        Err(NoTrace::Memory) => Err(ProgramFault::Memory),
-        Err(fault) => {
-            let _printed = errors.writeln(fault);
-            Ok(status_of(fault))
+        Err(Unshown::Fault(fault)) => Err(fault),
+        Err(Unshown::NoTrace(reason)) => without_trace(reason, errors),
+        Err(Unshown::Refused(text)) => {
+            let _printed = write_all(errors, text.as_bytes());
+            Ok(INVALID)
         }
     }
 }

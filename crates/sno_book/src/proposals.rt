@@ -72,6 +72,13 @@ impl Proposal {
         &self.entry.outcome
     }
 
+    /// The entry that is made of it if it is accepted.
+    pub fn entry(&self) -> &Entry
+        ensures { result.now ≡ entry_of self.now }
+    {
+        &self.entry
+    }
+
     /// The receipt of an entry at this index, with the text that the statement was performed on.
     pub(crate) fn receipt(self, index: usize, text: Arc<Text>) -> Receipt
         requires { perform self.statement (arc_value text) ≡ Ok self.outcome }

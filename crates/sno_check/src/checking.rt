@@ -8,12 +8,14 @@ ghost use Rattle.sno_check.specs.Reports.{Tells};
 use crate::definitions::check_definitions;
 use crate::members::check_members;
 use crate::reach::Reach;
-use crate::rows::{Rows, is_object, rows_of};
+use crate::rows::{Kind, Rows, is_object, rows_of};
 use crate::statements::{Surroundings, check_statements};
 use crate::texts::check_texts;
 use json::{Scratch, Value};
 use sno_document::{DocumentFault, MAX_DOCUMENT, Mode, read_document};
-use sno_findings::{Collector, Mistake, Place, Report, Warning, advice_of, json_mistake};
+use sno_findings::{
+    Collector, Form, Mistake, Place, Report, Warning, advice_of, element_lines, json_mistake,
+};
 use sno_statement::USUAL_TRIALS;
 use std::alloc::{AllocError, Global};
 
@@ -54,19 +56,26 @@ fn first_error(
         Some(found) => {
             let Mistake {
                 fault: _,
+                place,
+                line,
                 excerpt,
                 advice,
             } = found;
             Ok(Mistake {
                 fault,
+                place,
+                line,
                 excerpt,
                 advice,
             })
         }
         None => {
             let advice = String::from_str(alloc, advice_of(&fault))?;
+            let place = Place::of_fault(&fault);
             Ok(Mistake {
                 fault,
+                place,
+                line: None,
                 excerpt: None,
                 advice,
             })
@@ -75,7 +84,7 @@ fn first_error(
 }
 
 /// The errors, with this fault as the first of them.
-fn led_by(
+pub(crate) fn led_by(
     alloc: Global,
     fault: DocumentFault,
     found: Vec<Mistake>,
@@ -89,8 +98,8 @@ fn led_by(
     Ok(errors)
 }
 
-/// What is found in a document by its rows.
-fn check_rows<'t>(findings: &mut Collector, rows: &Rows<'t>) -> Result<(), AllocError> {
+/// What is found in a document or in rules by their rows.
+pub(crate) fn check_rows<'t>(findings: &mut Collector, rows: &Rows<'t>) -> Result<(), AllocError> {
     let definitions = check_definitions(findings, &rows.patterns)?;
     let texts = check_texts(findings, &rows.texts)?;
     let Some(definitions) = definitions else {
@@ -107,34 +116,49 @@ fn check_rows<'t>(findings: &mut Collector, rows: &Rows<'t>) -> Result<(), Alloc
 }
 
 /// What is found in a JSON value.
-fn check_value(findings: &mut Collector, value: &Value<'_>) -> Result<(), AllocError> {
+fn check_value(findings: &mut Collector, kind: Kind, value: &Value<'_>) -> Result<(), AllocError> {
     if !is_object(findings, Place::Document, value)? {
         return Ok(());
     }
-    let rows = rows_of(findings, value)?;
+    let rows = rows_of(findings, kind, value)?;
     check_members(findings, value)?;
     check_rows(findings, &rows)
 }
 
 /// What is found in a text of JSON.
-fn check_text(findings: &mut Collector, bytes: &[u8]) -> Result<(), AllocError> {
+fn check_text(findings: &mut Collector, kind: Kind, bytes: &[u8]) -> Result<(), AllocError> {
     let mut scratch = Scratch::new(findings.alloc);
     match Value::from_slice(findings.alloc, bytes, &mut scratch) {
-        Ok(value) => check_value(findings, &value),
+        Ok(value) => check_value(findings, kind, &value),
         Err(json::Error::OutOfMemory) => Err(AllocError),
         Err(_) => Ok(()),
     }
 }
 
-/// What is found in bytes, whether they are a document or not.
-fn findings_in(alloc: Global, bytes: &[u8]) -> Result<Collector, AllocError> {
-    let mut findings = Collector::new(alloc);
+/// Gives each finding in a text of JSON the line on which its part begins.
+fn number_lines(findings: &mut Collector, bytes: &[u8]) -> Result<(), AllocError> {
+    let lines = element_lines(findings.alloc, str::from_utf8(bytes).unwrap_or(""))?;
+    findings.number_errors(&lines);
+    findings.number_warnings(&lines);
+    Ok(())
+}
+
+/// What is found in bytes, whether they are what they are checked as or not.
+pub(crate) fn findings_in(
+    alloc: Global,
+    kind: Kind,
+    bytes: &[u8],
+) -> Result<Collector, AllocError> {
+    let mut findings = Collector::new(alloc, Form::Json);
     if bytes.len() > MAX_DOCUMENT {
         return Ok(findings);
     }
     match json_mistake(alloc, bytes)? {
         Some(mistake) => findings.errors.push(mistake)?,
-        None => check_text(&mut findings, bytes)?,
+        None => {
+            check_text(&mut findings, kind, bytes)?;
+            number_lines(&mut findings, bytes)?;
+        }
     }
     Ok(findings)
 }
@@ -144,7 +168,7 @@ fn findings_in(alloc: Global, bytes: &[u8]) -> Result<Collector, AllocError> {
 ///
 /// Refused only if memory runs out.
 pub fn member_warnings(alloc: Global, bytes: &[u8]) -> Result<Vec<Warning>, AllocError> {
-    let mut findings = Collector::new(alloc);
+    let mut findings = Collector::new(alloc, Form::Json);
     let mut scratch = Scratch::new(alloc);
     match Value::from_slice(alloc, bytes, &mut scratch) {
         Ok(value) => check_members(&mut findings, &value)?,
@@ -165,9 +189,10 @@ pub fn check(alloc: Global, bytes: &[u8]) -> Result<Report, AllocError>
     let first = first_fault(alloc, bytes)?;
     let Collector {
         alloc: _,
+        form: _,
         errors: found,
         warnings,
-    } = findings_in(alloc, bytes)?;
+    } = findings_in(alloc, Kind::Document, bytes)?;
     let errors = match first {
         None => Vec::new(alloc),
         Some(fault) => led_by(alloc, fault, found)?,

@@ -2,7 +2,7 @@
 
 use crate::vocabulary::{RESERVED, Vocabulary};
 use sno_findings::{
-    Collector, Whose, around, habit_advice, nearest, place_of, reading_advice, shown, text_of,
+    Collector, Form, Whose, around, habit_advice, nearest, place_of, reading_advice, shown, text_of,
 };
 use sno_pattern::{Pattern, is_name_char};
 use sno_read::{Object, ReadFault, read_object, read_pattern};
@@ -24,12 +24,49 @@ fn is_written(words: &[&str], word: &str) -> bool {
     words.iter().any(|other| *other == word)
 }
 
+/// Whether there are only blanks.
+fn is_blank(characters: &[u8]) -> bool {
+    characters.iter().all(|c| *c == b' ' || *c == b'\t')
+}
+
+/// Whether a name with this place may be meant as the subject of a rule: the pattern begins with it, and goes on.
+fn may_be_subject(form: Form, whose: Whose, written: &str, place: usize, word: &str) -> bool {
+    let bytes = written.as_bytes();
+    let front = bytes.get(..place).unwrap_or(&[]);
+    let after = bytes.get(place.saturating_add(word.len())..).unwrap_or(&[]);
+    let is_rule = form == Form::Lines && matches!(whose, Whose::Pattern(_));
+    is_rule && is_blank(front) && !is_blank(after)
+}
+
+/// What to write instead of a name that no definition has, and that is like no other.
+fn advice_of_strange(
+    findings: &Collector,
+    whose: Whose,
+    written: &str,
+    place: usize,
+    word: &str,
+) -> Result<String, AllocError> {
+    let alloc = findings.alloc;
+    let seen = shown(alloc, word)?;
+    if may_be_subject(findings.form, whose, written, place, word) {
+        return format!(in alloc;
+            "no definition is called {seen}; a rule has no subject, and characters are written in quotes, as '{seen}'"
+        );
+    }
+    format!(in alloc;
+        "no definition is called {seen}; characters are written in quotes, as '{seen}'"
+    )
+}
+
 /// What to write instead of a name that no definition has.
 fn advice_of_unknown(
     findings: &Collector,
     vocabulary: &Vocabulary<'_>,
-    word: &str,
+    whose: Whose,
+    written: &str,
+    place: usize,
 ) -> Result<String, AllocError> {
+    let word = word_at(written, place);
     let alloc = findings.alloc;
     if is_written(&vocabulary.words, word) {
         return format!(in alloc; "this definition comes later: *{word} refers to it");
@@ -44,9 +81,7 @@ fn advice_of_unknown(
     if let Some(meant) = nearest(alloc, word, &RESERVED)? {
         return format!(in alloc; "no definition is called {seen}; did you mean {meant}?");
     }
-    format!(in alloc;
-        "no definition is called {seen}; characters are written in quotes, as '{seen}'"
-    )
+    advice_of_strange(findings, whose, written, place, word)
 }
 
 /// What to write instead of what has this fault: first for what other languages write.
@@ -63,7 +98,7 @@ fn advice_in(
     }
     match fault {
         ReadFault::UnknownName(place) => {
-            advice_of_unknown(findings, vocabulary, word_at(written, *place))
+            advice_of_unknown(findings, vocabulary, whose, written, *place)
         }
         _ => String::from_str(findings.alloc, reading_advice(is_object, fault, written)),
     }

@@ -8,6 +8,7 @@
 //! | File | What it does |
 //! |---|---|
 //! | `checking` | `check`, `member_warnings` |
+//! | `rules` | `check_rules`, `check_rule_rows`: the same of rules |
 //! | `rows`, `members` | the document as it is written, with wrong shapes; unknown and repeated members |
 //! | `vocabulary`, `definitions`, `texts`, `statements` | the faults of each part, found independently |
 //! | `cycles` | definitions that refer to one another in a cycle |
@@ -22,10 +23,12 @@ mod expressions;
 mod members;
 mod reach;
 mod rows;
+mod rules;
 mod statements;
 mod texts;
 mod vocabulary;
 
 pub use checking::{USUAL, check, member_warnings};
-pub use sno_document::DocumentFault;
-pub use sno_findings::{Excerpt, Mistake, Place, Report, Warning, json_of, lines_of};
+pub use rules::{check_rule_rows, check_rules};
+pub use sno_document::{DocumentFault, StatementRow};
+pub use sno_findings::{Excerpt, Form, Mistake, Place, Report, Warning, json_of, lines_of};

@@ -1,9 +1,9 @@
 //! A document as it is written, as far as its shape allows.
 
 use json::Value;
-use sno_document::DocumentFault;
+use sno_document::{DocumentFault, StatementRow};
 use sno_findings::{Collector, Place};
-use std::alloc::AllocError;
+use std::alloc::{AllocError, Global};
 
 /// A definition or a text. A member that is missing or of another kind is `None`.
 #[derive(Clone, Copy)]
@@ -23,7 +23,16 @@ pub(crate) struct Row<'t> {
     pub(crate) all: bool,
 }
 
-/// A document.
+/// What JSON is checked as.
+#[derive(Clone, Copy, Debug, PartialEq, Eq)]
+pub(crate) enum Kind {
+    /// A document, whose statements name its texts.
+    Document,
+    /// Rules, whose statements need not name a file. A member `texts` is ignored.
+    Rules,
+}
+
+/// A document or rules.
 #[derive(Drop)]
 pub(crate) struct Rows<'t> {
     pub(crate) patterns: Vec<Pair<'t>>,
@@ -31,6 +40,8 @@ pub(crate) struct Rows<'t> {
     pub(crate) statements: Vec<Row<'t>>,
     /// Whether the document has the member `texts`.
     pub(crate) has_texts: bool,
+    /// The definitions that are used by something else than its statements, a bit for each.
+    pub(crate) used: u64,
 }
 
 fn kind_of(value: &Value<'_>) -> &'static str {
@@ -59,7 +70,7 @@ fn refuse_member(
             format!(in findings.alloc; "{place}: '{key}' is {kind}: {wanted} is wanted")?
         }
     };
-    findings.refuse(DocumentFault::Shape, None, advice)
+    findings.refuse_at(place, DocumentFault::Shape, None, advice)
 }
 
 /// Whether the value is an object.
@@ -73,7 +84,7 @@ pub(crate) fn is_object(
     }
     let kind = kind_of(value);
     let advice = format!(in findings.alloc; "{place}: this is {kind}: an object is wanted")?;
-    findings.refuse(DocumentFault::Shape, None, advice)?;
+    findings.refuse_at(place, DocumentFault::Shape, None, advice)?;
     Ok(false)
 }
 
@@ -205,8 +216,22 @@ fn texts_of<'t>(
     Ok(pairs)
 }
 
+/// The name of a statement's text.
+fn text_name_at<'t>(
+    findings: &mut Collector,
+    kind: Kind,
+    place: Place,
+    value: &Value<'t>,
+) -> Result<Option<&'t str>, AllocError> {
+    match kind {
+        Kind::Document => string_at(findings, place, value, "text"),
+        Kind::Rules => optional_string_at(findings, place, value, "text"),
+    }
+}
+
 fn row_of<'t>(
     findings: &mut Collector,
+    kind: Kind,
     place: Place,
     value: &Value<'t>,
 ) -> Result<Row<'t>, AllocError> {
@@ -220,7 +245,7 @@ fn row_of<'t>(
             all: false,
         });
     }
-    let text = string_at(findings, place, value, "text")?;
+    let text = text_name_at(findings, kind, place, value)?;
     let pattern = string_at(findings, place, value, "pattern")?;
     let object = optional_string_at(findings, place, value, "object")?;
     let anchored = is_true_at(findings, place, value, "anchored")?;
@@ -238,31 +263,80 @@ fn row_of<'t>(
 
 fn statements_of<'t>(
     findings: &mut Collector,
+    kind: Kind,
     document: &Value<'t>,
 ) -> Result<Vec<Row<'t>>, AllocError> {
     let mut rows = Vec::new(findings.alloc);
     if let Some(values) = elements_at(findings, document, "statements")? {
         for (place, value) in values.iter().enumerate() {
             let place = Place::Statement(place.saturating_add(1));
-            rows.push(row_of(findings, place, value)?)?;
+            rows.push(row_of(findings, kind, place, value)?)?;
         }
     }
     Ok(rows)
 }
 
-/// The rows of a document. Each member that is missing or of another kind is an error.
+/// The rows of a document or of rules. Each member that is missing or of another kind is an error.
 pub(crate) fn rows_of<'t>(
     findings: &mut Collector,
+    kind: Kind,
     document: &Value<'t>,
 ) -> Result<Rows<'t>, AllocError> {
     let patterns = definitions_of(findings, document)?;
-    let texts = texts_of(findings, document)?;
-    let statements = statements_of(findings, document)?;
-    let has_texts = document.get("texts").is_some();
+    let texts = match kind {
+        Kind::Document => texts_of(findings, document)?,
+        Kind::Rules => Vec::new(findings.alloc),
+    };
+    let statements = statements_of(findings, kind, document)?;
+    let has_texts = kind == Kind::Document && document.get("texts").is_some();
     Ok(Rows {
         patterns,
         texts,
         statements,
         has_texts,
+        used: 0,
+    })
+}
+
+fn pair_of_line<'t>(pair: &(&'t str, &'t str)) -> Pair<'t> {
+    let (name, content) = *pair;
+    Pair {
+        name: Some(name),
+        content: Some(content),
+    }
+}
+
+fn row_of_line<'t>(row: &StatementRow<'t>) -> Row<'t> {
+    Row {
+        text: Some(row.text),
+        pattern: Some(row.pattern),
+        object: row.object,
+        anchored: row.anchored == Some(true),
+        repeat: row.repeat,
+        all: row.all == Some(true),
+    }
+}
+
+/// The rows of rules that are not written in JSON. `used` has the definitions that something else than the rules uses.
+pub(crate) fn rows_of_lines<'t>(
+    alloc: Global,
+    patterns: &[(&'t str, &'t str)],
+    statements: &[StatementRow<'t>],
+    used: u64,
+) -> Result<Rows<'t>, AllocError> {
+    let mut pairs = Vec::new(alloc);
+    for pair in patterns {
+        pairs.push(pair_of_line(pair))?;
+    }
+    let mut rows = Vec::new(alloc);
+    for statement in statements {
+        rows.push(row_of_line(statement))?;
+    }
+    Ok(Rows {
+        patterns: pairs,
+        texts: Vec::new(alloc),
+        statements: rows,
+        has_texts: false,
+        used,
     })
 }

@@ -7,7 +7,7 @@ use crate::rows::{Row, Rows};
 use crate::texts::{is_name, refuse_name};
 use sno_document::{DocumentFault, MAX_STATEMENTS};
 use sno_findings::{
-    Collector, Facts, Place, Whose, advice_of, facts_of, warn_of_facts, warn_of_growth,
+    Collector, Facts, Form, Place, Whose, advice_of, facts_of, warn_of_facts, warn_of_growth,
     warn_of_literals, warn_of_missing_text, warn_of_variables,
 };
 use sno_pattern::{MAX_DEFINITIONS, Pattern};
@@ -161,18 +161,26 @@ fn check_statement<'t>(
     let Some(pattern) = pattern else {
         return Ok(u64::MAX);
     };
-    let facts = facts_of(findings.alloc, &pattern)?;
+    let bodies = &surroundings.definitions.bodies;
+    let facts = facts_of(findings.alloc, bodies, &pattern)?;
     let references = facts.references;
     warn_of_facts(findings, Whose::Pattern(number), &facts)?;
     if let Some(object) = object {
         check_object(findings, surroundings, number, facts, &object)?;
         if repeats {
             let place = Place::Statement(number);
-            let bodies = &surroundings.definitions.bodies;
             warn_of_growth(findings, place, bodies, &pattern, row.anchored, &object)?;
         }
     }
     Ok(references)
+}
+
+/// What an unused definition is not used by.
+fn user(form: Form) -> &'static str {
+    match form {
+        Form::Json => "statement",
+        Form::Lines => "rule",
+    }
 }
 
 /// Warns of the definitions that no statement reaches.
@@ -186,7 +194,8 @@ fn warn_of_unused<'t>(
     for (place, row) in rows.patterns.iter().take(MAX_DEFINITIONS).enumerate() {
         if let Some(name) = row.name {
             if !has(reached, place) {
-                let message = format!(in findings.alloc; "no statement uses '{name}'")?;
+                let user = user(findings.form);
+                let message = format!(in findings.alloc; "no {user} uses '{name}'")?;
                 findings.warn(Place::Pattern(place.saturating_add(1)), message)?;
             }
         }
@@ -205,7 +214,7 @@ pub(crate) fn check_statements<'t>(
         let fault = DocumentFault::TooManyStatements;
         return findings.refuse_plainly(fault, advice_of(&fault));
     }
-    let mut used = 0;
+    let mut used = rows.used;
     for (place, row) in rows.statements.iter().enumerate() {
         used = used | check_statement(findings, surroundings, place.saturating_add(1), row)?;
     }

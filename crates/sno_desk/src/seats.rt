@@ -15,7 +15,7 @@ use sno_book::{Opening, Origin, Proposal, Receipt, Snapshot, propose};
 use sno_pattern::{Text, TextName};
 use sno_published::{Naming, Table, Viewer};
 use sno_statement::Statement;
-use std::alloc::Global;
+use std::alloc::{AllocError, Global};
 use std::collections::VecDeque;
 use std::sync::Arc;
 use std::sync::ledger::{self, Share};
@@ -64,6 +64,14 @@ impl<L: Naming> Seat<L> {
             Ok(()) => Ok(self.viewer.seen()),
             Err(_) => Err(LookFault::Stopped),
         }
+    }
+
+    /// A share of what the desk's book began with: the texts in their order, with their names. Refused only if memory runs out.
+    pub fn opening(&self) -> Result<Arc<Opening>, AllocError>
+        ensures { IfOk result (λ o. arc_value o ≡ L.opening) }
+    {
+        let share = self.viewer.share_opening()?;
+        Ok(share)
     }
 
     /// The place of the text of this name, from 0; `None` if the opening has no such text. It is the same as long as the

@@ -8,3 +8,4 @@ pub mod BookLemmas
 pub mod DocumentLaw
 pub mod LengthLemmas
 pub mod RoundLemmas
+mod BoundLemmas

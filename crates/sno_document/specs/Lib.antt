@@ -5,6 +5,7 @@ pub mod Shape
 pub mod Single
 pub mod DocumentRows
 pub mod Document
+pub mod Bound
 pub mod LastPatterns
 pub mod Drafts
 pub mod Reads

@@ -1,7 +1,6 @@
 -- Rules: what JSON represents that is read for texts from elsewhere. As a document, but without texts, and a statement
 -- need not name its text.
-use Rattle.std.specs.Prelude.{◌≡◌, ◌≢◌, ℕ, List, [], map, Option, Result, Ok, Err, codes, unwrap_or}
-use Rattle.std.specs.Arc.{arc_value}
+use Rattle.std.specs.Prelude.{◌≡◌, ◌≢◌, ℕ, List, [], Result, Ok, Err, codes, unwrap_or}
 use Rattle.serde_json.specs.Data.{Data}
 use Rattle.serde_json.specs.Find.{as_object}
 use Rattle.sno_pattern.specs.Definitions.{Definitions}

@@ -22,7 +22,12 @@ pub(crate) struct LastPattern<'t> {
 
 /// The pattern of statement number `number`. Its references are to definitions.
 #[tactic(auto, using(crate::proofs::References::spelled_covered))]
-fn read(alloc: Global, names: &Names, number: usize, text: &str) -> Result<Pattern, DocumentFault>
+pub(crate) fn read(
+    alloc: Global,
+    names: &Names,
+    number: usize,
+    text: &str,
+) -> Result<Pattern, DocumentFault>
     ensures read { Gives tree_of result (reading (λ e. StatementPattern number e) (pattern_of names.now (length names.now) text.now)) }
     ensures known { IfOk result (λ p. pattern_of names.now (length names.now) text.now ≡ Ok (tree_of p)) }
     ensures covered { IfOk result (λ p. IsTrue (refs_below (length names.now) (tree_of p))) }

@@ -4,7 +4,8 @@
 //! [`read_document`] takes the bytes to a [`Document`], whose texts are in a book, or to the first fault of the bytes,
 //! by `IsDocument` of `specs/Document.antt`. Bytes have only one such result ([`one_answer`]). `DocumentFault::Memory` is a
 //! further result. [`read_rules`] reads statements without texts, for texts from elsewhere (`IsRules` of `specs/Rules.antt`).
-//! [`read_statement`] reads one statement by itself, for definitions that are there (`specs/Single.antt`).
+//! [`read_statement`] reads one statement by itself, for definitions that are there (`specs/Single.antt`), and
+//! [`read_bound_statement`] one in which names represent texts (`specs/Bound.antt`).
 //!
 //! | File | What it does |
 //! |---|---|
@@ -13,7 +14,7 @@
 //! | `definitions`, `texts`, `statements`, `documents` | the checks, in the order of the document |
 //! | `last_patterns` | one pattern for statements in a row that are written alike |
 //! | `rules` | statements that are read for texts from elsewhere |
-//! | `single` | one statement by itself |
+//! | `single`, `bound` | one statement by itself; one in which names represent texts |
 //! | `rounds` | how often a statement is to be repeated |
 //! | `laws` | what follows from the definitions |
 //!
@@ -21,6 +22,7 @@
 //! `sno_read`.
 #![tactic(auto)]
 
+mod bound;
 mod definitions;
 mod document_rows;
 mod documents;
@@ -36,6 +38,7 @@ mod statements;
 mod texts;
 mod trees;
 
+pub use bound::read_bound_statement;
 pub use document_rows::StatementRow;
 pub use documents::{Document, MAX_DOCUMENT, read_document};
 pub use faults::DocumentFault;

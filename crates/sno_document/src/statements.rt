@@ -23,7 +23,7 @@ use std::sync::Arc;
 pub const MAX_STATEMENTS: usize = 1_000_000;
 
 /// The object of statement number `number`, if it has one.
-fn object(
+pub(crate) fn object(
     alloc: Global,
     names: &Names,
     number: usize,
@@ -42,7 +42,7 @@ fn object(
 }
 
 /// The name of the text of statement number `number`.
-fn text_name(alloc: Global, number: usize, name: &str) -> Result<TextName, DocumentFault>
+pub(crate) fn text_name(alloc: Global, number: usize, name: &str) -> Result<TextName, DocumentFault>
     ensures { Gives (λ n. n) result (text_name_row number name.now) }
 {
     match TextName::new(alloc, name.as_bytes()) {
@@ -53,7 +53,7 @@ fn text_name(alloc: Global, number: usize, name: &str) -> Result<TextName, Docum
 }
 
 /// How often statement number `number` is repeated at most, if it says so. It must have an object then.
-fn repeat(
+pub(crate) fn repeat(
     number: usize,
     object: Option<&Object>,
     written: Option<&str>,
@@ -71,7 +71,11 @@ fn repeat(
 }
 
 /// Whether statement number `number` is for all matches. It must not be repeated then.
-fn for_all(number: usize, repeat: Option<u32>, written: Option<bool>) -> Result<bool, DocumentFault>
+pub(crate) fn for_all(
+    number: usize,
+    repeat: Option<u32>,
+    written: Option<bool>,
+) -> Result<bool, DocumentFault>
     ensures { Gives (λ a. a) result (all_row number repeat (unwrap_or written false)) }
 {
     let all = written.unwrap_or(false);

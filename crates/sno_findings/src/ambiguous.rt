@@ -1,6 +1,6 @@
 //! Repetitions whose rounds can take the same characters in more than one way.
 
-use sno_pattern::{Class, Pattern};
+use sno_pattern::{Class, MAX_DEFINITIONS, Pattern};
 use std::alloc::{AllocError, Global};
 
 /// The longest alternative that is compared, in characters.
@@ -73,9 +73,24 @@ fn add_places<'p>(places: &mut Vec<Taken<'p>>, pattern: &'p Pattern) -> Result<b
     Ok(true)
 }
 
+/// What a reference refers to, over at most 64 others; any other pattern is itself.
+fn referred<'p>(bodies: &'p [Option<Pattern>], pattern: &'p Pattern) -> &'p Pattern {
+    let mut found = pattern;
+    for _ in 0..MAX_DEFINITIONS {
+        if let Pattern::Ref(number) = found {
+            match bodies.get(*number) {
+                Some(Some(body)) => found = body,
+                _ => return found,
+            }
+        }
+    }
+    found
+}
+
 /// Adds the places of each alternative that has them, up to the most that are compared.
 fn add_alternatives<'p>(
     alloc: Global,
+    bodies: &'p [Option<Pattern>],
     alternatives: &mut Vec<Vec<Taken<'p>>>,
     pattern: &'p Pattern,
 ) -> Result<(), AllocError> {
@@ -84,15 +99,18 @@ fn add_alternatives<'p>(
     }
     match pattern {
         Pattern::Alt(first, second) => {
-            add_alternatives(alloc, alternatives, first)?;
-            add_alternatives(alloc, alternatives, second)
+            add_alternatives(alloc, bodies, alternatives, first)?;
+            add_alternatives(alloc, bodies, alternatives, second)
         }
         Pattern::Cond(part, _) | Pattern::Imm(part, _) => {
-            add_alternatives(alloc, alternatives, part)
+            add_alternatives(alloc, bodies, alternatives, part)
         }
         _ => {
             let mut places = Vec::new(alloc);
-            if add_places(&mut places, pattern)? && !places.is_empty() && places.len() <= LONGEST {
+            if add_places(&mut places, referred(bodies, pattern))?
+                && !places.is_empty()
+                && places.len() <= LONGEST
+            {
                 alternatives.push(places)?;
             }
             Ok(())
@@ -124,12 +142,16 @@ fn is_taken_again(one: &[Taken], later: &[Vec<Taken>], alternatives: &[Vec<Taken
 
 /// Whether rounds of this part can take the same characters in more than one way, as `LEN(1) | LEN(2)`: each such place
 /// doubles the ways that a failing match goes. Only alternatives of a known length are compared: the first 64, up to 32
-/// characters.
+/// characters. The part may be a reference, and so may an alternative; `bodies` has the definitions, each if it can be read.
 ///
 /// Refused only if memory runs out.
-pub(crate) fn is_ambiguous(alloc: Global, part: &Pattern) -> Result<bool, AllocError> {
+pub(crate) fn is_ambiguous(
+    alloc: Global,
+    bodies: &[Option<Pattern>],
+    part: &Pattern,
+) -> Result<bool, AllocError> {
     let mut alternatives = Vec::new(alloc);
-    add_alternatives(alloc, &mut alternatives, part)?;
+    add_alternatives(alloc, bodies, &mut alternatives, referred(bodies, part))?;
     for place in 0..alternatives.len() {
         let (_, later) = alternatives.split_at(place + 1);
         if is_taken_again(&alternatives[place], later, &alternatives) {

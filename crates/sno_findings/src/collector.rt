@@ -1,6 +1,6 @@
 //! Findings, as they are collected.
 
-use crate::{Excerpt, Mistake, Place, Warning};
+use crate::{ElementLines, Excerpt, Form, Mistake, Place, Warning};
 use sno_document::DocumentFault;
 use std::alloc::{AllocError, Global};
 
@@ -12,6 +12,8 @@ const MANY: usize = 1_000;
 pub struct Collector {
     /// Where the findings are kept.
     pub alloc: Global,
+    /// How what is checked is written.
+    pub form: Form,
     /// Why the bytes are not a document, as far as was found.
     pub errors: Vec<Mistake>,
     /// What is probably not meant, as far as was found.
@@ -20,9 +22,10 @@ pub struct Collector {
 
 impl Collector {
     /// No findings.
-    pub fn new(alloc: Global) -> Collector {
+    pub fn new(alloc: Global, form: Form) -> Collector {
         Collector {
             alloc,
+            form,
             errors: Vec::new(alloc),
             warnings: Vec::new(alloc),
         }
@@ -33,15 +36,28 @@ impl Collector {
         self.errors.len() >= MANY || self.warnings.len() >= MANY
     }
 
-    /// Adds an error. Refused only if memory runs out.
+    /// Adds an error of the part that has the fault. Refused only if memory runs out.
     pub fn refuse(
         &mut self,
         fault: DocumentFault,
         excerpt: Option<Excerpt>,
         advice: String,
     ) -> Result<(), AllocError> {
+        self.refuse_at(Place::of_fault(&fault), fault, excerpt, advice)
+    }
+
+    /// Adds an error of this part. Refused only if memory runs out.
+    pub fn refuse_at(
+        &mut self,
+        place: Place,
+        fault: DocumentFault,
+        excerpt: Option<Excerpt>,
+        advice: String,
+    ) -> Result<(), AllocError> {
         self.errors.push(Mistake {
             fault,
+            place,
+            line: None,
             excerpt,
             advice,
         })?;
@@ -56,7 +72,25 @@ impl Collector {
 
     /// Adds a warning. Refused only if memory runs out.
     pub fn warn(&mut self, place: Place, message: String) -> Result<(), AllocError> {
-        self.warnings.push(Warning { place, message })?;
+        self.warnings.push(Warning {
+            place,
+            line: None,
+            message,
+        })?;
         Ok(())
+    }
+
+    /// Gives each error the line on which its part begins.
+    pub fn number_errors(&mut self, lines: &ElementLines) {
+        for mistake in self.errors.iter_mut() {
+            mistake.line = lines.line_of(mistake.place);
+        }
+    }
+
+    /// Gives each warning the line on which its part begins.
+    pub fn number_warnings(&mut self, lines: &ElementLines) {
+        for warning in self.warnings.iter_mut() {
+            warning.line = lines.line_of(warning.place);
+        }
     }
 }

@@ -48,11 +48,16 @@ impl Facts {
         }
     }
 
-    fn note_repeated(&mut self, alloc: Global, part: &Pattern) -> Result<(), AllocError> {
+    fn note_repeated(
+        &mut self,
+        alloc: Global,
+        bodies: &[Option<Pattern>],
+        part: &Pattern,
+    ) -> Result<(), AllocError> {
         if let Pattern::Arbno(_) = part {
             self.repeats_rounds = true;
         }
-        if is_ambiguous(alloc, part)? {
+        if is_ambiguous(alloc, bodies, part)? {
             self.is_ambiguous = true;
         }
         Ok(())
@@ -64,7 +69,12 @@ impl Facts {
         }
     }
 
-    fn gather(&mut self, alloc: Global, pattern: &Pattern) -> Result<(), AllocError> {
+    fn gather(
+        &mut self,
+        alloc: Global,
+        bodies: &[Option<Pattern>],
+        pattern: &Pattern,
+    ) -> Result<(), AllocError> {
         match pattern {
             Pattern::Lit(text) => self.note_characters(text.bytes()),
             Pattern::AnyOf(set) | Pattern::NoneOf(set) | Pattern::Span(set) | Pattern::Break(set) =>
@@ -73,19 +83,19 @@ impl Facts {
             Pattern::Ref(number) => self.references = self.references | bit(*number),
             Pattern::Seq(first, second) => {
                 self.note_neighbours(first, second);
-                self.gather(alloc, first)?;
-                self.gather(alloc, second)?;
+                self.gather(alloc, bodies, first)?;
+                self.gather(alloc, bodies, second)?;
             }
             Pattern::Alt(first, second) => {
-                self.gather(alloc, first)?;
-                self.gather(alloc, second)?;
+                self.gather(alloc, bodies, first)?;
+                self.gather(alloc, bodies, second)?;
             }
             Pattern::Arbno(part) => {
-                self.note_repeated(alloc, part)?;
-                self.gather(alloc, part)?;
+                self.note_repeated(alloc, bodies, part)?;
+                self.gather(alloc, bodies, part)?;
             }
             Pattern::Cond(part, name) | Pattern::Imm(part, name) => {
-                self.gather(alloc, part)?;
+                self.gather(alloc, bodies, part)?;
                 self.variables.push(*name)?;
             }
             _ => {}
@@ -128,8 +138,12 @@ fn range_in(members: &[u8]) -> Option<(u8, u8)> {
     None
 }
 
-/// What the pattern says. Refused only if memory runs out.
-pub fn facts_of(alloc: Global, pattern: &Pattern) -> Result<Facts, AllocError> {
+/// What the pattern says. `bodies` has the definitions, each if it can be read. Refused only if memory runs out.
+pub fn facts_of(
+    alloc: Global,
+    bodies: &[Option<Pattern>],
+    pattern: &Pattern,
+) -> Result<Facts, AllocError> {
     let mut facts = Facts {
         variables: Vec::new(alloc),
         references: 0,
@@ -139,7 +153,7 @@ pub fn facts_of(alloc: Global, pattern: &Pattern) -> Result<Facts, AllocError> {
         is_ambiguous: false,
         blocked: None,
     };
-    facts.gather(alloc, pattern)?;
+    facts.gather(alloc, bodies, pattern)?;
     Ok(facts)
 }
 

@@ -36,6 +36,43 @@ impl fmt::Display for Place {
     }
 }
 
+impl Place {
+    /// The part of a document that has this fault.
+    pub fn of_fault(fault: &DocumentFault) -> Place {
+        match fault {
+            DocumentFault::DocumentTooLong
+            | DocumentFault::NotJson
+            | DocumentFault::Shape
+            | DocumentFault::Memory => Place::Document,
+            DocumentFault::TooManyPatterns | DocumentFault::Unguarded(_) => Place::Patterns,
+            DocumentFault::TooManyTexts => Place::Texts,
+            DocumentFault::TooManyStatements => Place::Statements,
+            DocumentFault::PatternName(number)
+            | DocumentFault::PatternReserved(number)
+            | DocumentFault::PatternDuplicate(number)
+            | DocumentFault::PatternRead(number, _) => Place::Pattern(*number),
+            DocumentFault::TextName(number)
+            | DocumentFault::TextTooLong(number)
+            | DocumentFault::TextNonAscii(number)
+            | DocumentFault::TextDuplicate(number) => Place::Text(*number),
+            DocumentFault::StatementName(number)
+            | DocumentFault::StatementPattern(number, _)
+            | DocumentFault::StatementObject(number, _)
+            | DocumentFault::StatementRepeat(number)
+            | DocumentFault::StatementAll(number) => Place::Statement(*number),
+        }
+    }
+}
+
+/// How what is checked is written, which says how advice is worded.
+#[derive(Clone, Copy, Debug, PartialEq, Eq)]
+pub enum Form {
+    /// A document or rules in JSON.
+    Json,
+    /// Rules in lines.
+    Lines,
+}
+
 /// Characters of a document around a place, in one line. What can't be printed is replaced by `?`.
 #[derive(Debug, Drop)]
 pub struct Excerpt {
@@ -50,6 +87,10 @@ pub struct Excerpt {
 pub struct Mistake {
     /// The fault, whose printed form is the line that `sno_rewrite` writes.
     pub fault: DocumentFault,
+    /// The part of the document that has it.
+    pub place: Place,
+    /// The line of the document on which that part begins, from 1, if it is known.
+    pub line: Option<usize>,
     /// The characters around the place of the fault, if it has one.
     pub excerpt: Option<Excerpt>,
     /// What to write instead.
@@ -61,6 +102,8 @@ pub struct Mistake {
 pub struct Warning {
     /// The part of the document that says it.
     pub place: Place,
+    /// The line of the document on which that part begins, from 1, if it is known.
+    pub line: Option<usize>,
     /// What is strange there, and what to write instead.
     pub message: String,
 }

@@ -4,6 +4,15 @@ use crate::{Mistake, Report, Warning};
 use json::Writer;
 use std::alloc::{AllocError, Global};
 
+/// The member with the line of a finding, if it is known.
+fn write_line(writer: &mut Writer, line: Option<usize>) -> Result<(), AllocError> {
+    if let Some(line) = line {
+        writer.key("line")?;
+        writer.u64(line as u64)?;
+    }
+    Ok(())
+}
+
 fn write_mistake(alloc: Global, writer: &mut Writer, mistake: &Mistake) -> Result<(), AllocError> {
     let fault = format!(in alloc; "{}", mistake.fault)?;
     writer.begin_object()?;
@@ -17,12 +26,14 @@ fn write_mistake(alloc: Global, writer: &mut Writer, mistake: &Mistake) -> Resul
     }
     writer.key("fault")?;
     writer.string(&fault)?;
+    write_line(writer, mistake.line)?;
     writer.end_object()
 }
 
 fn write_warning(alloc: Global, writer: &mut Writer, warning: &Warning) -> Result<(), AllocError> {
     let place = format!(in alloc; "{}", warning.place)?;
     writer.begin_object()?;
+    write_line(writer, warning.line)?;
     writer.key("message")?;
     writer.string(&warning.message)?;
     writer.key("place")?;
@@ -59,6 +70,7 @@ fn write_warnings(
 ///
 /// - An error has `advice`, `fault` and, if its place is shown, `excerpt` and `column`, which counts characters from 0.
 /// - A warning has `message` and `place`.
+/// - Either has `line`, if it is known on which line of the document its part begins.
 ///
 /// Refused only if memory runs out.
 pub fn json_of(alloc: Global, report: &Report) -> Result<Vec<u8>, AllocError> {

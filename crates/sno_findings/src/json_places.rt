@@ -1,8 +1,8 @@
 //! Where bytes stop being JSON, and what is wanted there.
 
-use crate::Mistake;
 use crate::excerpts::{around, position_of};
 use crate::json_walk::{Due, Walk};
+use crate::{Mistake, Place};
 use json::{Reader, Scratch, Token};
 use sno_document::DocumentFault;
 use std::alloc::{AllocError, Global};
@@ -160,6 +160,8 @@ fn mistake_at(alloc: Global, text: &str, trouble: Trouble) -> Result<Mistake, Al
     )?;
     Ok(Mistake {
         fault: DocumentFault::NotJson,
+        place: Place::Document,
+        line: Some(found.line),
         excerpt: Some(excerpt),
         advice,
     })

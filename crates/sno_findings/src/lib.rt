@@ -11,6 +11,7 @@
 //! | `lines`, `json_lines` | `lines_of` and `json_of`: a report in lines and as JSON |
 //! | `json_walk`, `json_places` | where bytes stop being JSON, and what is wanted there |
 //! | `whose` | the expressions of a document: patterns and objects |
+//! | `element_lines` | the lines of a document on which its parts begin |
 //! | `facts`, `edges` | what a pattern assigns, refers to and seeks, and what can't come after its parts |
 //! | `warnings` | what patterns and objects probably don't mean |
 //! | `ambiguous` | repetitions whose rounds can take the same characters in more than one way |
@@ -26,6 +27,7 @@ mod ambiguous;
 mod ascii;
 mod collector;
 mod edges;
+mod element_lines;
 mod excerpts;
 mod facts;
 mod findings;
@@ -44,13 +46,14 @@ pub use advice::advice_of;
 pub use ascii::text_of;
 pub use collector::Collector;
 pub use edges::Blocked;
+pub use element_lines::{ElementLines, element_lines};
 pub use excerpts::{Position, around, position_of, shown};
 pub use facts::{Facts, bit, facts_of};
-pub use findings::{Excerpt, Mistake, Place, Report, Warning};
+pub use findings::{Excerpt, Form, Mistake, Place, Report, Warning};
 pub use habits::habit_advice;
 pub use json_lines::json_of;
 pub use json_places::json_mistake;
-pub use lines::{lines_of, put_mistake, put_pointed};
+pub use lines::{lines_of, put_mistake, put_pointed, put_source};
 pub use reading::{place_of, reading_advice};
 pub use sno_document::DocumentFault;
 pub use spelling::nearest;

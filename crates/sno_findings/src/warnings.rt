@@ -6,7 +6,7 @@ use crate::edges::{Blocked, always_matches};
 use crate::facts::{Facts, escape_in, has_what_is_sought};
 use crate::found_again::may_find_again;
 use crate::spelling::nearest;
-use crate::{Place, Whose};
+use crate::{Form, Place, Whose};
 use sno_pattern::{Name, Pattern};
 use sno_read::{Object, Part};
 use std::alloc::{AllocError, Global};
@@ -21,8 +21,12 @@ fn warn_of_escape(
     };
     let called = whose.called();
     let letter = char::from(letter);
+    let instead = match findings.form {
+        Form::Json => "JSON has the character if its string has one backslash",
+        Form::Lines => "NL is a line end, CR a carriage return and HT a tab, outside of quotes",
+    };
     let message = format!(in findings.alloc;
-        "{called}: \\{letter} is a backslash and a letter here; JSON has the character if its string has one backslash"
+        "{called}: \\{letter} is a backslash and a letter here; {instead}"
     )?;
     findings.warn(whose.place(), message)
 }
@@ -235,16 +239,25 @@ pub fn warn_of_growth(
     anchored: bool,
     object: &Object,
 ) -> Result<(), AllocError> {
+    let one_pass = match findings.form {
+        Form::Json => "\"all\": true is one pass",
+        Form::Lines => "without :repeat the rule is for all matches in one pass",
+    };
+    let alloc = findings.alloc;
     let message = if always_matches(pattern, anchored) {
-        "repeat: the pattern matches every text, so there are as many rounds as it says"
+        String::from_str(
+            alloc,
+            "repeat: the pattern matches every text, so there are as many rounds as it says",
+        )?
     } else if finds_itself_again(pattern, anchored, object) {
-        "repeat: the object has what the pattern seeks, so each round finds it again; \"all\": true is one pass"
+        format!(in alloc;
+            "repeat: the object has what the pattern seeks, so each round finds it again; {one_pass}"
+        )?
     } else if !anchored && may_find_again(bodies, pattern, object) {
-        "repeat: a round may find again what the object puts in; \"all\": true is one pass"
+        format!(in alloc; "repeat: a round may find again what the object puts in; {one_pass}")?
     } else {
         return Ok(());
     };
-    let message = String::from_str(findings.alloc, message)?;
     findings.warn(place, message)
 }
 

@@ -36,8 +36,9 @@ fn ascii_value(alloc: Global, characters: &[u8]) -> Result<Value, AllocError>
     }
 }
 
+/// Returns the name of a text as JSON. Refused only if memory runs out.
 #[tactic(auto, using(crate::proofs::JsonListingLemmas::text_name_ascii))]
-fn text_name_value(alloc: Global, name: &TextName) -> Result<Value, AllocError>
+pub fn text_name_value(alloc: Global, name: &TextName) -> Result<Value, AllocError>
     ensures { IfOk result (λ v. view v ≡ string name.now) }
 {
     ascii_value(alloc, name.bytes())

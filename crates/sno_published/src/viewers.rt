@@ -137,6 +137,14 @@ impl<L: Naming> Viewer<L> {
         &self.opening
     }
 
+    /// A share of the desk's opening.
+    pub fn share_opening(&self) -> Result<Arc<Opening>, AllocError>
+        ensures { IfOk result (λ o. arc_value o ≡ L.opening) }
+    {
+        let share = Arc::try_clone(&self.opening)?;
+        Ok(share)
+    }
+
     /// How many entries the viewer has seen or was told of.
     pub fn seen(&self) -> u64
         ensures seen { result ≡ length self.now.seen }

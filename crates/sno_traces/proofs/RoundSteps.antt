@@ -2,7 +2,7 @@
 use Rattle.std.proofs.Common.{◌≡◌, ℕ, zero, suc, ◌+◌, ◌-◌, ◌<◌, ◌≤◌, List, Some, None, refl, ap, sym, ◌∙◌, arith}
 use Rattle.sno_statement.specs.Statement.{Statement}
 use Rattle.sno_statement.specs.Perform.{perform}
-use Rattle.sno.specs.Rounds.{Round, after_round, round_from, text_left}
+use Rattle.sno_traces.specs.Rounds.{Round, after_round, round_from, text_left}
 
 module _ (s : Statement) (matches : ℕ) (t : List ℕ) where
   pub round_matched : (n i : ℕ) (after : List ℕ) → i < n → Some after ≡ text_left (perform s t) → round_from s (n - i) matches t ≡ round_from s (n - (i + 1)) (matches + 1) after

@@ -3,7 +3,7 @@ ghost use Rattle.std.specs.Prelude.{◌≡◌, ◌<◌, ◌≤◌, ◌-◌, leng
 ghost use Rattle.sno_pattern.specs.declared.byte_texts.TheConstants.{MAX_BYTES};
 ghost use Rattle.sno_statement.specs.Passes.{search_trials};
 ghost use Rattle.sno_statement.specs.Perform.{IsCodeOf};
-ghost use Rattle.sno.specs.Searches.{GoesOn, after_found, after_search, first_search, next_after, sought_in};
+ghost use Rattle.sno_traces.specs.Searches.{GoesOn, after_found, after_search, first_search, next_after, sought_in};
 
 use sno_machine::{Code, MatchFault, SearchOutcome, Searched, compile};
 use sno_pattern::{Hit, Text, searches_lie_within_the_text};

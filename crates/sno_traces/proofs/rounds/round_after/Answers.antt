@@ -3,9 +3,9 @@ use Rattle.std.proofs.Common.{◌≡◌, ◌+◌, ◌-◌, ℕ, List, Option, So
 use Rattle.std.specs.Arc.{arc_value}
 use Rattle.std.specs.Option.{option_map}
 use Rattle.sno_statement.specs.Perform.{perform}
-use Rattle.sno.specs.Rounds.{round_from, text_left}
-use Rattle.sno.proofs.RoundSteps.{round_matched, round_ended, last_round}
-use Rattle.sno.proofs.rounds.round_after.Goals as goal
+use Rattle.sno_traces.specs.Rounds.{round_from, text_left}
+use Rattle.sno_traces.proofs.RoundSteps.{round_matched, round_ended, last_round}
+use Rattle.sno_traces.proofs.rounds.round_after.Goals as goal
 
 pub returns-in-None : goal.returns-in-None
 returns-in-None c =

@@ -3,10 +3,10 @@ use Rattle.std.specs.Prelude.{◌<◌, ◌≤◌, ℕ, zero, suc, ◌+◌, ◌-�
 use Rattle.sno_pattern.specs.declared.found.Hit.{Hit}
 use Rattle.sno_statement.specs.Statement.{Statement}
 use Rattle.sno_statement.specs.Passes.{search, search_trials, next_search, counts, most_searches}
-use Rattle.sno.specs.declared.searches.PassSearch.{PassSearch}
-use Rattle.sno.specs.declared.searches.AfterSearch.{AfterSearch}
-use Rattle.sno.specs.declared.searches.AfterSearch.TheVariants.{Next, Done}
-use Rattle.sno.specs.declared.searches.Sought.{Sought}
+use Rattle.sno_traces.specs.declared.searches.PassSearch.{PassSearch}
+use Rattle.sno_traces.specs.declared.searches.AfterSearch.{AfterSearch}
+use Rattle.sno_traces.specs.declared.searches.AfterSearch.TheVariants.{Next, Done}
+use Rattle.sno_traces.specs.declared.searches.Sought.{Sought}
 
 -- the search after one that found this match; if there is none, the pass ends with it
 abbrev pub next_after : Statement → List ℕ → PassSearch → Hit → Option ℕ → AfterSearch

@@ -1,10 +1,10 @@
 -- One search more of those that are gone through.
 use Rattle.std.proofs.Common.{◌≡◌, ℕ, zero, suc, ◌+◌, ◌-◌, ◌<◌, ◌≤◌, Bool, false, List, refl, ap, sym, ◌∙◌, arith}
 use Rattle.sno_statement.specs.Statement.{Statement}
-use Rattle.sno.specs.declared.searches.PassSearch.{PassSearch}
-use Rattle.sno.specs.declared.searches.AfterSearch.TheVariants.{Next, Done}
-use Rattle.sno.specs.declared.searches.Sought.{Sought}
-use Rattle.sno.specs.Searches.{after_search, sought_after, sought_from}
+use Rattle.sno_traces.specs.declared.searches.PassSearch.{PassSearch}
+use Rattle.sno_traces.specs.declared.searches.AfterSearch.TheVariants.{Next, Done}
+use Rattle.sno_traces.specs.declared.searches.Sought.{Sought}
+use Rattle.sno_traces.specs.Searches.{after_search, sought_after, sought_from}
 
 module _ (s : Statement) (t : List ℕ) (earlier n i : ℕ) (p : PassSearch) where
   pub goes_on : (q : PassSearch) → i < n → Next q ≡ after_search s t earlier p → sought_from s t earlier (n - i) p ≡ sought_from s t earlier (n - (i + 1)) q

@@ -1,8 +1,8 @@
 -- One search after the other, until one is the one that is sought, or the last.
 use Rattle.std.proofs.Common.{◌≡◌, ◌+◌, ◌≤◌, List, ℕ, length, ap, sym, subst, ◌∙◌, arith}
-use Rattle.sno.specs.Searches.{GoesOn, after_search}
-use Rattle.sno.proofs.SearchSteps.{goes_on, is_done, none_left}
-use Rattle.sno.proofs.searches.seek_match.Goals as goal
+use Rattle.sno_traces.specs.Searches.{GoesOn, after_search}
+use Rattle.sno_traces.proofs.SearchSteps.{goes_on, is_done, none_left}
+use Rattle.sno_traces.proofs.searches.seek_match.Goals as goal
 
 pub returns-in-Done-clause-sought : goal.returns-in-Done-clause-sought
 returns-in-Done-clause-sought c =

@@ -1,8 +1,8 @@
 -- The round that is wanted is the one that is wanted from here.
 use Rattle.std.proofs.Common.{◌≡◌, ◌-◌}
 use Rattle.std.specs.Arc.{arc_value}
-use Rattle.sno.specs.Rounds.{round_from}
-use Rattle.sno.proofs.rounds.round_after.Given as goal
+use Rattle.sno_traces.specs.Rounds.{round_from}
+use Rattle.sno_traces.proofs.rounds.round_after.Given as goal
 
 abbrev pub invariant-loop-matches : goal.invariant-loop-matches
 invariant-loop-matches l = record {

@@ -12,12 +12,13 @@ use std::sync::Arc;
 
 /// What is shown.
 #[derive(Drop)]
-pub(crate) struct TraceLines {
+pub struct TraceLines {
     /// The text in which the match is sought.
-    pub(crate) text: Arc<Text>,
-    pub(crate) lines: Vec<u8>,
+    pub text: Arc<Text>,
+    /// The lines of its trace.
+    pub lines: Vec<u8>,
     /// Whether the match that was asked for is there.
-    pub(crate) matched: bool,
+    pub matched: bool,
 }
 
 /// The lines of one search, and whether it found a match; `None` if they were cut off.

@@ -3,7 +3,7 @@ ghost use Rattle.std.specs.Prelude.{◌≡◌, IfOk};
 ghost use Rattle.std.specs.Arc.{arc_value};
 ghost use Rattle.std.specs.Option.{option_map};
 ghost use Rattle.sno_statement.specs.Perform.{perform};
-ghost use Rattle.sno.specs.Rounds.{round_from, text_left};
+ghost use Rattle.sno_traces.specs.Rounds.{round_from, text_left};
 
 use sno_pattern::Text;
 use sno_statement::{Statement, StatementFault, perform};

@@ -1,7 +1,7 @@
 -- What is sought is what is sought from the search that is next.
 use Rattle.std.proofs.Common.{◌≡◌, ◌-◌, ◌≤◌, length}
-use Rattle.sno.specs.Searches.{sought_from, sought_in}
-use Rattle.sno.proofs.searches.seek_match.Given as goal
+use Rattle.sno_traces.specs.Searches.{sought_from, sought_in}
+use Rattle.sno_traces.proofs.searches.seek_match.Given as goal
 
 abbrev pub invariant-loop-passed : goal.invariant-loop-passed
 invariant-loop-passed l = record {

@@ -6,8 +6,8 @@ use thiserror::Error;
 
 /// Why no trace is shown. Its printed form is the line for standard error.
 #[derive(Clone, Copy, Debug, PartialEq, Eq, Error)]
-pub(crate) enum NoTrace {
-    /// The document has no statement with the number.
+pub enum NoTrace {
+    /// There is no statement with the number.
     #[error("error: the document has no such statement")]
     NoStatement,
     /// The statement can't have that many matches; this is the most.

@@ -1,0 +1,169 @@
+//! The trace of one statement, on the text that others leave.
+
+use crate::NoTrace;
+use crate::trace_lines::{TraceLines, match_lines, pass_lines, round_lines};
+use sno_book::{Book, CommitFault, SnapshotFault, fresh_is_related, propose};
+use sno_document::Document;
+use sno_pattern::Text;
+use sno_statement::{Statement, StatementFault, perform_shared};
+use std::alloc::{AllocError, Global};
+use std::sync::Arc;
+
+/// Which match of a statement is shown, and how much of it.
+#[derive(Clone, Copy, Debug, PartialEq, Eq)]
+pub struct Wanted {
+    /// The number of the match, from 1.
+    pub number: u32,
+    /// How many lines are shown at most.
+    pub lines: u32,
+}
+
+/// The statement in one round, if it is repeated; otherwise as it is.
+fn in_one_round(statement: Statement) -> Statement {
+    match statement.repeat() {
+        None => statement,
+        Some(_) => statement.repeated(1),
+    }
+}
+
+/// Refused with `NoMatch` if the statement can't have a match with this number, whatever its text.
+fn check_number(statement: &Statement, number: u32) -> Result<(), NoTrace> {
+    let most = statement.repeat().unwrap_or(1);
+    if !statement.is_for_all() && number > most {
+        return Err(NoTrace::NoMatch(most));
+    }
+    Ok(())
+}
+
+/// The lines of the match that is wanted, on this text.
+fn lines_on(
+    alloc: Global,
+    statement: Arc<Statement>,
+    text: Arc<Text>,
+    wanted: Wanted,
+) -> Result<TraceLines, NoTrace> {
+    let earlier = wanted.number.saturating_sub(1);
+    let most = wanted.lines;
+    if statement.is_for_all() {
+        return Ok(pass_lines(alloc, &statement, text, earlier, most)?);
+    }
+    if statement.repeat().is_none() {
+        return Ok(match_lines(alloc, &statement, text, most)?);
+    }
+    // No one else has a statement of the document that wasn't performed.
+    let Ok(statement) = Arc::try_unwrap(statement) else {
+        return Err(NoTrace::Memory);
+    };
+    let once = in_one_round(statement);
+    Ok(round_lines(alloc, &once, text, earlier, most)?)
+}
+
+/// Performs one statement on the current text of its name. If it is refused, nothing changes.
+fn advance(alloc: Global, book: &mut Book, statement: &Arc<Statement>) -> Result<(), AllocError> {
+    let snapshot = match book.snapshot(statement.text()) {
+        Ok(snapshot) => snapshot,
+        Err(SnapshotFault::NoText) => return Ok(()),
+        Err(SnapshotFault::Memory) => return Err(AllocError),
+    };
+    let proposal = match propose(alloc, Arc::try_clone(statement)?, snapshot) {
+        Ok(proposal) => proposal,
+        Err(StatementFault::Memory) => return Err(AllocError),
+        Err(StatementFault::TextTooLong) | Err(StatementFault::TooManyTrials) => return Ok(()),
+    };
+    // for the proof
+    fresh_is_related();
+    match book.commit(proposal) {
+        Ok(_) => Ok(()),
+        Err((CommitFault::Memory, _)) => Err(AllocError),
+        Err(_) => Ok(()),
+    }
+}
+
+/// Performs the statements in order.
+fn advance_all(
+    alloc: Global,
+    book: &mut Book,
+    statements: &[Arc<Statement>],
+) -> Result<(), AllocError> {
+    for statement in statements {
+        advance(alloc, book, statement)?;
+    }
+    Ok(())
+}
+
+/// The text that a statement leaves of this one. If it fails or is refused, it is this one.
+fn text_after(
+    alloc: Global,
+    statement: &Statement,
+    text: Arc<Text>,
+) -> Result<Arc<Text>, AllocError> {
+    let outcome = match perform_shared(alloc, statement, &text) {
+        Ok(outcome) => outcome,
+        Err(StatementFault::Memory) => return Err(AllocError),
+        Err(StatementFault::TextTooLong) | Err(StatementFault::TooManyTrials) => return Ok(text),
+    };
+    match outcome.after() {
+        Some(after) => Arc::try_clone(after),
+        None => Ok(text),
+    }
+}
+
+/// Takes the statement with this number, from 1, out of its list, and leaves only those before it there.
+///
+/// Refused with `NoStatement`.
+pub fn take_statement(
+    statements: &mut Vec<Arc<Statement>>,
+    number: u32,
+) -> Result<Arc<Statement>, NoTrace> {
+    statements.truncate(number as usize);
+    if statements.len() < number as usize {
+        return Err(NoTrace::NoStatement);
+    }
+    statements.pop().ok_or(NoTrace::NoStatement)
+}
+
+/// Shows a match of the document's statement with this number, from 1, on the text as the statements before it leave it. `None` if
+/// that text isn't there.
+///
+/// Refused with `NoStatement`; `NoMatch` if the statement can't have such a match, whatever its text; `TooDeep`; `Memory`.
+pub fn trace_of_document(
+    alloc: Global,
+    document: Document,
+    number: u32,
+    wanted: Wanted,
+) -> Result<Option<TraceLines>, NoTrace> {
+    let Document {
+        mut book,
+        mut statements,
+        ..
+    } = document;
+    let statement = take_statement(&mut statements, number)?;
+    check_number(&statement, wanted.number)?;
+    advance_all(alloc, &mut book, &statements)?;
+    match book.snapshot(statement.text()) {
+        Ok(snapshot) => {
+            let text = Arc::try_clone(&snapshot.text)?;
+            Ok(Some(lines_on(alloc, statement, text, wanted)?))
+        }
+        Err(SnapshotFault::NoText) => Ok(None),
+        Err(SnapshotFault::Memory) => Err(NoTrace::Memory),
+    }
+}
+
+/// Shows a match of a statement on this text as the earlier statements leave it.
+///
+/// Refused with `NoMatch` if the statement can't have such a match, whatever its text; `TooDeep`; `Memory`.
+pub fn trace_on_text(
+    alloc: Global,
+    earlier: &[Arc<Statement>],
+    statement: Arc<Statement>,
+    text: Text,
+    wanted: Wanted,
+) -> Result<TraceLines, NoTrace> {
+    check_number(&statement, wanted.number)?;
+    let mut text = Arc::new(alloc, text)?;
+    for before in earlier {
+        text = text_after(alloc, before, text)?;
+    }
+    lines_on(alloc, statement, text, wanted)
+}

@@ -1,0 +1,1 @@
+./sno trace --on examples/own/calls.c -e "'same(' BREAK(',') . A"
