@@ -1,5 +1,5 @@
 //! Files that several threads share.
-ghost use Rattle.std.specs.Prelude.{◌≡◌, length, IfOk};
+ghost use Rattle.std.specs.Prelude.{◌≡◌, length, vec_len, IfOk};
 
 use sno_files::Place;
 use std::alloc::{AllocError, Global};
@@ -15,7 +15,7 @@ pub(crate) fn places_of<'p, X: Drop>(
     alloc: Global,
     paths: &[&'p str],
 ) -> Result<Vec<Place<'p, X>>, AllocError>
-    ensures { IfOk result (λ places. length places.items ≡ length paths.now) }
+    ensures { IfOk result (λ places. vec_len places ≡ length paths.now) }
 {
     let mut places = Vec::with_capacity(alloc, paths.len())?;
     for path in paths {
