@@ -7,7 +7,7 @@ ghost use Rattle.sno_durable.specs.Kept.{AreKept, HasNoted, HasKept};
 
 use crate::DurableFault;
 use crate::records::{record_in, record_line};
-use crate::replies::{put_reply, too_long};
+use crate::replies::{put_noted, put_reply, too_long};
 use sno_desk::{Desk, Naming, Seat, SubmitFault};
 use sno_document::{Mode, Rules};
 use sno_listing::Refusal;
@@ -63,13 +63,14 @@ impl<D: Disk + Drop, I: Read + Drop, W: Write + Drop> Keeper<D, I, W> {
         ensures noted { OnOk result (HasNoted waiting.old.records waiting.new.records seat.old.accepted seat.new.accepted) }
         ensures same { self.new.store ≡ self.old.store }
     {
-        let read = line_in(alloc, &self.rules, self.mode, self.number, line)?;
+        let mut read = line_in(alloc, &self.rules, self.mode, self.number, line)?;
+        let ignored = read.take_ignored(alloc);
         if matches!(&read.asked, Asked::Perform(_) | Asked::PerformAt(_, _)) {
             self.number = self.number.saturating_add(1);
         }
         let before = seat.accepted();
         let Answered { reply, refused } = answer(rt, alloc, desk, seat, read, TRIES)?;
-        put_reply(alloc, &mut waiting.replies, &reply)?;
+        put_noted(alloc, &mut waiting.replies, &reply, ignored)?;
         if let Some(refused) = refused {
             self.refused.push(refused)?;
         }

@@ -1,6 +1,7 @@
 //! The lines that a client gets.
 
 use serde_json::{Map, Value, put};
+use sno_serve::with_ignored;
 use std::alloc::{AllocError, Global};
 
 /// Puts a reply down as a line.
@@ -13,6 +14,21 @@ pub(crate) fn put_reply(
     replies.extend_from_slice(&line)?;
     replies.push(b'\n')?;
     Ok(())
+}
+
+/// Puts a reply down as a line, with the names of members of its line that mean nothing there. A record has the reply without them.
+pub(crate) fn put_noted(
+    alloc: Global,
+    replies: &mut Vec<u8>,
+    reply: &Value,
+    ignored: Vec<Value>,
+) -> Result<(), AllocError> {
+    if ignored.is_empty() {
+        return put_reply(alloc, replies, reply);
+    }
+    let copy = reply.clone()?;
+    let noted = with_ignored(alloc, copy, ignored)?;
+    put_reply(alloc, replies, &noted)
 }
 
 /// The reply to a line that is too long.

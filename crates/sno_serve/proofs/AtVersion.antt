@@ -1,5 +1,5 @@
 -- What the one attempt at a version returns, by the step that decides it.
-use Rattle.std.proofs.Common.{◌≡◌, ◌≢◌, ◌≤◌, ℕ, List, length, Some, None, ap, sym, ◌∙◌}
+use Rattle.std.proofs.Common.{◌≡◌, ◌≢◌, ◌≤◌, ℕ, List, length, ap, sym, ◌∙◌}
 use Rattle.std.specs.Prelude.{Ok, Err}
 use Rattle.std.specs.Result.{IsErrAnd}
 use mathlib.Core.List.{IsPrefix as Begins}
@@ -7,11 +7,11 @@ use Rattle.sno_statement.specs.Statement.{Statement}
 use Rattle.sno_statement.specs.declared.outcomes.StatementFault.{StatementFault}
 use Rattle.sno_statement.specs.declared.outcomes.StatementFault.TheVariants as statement
 use Rattle.sno_book.specs.Entries.{Entry}
-use Rattle.sno_book.specs.Openings.{Opening, place_in}
-use Rattle.sno_book.specs.Proposals.{Proposal, Receipt, GivesProposal, entry_of}
+use Rattle.sno_book.specs.Openings.{Opening}
+use Rattle.sno_book.specs.Proposals.{Proposal, Receipt, GivesProposal}
 use Rattle.sno_book.specs.Snapshots.{Snapshot}
 use Rattle.sno_book.specs.declared.faults.CommitFault.TheVariants as book
-use Rattle.sno_published.specs.Tables.{text_after, text_at}
+use Rattle.sno_published.specs.Tables.{text_at}
 use Rattle.sno_published.proofs.Prefixes.{prefix_self}
 use Rattle.sno_desk.specs.declared.faults.CommitFault.{CommitFault}
 use Rattle.sno_desk.specs.declared.faults.CommitFault.TheVariants as commit

@@ -1,3 +1,5 @@
 pub mod Accepting
 pub mod AtVersion
 pub mod Excerpts
+mod NamedMembers
+mod Rows

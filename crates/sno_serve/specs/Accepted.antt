@@ -5,7 +5,6 @@ use Rattle.serde_json.specs.Data.{Data}
 use Rattle.sno_pattern.specs.Definitions.{Definitions}
 use Rattle.sno_statement.specs.Statement.{Statement}
 use Rattle.sno_book.specs.Entries.{Entry}
-use Rattle.sno_document.specs.declared.faults.DocumentFault.{DocumentFault}
 use Rattle.sno_document.specs.declared.modes.Mode.{Mode}
 use Rattle.sno_desk.specs.Answers.{Answer, receipts_in}
 use Rattle.sno_desk.specs.Turns.{Position}
@@ -31,7 +30,10 @@ pub record IsCountedAt (before after : ℕ) (id : Option Data) (d : Data) : Type
 abbrev pub IsCounted : ℕ → ℕ → Option Data → Asked → Data → Type 0
 IsCounted before after id (asks.Perform s) d = IsCountedOnce before after id d
 IsCounted before after id (asks.PerformAt s version) d = IsCountedAt before after id d
+IsCounted before after id (asks.Check s) d = after ≡ before
 IsCounted before after id (asks.Read name) d = after ≡ before
+IsCounted before after id (asks.ReadAt name version) d = after ≡ before
+IsCounted before after id asks.Texts d = after ≡ before
 IsCounted before after id (asks.Since excerpt) d = after ≡ before
 IsCounted before after id (asks.Fault fault) d = after ≡ before
 

@@ -1,9 +1,10 @@
 -- Replies: JSON objects with the caller's id.
-use Rattle.std.specs.Prelude.{◌≡◌, ◌⊎◌, ℕ, List, Option, Some, None, Result, Ok, Err, codes, nat_lt, if◌then◌else◌}
-use Rattle.serde_json.specs.Data.{Data, string, object, Members, no_members, member, put}
+use Rattle.std.specs.Prelude.{◌≡◌, ◌⊎◌, ℕ, true, List, [], ◌∷◌, length, Option, Some, None, Result, Ok, Err, codes, nat_lt, if◌then◌else◌}
+use Rattle.serde_json.specs.Data.{Data, boolean, string, object, Members, no_members, member, put}
 use Rattle.sno_statement.specs.Statement.{Statement}
 use Rattle.sno_book.specs.Entries.{Entry}
-use Rattle.sno_book.specs.Openings.{Opening}
+use Rattle.sno_book.specs.Openings.{Opening, names_in, place_in}
+use Rattle.sno_book.specs.Proposals.{Proposal, entry_of}
 use Rattle.sno_book.specs.Snapshots.{Snapshot}
 use Rattle.sno_listing.specs.Listing.{reason_words}
 use Rattle.sno_listing.specs.JsonListing.{array_of, count, text_members, done_members}
@@ -11,12 +12,14 @@ use Rattle.sno_listing.specs.declared.refusals.Reason.{Reason}
 use Rattle.sno_listing.specs.declared.refusals.Reason.TheVariants as reason
 use Rattle.sno_listing.specs.declared.refusals.Refusal.{Refusal}
 use Rattle.sno_desk.specs.Answers.{Answer, Answers, AnswersAt}
+use Rattle.sno_desk.specs.Proposed.{GivesProposed}
 use Rattle.sno_desk.specs.Seen.{GivesSeen}
 use Rattle.sno_desk.specs.declared.faults.SnapshotFault.{SnapshotFault}
 use Rattle.sno_desk.specs.declared.faults.SnapshotFault.TheVariants as snapshot
 use Rattle.sno_desk.specs.declared.faults.SubmitFault.{SubmitFault}
 use Rattle.sno_desk.specs.declared.faults.SubmitFault.TheVariants as submit
 use Rattle.sno_serve.specs.Excerpts.{excerpt_of}
+use Rattle.sno_serve.specs.Versions.{GivesAll, text_at_version}
 use Rattle.sno_serve.specs.AtVersion.{AtResult, IsResultAt}
 use Rattle.sno_serve.specs.declared.at_version.AtFault.TheVariants as at
 use Rattle.sno_serve.specs.declared.answers.TheConstants.{MAX_INDEX}
@@ -27,6 +30,16 @@ use Rattle.sno_serve.specs.declared.asked.Asked.TheVariants as asks
 abbrev pub with_id : Option Data → Members → Data
 with_id None members = object members
 with_id (Some id) members = object (put (codes "id") id members)
+
+-- a reply with a further member
+abbrev pub with_further : List ℕ → Data → Data → Data
+with_further key value (object members) = object (put key value members)
+with_further key value d = d
+
+-- a reply with the names of members of its line that mean nothing there, if there are any
+abbrev pub with_ignored : List Data → Data → Data
+with_ignored [] d = d
+with_ignored (name ∷ names) d = with_further (codes "ignored") (array_of (name ∷ names)) d
 
 -- an object with one member, and with the id
 abbrev pub word_reply : Option Data → List ℕ → List ℕ → Data
@@ -66,12 +79,46 @@ read_reply id name taken = with_id id (text_members (record { name = name; text 
 abbrev pub since_reply : Option Data → List Data → Data
 since_reply id entries = with_id id (member (codes "entries") (array_of entries) no_members)
 
+-- why a text could not be looked at
+abbrev pub look_words : SnapshotFault → List ℕ
+look_words snapshot.NoText = codes "no text"
+look_words snapshot.Stopped = codes "stopped"
+look_words snapshot.Memory = codes "out of memory"
+
 -- the reply to a read by what the seat's snapshot gave
 abbrev pub look_reply : Option Data → List ℕ → Result Snapshot SnapshotFault → Data
 look_reply id name (Ok taken) = read_reply id name taken
-look_reply id name (Err snapshot.NoText) = word_reply id (codes "reason") (codes "no text")
-look_reply id name (Err snapshot.Stopped) = word_reply id (codes "reason") (codes "stopped")
-look_reply id name (Err snapshot.Memory) = word_reply id (codes "reason") (codes "out of memory")
+look_reply id name (Err fault) = word_reply id (codes "reason") (look_words fault)
+
+-- a text as it is listed: its length, its name and its version
+abbrev pub row_data : List ℕ → Snapshot → Data
+row_data name taken = object (member (codes "length") (count (length taken.text)) (member (codes "name") (string name) (member (codes "version") (count taken.version) no_members)))
+
+-- texts in order, with their names
+abbrev pub rows_data : List (List ℕ) → List Snapshot → List Data
+rows_data [] taken = []
+rows_data (name ∷ names) [] = []
+rows_data (name ∷ names) (one ∷ taken) = row_data name one ∷ rows_data names taken
+
+-- the reply with the texts, by what the seat's snapshots gave
+abbrev pub texts_reply : Option Data → List (List ℕ) → Result (List Snapshot) SnapshotFault → Data
+texts_reply id names (Ok taken) = with_id id (member (codes "texts") (array_of (rows_data names taken)) no_members)
+texts_reply id names (Err fault) = word_reply id (codes "reason") (look_words fault)
+
+-- why there is no text as it was at a version: the opening has no text of that name, at some place, or it never had that version
+abbrev pub missing_words : Option ℕ → List ℕ
+missing_words None = codes "no text"
+missing_words (Some place) = codes "no version"
+
+-- the reply to a read of a text as it was at a version
+abbrev pub read_at_reply : Option Data → List ℕ → ℕ → Option ℕ → Option (List ℕ) → Data
+read_at_reply id name version place None = word_reply id (codes "reason") (missing_words place)
+read_at_reply id name version place (Some text) = with_id id (text_members (record { name = name; text = text; version = version }))
+
+-- the reply to a statement that was only tried: what its entry would be if it came next, or the reason why it would be refused
+abbrev pub check_reply : Option Data → ℕ → Result Proposal SubmitFault → Data
+check_reply id index (Ok p) = with_id id (put (codes "check") (boolean true) (done_members index (entry_of p) p.outcome))
+check_reply id index (Err fault) = word_reply id (codes "reason") (submit_words fault)
 
 -- the reason for which the listing has a refused statement, if it is one of its reasons
 abbrev pub reason_in : SubmitFault → Option Reason
@@ -124,6 +171,18 @@ pub record IsLooked (opening : Opening) (after : List Entry) (id : Option Data) 
   pub gives : GivesSeen taken opening after name
   pub reply : d ≡ look_reply id name taken
 
+-- snapshots of all texts by the seat at one moment, with the reply
+pub record IsListed (opening : Opening) (after : List Entry) (id : Option Data) (d : Data) : Type 0 where
+  pub gave : Result (List Snapshot) SnapshotFault
+  pub gives : GivesAll gave opening after (names_in opening.texts)
+  pub reply : d ≡ texts_reply id (names_in opening.texts) gave
+
+-- what the statement would do to its text as the seat sees it, with the reply
+pub record IsTried (opening : Opening) (after : List Entry) (id : Option Data) (s : Statement) (d : Data) : Type 0 where
+  pub gave : Result Proposal SubmitFault
+  pub gives : GivesProposed gave opening after s
+  pub reply : d ≡ check_reply id (length after) gave
+
 -- some words say why the line can't be read
 pub record IsFaulted (id : Option Data) (d : Data) : Type 0 where
   pub words : List ℕ
@@ -133,6 +192,10 @@ pub record IsFaulted (id : Option Data) (d : Data) : Type 0 where
 abbrev pub IsReplied : ℕ → Opening → List Entry → List Entry → Option Data → Asked → Data → Option Refusal → Type 0
 IsReplied tries opening before after id (asks.Perform s) d refused = IsPerformed tries opening before after id s d refused
 IsReplied tries opening before after id (asks.PerformAt s version) d refused = IsPerformedAt opening before after id s version d refused
+IsReplied tries opening before after id (asks.Check s) d refused = IsTried opening after id s d × (refused ≡ None)
+IsReplied tries opening before after id (asks.ReadAt name version) d refused =
+    ((d ≡ read_at_reply id name version (place_in opening name) (text_at_version opening after name version)) ⊎ (d ≡ word_reply id (codes "reason") (codes "stopped"))) × (refused ≡ None)
+IsReplied tries opening before after id asks.Texts d refused = IsListed opening after id d × (refused ≡ None)
 IsReplied tries opening before after id (asks.Read name) d refused = IsLooked opening after id name d × (refused ≡ None)
 IsReplied tries opening before after id (asks.Since excerpt) d refused =
     ((d ≡ since_reply id (excerpt_of excerpt (capped excerpt.from) after)) ⊎ (d ≡ word_reply id (codes "reason") (codes "stopped"))) × (refused ≡ None)

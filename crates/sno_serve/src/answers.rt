@@ -12,12 +12,13 @@ ghost use Rattle.sno_serve.specs.Excerpts.{excerpt_of};
 ghost use Rattle.sno_serve.specs.Replies.{IsReplied, IsPerformed, IsPerformedAt, IsLooked, at_refusal, capped, refusal_in, reason_in, since_reply, word_reply};
 
 use crate::at_version::{AtFault, submit_at};
-use crate::replies::{at_reply, fault_reply, read_reply, reason_reply, since_reply, submit_reply};
+use crate::replies::{
+    at_reply, fault_reply, look_reason, read_reply, reason_reply, since_reply, submit_reply,
+};
+use crate::versions::{list_texts, look_at, try_out};
 use crate::{Asked, Excerpt, Line};
 use serde_json::Value;
-use sno_desk::{
-    Desk, Naming, OpenGate, Receipt, Reply, Seat, SinceFault, SnapshotFault, SubmitFault,
-};
+use sno_desk::{Desk, Naming, OpenGate, Receipt, Reply, Seat, SinceFault, SubmitFault};
 use sno_listing::{Reason, Refusal};
 use sno_pattern::TextName;
 use sno_statement::Statement;
@@ -158,9 +159,7 @@ fn look<L: Naming>(
 {
     match seat.snapshot(name) {
         Ok(taken) => read_reply(alloc, id, name, &taken),
-        Err(SnapshotFault::NoText) => reason_reply(alloc, id, "no text"),
-        Err(SnapshotFault::Stopped) => reason_reply(alloc, id, "stopped"),
-        Err(SnapshotFault::Memory) => reason_reply(alloc, id, "out of memory"),
+        Err(fault) => look_reason(alloc, id, fault),
     }
 }
 
@@ -206,6 +205,10 @@ fn list<L: Naming, R: Wait>(
 /// entries of [`Desk::since`] that are asked for, in their order: of one text if it is named, and the first ones up to the limit.
 /// A line that can't be read gets words that say why. Each has the line's id, if there is one.
 ///
+/// The reply to a statement that is only to be tried is the entry that it would be if it came next, by what [`Seat::propose`] gives, or
+/// the reason for which it would be refused; nothing is accepted. That to `texts` has all texts as they are at one moment, and that to a
+/// read at a version what the text was then, if it had that version.
+///
 /// A statement with a version is tried once. Its reply is its entry only if the entry has that version. If the text has another version
 /// after what the seat has seen, the reply is `changed` with the text's version, and the listing has nothing of it.
 ///
@@ -226,32 +229,21 @@ pub fn answer<L: Naming, R: Wait>(
     ensures taken { HasTaken (AsksFor line.asked) (position seat.old.accepted seat.old.viewer.seen) (position seat.new.accepted seat.new.viewer.seen) }
     ensures begins { Begins seat.old.viewer.seen seat.new.viewer.seen }
 {
-    let Line { id, asked } = line;
-    match asked {
-        Asked::Perform(statement) => perform(rt, alloc, desk, seat, id, statement, tries),
+    let Line { id, asked, .. } = line;
+    let reply = match asked {
+        Asked::Perform(statement) => return perform(rt, alloc, desk, seat, id, statement, tries),
         Asked::PerformAt(statement, version) => {
-            perform_at(rt, alloc, desk, seat, id, statement, version)
+            return perform_at(rt, alloc, desk, seat, id, statement, version);
         }
-        Asked::Read(name) => {
-            let reply = look(alloc, seat, id, &name)?;
-            Ok(Answered {
-                reply,
-                refused: None,
-            })
-        }
-        Asked::Since(excerpt) => {
-            let reply = list(rt, alloc, desk, seat, id, &excerpt)?;
-            Ok(Answered {
-                reply,
-                refused: None,
-            })
-        }
-        Asked::Fault(fault) => {
-            let reply = fault_reply(alloc, id, &fault)?;
-            Ok(Answered {
-                reply,
-                refused: None,
-            })
-        }
-    }
+        Asked::Check(statement) => try_out(alloc, seat, id, statement)?,
+        Asked::Read(name) => look(alloc, seat, id, &name)?,
+        Asked::ReadAt(name, version) => look_at(rt, alloc, desk, seat, id, &name, version)?,
+        Asked::Texts => list_texts(alloc, seat, id)?,
+        Asked::Since(excerpt) => list(rt, alloc, desk, seat, id, &excerpt)?,
+        Asked::Fault(fault) => fault_reply(alloc, id, &fault)?,
+    };
+    Ok(Answered {
+        reply,
+        refused: None,
+    })
 }

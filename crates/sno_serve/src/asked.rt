@@ -6,15 +6,16 @@ ghost use Rattle.serde_json.specs.Find.{get};
 ghost use Rattle.serde_json.specs.View.{view};
 ghost use Rattle.sno_statement.specs.Statement.{IsLimit};
 ghost use Rattle.sno_document.specs.Json.{json_of};
-ghost use Rattle.sno_document.specs.Single.{statement_in};
-ghost use Rattle.sno_serve.specs.Asked.{id_or_none, id_in, name_of, name_or_none, whole_or_none, trials_in, asks_read, asks_since, asks_at, asks_statement, asked_by, asked_in};
+ghost use Rattle.sno_serve.specs.Asked.{id_or_none, id_in, name_of, name_or_none, whole_or_none, asks_read, asks_since, asks_texts, asked_last, asked_by, asked_in};
 
+use crate::asked_statements::asks_statement;
+use crate::ignored::ignored_in;
 use crate::{Excerpt, LineFault};
 use serde_json::{Category, Value};
-use sno_document::{DocumentFault, Mode, Rules, Statement, read_statement};
+use sno_document::{DocumentFault, Mode, Rules, Statement};
 use sno_pattern::{NameFault, TextName};
-use sno_statement::MAX_TRIALS;
 use std::alloc::{AllocError, Global};
+use std::mem;
 use std::sync::Arc;
 
 /// What a line asks for.
@@ -24,8 +25,14 @@ pub enum Asked {
     Perform(Statement),
     /// This statement is to be performed if its text has this version.
     PerformAt(Statement, u64),
+    /// It is to be shown what this statement would do now.
+    Check(Statement),
     /// The text with this name is to be read.
     Read(TextName),
+    /// The text with this name is to be read as it was at this version.
+    ReadAt(TextName, u64),
+    /// The texts are to be listed.
+    Texts,
     /// These entries are to be listed.
     Since(Excerpt),
     /// The line can't be read.
@@ -39,6 +46,19 @@ pub struct Line {
     pub id: Option<Value>,
     /// What the line asks for.
     pub asked: Asked,
+    /// The names of its members that mean nothing there, as strings.
+    pub ignored: Vec<Value>,
+}
+
+impl Line {
+    /// Takes the names of members that mean nothing there, and leaves none.
+    pub fn take_ignored(&mut self, alloc: Global) -> Vec<Value>
+        ensures id { self.new.id ≡ self.old.id }
+        ensures asked { self.new.asked ≡ self.old.asked }
+        ensures ignored { result ≡ self.old.ignored }
+    {
+        mem::replace(&mut self.ignored, Vec::new(alloc))
+    }
 }
 
 /// The id that a member is.
@@ -75,12 +95,22 @@ fn name_of(
     }
 }
 
-/// A text is to be read.
-fn asks_read(alloc: Global, number: u32, member: &Value) -> Result<Asked, AllocError>
-    ensures { IfOk result (λ a. a ≡ asks_read (name_of number (view member.now))) }
+/// A text is to be read, as it was at the version that `at` is, if there is one.
+fn asks_read(
+    alloc: Global,
+    number: u32,
+    member: &Value,
+    at: Option<&Value>,
+) -> Result<Asked, AllocError>
+    ensures { IfOk result (λ a. a ≡ asks_read (name_of number (view member.now)) (whole_or_none (option_map (λ v. view v.now) at.entry))) }
 {
-    match name_of(alloc, number, member)? {
-        Ok(name) => Ok(Asked::Read(name)),
+    let name = match name_of(alloc, number, member)? {
+        Ok(name) => name,
+        Err(fault) => return Ok(Asked::Fault(fault)),
+    };
+    match whole_or_none(at) {
+        Ok(None) => Ok(Asked::Read(name)),
+        Ok(Some(version)) => Ok(Asked::ReadAt(name, version)),
         Err(fault) => Ok(Asked::Fault(fault)),
     }
 }
@@ -138,54 +168,18 @@ fn asks_since(
     }
 }
 
-/// A statement is to be performed, at the version that the member is if there is one.
-fn asks_at(version: Option<&Value>, statement: Statement) -> Asked
-    ensures { result ≡ asks_at (option_map (λ v. view v.now) version.entry) statement }
+/// The texts are to be listed.
+fn asks_texts(member: &Value) -> Asked
+    ensures { result ≡ asks_texts (view member.now) }
 {
-    let Some(member) = version else {
-        return Asked::Perform(statement);
-    };
-    match member.as_u64() {
-        Some(version) => Asked::PerformAt(statement, version),
-        None => Asked::Fault(LineFault::Document(DocumentFault::Shape)),
+    match member.as_bool() {
+        Some(true) => Asked::Texts,
+        _ => Asked::Fault(LineFault::Document(DocumentFault::Shape)),
     }
 }
 
-/// The statement that the line is, or its fault.
-fn statement_of(
-    alloc: Global,
-    rules: &Arc<Rules>,
-    mode: Mode,
-    number: u32,
-    line: &[u8],
-) -> Result<Result<Statement, DocumentFault>, AllocError>
-    requires { IsLimit mode.trials }
-    ensures { IfOk result (λ s. s ≡ statement_in (arc_value rules.now) mode number line.now) }
-{
-    match read_statement(alloc, rules, mode, number, line) {
-        Ok(statement) => Ok(Ok(statement)),
-        Err(DocumentFault::Memory) => Err(AllocError),
-        Err(fault) => Ok(Err(fault)),
-    }
-}
-
-/// The limit of trials of a line: the usual one, or the one that the member is.
-fn trials_in(usual: u32, member: Option<&Value>) -> Result<u32, LineFault>
-    requires { IsLimit usual }
-    ensures value { result ≡ trials_in usual (option_map (λ v. view v.now) member.entry) }
-    ensures limit { IfOk result (λ n. IsLimit n) }
-{
-    let Some(member) = member else {
-        return Ok(usual);
-    };
-    match member.as_u64() {
-        Some(trials) if 1 <= trials && trials <= MAX_TRIALS as u64 => Ok(trials as u32),
-        _ => Err(LineFault::Trials),
-    }
-}
-
-/// A statement is to be performed.
-fn asks_statement(
+/// What a line asks for that names no text and no index.
+fn asked_last(
     alloc: Global,
     rules: &Arc<Rules>,
     mode: Mode,
@@ -194,16 +188,11 @@ fn asks_statement(
     value: &Value,
 ) -> Result<Asked, AllocError>
     requires { IsLimit mode.trials }
-    ensures { IfOk result (λ a. a ≡ asks_statement (arc_value rules.now) mode.anchor number line.now (get (codes "if_version") (view value.now)) (trials_in mode.trials (get (codes "trials") (view value.now)))) }
+    ensures { IfOk result (λ a. a ≡ asked_last (arc_value rules.now) mode number line.now (view value.now) (get (codes "texts") (view value.now))) }
 {
-    let trials = match trials_in(mode.trials, value.get("trials")) {
-        Ok(trials) => trials,
-        Err(fault) => return Ok(Asked::Fault(fault)),
-    };
-    let anchor = mode.anchor;
-    match statement_of(alloc, rules, Mode { anchor, trials }, number, line)? {
-        Ok(statement) => Ok(asks_at(value.get("if_version"), statement)),
-        Err(fault) => Ok(Asked::Fault(LineFault::Document(fault))),
+    match value.get("texts") {
+        Some(member) => Ok(asks_texts(member)),
+        None => asks_statement(alloc, rules, mode, number, line, value),
     }
 }
 
@@ -220,11 +209,11 @@ fn asked_by(
     ensures { IfOk result (λ a. a ≡ asked_by (arc_value rules.now) mode number line.now (view value.now) (get (codes "read") (view value.now)) (get (codes "since") (view value.now))) }
 {
     match (value.get("read"), value.get("since")) {
-        (Some(member), _) => asks_read(alloc, number, member),
+        (Some(member), _) => asks_read(alloc, number, member, value.get("at")),
         (None, Some(member)) => {
             asks_since(alloc, number, member, value.get("limit"), value.get("text"))
         }
-        (None, None) => asks_statement(alloc, rules, mode, number, line, value),
+        (None, None) => asked_last(alloc, rules, mode, number, line, value),
     }
 }
 
@@ -242,11 +231,18 @@ fn value_of(alloc: Global, line: &[u8]) -> Result<Option<Value>, AllocError>
     }
 }
 
-/// Returns what a line asks for, with the caller's id. A statement is read for these definitions, with this number and
-/// mode, as by `read_statement`. A member `read` is the name of a text, and a member `since` an index. With `since`, `limit` is
-/// the most entries and `text` the name of the text whose entries are meant. A statement's `trials` is the limit in place of the
-/// mode's, from 1 to 1,000,000,000, and its `if_version` the version at which it is to be performed. If a line can't be read,
-/// it asks for the first fault: of `trials`, then of the statement, then of `if_version`. Refused only if memory runs out.
+/// Returns what a line asks for, with the caller's id. The first of these members decides: `read` is the name of a text, `since` an
+/// index, and `texts` true; a line without them is a statement.
+///
+/// - With `read`, `at` is the version that the text had.
+/// - With `since`, `limit` is the most entries, and `text` the name of the text whose entries are meant.
+/// - A statement is read for these definitions, with this number and mode, as by `read_statement`. Its `trials` is the limit in
+///   place of the mode's, from 1 to 1,000,000,000, and its `if_version` the version at which it is to be performed. `check`, if true,
+///   only wants to know what it would do. `bind` is an object of names and texts that they represent, read as by
+///   `read_bound_statement`: up to 64 names with those of the definitions, and texts of up to 65,536 ASCII characters.
+///
+/// If a line can't be read, it asks for the first fault. Those of a statement come in this order: of `trials`, of `bind`, of
+/// `check`, of the statement, and of `if_version`. Refused only if memory runs out.
 pub fn line_in(
     alloc: Global,
     rules: &Arc<Rules>,
@@ -262,9 +258,11 @@ pub fn line_in(
         return Ok(Line {
             id: None,
             asked: Asked::Fault(LineFault::Document(DocumentFault::NotJson)),
+            ignored: Vec::new(alloc),
         });
     };
     let id = id_or_none(value.get("id"))?;
     let asked = asked_by(alloc, rules, mode, number, line, &value)?;
-    Ok(Line { id, asked })
+    let ignored = ignored_in(alloc, &value)?;
+    Ok(Line { id, asked, ignored })
 }

@@ -23,6 +23,25 @@ pub enum ServeFault {
     Desk,
 }
 
+/// Why names can't be bound to texts.
+#[derive(Clone, Copy, Debug, PartialEq, Eq)]
+pub enum BindFault {
+    /// The member `bind` is not an object, or a value of it is not a string.
+    Shape,
+    /// A key is not a name.
+    Name,
+    /// A name is a reserved word.
+    Reserved,
+    /// A name is that of a definition.
+    Duplicate,
+    /// There are more than 64 names, with those of the definitions.
+    TooMany,
+    /// A text has more than 65,536 characters.
+    TooLong,
+    /// A text is not ASCII.
+    NonAscii,
+}
+
 /// Why a line can't be read.
 #[derive(Clone, Copy, Debug, PartialEq, Eq)]
 pub enum LineFault {
@@ -30,6 +49,8 @@ pub enum LineFault {
     Document(DocumentFault),
     /// The line's limit of trials is not one of 1 to 1,000,000,000.
     Trials,
+    /// The member `bind` doesn't say which texts names represent.
+    Bind(BindFault),
 }
 
 impl From<AllocError> for ServeFault {

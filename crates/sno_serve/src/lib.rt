@@ -5,11 +5,14 @@
 //!
 //! | File | What it does |
 //! |---|---|
-//! | `asked` | what a line asks for |
+//! | `asked`, `asked_statements` | what a line asks for |
+//! | `binds` | the texts that names represent in one statement |
 //! | `replies` | the JSON of each reply |
 //! | `answers` | a line with its reply, at a seat |
 //! | `at_version` | a statement that is accepted only at one version of its text |
+//! | `versions` | texts at one moment, and as they were at a version; a statement that is only tried |
 //! | `excerpt` | which entries a line asks for |
+//! | `ignored` | members of a line that mean nothing there |
 //! | `intake`, `outlet` | lines of a reader; lines to a writer, and what was refused |
 //! | `service` | seats that take lines until there are no more |
 //! | `faults` | why a service ended early, and why a line can't be read |
@@ -17,18 +20,23 @@
 
 mod answers;
 mod asked;
+mod asked_statements;
 mod at_version;
+mod binds;
 mod excerpt;
 mod faults;
+mod ignored;
 mod intake;
 mod outlet;
 mod replies;
 mod service;
+mod versions;
 
 pub use answers::{Answered, answer, refusal_in, submit};
 pub use asked::{Asked, Line, line_in};
 pub use excerpt::Excerpt;
-pub use faults::{LineFault, ServeFault};
+pub use faults::{BindFault, LineFault, ServeFault};
+pub use ignored::with_ignored;
 pub use intake::{Intake, MAX_LINE, Next};
 pub use service::{Served, serve};
 pub use sno_desk::{Desk, Entry, Naming, Seat};

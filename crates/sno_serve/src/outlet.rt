@@ -5,6 +5,9 @@ use sno_listing::Refusal;
 use std::alloc::Global;
 use std::io::Write;
 
+/// The listing has no more refused statements than this. They would take memory without a bound.
+const MAX_REFUSED: usize = 1_000_000;
+
 /// Where the replies go.
 #[derive(Drop)]
 pub(crate) struct Outlet<W: Write> {
@@ -41,10 +44,11 @@ impl<W: Write + Drop> Outlet<W> {
 
     /// Takes what the listing has of a refused statement.
     pub(crate) fn refuse(&mut self, refused: Option<Refusal>) {
-        if let Some(refusal) = refused {
-            if self.refused.push(refusal).is_err() {
-                self.fail(ServeFault::Memory);
-            }
+        let Some(refusal) = refused else {
+            return;
+        };
+        if self.refused.len() < MAX_REFUSED && self.refused.push(refusal).is_err() {
+            self.fail(ServeFault::Memory);
         }
     }
 

@@ -1,16 +1,16 @@
 //! The JSON of replies.
-ghost use Rattle.std.specs.Prelude.{◌≡◌, codes, map, IfOk};
+ghost use Rattle.std.specs.Prelude.{◌≡◌, codes, map, IfOk, Ok};
 ghost use Rattle.std.specs.Option.{option_map};
 ghost use Rattle.serde_json.specs.Data.{string, no_members, member};
 ghost use Rattle.serde_json.specs.View.{view, members_view};
-ghost use Rattle.sno_serve.specs.Replies.{IsFaulted, with_id, word_reply, submit_words, submit_reply, changed_reply, at_reply, read_reply, since_reply};
+ghost use Rattle.sno_serve.specs.Replies.{IsFaulted, look_words, with_id, word_reply, submit_words, submit_reply, changed_reply, check_reply, at_reply, read_at_reply, read_reply, row_data, rows_data, since_reply, texts_reply};
 
-use crate::LineFault;
 use crate::at_version::AtFault;
+use crate::{BindFault, LineFault};
 use serde_json::{Map, Value, put};
-use sno_desk::{Receipt, Reply, Snapshot, SubmitFault, TextName};
+use sno_desk::{Proposal, Receipt, Reply, Snapshot, SnapshotFault, SubmitFault, Text, TextName};
 use sno_document::DocumentFault;
-use sno_listing::{Reason, done_members, reason_value, text_members};
+use sno_listing::{Reason, done_members, reason_value, text_members, text_name_value};
 use std::alloc::{AllocError, Global};
 
 /// The object with these members and the id.
@@ -122,6 +122,112 @@ pub(crate) fn read_reply(
     with_id(alloc, id, members)
 }
 
+/// A text as it is listed: its length, its name and its version.
+fn row_value(alloc: Global, name: &TextName, taken: &Snapshot) -> Result<Value, AllocError>
+    ensures { IfOk result (λ v. view v ≡ row_data name.now taken.now) }
+{
+    let mut members = Map::new(alloc);
+    put(&mut members, alloc, "version", Value::from(taken.version))?;
+    put(&mut members, alloc, "name", text_name_value(alloc, name)?)?;
+    put(
+        &mut members,
+        alloc,
+        "length",
+        Value::from(taken.text.bytes().len()),
+    )?;
+    Ok(Value::Object(members))
+}
+
+/// Texts as they are listed, with their names.
+#[tactic(auto, using(crate::proofs::Rows::row_moved, crate::proofs::Rows::rows_ended))]
+fn row_values(
+    alloc: Global,
+    names: &[&TextName],
+    taken: &[Snapshot],
+) -> Result<Vec<Value>, AllocError>
+    ensures { IfOk result (λ v. map view v.items ≡ rows_data (map (λ n. n.now) names.now) taken.now) }
+{
+    let mut rows = Vec::with_capacity(alloc, names.len())?;
+    for (place, name) in names.iter().enumerate() {
+        let Some(taken) = taken.get(place) else {
+            return Ok(rows);
+        };
+        rows.push(row_value(alloc, name, taken)?)?;
+    }
+    Ok(rows)
+}
+
+/// The reply with the texts, with the id.
+pub(crate) fn texts_reply(
+    alloc: Global,
+    id: Option<Value>,
+    names: &[&TextName],
+    taken: &[Snapshot],
+) -> Result<Value, AllocError>
+    ensures { IfOk result (λ v. view v ≡ texts_reply (option_map view id) (map (λ n. n.now) names.now) (Ok taken.now)) }
+{
+    let rows = row_values(alloc, names, taken)?;
+    word_reply(alloc, id, "texts", Value::Array(rows))
+}
+
+/// The reply with the reason why texts could not be looked at, with the id.
+pub(crate) fn look_reason(
+    alloc: Global,
+    id: Option<Value>,
+    fault: SnapshotFault,
+) -> Result<Value, AllocError>
+    ensures { IfOk result (λ v. view v ≡ word_reply (option_map view id) (codes "reason") (look_words fault)) }
+{
+    match fault {
+        SnapshotFault::NoText => reason_reply(alloc, id, "no text"),
+        SnapshotFault::Stopped => reason_reply(alloc, id, "stopped"),
+        SnapshotFault::Memory => reason_reply(alloc, id, "out of memory"),
+    }
+}
+
+/// The reply to a read of a text as it was at a version, with the id.
+pub(crate) fn read_at_reply(
+    alloc: Global,
+    id: Option<Value>,
+    name: &TextName,
+    version: u64,
+    place: Option<usize>,
+    text: Option<&Text>,
+) -> Result<Value, AllocError>
+    ensures { IfOk result (λ v. view v ≡ read_at_reply (option_map view id) name.now version place (option_map (λ t. t.now) text.entry)) }
+{
+    let Some(text) = text else {
+        return match place {
+            Some(_) => reason_reply(alloc, id, "no version"),
+            None => reason_reply(alloc, id, "no text"),
+        };
+    };
+    let members = text_members(alloc, name, text, version)?;
+    with_id(alloc, id, members)
+}
+
+/// The reply to a statement that was only tried: the entry that it would be at this index, with the id.
+pub(crate) fn check_reply(
+    alloc: Global,
+    id: Option<Value>,
+    index: usize,
+    gave: &Result<Proposal, SubmitFault>,
+) -> Result<Value, AllocError>
+    ensures { IfOk result (λ v. view v ≡ check_reply (option_map view id) index gave.now) }
+{
+    match gave {
+        Ok(proposal) => {
+            let mut members = done_members(alloc, index, proposal.entry())?;
+            put(&mut members, alloc, "check", Value::from(true))?;
+            with_id(alloc, id, members)
+        }
+        Err(fault) => {
+            let words = submit_words(alloc, fault)?;
+            word_reply(alloc, id, "reason", words)
+        }
+    }
+}
+
 /// The reply with these entries, with the id.
 pub(crate) fn since_reply(
     alloc: Global,
@@ -150,6 +256,20 @@ fn fault_words(alloc: Global, fault: &LineFault) -> Result<String, AllocError> {
     match *fault {
         LineFault::Document(fault) => document_words(alloc, fault),
         LineFault::Trials => format!(in alloc; "bad trials"),
+        LineFault::Bind(fault) => String::from_str(alloc, bind_words(fault)),
+    }
+}
+
+/// The words of a fault of `bind`.
+fn bind_words(fault: BindFault) -> &'static str {
+    match fault {
+        BindFault::Shape => "bind: wrong shape",
+        BindFault::Name => "bind: bad name",
+        BindFault::Reserved => "bind: reserved name",
+        BindFault::Duplicate => "bind: a definition's name",
+        BindFault::TooMany => "bind: too many",
+        BindFault::TooLong => "bind: too long",
+        BindFault::NonAscii => "bind: not ASCII",
     }
 }
 

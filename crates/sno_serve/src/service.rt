@@ -16,6 +16,7 @@ ghost use Rattle.sno_serve.specs.Accepted.{HasServed, IsGiven};
 ghost use Rattle.sno_serve.specs.declared.faults.ServeFault.TheVariants.{Desk as Failed, Memory};
 
 use crate::answers::{refusal_in, submit};
+use crate::ignored::with_ignored;
 use crate::intake::{Intake, Next};
 use crate::outlet::Outlet;
 use crate::replies::error_reply;
@@ -135,8 +136,10 @@ impl<I: Read + Drop, W: Write + Drop> Service<I, W> {
     ) -> Result<(), AllocError>
         ensures served { HasServed (IsGiven (arc_value self.now.rules) (map arc_value self.now.statements.items) self.now.mode) (position seat.old.accepted seat.old.viewer.seen) (position seat.new.accepted seat.new.viewer.seen) }
     {
-        let line = self.read(rt, alloc, line)?;
+        let mut line = self.read(rt, alloc, line)?;
+        let ignored = line.take_ignored(alloc);
         let Answered { reply, refused } = answer(rt, alloc, desk, seat, line, self.tries)?;
+        let reply = with_ignored(alloc, reply, ignored)?;
         let bytes = line_of(alloc, &reply)?;
         let mut outlet = self.outlet.lock(rt);
         outlet.refuse(refused);

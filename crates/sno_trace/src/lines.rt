@@ -61,31 +61,58 @@ fn put_start(page: &mut Page, start: usize) -> Result<(), AllocError> {
     Ok(())
 }
 
+/// The end of a line of a trial, such as ` -> 4`.
+fn put_end(out: &mut Vec<u8>, end: Option<usize>) -> Result<(), AllocError> {
+    match end {
+        Some(end) => {
+            put(out, b" -> ")?;
+            put_number(out, end)
+        }
+        None => put(out, b" fails"),
+    }
+}
+
+/// A trial, such as `try 'a' 3 -> 4`.
+fn put_tried(out: &mut Vec<u8>, trial: &Trial<'_>) -> Result<(), AllocError> {
+    let word = if trial.again {
+        b"back to ".as_slice()
+    } else {
+        b"try ".as_slice()
+    };
+    put(out, word)?;
+    put_leaf(out, trial.leaf.pattern())?;
+    put(out, b" ")?;
+    put_number(out, trial.cursor)?;
+    put_end(out, trial.end)
+}
+
 /// A line such as `try 'a' 3 -> 4`, or `back to ARB 3 -> 5` if the leaf is backed into.
 fn put_trial(page: &mut Page, trial: &Trial<'_>) -> Result<(), AllocError> {
     if !page.begin(page.depth)? {
         return Ok(());
     }
-    let out = &mut page.out;
-    put(
-        out,
-        if trial.again {
-            b"back to ".as_slice()
-        } else {
-            b"try ".as_slice()
-        },
-    )?;
-    put_leaf(out, trial.leaf.pattern())?;
-    put(out, b" ")?;
-    put_number(out, trial.cursor)?;
-    match trial.end {
-        Some(end) => {
-            put(out, b" -> ")?;
-            put_number(out, end)?;
+    put_tried(&mut page.out, trial)?;
+    put(&mut page.out, b"\n")
+}
+
+/// The value of an assignment, such as `|abc|`, or `3` for a cursor.
+fn put_value(out: &mut Vec<u8>, text: &Text, what: What) -> Result<(), AllocError> {
+    match what {
+        What::Part(start, end) => {
+            put(out, b"|")?;
+            put_escaped(out, part(text.bytes(), start, end))?;
+            put(out, b"|")
         }
-        None => put(out, b" fails")?,
+        What::Cursor(cursor) => put_number(out, cursor),
     }
-    put(out, b"\n")
+}
+
+/// An assignment, such as `set V = |abc|`.
+fn put_set(out: &mut Vec<u8>, text: &Text, assign: &Assign) -> Result<(), AllocError> {
+    put(out, b"set ")?;
+    put(out, assign.name.bytes())?;
+    put(out, b" = ")?;
+    put_value(out, text, assign.what)
 }
 
 /// A line such as `set V = |abc|`, or `set V = 3` for a cursor.
@@ -93,19 +120,8 @@ fn put_assign(page: &mut Page, text: &Text, assign: &Assign) -> Result<(), Alloc
     if !page.begin(page.depth)? {
         return Ok(());
     }
-    let out = &mut page.out;
-    put(out, b"set ")?;
-    put(out, assign.name.bytes())?;
-    put(out, b" = ")?;
-    match assign.what {
-        What::Part(start, end) => {
-            put(out, b"|")?;
-            put_escaped(out, part(text.bytes(), start, end))?;
-            put(out, b"|")?;
-        }
-        What::Cursor(cursor) => put_number(out, cursor)?,
-    }
-    put(out, b"\n")
+    put_set(&mut page.out, text, assign)?;
+    put(&mut page.out, b"\n")
 }
 
 /// How a trace ends.

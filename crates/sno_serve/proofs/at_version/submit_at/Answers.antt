@@ -1,9 +1,8 @@
 -- The one attempt, by the step that decides it.
-use Rattle.std.proofs.Common.{◌≡◌, ◌≢◌, ◌≤◌, ◌∙◌, ℕ, List, length, ap, sym, subst, arith}
+use Rattle.std.proofs.Common.{◌≡◌, ◌≤◌, ◌∙◌, ℕ, List, length, ap, sym, subst, arith}
 use Rattle.std.specs.Prelude.{Err}
 use Rattle.std.specs.Arc.{arc_value}
 use Rattle.sno_statement.specs.Statement.{Statement}
-use Rattle.sno_book.specs.Openings.{place_in}
 use Rattle.sno_book.specs.Proposals.{GivesProposal}
 use Rattle.sno_book.specs.Snapshots.{Snapshot}
 use Rattle.sno_published.proofs.Prefixes.{prefix_length, prefix_trans}

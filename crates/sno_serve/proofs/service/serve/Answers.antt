@@ -4,7 +4,7 @@ use Rattle.std.proofs.lemmas.List.Sorted.{IsNonDecreasingBy-from_sort_by_key}
 use Rattle.std.proofs.Common.{rules}
 use denote.Param.{param}
 use denote.Param.Send.{IsSend, IsSync, param_sync, arg_sync, sendable}
-use denote.Param.SendFields.{declared_send, declared_sync}
+use denote.Param.SendFields.{declared_sync}
 use Rattle.std.proofs.Crossing.{crosses, Arc-sync, Vec-sync}
 use Rattle.std.proofs.sync.Mutex.TheSendSync as mutex
 use Rattle.std.specs.contracts.sync.Mutex as Mutex

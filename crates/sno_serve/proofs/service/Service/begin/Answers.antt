@@ -1,5 +1,5 @@
 -- Each statement that is submitted is the document's.
-use Rattle.std.proofs.Common.{◌≡◌, Some, map, ap, refl, sym, ◌∙◌, length}
+use Rattle.std.proofs.Common.{Some, map, ap, refl, sym, ◌∙◌, length}
 use Rattle.std.specs.Prelude.{slice_get}
 use Rattle.std.specs.Option.{option_map}
 use Rattle.std.specs.Arc.{arc_value}
