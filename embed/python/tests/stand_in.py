@@ -3,8 +3,8 @@
 
     stand_in.py serve [--seats=N] [--tries=N] [--listing=FILE] [--behave=HOW] DOCUMENT
 
-It knows the patterns 'LITERAL', 'LITERAL' . NAME and RPOS(0), and objects 'LITERAL'. With more than one seat replies
-come in any order. HOW is what a service can do to its caller:
+It knows the patterns 'LITERAL', 'LITERAL' . NAME and RPOS(0), and objects 'LITERAL', or a name of `bind` for either
+literal. With more than one seat replies come in any order. HOW is what a service can do to its caller:
 
 - silent: no line gets a reply; deaf: no line is read;
 - nameless: the reply to the first line, half a second later, is an error without an id;
@@ -36,6 +36,7 @@ class Book:
     def __init__(self, document: dict[str, Any]) -> None:
         self.texts = {text["name"]: {"text": text["text"], "version": 0} for text in document["texts"]}
         self.entries: list[dict[str, Any]] = []
+        self.histories = {name: [text["text"]] for name, text in self.texts.items()}
         self.statements = 0
         for statement in document["statements"]:
             self.perform(statement)
@@ -44,10 +45,12 @@ class Book:
         if not isinstance(line.get("text"), str) or not isinstance(line.get("pattern"), str):
             raise Refused("error", "wrong shape")
         self.check_name(line["text"])
+        bound = line.get("bind", {}).get(line["pattern"])
         pattern = re.fullmatch(r"'([^']*)'(?: \. (\w+))?|RPOS\(0\)", line["pattern"])
+        pattern = pattern if bound is None else re.fullmatch(f"({re.escape(bound)})()", bound)
         if not pattern:
             raise Refused("error", "pattern: unknown name at 0")
-        self.statements += 1
+        self.statements += not line.get("check")
         if line["text"] not in self.texts:
             raise Refused("reason", "no text")
         return self.matched(line, pattern, self.texts[line["text"]])
@@ -77,9 +80,14 @@ class Book:
             entry |= {"start": start, "end": start + len(literal)}
             if "object" in line:
                 characters = text["text"]
-                after = characters[:start] + line["object"].strip("'") + characters[start + len(literal) :]
-                entry["after"] = text["text"] = after
-                text["version"] += 1
+                value = line.get("bind", {}).get(line["object"], line["object"].strip("'"))
+                entry["after"] = characters[:start] + value + characters[start + len(literal) :]
+        if line.get("check"):
+            return {**entry, "check": True}
+        if "after" in entry:
+            text["text"] = entry["after"]
+            text["version"] += 1
+            self.histories[line["text"]].append(text["text"])
         self.entries.append(entry)
         return entry
 
@@ -102,7 +110,10 @@ class Book:
             self.check_name(members["read"])
             if members["read"] not in self.texts:
                 raise Refused("reason", "no text")
-            return {"name": members["read"], **self.texts[members["read"]]}
+            return self.read(members["read"], members.get("at"))
+        if "texts" in members:
+            listed = ({"name": name, "length": len(it["text"]), "version": it["version"]} for name, it in self.texts.items())
+            return {"texts": list(listed)}
         if "since" in members:
             if not isinstance(members["since"], int) or members["since"] < 0:
                 raise Refused("error", "wrong shape")
@@ -110,6 +121,14 @@ class Book:
             entries = [it for it in self.entries[members["since"] :] if named in (None, it["text"])]
             return {"entries": entries[: members.get("limit")]}
         return self.perform(members)
+
+    def read(self, name: str, version: int | None) -> dict[str, Any]:
+        history = self.histories[name]
+        if version is None:
+            version = len(history) - 1
+        if version >= len(history):
+            raise Refused("reason", "no version")
+        return {"name": name, "text": history[version], "version": version}
 
     def listing(self) -> str:
         texts = [{"name": name, **text} for name, text in self.texts.items()]

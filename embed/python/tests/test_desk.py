@@ -73,6 +73,12 @@ class Calls(Documents):
             self.assertEqual(desk.submit("T", "'dog'", if_version=1), {"reason": "changed", "version": 2})
             self.assertEqual(desk.submit("T", "'z'", trials=5), {"reason": "too many trials"})
             self.assertEqual([it["entry"] for it in desk.since(0, limit=2, text="T")], [0, 1])
+            tried = desk.submit("T", "WHO", "NEW", bind={"WHO": "a d", "NEW": "it's d"}, check=True)
+            self.assertEqual((tried["entry"], tried["after"], tried["check"]), (3, "it's dog", True))
+            self.assertEqual(desk.read("T", at=1), {"name": "T", "text": "a cat", "version": 1})
+            self.assertEqual(desk.read("T", at=3), {"reason": "no version"})
+            listed = [(it["name"], it["length"], it["version"]) for it in desk.texts()]
+            self.assertEqual(listed, [("T", 5, 2), ("N", 0, 0), ("LONG", 60_000, 0)])
             with self.assertRaisesRegex(DeskError, "pattern: unknown name at 0"):
                 desk.submit("T", "CAT")
             with self.assertRaisesRegex(DeskError, "wrong shape"):
@@ -144,6 +150,12 @@ class AsyncCalls(Documents):
             self.assertEqual(await desk.submit("T", "'dog'", if_version=1), {"reason": "changed", "version": 2})
             self.assertEqual(await desk.submit("T", "'z'", trials=5), {"reason": "too many trials"})
             self.assertEqual([it["entry"] for it in await desk.since(0, limit=2, text="T")], [0, 1])
+            tried = await desk.submit("T", "WHO", "NEW", bind={"WHO": "a d", "NEW": "it's d"}, check=True)
+            self.assertEqual((tried["entry"], tried["after"], tried["check"]), (3, "it's dog", True))
+            self.assertEqual(await desk.read("T", at=1), {"name": "T", "text": "a cat", "version": 1})
+            self.assertEqual(await desk.read("T", at=3), {"reason": "no version"})
+            listed = [(it["name"], it["length"], it["version"]) for it in await desk.texts()]
+            self.assertEqual(listed, [("T", 5, 2), ("N", 0, 0), ("LONG", 60_000, 0)])
             with self.assertRaisesRegex(DeskError, "pattern: unknown name at 0"):
                 await desk.submit("T", "CAT")
             with self.assertRaisesRegex(DeskError, "wrong shape"):

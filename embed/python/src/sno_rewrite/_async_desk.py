@@ -5,13 +5,13 @@ from __future__ import annotations
 import asyncio
 import itertools
 from asyncio.subprocess import PIPE, Process
-from collections.abc import AsyncIterator
+from collections.abc import AsyncIterator, Mapping
 from contextlib import suppress
 from os import PathLike
 from types import TracebackType
 
 from ._lines import DeskEnded, DeskError, DeskTimeout, NamelessError, Reply
-from ._lines import entries, excerpt, read, result, statement, written
+from ._lines import entries, excerpt, read, result, statement, texts, written
 
 _PIECE = 1 << 16
 
@@ -71,15 +71,23 @@ class AsyncDesk:
         all: bool | None = None,
         if_version: int | None = None,
         trials: int | None = None,
+        bind: Mapping[str, str] | None = None,
+        check: bool | None = None,
     ) -> Reply:
         """The entry of a statement, or its `reason` if it is refused. If the text's version isn't `if_version`, the
-        reason is `changed`, with that version."""
+        reason is `changed`, with that version. A name of `bind` is a literal with its text in pattern and object. With
+        `check` nothing is accepted: the reply is the entry that the statement would be if it came next."""
         members = {"anchored": anchored, "repeat": repeat, "all": all, "if_version": if_version, "trials": trials}
+        members |= {"bind": None if bind is None else dict(bind), "check": check}
         return await self._ask(statement(text, pattern, object, **members))
 
-    async def read(self, text: str) -> Reply:
-        """The name, characters and version of a text, or a `reason`."""
-        return await self._ask({"read": text})
+    async def read(self, text: str, *, at: int | None = None) -> Reply:
+        """The name, characters and version of a text, or a `reason`: as it is, or as it was at a version."""
+        return await self._ask({"read": text} if at is None else {"read": text, "at": at})
+
+    async def texts(self) -> list[Reply]:
+        """The name, length and version of each text, all at one moment."""
+        return texts(await self._ask({"texts": True}))
 
     async def since(self, index: int, *, limit: int | None = None, text: str | None = None) -> list[Reply]:
         """The entries from this index on: at most `limit`, and of this text alone."""

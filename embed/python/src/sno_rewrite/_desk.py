@@ -8,14 +8,14 @@ import select
 import subprocess
 import threading
 import time
-from collections.abc import Iterator
+from collections.abc import Iterator, Mapping
 from concurrent.futures import Future
 from contextlib import contextmanager, suppress
 from os import PathLike
 from types import TracebackType
 
 from ._lines import DeskEnded, DeskError, DeskTimeout, NamelessError, Reply
-from ._lines import entries, excerpt, read, result, statement, written
+from ._lines import entries, excerpt, read, result, statement, texts, written
 
 # How many seconds the end of the program is waited for after the end of its output.
 _SOON = 1.0
@@ -75,15 +75,23 @@ class Desk:
         all: bool | None = None,
         if_version: int | None = None,
         trials: int | None = None,
+        bind: Mapping[str, str] | None = None,
+        check: bool | None = None,
     ) -> Reply:
         """The entry of a statement, or its `reason` if it is refused. If the text's version isn't `if_version`, the
-        reason is `changed`, with that version."""
+        reason is `changed`, with that version. A name of `bind` is a literal with its text in pattern and object. With
+        `check` nothing is accepted: the reply is the entry that the statement would be if it came next."""
         members = {"anchored": anchored, "repeat": repeat, "all": all, "if_version": if_version, "trials": trials}
+        members |= {"bind": None if bind is None else dict(bind), "check": check}
         return self._ask(statement(text, pattern, object, **members))
 
-    def read(self, text: str) -> Reply:
-        """The name, characters and version of a text, or a `reason`."""
-        return self._ask({"read": text})
+    def read(self, text: str, *, at: int | None = None) -> Reply:
+        """The name, characters and version of a text, or a `reason`: as it is, or as it was at a version."""
+        return self._ask({"read": text} if at is None else {"read": text, "at": at})
+
+    def texts(self) -> list[Reply]:
+        """The name, length and version of each text, all at one moment."""
+        return texts(self._ask({"texts": True}))
 
     def since(self, index: int, *, limit: int | None = None, text: str | None = None) -> list[Reply]:
         """The entries from this index on: at most `limit`, and of this text alone."""

@@ -75,6 +75,14 @@ def result(reply: Reply) -> Reply:
     return {name: value for name, value in reply.items() if name != "id"}
 
 
+def texts(reply: Reply) -> list[Reply]:
+    """The texts of a reply to `texts`."""
+    if "texts" not in reply:
+        raise DeskError(reply.get("reason"))
+    found: list[Reply] = reply["texts"]
+    return found
+
+
 def entries(reply: Reply) -> list[Reply]:
     """The entries of a reply to `since`."""
     if "entries" not in reply:
