@@ -87,7 +87,7 @@ class Service:
         desk = self.desk()
         self.process.kill()
         self.process.wait()
-        while Path(f"/proc/{desk}").exists():
+        while commands_of(desk):
             time.sleep(0.01)
 
     def stop(self):
@@ -113,6 +113,7 @@ class Service:
 
 
 def commands_of(process):
+    """The arguments of a process; nothing if it has ended."""
     try:
         return Path(f"/proc/{process}/cmdline").read_bytes()
     except OSError:

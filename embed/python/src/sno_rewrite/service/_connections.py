@@ -6,6 +6,7 @@ import asyncio
 from typing import Any, cast
 
 from aiohttp import web
+from aiohttp.http_exceptions import HttpProcessingError
 from aiohttp.web_protocol import RequestHandler
 
 from ._guards import Bucket
@@ -54,6 +55,11 @@ class Connection(RequestHandler):
         unread = self.transport.get_write_buffer_size() if self.transport else 0
         before, self.unread = self.unread, unread
         return 0 < before <= unread
+
+    def log_exception(self, *args: Any, **given: Any) -> None:
+        """Says nothing of requests that aren't HTTP: anyone could fill the log with them."""
+        if not isinstance(given.get("exc_info"), HttpProcessingError):
+            super().log_exception(*args, **given)
 
     def cut(self) -> None:
         if self.transport is not None:

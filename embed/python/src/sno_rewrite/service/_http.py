@@ -25,6 +25,26 @@ _USUAL_ENTRIES = 100
 _JSON = "application/json"
 Handler = Callable[[web.Request], Awaitable[web.StreamResponse]]
 
+_FILES = {
+    "/": ("page.html", "text/html"),
+    "/page.css": ("page.css", "text/css"),
+    "/page.js": ("page.js", "text/javascript"),
+    "/openapi.json": ("openapi.json", _JSON),
+}
+# Each route with the method below that serves it.
+ROUTES = (
+    *(("GET", path, "file") for path in _FILES),
+    ("GET", "/healthz", "health"),
+    ("GET", "/metrics", "metrics"),
+    ("GET", "/ws", "socket"),
+    ("GET", "/texts", "texts"),
+    ("GET", "/texts/{name}", "text"),
+    ("PUT", "/texts/{name}", "put_text"),
+    ("GET", "/entries", "entries"),
+    ("POST", "/statements", "statements"),
+    *(("POST", path, "look") for path in ("/findings", "/preview", "/trace")),
+)
+
 # What a refusal or an error is as a status of HTTP; another one is 400.
 _STATUSES: dict[str, type[web.HTTPException]] = {
     "no text": web.HTTPNotFound,
@@ -95,25 +115,19 @@ class Routes:
     def application(self) -> web.Application:
         """The application with all routes."""
         application = web.Application(middlewares=[self._guard.middleware()], client_max_size=self._options.max_body)
-        router = application.router
-        for path, name, kind in (
-            ("/", "page.html", "text/html"),
-            ("/page.css", "page.css", "text/css"),
-            ("/page.js", "page.js", "text/javascript"),
-            ("/openapi.json", "openapi.json", _JSON),
-        ):
-            router.add_get(path, _file(name, kind))
-        router.add_get("/healthz", self.health)
-        router.add_get("/metrics", self.metrics)
-        router.add_get("/ws", self.socket)
-        router.add_get("/texts", self.texts)
-        router.add_get("/texts/{name:.+}", self.text)
-        router.add_put("/texts/{name:.+}", self.put_text)
-        router.add_get("/entries", self.entries)
-        router.add_post("/statements", self.statements)
-        for which in "findings", "preview", "trace":
-            router.add_post(f"/{which}", self._look(which))
+        for method, path, which in ROUTES:
+            # A name may have slashes, which are written as they are or as %2F.
+            matched = path.replace("{name}", "{name:.+}")
+            application.router.add_route(method, matched, self._handler(path, which))
         return application
+
+    def _handler(self, path: str, which: str) -> Handler:
+        if path in _FILES:
+            return _file(*_FILES[path])
+        if which == "look":
+            return self._look(path[1:])
+        handler: Handler = getattr(self, which)
+        return handler
 
     async def health(self, request: web.Request) -> web.Response:
         """Whether the desk serves, and the index of its next entry."""

@@ -47,6 +47,7 @@ class Socket:
         self._next: int | None = None
         # Whether it has once had all entries there were: from then on it may not lag.
         self._is_live = False
+        self._code = 1000
         self._has_work, self._has_room = asyncio.Event(), asyncio.Event()
 
     def take(self, reply: bytes) -> None:
@@ -80,6 +81,7 @@ class Socket:
         finally:
             self._desk.watchers.discard(self)
             writer.cancel()
+        await self._socket.close(code=self._code)
         return self._socket
 
     async def close(self) -> None:
@@ -87,7 +89,8 @@ class Socket:
         deadline = asyncio.get_running_loop().time() + min(2.0, self._options.patience)
         while self._waiting and asyncio.get_running_loop().time() < deadline:
             await asyncio.sleep(0.01)
-        await self._socket.close(code=GOING_AWAY, message=b"the service ends")
+        self._code = GOING_AWAY
+        await self._socket.close(code=GOING_AWAY)
 
     async def _has_token(self) -> bool:
         """Whether the first message has the token."""
