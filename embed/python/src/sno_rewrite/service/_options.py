@@ -5,9 +5,12 @@ from __future__ import annotations
 import argparse
 import ipaddress
 import re
+import sys
+from collections.abc import Callable
 from dataclasses import dataclass
 from pathlib import Path
 
+VERSION = "1.0.0"
 USUAL_PORT = 8417
 
 
@@ -42,7 +45,7 @@ def _address(written: str) -> tuple[str, int]:
     return found[1] or found[2], int(found[3])
 
 
-def _count(least: int, most: int) -> object:
+def _count(least: int, most: int) -> Callable[[str], int]:
     def count(written: str) -> int:
         if not re.fullmatch(r"[0-9]{1,12}", written) or not least <= int(written) <= most:
             raise argparse.ArgumentTypeError(f"'{written}' isn't a number from {least} to {most}")
@@ -74,6 +77,27 @@ def _is_loopback(host: str) -> bool:
         return host == "localhost"
 
 
+def _usual_program() -> str:
+    """The program beside the script that was called, if there is one; otherwise the one on the path."""
+    beside = Path(sys.argv[0]).resolve().parent / "sno"
+    return str(beside) if beside.is_file() else "sno"
+
+
+_LISTEN = "127.0.0.1", USUAL_PORT
+# Each limit with its range, its usual value, and what it is of.
+_LIMITS = (
+    ("--max-body", "BYTES", _count(1_024, 16_777_216), 4_194_304, "bytes of a request or a message"),
+    ("--max-clients", "N", _count(1, 100_000), 1_024, "connections at a time"),
+    ("--max-rate", "N", _count(1, 10_000_000), 100_000, "lines a second of one connection"),
+    ("--max-lines", "N", _count(1, 65_536), 1_024, "lines of one client that have no reply yet"),
+    ("--max-lag", "N", _count(1, 1_000_000), 10_000, "entries that a watcher may be late"),
+    ("--patience", "SECONDS", _seconds, 20.0, "seconds until a client is cut off that doesn't send or read"),
+    ("--look-trials", "N", _count(1, 1_000_000_000), 200_000, "trials of a preview"),
+    ("--look-seconds", "SECONDS", _seconds, 2.0, "seconds of a check, a preview or a trace"),
+    ("--look-processes", "N", _count(1, 64), 2, "checks, previews and traces at a time"),
+)
+
+
 class _Parser(argparse.ArgumentParser):
     def error(self, message: str) -> None:  # type: ignore[override]
         self.print_usage()
@@ -88,23 +112,18 @@ def _parser() -> argparse.ArgumentParser:
     )
     add = parser.add_argument
     add("document", metavar="DOCUMENT", type=Path, help="the file of the document")
-    add("--store", metavar="FILE", type=Path, required=True, help="the store; made of DOCUMENT if it is missing")
-    add("--listen", metavar="HOST:PORT", type=_address, default=("127.0.0.1", USUAL_PORT), help="127.0.0.1:8417 if not given")
-    add("--unix", metavar="PATH", type=Path, help="a socket in place of an address")
-    add("--token-file", metavar="FILE", dest="token", type=_token, help="clients have to know the token in this file")
-    add("--host", metavar="NAME", action="append", default=[], help="a further name by which browsers call the service")
+    add("--store", metavar="FILE", type=Path, required=True, help="the store, which is made of DOCUMENT if it is missing")
+    add("--listen", metavar="HOST:PORT", type=_address, default=_LISTEN, help="where to listen; 127.0.0.1:8417 without it")
+    add("--unix", metavar="PATH", type=Path, help="listen at a socket of the system instead")
+    add("--token-file", metavar="FILE", dest="token", type=_token, help="clients have to give the token in this file")
+    add("--host", metavar="NAME", action="append", default=[], help="a further name by which clients call the service")
     add("--origin", metavar="ORIGIN", action="append", default=[], help="a further origin whose pages may call it")
-    add("--program", metavar="SNO", default="sno", help="the program sno, if it isn't on the path")
-    add("--trials", metavar="N", type=_count(1, 1_000_000_000), help="as of sno serve")
-    add("--max-body", metavar="BYTES", type=_count(1_024, 16_777_216), default=4_194_304, help="of a request or a message")
-    add("--max-clients", metavar="N", type=_count(1, 100_000), default=1_024, help="connections at a time")
-    add("--max-rate", metavar="N", type=_count(1, 10_000_000), default=100_000, help="lines a second of a connection")
-    add("--max-lines", metavar="N", type=_count(1, 65_536), default=1_024, help="lines of a WebSocket without a reply yet")
-    add("--max-lag", metavar="N", type=_count(1, 1_000_000), default=10_000, help="entries that a watcher may lag")
-    add("--patience", metavar="SECONDS", type=_seconds, default=20.0, help="what a slow client gets for a request or reply")
-    add("--look-trials", metavar="N", type=_count(1, 1_000_000_000), default=200_000, help="trials of a preview")
-    add("--look-seconds", metavar="SECONDS", type=_seconds, default=2.0, help="of a check, preview or trace")
-    add("--look-processes", metavar="N", type=_count(1, 64), default=2, help="checks, previews and traces at a time")
+    add("--program", metavar="SNO", default=_usual_program(), help="the program sno, if it is elsewhere")
+    add("--trials", metavar="N", type=_count(1, 1_000_000_000), help="how many trials a match may take, as of sno serve")
+    limits = parser.add_argument_group("limits")
+    for option, metavar, kind, usual, words in _LIMITS:
+        limits.add_argument(option, metavar=metavar, type=kind, default=usual, help=f"{words} [{usual}]")
+    parser.add_argument("-V", "--version", action="version", version=f"nomyake-service {VERSION}")
     return parser
 
 

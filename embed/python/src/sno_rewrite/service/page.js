@@ -8,7 +8,7 @@ const KEY = "nomyake token";
 
 const at = (id) => document.getElementById(id);
 const state = {
-  texts: new Map(), // name: {version, length, text, before, entry}
+  texts: new Map(), // name: {version, text, the text before, the entry that made it}
   former: new Map(), // "version name": characters
   entries: [],
   chosen: null,
@@ -55,8 +55,12 @@ async function loadText(name) {
   const text = await response.text();
   const now = state.texts.get(name);
   if (now.version > version) return;
-  Object.assign(now, { version, text, length: text.length });
+  Object.assign(now, { version, text });
   keep(name, version, text);
+  draw();
+  const before = version > 0 ? await formerText(name, version - 1) : undefined;
+  if (now.version !== version) return;
+  now.before = before;
   draw();
 }
 
@@ -142,7 +146,8 @@ function takeEntry(entry) {
   const known = state.texts.get(entry.text);
   if (entry.after !== undefined) keep(entry.text, entry.version + 1, entry.after);
   if (known && entry.after !== undefined && entry.version >= known.version) {
-    Object.assign(known, { before: known.text, text: entry.after, version: entry.version + 1, entry: entry.entry, length: entry.after.length });
+    const before = entry.version === known.version ? known.text : undefined;
+    Object.assign(known, { before, text: entry.after, version: entry.version + 1, entry: entry.entry });
     if (entry.text === state.chosen) lookSoon();
   } else if (known && entry.after !== undefined && entry.version + 1 === known.version) {
     known.entry = entry.entry;
@@ -246,13 +251,14 @@ function drawText() {
   if (!known) return;
   replaceText(at("text-title"), `${known.name}, version ${known.version}`);
   const shown = at("text");
-  const key = `${known.version} ${known.name} ${known.text === undefined} ${known.before === undefined}`;
+  const key = [known.version, known.name, known.entry, known.text === undefined, known.before === undefined].join(" ");
   if (shown.dataset.key === key) return;
   shown.dataset.key = key;
   const text = known.text ?? "";
   const range = known.before === undefined ? null : changedRange(known.before, text);
   shown.replaceChildren(marked(text, range ? [range] : [], ["fresh"]));
-  replaceText(at("changed"), known.before === undefined || known.entry === undefined ? "" : `Marked is what entry ${known.entry} changed.`);
+  const which = known.entry === undefined ? "the last entry" : `entry ${known.entry}`;
+  replaceText(at("changed"), range ? `Marked is what ${which} changed.` : "");
 }
 
 function drawJournal() {
