@@ -86,7 +86,13 @@ function askForToken() {
 
 // The WebSocket
 
-function connect() {
+async function connect() {
+  // The WebSocket doesn't say why it couldn't be opened; a request does.
+  try {
+    if (!(await loadTexts())) return at("token-form").hidden ? again() : undefined;
+  } catch {
+    return again();
+  }
   const scheme = location.protocol === "https:" ? "wss:" : "ws:";
   const socket = new WebSocket(`${scheme}//${location.host}/ws`);
   state.socket = socket;
@@ -103,6 +109,10 @@ function closed(socket, code) {
   for (const done of state.waiting.values()) done({ error: "outcome unknown" });
   state.waiting.clear();
   if (code === 4001) return askForToken();
+  again();
+}
+
+function again() {
   connection("disconnected; trying again", true);
   setTimeout(connect, state.delay);
   state.delay = Math.min(2 * state.delay, 5000);
@@ -147,10 +157,10 @@ function takeEntry(entry) {
   if (entry.after !== undefined) keep(entry.text, entry.version + 1, entry.after);
   if (known && entry.after !== undefined && entry.version >= known.version) {
     const before = entry.version === known.version ? known.text : undefined;
-    Object.assign(known, { before, text: entry.after, version: entry.version + 1, entry: entry.entry });
+    Object.assign(known, { before, text: entry.after, version: entry.version + 1, entry });
     if (entry.text === state.chosen) lookSoon();
   } else if (known && entry.after !== undefined && entry.version + 1 === known.version) {
-    known.entry = entry.entry;
+    known.entry = entry;
   }
   draw();
 }
@@ -191,8 +201,9 @@ function excerpt(text, ranges, kind) {
   return marked(text, ranges.slice(0, 20), kind, Math.max(0, start - AROUND), Math.min(text.length, end + AROUND));
 }
 
-// The part of the new text that isn't as it was.
-function changedRange(before, after) {
+// The part of the new text that an entry changed; if it isn't known what it matched, the part that isn't as it was.
+function changedRange(entry, before, after) {
+  if (entry?.start !== undefined) return [entry.start, after.length - (before.length - entry.end)];
   const most = Math.min(before.length, after.length);
   let front = 0;
   while (front < most && before[front] === after[front]) front += 1;
@@ -251,13 +262,13 @@ function drawText() {
   if (!known) return;
   replaceText(at("text-title"), `${known.name}, version ${known.version}`);
   const shown = at("text");
-  const key = [known.version, known.name, known.entry, known.text === undefined, known.before === undefined].join(" ");
+  const key = [known.version, known.name, known.entry?.entry, known.text === undefined, known.before === undefined].join(" ");
   if (shown.dataset.key === key) return;
   shown.dataset.key = key;
   const text = known.text ?? "";
-  const range = known.before === undefined ? null : changedRange(known.before, text);
+  const range = known.before === undefined ? null : changedRange(known.entry, known.before, text);
   shown.replaceChildren(marked(text, range ? [range] : [], ["fresh"]));
-  const which = known.entry === undefined ? "the last entry" : `entry ${known.entry}`;
+  const which = known.entry === undefined ? "the last entry" : `entry ${known.entry.entry}`;
   replaceText(at("changed"), range ? `Marked is what ${which} changed.` : "");
 }
 
@@ -301,7 +312,9 @@ function choose(name, isNew) {
   if (!state.texts.has(name)) return;
   const isOther = state.chosen !== name;
   state.chosen = name;
-  if (isNew && isOther) history.pushState(null, "", `#${encodeURIComponent(name)}`);
+  const address = `#${encodeURIComponent(name)}`;
+  if (isNew && isOther) history.pushState(null, "", address);
+  else if (location.hash !== address) history.replaceState(null, "", address);
   if (isOther) at("changed").textContent = "";
   loadText(name);
   draw();
@@ -381,7 +394,7 @@ async function drawPreview(given, found) {
   for (const [name, value] of entry.bindings ?? []) shown.append(element("p", `${name} = ${value}`, "note"));
   if (entry.after === undefined) return;
   const after = element("pre");
-  after.append(excerpt(entry.after, [changedRange(text, entry.after)], ["fresh"]));
+  after.append(excerpt(entry.after, [changedRange(entry, text, entry.after)], ["fresh"]));
   shown.append(element("p", "The text would be"), after);
 }
 
