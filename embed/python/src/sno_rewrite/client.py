@@ -63,7 +63,9 @@ class Client:
     together are one message. A lost connection is made again at the next call; calls under way raise OutcomeUnknown.
     """
 
-    def __init__(self, url: str, *, token: str | None = None, unix: str | None = None, timeout: float | None = 60.0) -> None:
+    def __init__(
+        self, url: str, *, token: str | None = None, unix: str | None = None, timeout: float | None = 60.0
+    ) -> None:
         """`url` is as `http://127.0.0.1:8417`. With `unix`, the path of a socket, only its host counts."""
         self._url, self._unix, self.timeout = url.rstrip("/"), unix, timeout
         self._headers = {} if token is None else {"Authorization": f"Bearer {token}"}
@@ -179,7 +181,8 @@ class Client:
                 task.cancel()
             self._socket = await session.ws_connect(f"{self._url}/ws", max_msg_size=0, heartbeat=20.0)
             self._lines = []
-            self._tasks = [asyncio.create_task(self._send_lines(self._socket)), asyncio.create_task(self._take_replies(self._socket))]
+            jobs = self._send_lines(self._socket), self._take_replies(self._socket)
+            self._tasks = [asyncio.create_task(job) for job in jobs]
 
     async def _ask(self, members: Reply) -> Reply:
         if self._socket is None or self._socket.closed:

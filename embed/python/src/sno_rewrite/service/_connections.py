@@ -90,7 +90,8 @@ class Connections:
     def factory(self, server: web.Server) -> Connection:
         """A connection of this server."""
         bucket = Bucket(self._options.max_rate)
-        return Connection(self, server, bucket, loop=asyncio.get_running_loop(), keepalive_timeout=self._options.patience)
+        given = {"loop": asyncio.get_running_loop(), "keepalive_timeout": self._options.patience}
+        return Connection(self, server, bucket, **given)
 
     async def watch(self) -> None:
         """Looks at all connections again and again."""

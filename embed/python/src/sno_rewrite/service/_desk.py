@@ -1,5 +1,5 @@
-"""The one desk that all clients share: lines go to `sno serve` in the order in which they come, and each reply goes back
-to the client whose line it is of."""
+"""The one desk that all clients share: lines go to `sno serve` in the order in which they come, and each reply goes
+back to the client whose line it is of."""
 
 from __future__ import annotations
 
@@ -142,14 +142,14 @@ class SharedDesk:
         return b'{"service":"%b","next":%d}' % (word.encode(), self.journal.next)
 
     async def page(self, index: int) -> list[bytes]:
-        """Entries from this index on, as lines for those who watch. ConnectionError is raised if the desk isn't there."""
+        """Entries from this index on, as lines for those who watch. Without a desk ConnectionError is raised."""
         return [b'{"watched":' + _compact(entry) + b"}" for entry in await self._entries(index, _PAGE)]
 
     # Start, restart, end
 
     async def start(self) -> None:
-        """Starts the program for the first time. StartFault is raised if it ends before it serves. While another process
-        has the store, as one that is just ending, the start is tried again for as long as the patience lasts."""
+        """Starts the program for the first time. StartFault is raised if it ends before it serves. While another
+        process has the store, as one that is just ending, the start is tried again while the patience lasts."""
         deadline = asyncio.get_running_loop().time() + self._options.patience
         while not await self._begin(self._find_length):
             if self._status != 4 or asyncio.get_running_loop().time() > deadline:

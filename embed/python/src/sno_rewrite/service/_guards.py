@@ -32,6 +32,9 @@ _HEADERS = {
     "Cross-Origin-Resource-Policy": "same-origin",
 }
 
+# The headers of an error that its response keeps.
+_KEPT_HEADERS = frozenset({"Allow", "Retry-After", "WWW-Authenticate", "ETag"})
+
 Handler = Callable[[web.Request], Awaitable[web.StreamResponse]]
 
 
@@ -126,7 +129,7 @@ class Guard:
 
 def _as_json(error: web.HTTPException) -> web.Response:
     """The response of an error, with JSON also if aiohttp made it."""
-    headers = {name: value for name, value in error.headers.items() if name in ("Allow", "Retry-After", "WWW-Authenticate", "ETag")}
+    headers = {name: value for name, value in error.headers.items() if name in _KEPT_HEADERS}
     body = error.text if error.content_type == "application/json" else json.dumps({"error": error.reason})
     return web.Response(status=error.status, text=body, content_type="application/json", headers=headers)
 

@@ -23,8 +23,9 @@ class Journal:
 
     def add(self, entry: bytes) -> None:
         """Adds the next entry."""
-        self._lines.append(b'{"watched":' + entry + b"}")
-        self._bytes += len(entry)
+        line = b'{"watched":' + entry + b"}"
+        self._lines.append(line)
+        self._bytes += len(line)
         self.next += 1
         self._messages.clear()
         if len(self._lines) > 2 * self._most or self._bytes > 2 * self._most_bytes:

@@ -1,5 +1,5 @@
-"""What `sno check`, `sno run` and `sno trace` say of one statement on one text, by short processes of their own: none of
-them touches the desk, takes longer than its limits, or runs beside too many others."""
+"""What `sno check`, `sno run` and `sno trace` say of one statement on one text, by short processes of their own: none
+of them touches the desk, takes longer than its limits, or runs beside too many others."""
 
 from __future__ import annotations
 
@@ -42,6 +42,7 @@ class Looks:
         self._patterns = _definitions(options.document)
         self._running = asyncio.Semaphore(options.look_processes)
         self._count = 0
+        self._kinds = {"findings": self._findings, "preview": self._preview, "trace": self._trace}
 
     def free_name(self, name: str) -> str:
         """A name that begins with this one and that no definition has."""
@@ -63,7 +64,7 @@ class Looks:
         self._count += 1
         try:
             async with self._running:
-                found = await {"findings": self._findings, "preview": self._preview, "trace": self._trace}[which](document)
+                found = await self._kinds[which](document)
         finally:
             self._count -= 1
         return {**found, "name": text["name"], "version": text["version"]}

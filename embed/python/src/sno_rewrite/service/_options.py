@@ -112,14 +112,14 @@ def _parser() -> argparse.ArgumentParser:
     )
     add = parser.add_argument
     add("document", metavar="DOCUMENT", type=Path, help="the file of the document")
-    add("--store", metavar="FILE", type=Path, required=True, help="the store, which is made of DOCUMENT if it is missing")
-    add("--listen", metavar="HOST:PORT", type=_address, default=_LISTEN, help="where to listen; 127.0.0.1:8417 without it")
+    add("--store", metavar="FILE", type=Path, required=True, help="the store; made of DOCUMENT if it is missing")
+    add("--listen", metavar="HOST:PORT", type=_address, default=_LISTEN, help="where to listen [127.0.0.1:8417]")
     add("--unix", metavar="PATH", type=Path, help="listen at a socket of the system instead")
     add("--token-file", metavar="FILE", dest="token", type=_token, help="clients have to give the token in this file")
     add("--host", metavar="NAME", action="append", default=[], help="a further name by which clients call the service")
     add("--origin", metavar="ORIGIN", action="append", default=[], help="a further origin whose pages may call it")
     add("--program", metavar="SNO", default=_usual_program(), help="the program sno, if it is elsewhere")
-    add("--trials", metavar="N", type=_count(1, 1_000_000_000), help="how many trials a match may take, as of sno serve")
+    add("--trials", metavar="N", type=_count(1, 1_000_000_000), help="trials of a match, as of sno serve")
     limits = parser.add_argument_group("limits")
     for option, metavar, kind, usual, words in _LIMITS:
         limits.add_argument(option, metavar=metavar, type=kind, default=usual, help=f"{words} [{usual}]")

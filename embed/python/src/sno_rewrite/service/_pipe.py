@@ -47,7 +47,7 @@ class Pipe:
         self._lines: list[bytes] = []
 
     async def start(self, command: list[str]) -> None:
-        """Starts the program. It has a session of its own, so that a signal of the terminal reaches the service alone."""
+        """Starts the program, in a session of its own: a signal of the terminal reaches the service alone."""
         loop = asyncio.get_running_loop()
         process, _ = await loop.subprocess_exec(
             lambda: _Protocol(self._take, self._ended), *command, stderr=None, start_new_session=True

@@ -40,7 +40,8 @@ class Server:
             await self._desk.start()
         except StartFault as fault:
             status = fault.args[0]
-            print(f"error: {fault.args[1]}" if status is None else f"error: sno serve ended with {status}", file=sys.stderr)
+            what = fault.args[1] if status is None else f"sno serve ended with {status}"
+            print(f"error: {what}", file=sys.stderr)
             return 4 if status in (None, 0) or status < 0 else int(status)
         guard = Guard(self._options, self._metrics)
         routes = Routes(self._options, self._desk, Looks(self._options), guard, self._metrics, self._connections)
