@@ -173,7 +173,8 @@ class SharedDesk:
                 async with asyncio.timeout(self._options.patience):
                     await self._gone.wait()
         self.state = State.ENDED
-        return self._status if self._status is not None else 4
+        # A program that a signal has ended has a status below 0.
+        return self._status if self._status is not None and self._status >= 0 else 4
 
     def _command(self) -> list[str]:
         options = self._options
@@ -192,6 +193,7 @@ class SharedDesk:
         try:
             await catch_up()
         except ConnectionError:
+            pipe.kill()
             await self._gone.wait()
             return False
         if self.state is State.STARTING:
@@ -259,8 +261,9 @@ class SharedDesk:
         touched: dict[Owner, float] = {}
         for reply in replies:
             if not self._pending:
+                # A reply to no line: nobody knows whose the next one is.
                 self._break()
-                return
+                break
             line = self._pending.popleft()
             self._count(line, reply)
             line.owner.take(restored(reply, line.number, line.identity))

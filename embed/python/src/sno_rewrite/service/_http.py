@@ -72,7 +72,8 @@ def status_of(reply: dict[str, Any]) -> int:
 
 def _response(reply: bytes, **headers: str) -> web.Response:
     """A response with a reply, and the status that it means."""
-    front = json.loads(reply)
+    # Entries may be long, and are never a refusal.
+    front = {} if reply.startswith(b'{"entries":') else json.loads(reply)
     given = {name.replace("_", "-"): value for name, value in headers.items()}
     if front.get("error") == NOT_PERFORMED:
         given["Retry-After"] = "1"

@@ -48,6 +48,7 @@ class Socket:
         # Whether it has once had all entries there were: from then on it may not lag.
         self._is_live = False
         self._code = 1000
+        self._is_gone = False
         self._has_work, self._has_room = asyncio.Event(), asyncio.Event()
 
     def take(self, reply: bytes) -> None:
@@ -147,13 +148,16 @@ class Socket:
             if self._waiting:
                 self.wake()
             await asyncio.sleep(seconds)
-        while self._under_way > self._options.max_lines or self._waiting_bytes > _MOST_WAITING:
+        while not self._is_gone and self._has_too_much():
             if self._waiting:
                 self._has_work.set()
             self._has_room.clear()
             await self._has_room.wait()
-        while self._desk.is_crowded():
+        while not self._is_gone and self._desk.is_crowded():
             await asyncio.sleep(0.01)
+
+    def _has_too_much(self) -> bool:
+        return self._under_way > self._options.max_lines or self._waiting_bytes > _MOST_WAITING
 
     async def _write(self, request: web.Request) -> None:
         """Sends what waits, many lines in one message, and cuts off a client that doesn't take it."""
@@ -165,10 +169,14 @@ class Socket:
                     async with asyncio.timeout(self._options.patience):
                         await self._socket.send_str(message.decode())
         except TimeoutError:
-            self._cut_off(request, "slow")
+            self._metrics.cut_off["slow"] += 1
         except ConnectionError:
-            if request.transport:
-                request.transport.abort()
+            pass
+        # Nothing can be sent any more, so the reader needn't wait for room.
+        self._is_gone = True
+        self._has_room.set()
+        if request.transport:
+            request.transport.abort()
 
     async def _message(self) -> bytes | None:
         if self._waiting:
@@ -199,11 +207,6 @@ class Socket:
             message, self._next = b"\n".join(lines), index + len(lines)
         self._metrics.watched += self._next - index
         return message
-
-    def _cut_off(self, request: web.Request, reason: str) -> None:
-        self._metrics.cut_off[reason] += 1
-        if request.transport:
-            request.transport.abort()
 
 
 def _with_identity(line: bytes, identity: bytes | None) -> bytes:

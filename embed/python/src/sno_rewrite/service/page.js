@@ -1,6 +1,8 @@
 // The page of the service. What comes from texts is only ever put in as text (textContent, createTextNode), never as HTML.
 
-const SHOWN = 200; // entries of the journal that the page keeps
+const SHOWN = 100; // entries of the journal that the page shows
+const MANY = 20; // entries since the page was drawn, from which on it is drawn less often
+const PAUSE = 300; // milliseconds between drawings then
 const AROUND = 60; // characters that are shown before and after a match
 const VERSIONS = 400; // texts of former versions that are kept, to show matches in them
 const DEBOUNCE = 200; // milliseconds from the last key to a look
@@ -18,6 +20,7 @@ const state = {
   number: 0,
   delay: 100,
   drawing: false,
+  fresh: 0, // entries since the page was drawn
   trace: null,
 };
 
@@ -133,7 +136,7 @@ async function takeNotice(message, socket) {
   socket.isWatching = true;
   state.delay = 100;
   // After a reconnect the page goes on with the entry that it awaits. With another store its indices may be smaller.
-  if (state.next === null || state.next > message.next) state.next = Math.max(0, message.next - SHOWN / 2);
+  if (state.next === null || state.next > message.next) state.next = Math.max(0, message.next - SHOWN);
   socket.send(JSON.stringify({ watch: state.next }));
   await loadTexts();
   chooseFromAddress();
@@ -152,6 +155,7 @@ function takeEntry(entry) {
   if (entry.entry < state.next) return;
   state.next = entry.entry + 1;
   state.entries.push(entry);
+  state.fresh += 1;
   if (state.entries.length > 2 * SHOWN) state.entries.splice(0, state.entries.length - SHOWN);
   const known = state.texts.get(entry.text);
   if (entry.after !== undefined) keep(entry.text, entry.version + 1, entry.after);
@@ -222,12 +226,15 @@ function rangesOf(entry) {
 function draw() {
   if (state.drawing) return;
   state.drawing = true;
-  requestAnimationFrame(() => {
-    state.drawing = false;
-    drawTexts();
-    drawText();
-    drawJournal();
-  });
+  setTimeout(() => requestAnimationFrame(drawAll), state.fresh > MANY ? PAUSE : 0);
+}
+
+function drawAll() {
+  state.drawing = false;
+  state.fresh = 0;
+  drawTexts();
+  drawText();
+  drawJournal();
 }
 
 function drawTexts() {
