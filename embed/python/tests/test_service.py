@@ -7,8 +7,8 @@ import unittest
 from pathlib import Path
 
 from sno_rewrite.service._journal import Journal
-from sno_rewrite.service._lines import MOST_ENTRIES, Kind, identity_of, index_in, kind_of, members_of
-from sno_rewrite.service._lines import numbered, refused, restored
+from sno_rewrite.service._lines import MOST_ENTRIES, entry_of, identity_of, index_in, members_of, numbered
+from sno_rewrite.service._lines import outcome_of, refused, restored
 
 SOURCES = Path(__file__).resolve().parents[1] / "src"
 
@@ -52,16 +52,26 @@ class Lines(unittest.TestCase):
             self.assertIsNone(identity_of({"id": identity}))
         self.assertEqual(json.loads(refused("x", b'"a"', since=3)), {"error": "x", "since": 3, "id": "a"})
 
-    def test_what_a_line_asks_for(self) -> None:
-        questions = {"read": "T"}, {"since": 0}, {"texts": True}, {"text": "T", "pattern": "'a'", "check": True}
-        self.assertEqual([kind_of(members) for members in questions], [Kind.QUESTION] * 4)
-        self.assertEqual(kind_of({"text": "T", "check": False}), Kind.STATEMENT)
+    def test_what_is_no_object_has_no_members(self) -> None:
         for line in "", "[]", "1", "{", "[" * 100_000:
-            self.assertEqual(kind_of(members_of(line)), Kind.OTHER)
+            self.assertIsNone(members_of(line))
 
-    def test_a_refusal_has_no_index(self) -> None:
-        for reply in b'{"reason":"no text"}', b'{"error":"pattern: x"}', b'{"entries":[]}':
-            self.assertIsNone(index_in(reply))
+    def test_only_an_accepted_statement_has_an_index(self) -> None:
+        for reply, outcome in (
+            (b'{"id":1,"reason":"no text"}', "refused"),
+            (b'{"error":"pattern: x","id":1}', "error"),
+            (b'{"entries":[{"bindings":[],"entry":3,"matched":false}],"id":1}', "question"),
+            (b'{"after":"x","bindings":[],"check":true,"end":1,"entry":3,"id":1,"matched":true}', "question"),
+            (b'{"id":1,"name":"T","text":"\\"entry\\":3,\\"reason\\":","version":0}', "question"),
+        ):
+            json.loads(reply)
+            self.assertEqual((index_in(reply), outcome_of(reply)), (None, outcome))
+
+    def test_an_entry_has_nothing_of_the_line(self) -> None:
+        reply = b'{"bindings":[["V","\\"check\\":true"]],"entry":3,"id":1,"ignored":["x"],"matched":true}'
+        self.assertEqual(index_in(reply), 3)
+        wanted = {"bindings": [["V", '"check":true']], "entry": 3, "matched": True}
+        self.assertEqual(json.loads(entry_of(reply, 1)), wanted)
 
 
 class Journals(unittest.TestCase):

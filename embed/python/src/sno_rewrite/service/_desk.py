@@ -11,7 +11,7 @@ from enum import Enum, auto
 from typing import Any, NamedTuple, Protocol
 
 from ._journal import Journal
-from ._lines import Kind, identity_of, index_in, kind_of, numbered, refused, restored, written
+from ._lines import entry_of, identity_of, index_in, numbered, outcome_of, refused, restored, written
 from ._metrics import Metrics
 from ._options import Options
 from ._pipe import Pipe
@@ -58,7 +58,6 @@ class _Line(NamedTuple):
     number: int
     owner: Owner
     identity: bytes | None
-    kind: Kind
     began: float
 
 
@@ -111,10 +110,9 @@ class SharedDesk:
             return
         number = self._next_number()
         raw = line.encode(errors="replace")
-        self._send(
-            _Line(number, owner, identity, kind_of(members), began),
-            raw + b"\n" if members is None else numbered(raw, number, members),
-        )
+        # What isn't an object goes as it is: `sno serve` says what is wrong with it.
+        whole = raw + b"\n" if members is None else numbered(raw, number, members)
+        self._send(_Line(number, owner, identity, began), whole)
 
     async def call(self, lines: list[dict[str, Any]]) -> list[bytes]:
         """The replies to lines with these members, in order."""
@@ -235,7 +233,7 @@ class SharedDesk:
         if self.state in (State.ENDING, State.ENDED):
             raise ConnectionError(NOT_PERFORMED)
         call, number = Call(1), self._next_number()
-        line = _Line(number, call, None, Kind.QUESTION, asyncio.get_running_loop().time())
+        line = _Line(number, call, None, asyncio.get_running_loop().time())
         self._send(line, written({"since": index, "limit": limit}, number))
         (reply,) = await call.replies()
         members = json.loads(reply)
@@ -276,16 +274,12 @@ class SharedDesk:
 
     def _count(self, line: _Line, reply: bytes) -> None:
         """Counts a reply, and gives its entry to the journal."""
-        if line.kind is Kind.QUESTION:
-            self._metrics.lines["question"] += 1
-            return
         index = index_in(reply)
+        self._metrics.lines[outcome_of(reply) if index is None else "accepted"] += 1
         if index is None:
-            self._metrics.lines["error" if b'"error":' in reply else "refused"] += 1
             return
-        self._metrics.lines["accepted"] += 1
         if index == self.journal.next:
-            self.journal.add(restored(reply, line.number, None))
+            self.journal.add(entry_of(reply, line.number))
         elif index > self.journal.next:
             # An entry is missing. A new start reads what the journal has.
             self._break()

@@ -48,6 +48,7 @@ ROUTES = (
 # What a refusal or an error is as a status of HTTP; another one is 400.
 _STATUSES: dict[str, type[web.HTTPException]] = {
     "no text": web.HTTPNotFound,
+    "no version": web.HTTPNotFound,
     "changed": web.HTTPConflict,
     "text too long": web.HTTPRequestEntityTooLarge,
     "too many trials": web.HTTPUnprocessableEntity,
@@ -168,9 +169,7 @@ class Routes:
         (reply,) = await self._desk.call([members])
         read = json.loads(reply)
         if "text" not in read:
-            # A text that isn't there, or a version that it never had.
-            raised = {"no text": 404, "no version": 404}.get(read.get("reason"), status_of(read))
-            return web.Response(status=raised, body=reply, content_type=_JSON)
+            return _response(reply)
         tag = f'"{read["version"]}"'
         if request.headers.get("If-None-Match") == tag:
             return web.Response(status=304, headers={"ETag": tag})

@@ -5,23 +5,12 @@ from __future__ import annotations
 
 import json
 import math
-from enum import Enum, auto
 from typing import Any
 
 # Entries of one reply, also if a client asks for more.
 MOST_ENTRIES = 1_000
 
 _dumps = json.JSONEncoder(separators=(",", ":")).encode
-
-
-class Kind(Enum):
-    """What a line asks for."""
-
-    STATEMENT = auto()
-    # A line that changes nothing: `read`, `since`, `texts`, or a statement that is only checked.
-    QUESTION = auto()
-    # What isn't an object of JSON. `sno serve` says what is wrong with it.
-    OTHER = auto()
 
 
 def members_of(line: str) -> dict[str, Any] | None:
@@ -31,15 +20,6 @@ def members_of(line: str) -> dict[str, Any] | None:
     except (ValueError, RecursionError):
         return None
     return members if isinstance(members, dict) else None
-
-
-def kind_of(members: dict[str, Any] | None) -> Kind:
-    """What a line with these members asks for."""
-    if members is None:
-        return Kind.OTHER
-    if "read" in members or "since" in members or "texts" in members or members.get("check") is True:
-        return Kind.QUESTION
-    return Kind.STATEMENT
 
 
 def identity_of(members: dict[str, Any] | None) -> bytes | None:
@@ -84,12 +64,29 @@ def restored(reply: bytes, number: int, identity: bytes | None) -> bytes:
 
 
 def index_in(reply: bytes) -> int | None:
-    """The index of the entry that a reply to a statement is, or None if it is a refusal or an error."""
+    """The index of the entry that was accepted, or None if none was: of a refusal, an error, a question, or a check,
+    which shows the entry that a statement would be."""
     at = reply.find(b'"entry":')
-    if at < 0:
+    if at < 0 or reply.startswith(b'{"entries":') or reply.find(b'"check":true', 0, at) >= 0:
         return None
-    end = reply.find(b",", at)
-    return int(reply[at + 8 : end])
+    return int(reply[at + 8 : reply.find(b",", at)])
+
+
+def outcome_of(reply: bytes) -> str:
+    """What became of a line whose reply isn't an entry."""
+    if reply.startswith(b'{"error":'):
+        return "error"
+    return "refused" if b'"reason":' in reply else "question"
+
+
+def entry_of(reply: bytes, number: int) -> bytes:
+    """The entry that a reply is, as the journal has it: without an id, and without what was ignored of the line."""
+    entry = restored(reply, number, None)
+    if b'"ignored":' not in entry:
+        return entry
+    members = json.loads(entry)
+    del members["ignored"]
+    return _dumps(members).encode()
 
 
 def refused(what: str, identity: bytes | None, **members: object) -> bytes:
