@@ -27,6 +27,13 @@ FISH_COMPLETION = $(DATADIR)/fish/vendor_completions.d/sno_rewrite.fish
 SNO_BASH_COMPLETION = $(DATADIR)/bash-completion/completions/sno
 SNO_ZSH_COMPLETION = $(DATADIR)/zsh/site-functions/_sno
 SNO_FISH_COMPLETION = $(DATADIR)/fish/vendor_completions.d/sno.fish
+SERVICE_PAGE = $(MANDIR)/man1/nomyake-service.1
+SERVICE_BASH_COMPLETION = $(DATADIR)/bash-completion/completions/nomyake-service
+SERVICE_ZSH_COMPLETION = $(DATADIR)/zsh/site-functions/_nomyake-service
+SERVICE_FISH_COMPLETION = $(DATADIR)/fish/vendor_completions.d/nomyake-service.fish
+# `nomyake-service` looks for the package in ../share/nomyake/python, from its own folder on.
+PACKAGE_DIR = $(PREFIX)/share/nomyake/python/sno_rewrite
+PACKAGE = embed/python/src/sno_rewrite
 # `sno edit --with` looks for them in ../share/nomyake, from the folder of the program on.
 READY_DIR = $(PREFIX)/share/nomyake
 READY = $(wildcard share/*.sno)
@@ -60,7 +67,7 @@ Cflags: -I$${includedir}
 endef
 export PKG_CONFIG_TEXT
 
-.PHONY: all program library install install-program install-sno install-library deb dist uninstall check help \
+.PHONY: all program library install install-program install-sno install-service install-library deb dist uninstall check help \
     need-program need-library
 
 all: program library
@@ -117,6 +124,20 @@ install-sno:
 	$(INSTALL_DATA) completions/_sno "$(DESTDIR)$(SNO_ZSH_COMPLETION)"
 	$(INSTALL_DATA) completions/sno.fish "$(DESTDIR)$(SNO_FISH_COMPLETION)"
 	$(INSTALL_DATA) $(READY) "$(DESTDIR)$(READY_DIR)"
+	$(MAKE) --no-print-directory install-service
+
+# The service is Python, so nothing has to be built. It needs sno, and Debian's python3-aiohttp where it runs.
+install-service:
+	$(INSTALL) -d "$(DESTDIR)$(BINDIR)" "$(DESTDIR)$(dir $(SERVICE_PAGE))" "$(DESTDIR)$(dir $(SERVICE_BASH_COMPLETION))" \
+	    "$(DESTDIR)$(dir $(SERVICE_ZSH_COMPLETION))" "$(DESTDIR)$(dir $(SERVICE_FISH_COMPLETION))" "$(DESTDIR)$(PACKAGE_DIR)/service"
+	$(INSTALL_PROGRAM) embed/python/nomyake-service "$(DESTDIR)$(BINDIR)/nomyake-service"
+	$(INSTALL_DATA) $(wildcard $(PACKAGE)/*.py) $(PACKAGE)/py.typed "$(DESTDIR)$(PACKAGE_DIR)"
+	$(INSTALL_DATA) $(foreach kind,py html css js json,$(wildcard $(PACKAGE)/service/*.$(kind))) "$(DESTDIR)$(PACKAGE_DIR)/service"
+	sed 's/@VERSION@/$(VERSION)/' docs/man/nomyake-service.1 > "$(DESTDIR)$(SERVICE_PAGE)"
+	chmod 644 "$(DESTDIR)$(SERVICE_PAGE)"
+	$(INSTALL_DATA) completions/nomyake-service.bash "$(DESTDIR)$(SERVICE_BASH_COMPLETION)"
+	$(INSTALL_DATA) completions/_nomyake-service "$(DESTDIR)$(SERVICE_ZSH_COMPLETION)"
+	$(INSTALL_DATA) completions/nomyake-service.fish "$(DESTDIR)$(SERVICE_FISH_COMPLETION)"
 
 install-library: need-library
 	$(INSTALL) -d "$(DESTDIR)$(INCLUDEDIR)" "$(DESTDIR)$(LIBDIR)" "$(DESTDIR)$(dir $(PKG_CONFIG_FILE))" \
@@ -147,7 +168,10 @@ uninstall:
 	    "$(DESTDIR)$(CPP_HEADER)" "$(DESTDIR)$(SHARED)" "$(DESTDIR)$(SONAME)" "$(DESTDIR)$(LINK)" \
 	    "$(DESTDIR)$(PKG_CONFIG_FILE)" "$(DESTDIR)$(CMAKE_CONFIG)" "$(DESTDIR)$(CMAKE_VERSION)"
 	rm -f $(patsubst share/%,"$(DESTDIR)$(READY_DIR)/%",$(READY))
-	@rmdir "$(DESTDIR)$(CMAKE_DIR)" "$(DESTDIR)$(READY_DIR)" 2> /dev/null || true
+	rm -f "$(DESTDIR)$(BINDIR)/nomyake-service" "$(DESTDIR)$(SERVICE_PAGE)" "$(DESTDIR)$(SERVICE_BASH_COMPLETION)" \
+	    "$(DESTDIR)$(SERVICE_ZSH_COMPLETION)" "$(DESTDIR)$(SERVICE_FISH_COMPLETION)"
+	rm -rf "$(DESTDIR)$(PACKAGE_DIR)"
+	@rmdir "$(DESTDIR)$(CMAKE_DIR)" "$(DESTDIR)$(dir $(PACKAGE_DIR))" "$(DESTDIR)$(READY_DIR)" 2> /dev/null || true
 
 check: need-program
 	examples/run "$(abspath $(PROGRAM))"
@@ -160,7 +184,8 @@ help:
 	@echo "make library          the library alone, by tools/prove library and embed/build"
 	@echo "make install          installs the program, and sno and the library if they are built"
 	@echo "make install-program  the program, its manual page and its completions; sno if it is built"
-	@echo "make install-sno      sno, its manual page, its completions and the definitions that are ready"
+	@echo "make install-sno      sno, its manual page, its completions, the definitions that are ready, and the service"
+	@echo "make install-service  the service for many clients, its manual page and its completions; install-sno does it too"
 	@echo "make install-library  the headers, the static and the shared library, and the files for pkg-config and CMake"
 	@echo "make deb              a package for Debian of all that make install installs, in DEB_DIR"
 	@echo "make dist             an archive of the same files with their sums, for a release, in DIST_DIR"

@@ -58,6 +58,7 @@ def _metadata() -> str:
         f"Requires-Python: {project['requires-python']}",
         *(f"Classifier: {classifier}" for classifier in project["classifiers"]),
         *(f"Requires-Dist: {dependency}" for dependency in project["dependencies"]),
+        *_extras(project["optional-dependencies"]),
         "Description-Content-Type: text/markdown",
         "",
         (HERE / project["readme"]).read_text(),
@@ -65,16 +66,28 @@ def _metadata() -> str:
     return "\n".join(lines)
 
 
+def _extras(extras: dict[str, list[str]]) -> Iterator[str]:
+    for extra, dependencies in extras.items():
+        yield f"Provides-Extra: {extra}"
+        yield from (f'Requires-Dist: {dependency}; extra == "{extra}"' for dependency in dependencies)
+
+
+def _scripts() -> str:
+    scripts = _project()["scripts"]
+    return "".join(["[console_scripts]\n", *(f"{name} = {call}\n" for name, call in scripts.items())])
+
+
 def _information(is_pure: bool) -> dict[str, bytes]:
     """The files of the wheel that describe it, but for the list of all files."""
     pure = str(is_pure).lower()
     wheel = f"Wheel-Version: 1.0\nGenerator: sno_rewrite\nRoot-Is-Purelib: {pure}\nTag: {_tag(is_pure)}\n"
-    return {"METADATA": _metadata().encode(), "WHEEL": wheel.encode()}
+    return {"METADATA": _metadata().encode(), "WHEEL": wheel.encode(), "entry_points.txt": _scripts().encode()}
 
 
 def _package_files() -> Iterator[Path]:
-    for path in sorted(PACKAGE.iterdir()):
-        if path.suffix == ".py" or path.name == "py.typed":
+    """The sources, and what the service's page is made of."""
+    for path in sorted(PACKAGE.rglob("*")):
+        if path.suffix in (".py", ".html", ".css", ".js", ".json") or path.name == "py.typed":
             yield path
 
 
@@ -99,7 +112,7 @@ def _write_wheel(folder: str, files: dict[str, bytes], is_pure: bool) -> str:
 
 
 def build_wheel(wheel_directory: str, config_settings: object = None, metadata_directory: str | None = None) -> str:
-    files = {f"sno_rewrite/{path.name}": path.read_bytes() for path in _package_files()}
+    files = {str(path.relative_to(SOURCES)): path.read_bytes() for path in _package_files()}
     shared = _shared()
     if shared:
         files[f"sno_rewrite/{FILE_NAME}"] = shared.read_bytes()

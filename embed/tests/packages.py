@@ -12,6 +12,7 @@ PYTHON_CALL = """
 import sno_rewrite, sno_rewrite._library, pathlib
 folder = pathlib.Path(sno_rewrite.__file__).parent
 assert (folder / "py.typed").is_file()
+assert (folder / "service/page.html").is_file() and (folder / "service/openapi.json").is_file()
 print(folder)
 print(pathlib.Path(sno_rewrite._library.load().path).parent)
 print(sno_rewrite.rewrite(texts={"T": "abc"}, statements=[sno_rewrite.Statement("T", "'b'", "'X'")]).texts[0].text)
@@ -111,6 +112,8 @@ def try_pip(what, place, cwd, words, library=None):
     status, output, faults = run([python, "-c", PYTHON_CALL], cwd=place, env=environment(**named))
     lines = output.decode().split("\n")[:-1]
     expect(f"{what}: the call", (status, lines[2:], faults), (0, ["aXc"], b""))
+    found = run([place / "bin/nomyake-service", "--version"], cwd=place, env=environment())
+    expect(f"{what}: the service", found, (0, f"nomyake-service {VERSION}\n".encode(), b""))
     return lines
 
 

@@ -1,0 +1,142 @@
+"""Who may call: the name by which the service was called, the page that calls, the token, and how often."""
+
+from __future__ import annotations
+
+import asyncio
+import hmac
+import json
+import re
+import time
+from collections.abc import Awaitable, Callable
+
+from aiohttp import web
+
+from ._metrics import Metrics
+from ._options import Options
+
+_LOOPBACK = frozenset({"localhost", "127.0.0.1", "[::1]"})
+# What shows nothing of the texts, so that a browser can show where the token is to be typed.
+_OPEN_PATHS = frozenset({"/", "/page.css", "/page.js", "/openapi.json", "/healthz"})
+
+# Everything comes from the service itself, no script or style is in the page, and no other page may show it.
+POLICY = (
+    "default-src 'none'; script-src 'self'; style-src 'self'; connect-src 'self'; img-src 'self'; base-uri 'none'; "
+    "form-action 'none'; frame-ancestors 'none'; require-trusted-types-for 'script'; trusted-types 'none'"
+)
+_HEADERS = {
+    "Content-Security-Policy": POLICY,
+    "X-Content-Type-Options": "nosniff",
+    "X-Frame-Options": "DENY",
+    "Referrer-Policy": "no-referrer",
+    "Cross-Origin-Opener-Policy": "same-origin",
+    "Cross-Origin-Resource-Policy": "same-origin",
+}
+
+# The headers of an error that its response keeps.
+_KEPT_HEADERS = frozenset({"Allow", "Retry-After", "WWW-Authenticate", "ETag"})
+
+Handler = Callable[[web.Request], Awaitable[web.StreamResponse]]
+
+
+def is_token(given: object, token: str | None) -> bool:
+    """Whether what was given is the token, in a time that doesn't depend on where they differ."""
+    if not isinstance(given, str) or token is None:
+        return False
+    return hmac.compare_digest(given.encode(errors="replace"), token.encode())
+
+
+class Bucket:
+    """How many lines a connection may still send: as many as of one second, filled up at the rate."""
+
+    def __init__(self, rate: int) -> None:
+        self._rate, self._left, self._at = rate, float(rate), time.monotonic()
+
+    def wait_for(self, count: int) -> float:
+        """Takes lines, and returns how many seconds the client has to wait before the next one."""
+        now = time.monotonic()
+        self._left = min(float(self._rate), self._left + (now - self._at) * self._rate) - count
+        self._at = now
+        return 0.0 if self._left >= 0 else -self._left / self._rate
+
+    def has(self, count: int) -> bool:
+        """Takes lines if there are as many."""
+        if self.wait_for(0) == 0.0 and self._left >= count:
+            self._left -= count
+            return True
+        return False
+
+
+def fault(kind: type[web.HTTPException], what: str, **headers: str) -> web.HTTPException:
+    """An error with its words as JSON."""
+    given = {name.replace("_", "-"): value for name, value in headers.items()}
+    return kind(text=json.dumps({"error": what}), content_type="application/json", headers=given)
+
+
+class Guard:
+    """Looks at each request before it is served, and gives each response its headers."""
+
+    def __init__(self, options: Options, metrics: Metrics) -> None:
+        self._options, self._metrics = options, metrics
+        host = options.listen[0]
+        self._hosts = _LOOPBACK | {f"[{host}]" if ":" in host else host} | options.hosts
+
+    def needs_token(self, request: web.Request) -> bool:
+        """Whether a token is still wanted: none came in the header."""
+        return self._options.token is not None and "Authorization" not in request.headers
+
+    def middleware(self) -> Callable[[web.Request, Handler], Awaitable[web.StreamResponse]]:
+        @web.middleware
+        async def guarded(request: web.Request, handler: Handler) -> web.StreamResponse:
+            response = await self._served(request, handler)
+            self._metrics.requests[response.status] += 1
+            if not response.prepared:
+                response.headers.update(_HEADERS)
+                response.headers.setdefault("Cache-Control", "no-store")
+            return response
+
+        return guarded
+
+    async def _served(self, request: web.Request, handler: Handler) -> web.StreamResponse:
+        try:
+            self._check(request)
+            return await handler(request)
+        except web.HTTPException as error:
+            return _as_json(error)
+        except TimeoutError:
+            response = _as_json(fault(web.HTTPRequestTimeout, "the request took too long"))
+            response.force_close()
+            return response
+
+    def _check(self, request: web.Request) -> None:
+        host = request.headers.get("Host", "")
+        if re.sub(r":[0-9]*$", "", host).lower() not in self._hosts:
+            raise fault(web.HTTPMisdirectedRequest, "another host is meant")
+        origin = request.headers.get("Origin")
+        if origin is not None and origin not in (f"http://{host}", f"https://{host}", *self._options.origins):
+            raise fault(web.HTTPForbidden, "a page of another origin calls")
+        if self._options.token is not None and request.path not in _OPEN_PATHS:
+            self._check_token(request)
+
+    def _check_token(self, request: web.Request) -> None:
+        given = request.headers.get("Authorization")
+        # A browser can't give a WebSocket a header: the token is its first message then.
+        if given is None and request.path == "/ws":
+            return
+        scheme, _, token = (given or "").partition(" ")
+        if scheme.lower() != "bearer" or not is_token(token.strip(), self._options.token):
+            raise fault(web.HTTPUnauthorized, "the token is missing or wrong", WWW_Authenticate="Bearer")
+
+
+def _as_json(error: web.HTTPException) -> web.Response:
+    """The response of an error, with JSON also if aiohttp made it."""
+    headers = {name: value for name, value in error.headers.items() if name in _KEPT_HEADERS}
+    body = error.text if error.content_type == "application/json" else json.dumps({"error": error.reason})
+    return web.Response(status=error.status, text=body, content_type="application/json", headers=headers)
+
+
+async def body_of(request: web.Request, options: Options) -> bytes:
+    """The body of a request, if it comes in time and isn't too long."""
+    if request.content_length is not None and request.content_length > options.max_body:
+        raise web.HTTPRequestEntityTooLarge(options.max_body, request.content_length)
+    async with asyncio.timeout(options.patience):
+        return await request.read()

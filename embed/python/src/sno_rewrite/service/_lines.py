@@ -1,0 +1,95 @@
+"""The lines that go to `sno serve` and the replies that come back, as bytes: a number of the service's own takes the
+place of a client's id, and is changed back in the reply."""
+
+from __future__ import annotations
+
+import json
+import math
+from typing import Any
+
+# Entries of one reply, also if a client asks for more.
+MOST_ENTRIES = 1_000
+
+_dumps = json.JSONEncoder(separators=(",", ":")).encode
+
+
+def members_of(line: str) -> dict[str, Any] | None:
+    """The members of a line, or None if it isn't an object that can be read here."""
+    try:
+        members = json.loads(line)
+    except (ValueError, RecursionError):
+        return None
+    return members if isinstance(members, dict) else None
+
+
+def identity_of(members: dict[str, Any] | None) -> bytes | None:
+    """The id of a line as JSON, if it has one that comes back: a string or a number."""
+    identity = None if members is None else members.get("id")
+    if type(identity) is int:
+        return b"%d" % identity
+    if isinstance(identity, str) or (isinstance(identity, float) and math.isfinite(identity)):
+        return _dumps(identity).encode()
+    return None
+
+
+def numbered(line: bytes, number: int, members: dict[str, Any]) -> bytes:
+    """The line with this number as its id, and with a limit if it asks for entries. Of a member that is written twice
+    the last one counts, so the new ones are put at the end."""
+    front = line.rstrip()[:-1]
+    comma = b"," if members else b""
+    if "since" in members:
+        limit = members.get("limit", MOST_ENTRIES)
+        if type(limit) is int and limit >= 0:
+            return b'%b%b"limit":%d,"id":%d}\n' % (front, comma, min(limit, MOST_ENTRIES), number)
+    return b'%b%b"id":%d}\n' % (front, comma, number)
+
+
+def written(members: dict[str, Any], number: int) -> bytes:
+    """A line with these members and this number as its id."""
+    return _dumps({**members, "id": number}).encode() + b"\n"
+
+
+def restored(reply: bytes, number: int, identity: bytes | None) -> bytes:
+    """The reply with the client's id in place of the service's number, or without an id.
+
+    In JSON a quotation mark inside a string is escaped, so `"id":` is only ever the name of a member.
+    """
+    front, found, rest = reply.partition(b'"id":%d' % number)
+    if not found:
+        # `sno serve` couldn't read the line, and so doesn't know its id.
+        return reply if identity is None else b'%b,"id":%b}' % (reply.removesuffix(b"}"), identity)
+    if identity is not None:
+        return b'%b"id":%b%b' % (front, identity, rest)
+    return front + rest[1:] if rest[:1] == b"," else front.removesuffix(b",") + rest
+
+
+def index_in(reply: bytes) -> int | None:
+    """The index of the entry that was accepted, or None if none was: of a refusal, an error, a question, or a check,
+    which shows the entry that a statement would be."""
+    at = reply.find(b'"entry":')
+    if at < 0 or reply.startswith(b'{"entries":') or reply.find(b'"check":true', 0, at) >= 0:
+        return None
+    return int(reply[at + 8 : reply.find(b",", at)])
+
+
+def outcome_of(reply: bytes) -> str:
+    """What became of a line whose reply isn't an entry."""
+    if reply.startswith(b'{"error":'):
+        return "error"
+    return "refused" if b'"reason":' in reply else "question"
+
+
+def entry_of(reply: bytes, number: int) -> bytes:
+    """The entry that a reply is, as the journal has it: without an id, and without what was ignored of the line."""
+    entry = restored(reply, number, None)
+    if b'"ignored":' not in entry:
+        return entry
+    members = json.loads(entry)
+    del members["ignored"]
+    return _dumps(members).encode()
+
+
+def refused(what: str, identity: bytes | None, **members: object) -> bytes:
+    """A reply of the service's own, with an error."""
+    line = _dumps({"error": what, **members}).encode()
+    return line if identity is None else line[:-1] + b',"id":' + identity + b"}"

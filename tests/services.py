@@ -1,0 +1,120 @@
+"""What the tests of the service share: one that is started, with its address, its processes and its end."""
+import json
+import os
+import re
+import signal
+import subprocess
+import sys
+import threading
+import time
+import urllib.request
+from pathlib import Path
+
+from lib import TOP
+
+PYTHON = "/usr/bin/python3"
+SOURCES = TOP / "embed/python/src"
+SECONDS = 60
+
+
+def needs(script, **modules):
+    """Ends the script if a package of Debian's is missing: its module, by the name of the package with _ for -."""
+    for package, module in modules.items():
+        try:
+            __import__(module)
+        except ImportError:
+            sys.exit(f"tests/{script}: {package.replace('_', '-')} is missing; tests/packages installs it")
+
+
+def needs_programs(script, *programs):
+    """Ends the script if a program is missing."""
+    for program in programs:
+        if subprocess.run(["sh", "-c", f"command -v {program}"], stdout=subprocess.DEVNULL).returncode:
+            sys.exit(f"tests/{script}: {program} is missing; tests/packages installs it")
+
+
+def written(folder, texts, statements=(), patterns=()):
+    """The file of a document."""
+    path = folder / "document.json"
+    document = {"patterns": list(patterns), "texts": [{"name": name, "text": text} for name, text in texts.items()], "statements": list(statements)}
+    path.write_text(json.dumps(document))
+    return path
+
+
+class Service:
+    """A run of the service, as `with Service(..) as service`. What it says is in `said`."""
+
+    def __init__(self, sno, document, store, *options, port=0):
+        address = [] if "--unix" in options else ["--listen", f"127.0.0.1:{port}"]
+        words = [PYTHON, "-m", "sno_rewrite.service", document, "--store", store, "--program", sno, *address, *options]
+        environment = {**os.environ, "PYTHONPATH": str(SOURCES)}
+        self.process = subprocess.Popen(words, env=environment, stderr=subprocess.PIPE, text=True)
+        self.said, self.url = [], None
+        for line in self.process.stderr:
+            self.said.append(line)
+            if found := re.fullmatch(r"serving at (\S+)\n", line):
+                self.url = found[1]
+                break
+        if self.url is None:
+            raise RuntimeError(f"the service didn't start: {self.said}")
+        self.port = int(self.url.rpartition(":")[2]) if self.url.startswith("http") else None
+        self.reader = threading.Thread(target=lambda: self.said.extend(self.process.stderr), daemon=True)
+        self.reader.start()
+
+    def __enter__(self):
+        return self
+
+    def __exit__(self, kind, error, trace):
+        if self.process.poll() is None:
+            self.process.kill()
+        self.process.wait()
+
+    def desk(self):
+        """The process of `sno serve`, once there is one."""
+        for _ in range(SECONDS * 100):
+            children = Path(f"/proc/{self.process.pid}/task/{self.process.pid}/children").read_text().split()
+            named = [int(child) for child in children if b"\0serve\0" in commands_of(child)]
+            if named:
+                return named[0]
+            time.sleep(0.01)
+        raise RuntimeError("there is no sno serve")
+
+    def kill_desk(self):
+        os.kill(self.desk(), signal.SIGKILL)
+
+    def kill(self):
+        """Kills the service alone; its `sno serve` ends when its input does."""
+        desk = self.desk()
+        self.process.kill()
+        self.process.wait()
+        while commands_of(desk):
+            time.sleep(0.01)
+
+    def stop(self):
+        """Ends the service by SIGTERM, and returns its status."""
+        self.process.terminate()
+        return self.process.wait(SECONDS)
+
+    def memory(self):
+        """The megabytes that the service has."""
+        status = Path(f"/proc/{self.process.pid}/status").read_text()
+        return int(re.search(r"VmRSS:\s+([0-9]+)", status)[1]) / 1024
+
+    def get(self, path, **headers):
+        """The body of a GET that succeeds."""
+        given = {name.replace("_", "-"): value for name, value in headers.items()}
+        with urllib.request.urlopen(urllib.request.Request(self.url + path, headers=given), timeout=SECONDS) as response:
+            return response.read().decode()
+
+    def metric(self, name):
+        """The value of a metric, or None."""
+        found = re.search(rf"^nomyake_{re.escape(name)} (\S+)$", self.get("/metrics"), re.MULTILINE)
+        return float(found[1]) if found else None
+
+
+def commands_of(process):
+    """The arguments of a process; nothing if it has ended."""
+    try:
+        return Path(f"/proc/{process}/cmdline").read_bytes()
+    except OSError:
+        return b""
