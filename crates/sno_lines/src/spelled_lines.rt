@@ -467,9 +467,18 @@ impl<'l> SpelledLines<'l> {
             spelled.put_definition(alloc, line)?;
         }
         spelled.put_rules(alloc, &lines.rules)?;
-        mark_in_rules(alloc, &mut spelled.definitions, &spelled.rules)?;
-        mark_in_used(alloc, &mut spelled.definitions)?;
-        spelled.definitions.retain(|definition| definition.used);
-        Ok(spelled)
+        let SpelledLines {
+            mut definitions,
+            rules,
+            mistakes,
+        } = spelled;
+        mark_in_rules(alloc, &mut definitions, &rules)?;
+        mark_in_used(alloc, &mut definitions)?;
+        definitions.retain(|definition| definition.used);
+        Ok(SpelledLines {
+            definitions,
+            rules,
+            mistakes,
+        })
     }
 }
