@@ -6,7 +6,7 @@ use crate::line_rows::{PatternRows, RuleRows, rows_of};
 use crate::trace_modes::mode_on;
 use sno_document::{Document, DocumentFault, rules_of_rows};
 use sno_edit::{EditRules, Trials};
-use sno_lines::{SpelledLines, lines_of_mistake, mistake_of_fault};
+use sno_lines::{GivenLines, SpelledLines, lines_of_mistake, mistake_of_fault};
 use std::alloc::{AllocError, Global};
 use std::rt::Files;
 
@@ -60,6 +60,25 @@ fn document_of_spelled(
     }
 }
 
+fn rules_of_given(
+    alloc: Global,
+    lines: &GivenLines<'_>,
+    anchor: bool,
+    trials: Trials,
+) -> Result<EditRules, NoRules> {
+    let spelled = SpelledLines::of(alloc, lines)?;
+    rules_of_spelled(alloc, &spelled, anchor, trials)
+}
+
+fn document_of_given(
+    alloc: Global,
+    lines: &GivenLines<'_>,
+    bytes: usize,
+) -> Result<Document, NoRules> {
+    let spelled = SpelledLines::of(alloc, lines)?;
+    document_of_spelled(alloc, &spelled, bytes)
+}
+
 /// The rules that are given in lines, by options and in files.
 pub(crate) fn rules_of_lines<R: Files + AllocGlobal>(
     rt: &R,
@@ -70,10 +89,7 @@ pub(crate) fn rules_of_lines<R: Files + AllocGlobal>(
 ) -> Result<EditRules, NoRules> {
     let files = rule_files(rt, alloc, given)?;
     match read_lines(alloc, &files, given) {
-        Ok(lines) => {
-            let spelled = SpelledLines::of(alloc, &lines)?;
-            rules_of_spelled(alloc, &spelled, anchor, trials)
-        }
+        Ok(lines) => rules_of_given(alloc, &lines, anchor, trials),
         Err(reason) => Err(no_rules(alloc, reason)),
     }
 }
@@ -87,10 +103,7 @@ pub(crate) fn document_of_lines<R: Files + AllocGlobal>(
 ) -> Result<Document, NoRules> {
     let files = rule_files(rt, alloc, given)?;
     match read_lines(alloc, &files, given) {
-        Ok(lines) => {
-            let spelled = SpelledLines::of(alloc, &lines)?;
-            document_of_spelled(alloc, &spelled, bytes)
-        }
+        Ok(lines) => document_of_given(alloc, &lines, bytes),
         Err(reason) => Err(no_rules(alloc, reason)),
     }
 }
