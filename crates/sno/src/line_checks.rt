@@ -38,7 +38,7 @@ fn shown(alloc: Global, report: &LineReport<'_>, json: bool) -> Result<Checked, 
 /// What is found in lines.
 fn check_given(alloc: Global, lines: &GivenLines<'_>, json: bool) -> Result<Checked, AllocError> {
     let spelled = SpelledLines::of(alloc, lines)?;
-    let used = used_by_sets(alloc, &spelled)?;
+    let used = used_by_sets(&spelled);
     let (definitions, rules) = rows_of(alloc, &spelled)?;
     let found = check_rule_rows(alloc, definitions, rules, used)?;
     let report = report_in_lines(alloc, spelled, found)?;

@@ -52,6 +52,25 @@ fn warning_in_lines<'l>(lines: &SpelledLines<'l>, warning: Warning) -> Option<Li
     })
 }
 
+/// The warnings by their places in the lines, without those of parts that are refused.
+fn warnings_in_lines<'l>(
+    alloc: Global,
+    lines: &SpelledLines<'l>,
+    found: Vec<Warning>,
+    refused: &[Place],
+) -> Result<Vec<LineWarning<'l>>, AllocError> {
+    let mut warnings = Vec::new(alloc);
+    for warning in found {
+        if refused.contains(&warning.place) {
+            continue;
+        }
+        if let Some(warning) = warning_in_lines(lines, warning) {
+            warnings.push(warning)?;
+        }
+    }
+    Ok(warnings)
+}
+
 /// What is found in lines of rules: what can't be spelled, and what the report of their rows has.
 ///
 /// Refused only if memory runs out.
@@ -60,18 +79,15 @@ pub fn report_in_lines<'l>(
     lines: SpelledLines<'l>,
     report: Report,
 ) -> Result<LineReport<'l>, AllocError> {
+    let mut refused = Vec::new(alloc);
     let mut errors = Vec::new(alloc);
     for mistake in report.errors {
+        refused.push(mistake.place)?;
         if !is_known(&lines, &mistake) {
             errors.push(in_lines(alloc, &lines, mistake)?)?;
         }
     }
-    let mut warnings = Vec::new(alloc);
-    for warning in report.warnings {
-        if let Some(warning) = warning_in_lines(&lines, warning) {
-            warnings.push(warning)?;
-        }
-    }
+    let warnings = warnings_in_lines(alloc, &lines, report.warnings, &refused)?;
     let mut all = lines.mistakes;
     all.append(&mut errors)?;
     Ok(LineReport {

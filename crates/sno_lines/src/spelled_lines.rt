@@ -41,6 +41,8 @@ pub struct SpelledDefinition<'l> {
     pub broken: bool,
     /// The characters that the name means, if it is a set.
     pub members: Option<Vec<u8>>,
+    /// Whether it is a set that a rule or a definition mentions. It is spelled out there.
+    pub(crate) in_sets: bool,
     /// Whether it is needed: it is neither ready nor a set of names, or a rule or a definition that is needed mentions it.
     used: bool,
     /// Whether what it mentions is marked.
@@ -189,6 +191,7 @@ fn broken_definition<'l>(
         written,
         broken: true,
         members: None,
+        in_sets: false,
         used: !line.ready,
         looked: false,
     })
@@ -221,6 +224,7 @@ fn spelled_definition<'l>(
         written: definition.pattern,
         broken: false,
         members,
+        in_sets: false,
         used,
         looked: false,
     })
@@ -384,6 +388,36 @@ fn mark_in_used(
     Ok(())
 }
 
+/// The places of the definitions that rules and definitions mention, as they are written.
+fn mentioned_anywhere(
+    alloc: Global,
+    definitions: &[SpelledDefinition<'_>],
+    rules: &[SpelledRule<'_>],
+) -> Result<Vec<usize>, AllocError> {
+    let mut places = Vec::new(alloc);
+    for definition in definitions {
+        places.append(&mut mentioned(alloc, definitions, definition.written)?)?;
+    }
+    for rule in rules {
+        places.append(&mut mentioned(alloc, definitions, rule.rule.pattern)?)?;
+    }
+    Ok(places)
+}
+
+/// Marks the sets that rules and definitions mention.
+fn mark_sets(
+    alloc: Global,
+    definitions: &mut [SpelledDefinition<'_>],
+    rules: &[SpelledRule<'_>],
+) -> Result<(), AllocError> {
+    for place in mentioned_anywhere(alloc, definitions, rules)? {
+        if let Some(definition) = definitions.get_mut(place) {
+            definition.in_sets = definition.members.is_some();
+        }
+    }
+    Ok(())
+}
+
 /// Whether each definition is spelled.
 fn are_whole(definitions: &[SpelledDefinition<'_>]) -> bool {
     !definitions.iter().any(|definition| definition.broken)
@@ -472,6 +506,7 @@ impl<'l> SpelledLines<'l> {
             rules,
             mistakes,
         } = spelled;
+        mark_sets(alloc, &mut definitions, &rules)?;
         mark_in_rules(alloc, &mut definitions, &rules)?;
         mark_in_used(alloc, &mut definitions)?;
         definitions.retain(|definition| definition.used);
