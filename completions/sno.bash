@@ -16,12 +16,12 @@ _sno() {
             check) options=" --json --strict --rules --rule -e --file -f --define -d --with -w --help -h " ;;
             edit) options=" --diff --check --json --sync --backup --anchor --trials --rule -e --file -f --define -d --with -w --name -n --files-from --null -0 --threads --help -h " ;;
             find) options=" --paths -l --count -c --json --only --after-context -A --before-context -B --context -C --anchor --trials --rule -e --file -f --define -d --with -w --name -n --files-from --null -0 --threads --help -h " ;;
-            trace) options=" --statement --match --lines --html --on --rule -e --file -f --define -d --with -w --help -h " ;;
-            serve) options=" --seats --tries --trials --listing --store --help -h " ;;
+            trace) options=" --statement --match --from --to --lines --html --on --anchor --trials --rule -e --file -f --define -d --with -w --help -h " ;;
+            serve) options=" --seats --tries --trials --listing --store --keep --help -h " ;;
             store)
-                options=" check list --help -h "
+                options=" check list compact --help -h "
                 case "$previous" in
-                    check|list)
+                    check|list|compact)
                         COMPREPLY=()
                         return
                         ;;
@@ -44,6 +44,7 @@ _sno() {
         --match) options="1 2 3 4 5 6 7 8 9" ;;
         --lines) options="100 1000 10000" ;;
         --seats) options="1 2 4 8 16" ;;
+        --keep) options="1000 10000 100000" ;;
         --listing|--store|--file|-f|--files-from|--on)
             # A file: the option -o default below.
             COMPREPLY=()

@@ -1,13 +1,14 @@
-/* Nomyake for C and C++: performs the statements of a document in order and lists what they did.
+/* Nomyake for C and C++: performs the statements of a document in order and lists what they did; and reads a pattern
+ * once, seeks it in any number of texts, and replaces its matches.
  *
- * The function sno_rewrite_list is part of the static library that crates/sno_c makes. It is proved to do what this
- * header says about the status, the number of bytes and the buffer. The text of a fault's line is only tested.
+ * The functions are part of the static library that crates/sno_c makes. They are proved to do what this header says
+ * about statuses, numbers and buffers. The text of a fault's line is only tested.
  *
  * The caller has to see to four things, which no proof can check:
- * - `document` points to `document_length` bytes, `buffer` to `buffer_length` bytes, and `output_length` to a size_t.
- * - No pointer is null, even if its length is 0. The function sno_rewrite checks this first.
- * - The document, the buffer and the size_t don't overlap.
- * - No other thread writes to the document, or uses the buffer or the size_t, during the call.
+ * - A pointer with a length points to that many bytes, and each other one to a value of its type.
+ * - No pointer is null, even if its length is 0. The functions that are defined here check this first.
+ * - What the pointers of a call point to doesn't overlap.
+ * - During a call no other thread writes to what the call reads, or uses what it writes.
  *
  * A call starts no thread and waits for nobody. Several threads may call at once, each with its own buffer. A thread
  * that calls needs a stack of 2 MiB or more: with 768 KiB the deepest patterns ended the program. */
@@ -55,6 +56,187 @@ static inline uint8_t sno_rewrite(const uint8_t *document, size_t document_lengt
     if (!document || !buffer || !output_length)
         return SNO_NULL;
     return sno_rewrite_list(document, document_length, anchor, json, trials, buffer, buffer_length, output_length);
+}
+
+/* ---- Patterns that are read once ----
+ *
+ * A rule is read once, and its pattern is then sought in any number of texts:
+ *
+ *     sno_pattern pattern = {{NULL, false}};
+ *     sno_text text = {{NULL, false}};
+ *     sno_match match;
+ *     ...
+ *     status = sno_pattern_open(NULL, 0, rule, rule_length, line, sizeof line, &line_length, &pattern);
+ *     status = sno_text_open(bytes, length, &text);
+ *     for (size_t from = 0; (status = sno_pattern_next(&pattern, &text, from, SNO_USUAL_TRIALS, &match)) == SNO_DONE;
+ *          from = match.next)
+ *         ... the bytes from match.start up to match.end ...
+ *     sno_text_close(&text);
+ *     sno_pattern_close(&pattern);
+ *
+ * A text is copied when it is opened. Places in it are cursors: how many bytes come before them. A match takes each
+ * byte as a character.
+ *
+ * Handles are in the memory of the caller. One whose bytes are all 0 is closed, and so it has to be before its first
+ * use. An open one must not be copied and then used twice. Its memory is freed when it is closed. A handle is used by
+ * one call at a time; different handles may be used by different threads at once.
+ *
+ * The functions named sno_handle_.. are those of the library, which are proved to do what is said here about
+ * statuses, cursors, numbers and buffers. The functions over them check that no pointer is null. What is said above
+ * about pointers and stacks holds for all of them. */
+
+/* What these functions return. SNO_BAD_LIMIT, SNO_NO_MEMORY, SNO_TOO_SHORT and SNO_NULL are returned, too. */
+enum sno_pattern_status {
+    SNO_DONE = 0,            /* It is done; of a search, there is a match. */
+    SNO_NOTHING = 1,         /* There is no match, no assignment at this place, or no new text. */
+    SNO_FAULT = 2,           /* The rule or a definition can't be read. */
+    SNO_CLOSED = 7,          /* A handle is closed, or holds something else. Nothing was done. */
+    SNO_TOO_MANY_TRIALS = 8, /* The search takes more trials than the limit. */
+    SNO_TOO_LONG = 9,        /* A text would have more than SNO_LONGEST_TEXT bytes. */
+    SNO_PAST_END = 10        /* The cursor lies past the end of the text. */
+};
+
+/* A longer text is refused. */
+#define SNO_LONGEST_TEXT 16777216
+
+/* The name of a variable has at most this many bytes. */
+#define SNO_LONGEST_NAME 64
+
+typedef struct sno_handle {
+    void *memory;
+    bool is_open;
+} sno_handle;
+
+typedef struct sno_pattern {
+    sno_handle handle;
+} sno_pattern;
+
+typedef struct sno_text {
+    sno_handle handle;
+} sno_text;
+
+/* What a search found. */
+typedef struct sno_match {
+    size_t start;       /* The cursor from which the match began. */
+    size_t end;         /* The cursor at which it ended. */
+    size_t next;        /* Where to go on for the next match; one past the end of the text if there can be none. */
+    size_t assignments; /* How many assignments the search did. */
+} sno_match;
+
+/* An assignment of a variable. Its value is the text between the two cursors or, if `is_cursor`, the number `start`. */
+typedef struct sno_assignment {
+    size_t name_length;
+    size_t start;
+    size_t end;
+    bool is_cursor;
+} sno_assignment;
+
+/* What was replaced. */
+typedef struct sno_replaced {
+    size_t length;    /* How many bytes the new text has. */
+    uint64_t matches; /* How many matches there were; of a repeated rule, in how many rounds there was one. */
+} sno_replaced;
+
+uint8_t sno_handle_open_pattern(const uint8_t *definitions, size_t definitions_length, const uint8_t *rule,
+                                size_t rule_length, uint8_t *line, size_t line_room, size_t *line_length,
+                                sno_handle *pattern);
+uint8_t sno_handle_open_text(const uint8_t *bytes, size_t length, sno_handle *text);
+uint8_t sno_handle_next(sno_handle *pattern, sno_handle *text, size_t from, uint32_t trials, sno_match *match);
+uint8_t sno_handle_assignment(sno_handle *pattern, size_t place, uint8_t *name, size_t name_room,
+                              sno_assignment *assignment);
+uint8_t sno_handle_replace(sno_handle *pattern, sno_handle *text, uint32_t trials, uint8_t *buffer, size_t room,
+                           sno_replaced *replaced);
+void sno_handle_close(sno_handle *handle);
+
+/* Reads a rule in a line, `PATTERN` or `PATTERN = OBJECT` and perhaps fields, as `sno edit -e` does (docs/FORMAT.md
+ * has rules in lines). `definitions` has the definitions that the rule may refer to, each on a line of its own, as a
+ * file of them has them; those that the rule doesn't need are left out. It may be null if its length is 0.
+ *
+ * - SNO_DONE: `pattern` is open. `*line_length` is 0.
+ * - SNO_FAULT: the first `*line_length` bytes of `line` are what is wrong, with its place, the characters around it and
+ *   what to write instead, in lines; as much of them as there is room for. 1,024 bytes are enough.
+ * - SNO_NO_MEMORY: `*line_length` is 0.
+ *
+ * What the handle held before is closed first. Except for SNO_DONE it is then closed. After the first `*line_length`
+ * bytes the buffer is unchanged. */
+static inline uint8_t sno_pattern_open(const uint8_t *definitions, size_t definitions_length, const uint8_t *rule,
+                                       size_t rule_length, uint8_t *line, size_t line_room, size_t *line_length,
+                                       sno_pattern *pattern) {
+    static const uint8_t nothing[1] = {0};
+    if (!definitions && !definitions_length)
+        definitions = nothing;
+    if (!definitions || !rule || !line || !line_length || !pattern)
+        return SNO_NULL;
+    return sno_handle_open_pattern(definitions, definitions_length, rule, rule_length, line, line_room, line_length,
+                                   &pattern->handle);
+}
+
+/* Copies bytes as a text: SNO_DONE, SNO_NO_MEMORY, or SNO_TOO_LONG. What the handle held before is closed first. Except
+ * for SNO_DONE it is then closed. */
+static inline uint8_t sno_text_open(const uint8_t *bytes, size_t length, sno_text *text) {
+    if (!bytes || !text)
+        return SNO_NULL;
+    return sno_handle_open_text(bytes, length, &text->handle);
+}
+
+/* Seeks the first match whose start is the cursor `from` or lies past it; of an anchored rule, one that starts at
+ * `from`. The search may take `trials` trials.
+ *
+ * - SNO_DONE: `*match` has the match. A search from its `next` goes on after it, as `sno edit` does: the next match
+ *   that counts is the next one that isn't the null string at the end of this one.
+ * - SNO_NOTHING: there is no match. `*match` has how many assignments the search did nonetheless.
+ * - SNO_CLOSED, SNO_BAD_LIMIT, SNO_PAST_END, SNO_TOO_MANY_TRIALS, the first that applies, or SNO_NO_MEMORY, which may
+ *   come instead of all but the first three: `*match` is all 0. SNO_NO_MEMORY is also returned if the search would have
+ *   to keep more than 4,194,304 places at which to go on.
+ *
+ * The assignments stay with the pattern until its next search. */
+static inline uint8_t sno_pattern_next(sno_pattern *pattern, sno_text *text, size_t from, uint32_t trials,
+                                       sno_match *match) {
+    if (!pattern || !text || !match)
+        return SNO_NULL;
+    return sno_handle_next(&pattern->handle, &text->handle, from, trials, match);
+}
+
+/* An assignment of the last search, by its place from 0 on: first those by `$` and `@`, which are done at once and
+ * stay done when the match backs up, and after them those by `.`, in the order in which their parts ended. A variable
+ * has the value of its last assignment.
+ *
+ * - SNO_DONE: `*assignment` has it, and the first `name_length` bytes of `name` are the name of its variable.
+ * - SNO_TOO_SHORT: the same, but the name has more than `name_room` bytes, and `name` is unchanged.
+ * - SNO_NOTHING: there is no assignment at this place.
+ * - SNO_CLOSED. */
+static inline uint8_t sno_pattern_assignment(sno_pattern *pattern, size_t place, uint8_t *name, size_t name_room,
+                                             sno_assignment *assignment) {
+    if (!pattern || !name || !assignment)
+        return SNO_NULL;
+    return sno_handle_assignment(&pattern->handle, place, name, name_room, assignment);
+}
+
+/* Performs the rule on the text, which stays as it is, and puts the new text in `buffer`: by its object all matches are
+ * replaced, or what the rule's fields say. All searches of a round together may take `trials` trials.
+ *
+ * - SNO_DONE: the buffer begins with the new text.
+ * - SNO_NOTHING: there is no new text, since there was no match or the rule has no object; the length is 0.
+ * - SNO_TOO_SHORT: the new text has `replaced->length` bytes, which is more than `room`.
+ * - SNO_CLOSED, SNO_BAD_LIMIT, SNO_TOO_MANY_TRIALS, SNO_TOO_LONG, or SNO_NO_MEMORY: both numbers are 0.
+ *
+ * Except for SNO_DONE the buffer is unchanged, and always after the new text. */
+static inline uint8_t sno_pattern_replace(sno_pattern *pattern, sno_text *text, uint32_t trials, uint8_t *buffer,
+                                          size_t room, sno_replaced *replaced) {
+    if (!pattern || !text || !buffer || !replaced)
+        return SNO_NULL;
+    return sno_handle_replace(&pattern->handle, &text->handle, trials, buffer, room, replaced);
+}
+
+/* Frees what a handle holds. A closed one stays closed, and null is ignored. */
+static inline void sno_pattern_close(sno_pattern *pattern) {
+    if (pattern)
+        sno_handle_close(&pattern->handle);
+}
+
+static inline void sno_text_close(sno_text *text) {
+    if (text)
+        sno_handle_close(&text->handle);
 }
 
 #ifdef __cplusplus

@@ -6,7 +6,16 @@
 //     const auto result = sno::try_rewrite(document);         // never throws
 //     std::cout << (result ? result.listing() : result.fault());
 //
-// A result owns its bytes and can be moved. Several threads may call at once, each with a stack of 2 MiB or more. If
+//     sno::Pattern pattern;                                   // reads a rule once, and seeks it in any number of texts
+//     sno::Text text;
+//     if (pattern.open("SPAN('0123456789') . N = '<' N '>'") || text.open(bytes))
+//         std::cerr << pattern.fault();
+//     for (const sno::Match &match : pattern.matches(text))
+//         std::cout << match.of(bytes) << '\n';
+//     std::string changed;
+//     pattern.replace(text, changed);
+//
+// A result, a pattern and a text own their bytes and can be moved. Several threads may call at once, each with a stack of 2 MiB or more. If
 // the compiler has no exceptions, as by -fno-exceptions, there is try_rewrite alone.
 #ifndef SNO_REWRITE_HPP
 #define SNO_REWRITE_HPP
@@ -16,12 +25,14 @@
 #include <cstddef>
 #include <cstdint>
 #include <cstring>
+#include <iterator>
 #include <memory>
 #include <new>
 #include <stdexcept>
 #include <string>
 #include <string_view>
 #include <utility>
+#include <vector>
 
 namespace sno {
 
@@ -125,6 +136,222 @@ inline Result try_rewrite(std::string_view document, const Options &options = {}
         result.shrink();
     return result;
 }
+
+// A text that is kept for searches: a copy of bytes.
+class Text {
+public:
+    Text() noexcept = default;
+    Text(Text &&other) noexcept : text_(std::exchange(other.text_, sno_text())) {}
+    Text &operator=(Text &&other) noexcept {
+        if (this != &other) {
+            sno_text_close(&text_);
+            text_ = std::exchange(other.text_, sno_text());
+        }
+        return *this;
+    }
+    ~Text() { sno_text_close(&text_); }
+
+    // Copies bytes: SNO_DONE, SNO_NO_MEMORY or SNO_TOO_LONG. Except for SNO_DONE the text is then closed.
+    std::uint8_t open(std::string_view bytes) noexcept {
+        const char *first = bytes.empty() ? "" : bytes.data();
+        return sno_text_open(reinterpret_cast<const std::uint8_t *>(first), bytes.size(), &text_);
+    }
+
+    explicit operator bool() const noexcept { return text_.handle.is_open; }
+
+private:
+    friend class Pattern;
+
+    sno_text text_ = sno_text();
+};
+
+// Where a match is.
+struct Match {
+    std::size_t start = 0;
+    std::size_t end = 0;
+    // Where to go on for the next match; one past the end of the text if there can be none.
+    std::size_t next = 0;
+    // How many assignments the search did, also without a match.
+    std::size_t assignments = 0;
+
+    // What was matched, if these are the bytes of the text.
+    std::string_view of(std::string_view bytes) const noexcept {
+        return start <= bytes.size() ? bytes.substr(start, end - start) : std::string_view();
+    }
+};
+
+// An assignment of a variable: its value is the text between the two cursors or, if `is_cursor`, the number `start`.
+struct Assignment {
+    std::string name;
+    std::size_t start = 0;
+    std::size_t end = 0;
+    bool is_cursor = false;
+
+    std::string_view of(std::string_view bytes) const noexcept {
+        return start <= bytes.size() ? bytes.substr(start, end - start) : std::string_view();
+    }
+};
+
+class Matches;
+
+// A pattern that was read from a rule. It may be used by one thread at a time.
+class Pattern {
+public:
+    Pattern() noexcept = default;
+    Pattern(Pattern &&other) noexcept
+        : pattern_(std::exchange(other.pattern_, sno_pattern())), fault_(std::move(other.fault_)) {}
+    Pattern &operator=(Pattern &&other) noexcept {
+        if (this != &other) {
+            sno_pattern_close(&pattern_);
+            pattern_ = std::exchange(other.pattern_, sno_pattern());
+            fault_ = std::move(other.fault_);
+        }
+        return *this;
+    }
+    ~Pattern() { sno_pattern_close(&pattern_); }
+
+    // Reads a rule and the definitions that it may refer to: SNO_DONE, SNO_FAULT or SNO_NO_MEMORY, as sno_pattern_open.
+    std::uint8_t open(std::string_view rule, std::string_view definitions = {}) {
+        std::uint8_t line[1024];
+        std::size_t length = 0;
+        fault_.clear();
+        const std::uint8_t status = sno_pattern_open(first(definitions), definitions.size(), first(rule), rule.size(),
+                                                     line, sizeof line, &length, &pattern_);
+        fault_.assign(reinterpret_cast<const char *>(line), length);
+        return status;
+    }
+
+    // What is wrong with the rule that was opened last, in lines; empty if nothing is.
+    const std::string &fault() const noexcept { return fault_; }
+
+    explicit operator bool() const noexcept { return pattern_.handle.is_open; }
+
+    // Seeks a match from a cursor on, as sno_pattern_next.
+    std::uint8_t next(Text &text, std::size_t from, Match &match, std::uint32_t trials = SNO_USUAL_TRIALS) noexcept {
+        sno_match found = sno_match();
+        const std::uint8_t status = sno_pattern_next(&pattern_, &text.text_, from, trials, &found);
+        match.start = found.start;
+        match.end = found.end;
+        match.next = found.next;
+        match.assignments = found.assignments;
+        return status;
+    }
+
+    // All matches of one pass, one after the other. Each search may take `trials` trials.
+    Matches matches(Text &text, std::uint32_t trials = SNO_USUAL_TRIALS) noexcept;
+
+    // The assignments of the last search, in their order.
+    std::vector<Assignment> assignments() {
+        std::vector<Assignment> all;
+        std::uint8_t name[SNO_LONGEST_NAME];
+        sno_assignment one;
+        while (sno_pattern_assignment(&pattern_, all.size(), name, sizeof name, &one) == SNO_DONE)
+            all.push_back({std::string(reinterpret_cast<const char *>(name), one.name_length), one.start, one.end,
+                           one.is_cursor});
+        return all;
+    }
+
+    // Puts what the rule makes of the text in `changed`, as sno_pattern_replace does, and the number of matches in
+    // `matches`. Except for SNO_DONE, `changed` is unchanged.
+    std::uint8_t replace(Text &text, std::string &changed, std::uint64_t *matches = nullptr,
+                         std::uint32_t trials = SNO_USUAL_TRIALS) {
+        std::string output(first_room, '\0');
+        sno_replaced replaced = sno_replaced();
+        std::uint8_t status = replace_into(text, output, trials, replaced);
+        if (status == SNO_TOO_SHORT) {
+            output.resize(replaced.length);
+            status = replace_into(text, output, trials, replaced);
+        }
+        if (matches)
+            *matches = replaced.matches;
+        if (status == SNO_DONE) {
+            output.resize(replaced.length);
+            changed = std::move(output);
+        }
+        return status;
+    }
+
+private:
+    // A new text of up to this length takes one call.
+    static constexpr std::size_t first_room = 4096;
+
+    static const std::uint8_t *first(std::string_view bytes) noexcept {
+        return reinterpret_cast<const std::uint8_t *>(bytes.empty() ? "" : bytes.data());
+    }
+
+    std::uint8_t replace_into(Text &text, std::string &output, std::uint32_t trials, sno_replaced &replaced) noexcept {
+        return sno_pattern_replace(&pattern_, &text.text_, trials, reinterpret_cast<std::uint8_t *>(&output[0]),
+                                   output.size(), &replaced);
+    }
+
+    sno_pattern pattern_ = sno_pattern();
+    std::string fault_;
+};
+
+// The matches of a pass over a text, for a loop. A null string at the end of the match before is no match of a pass. The
+// pattern and the text have to stay, and no other search may be done for the pattern while its assignments are wanted.
+class Matches {
+public:
+    class iterator {
+    public:
+        using iterator_category = std::input_iterator_tag;
+        using value_type = Match;
+        using difference_type = std::ptrdiff_t;
+        using pointer = const Match *;
+        using reference = const Match &;
+
+        reference operator*() const noexcept { return matches_->match_; }
+        pointer operator->() const noexcept { return &matches_->match_; }
+        iterator &operator++() noexcept {
+            if (!matches_->go_on())
+                matches_ = nullptr;
+            return *this;
+        }
+        void operator++(int) noexcept { ++*this; }
+        bool operator==(const iterator &other) const noexcept { return matches_ == other.matches_; }
+        bool operator!=(const iterator &other) const noexcept { return matches_ != other.matches_; }
+
+    private:
+        friend class Matches;
+
+        explicit iterator(Matches *matches) noexcept : matches_(matches) {}
+
+        Matches *matches_;
+    };
+
+    // Goes to the first match that is left; an input range, so there is one pass.
+    iterator begin() noexcept { return iterator(go_on() ? this : nullptr); }
+    iterator end() noexcept { return iterator(nullptr); }
+
+    // What the last search returned. After the loop it is SNO_NOTHING, or else why there are no further matches.
+    std::uint8_t status() const noexcept { return status_ == SNO_PAST_END ? std::uint8_t(SNO_NOTHING) : status_; }
+
+private:
+    friend class Pattern;
+
+    Matches(Pattern &pattern, Text &text, std::uint32_t trials) noexcept
+        : pattern_(&pattern), text_(&text), trials_(trials) {}
+
+    bool go_on() noexcept {
+        for (;;) {
+            const bool is_first = status_ != SNO_DONE;
+            const Match before = match_;
+            status_ = pattern_->next(*text_, before.next, match_, trials_);
+            if (status_ != SNO_DONE)
+                return false;
+            if (is_first || match_.start != before.end || match_.end != before.end)
+                return true;
+        }
+    }
+
+    Pattern *pattern_;
+    Text *text_;
+    std::uint32_t trials_;
+    std::uint8_t status_ = SNO_NOTHING;
+    Match match_;
+};
+
+inline Matches Pattern::matches(Text &text, std::uint32_t trials) noexcept { return Matches(*this, text, trials); }
 
 #if defined(__cpp_exceptions)
 

@@ -50,11 +50,15 @@ class Service:
         environment = {**os.environ, "PYTHONPATH": str(SOURCES)}
         self.process = subprocess.Popen(words, env=environment, stderr=subprocess.PIPE, text=True)
         self.said, self.url = [], None
+        # One that doesn't start is killed, and then has said all.
+        watchdog = threading.Timer(SECONDS, self.process.kill)
+        watchdog.start()
         for line in self.process.stderr:
             self.said.append(line)
             if found := re.fullmatch(r"serving at (\S+)\n", line):
                 self.url = found[1]
                 break
+        watchdog.cancel()
         if self.url is None:
             raise RuntimeError(f"the service didn't start: {self.said}")
         self.port = int(self.url.rpartition(":")[2]) if self.url.startswith("http") else None
@@ -82,13 +86,21 @@ class Service:
     def kill_desk(self):
         os.kill(self.desk(), signal.SIGKILL)
 
+    def kill_busy_desk(self):
+        """Kills `sno serve` when a line has no reply yet: it is stopped until there is one."""
+        desk = self.desk()
+        os.kill(desk, signal.SIGSTOP)
+        try:
+            waited(lambda: self.metric("lines_under_way") > 0, "a line is under way")
+        finally:
+            os.kill(desk, signal.SIGKILL)
+
     def kill(self):
         """Kills the service alone; its `sno serve` ends when its input does."""
         desk = self.desk()
         self.process.kill()
         self.process.wait()
-        while commands_of(desk):
-            time.sleep(0.01)
+        waited(lambda: not commands_of(desk), "sno serve ends after its service")
 
     def stop(self):
         """Ends the service by SIGTERM, and returns its status."""
@@ -110,6 +122,15 @@ class Service:
         """The value of a metric, or None."""
         found = re.search(rf"^nomyake_{re.escape(name)} (\S+)$", self.get("/metrics"), re.MULTILINE)
         return float(found[1]) if found else None
+
+
+def waited(holds, what):
+    """Waits until something holds; RuntimeError is raised if that takes too long."""
+    deadline = time.monotonic() + SECONDS
+    while not holds():
+        if time.monotonic() > deadline:
+            raise RuntimeError(f"it took too long: {what}")
+        time.sleep(0.01)
 
 
 def commands_of(process):

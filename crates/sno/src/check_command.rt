@@ -1,6 +1,7 @@
 //! The arguments of `sno check`.
 
-use crate::arguments::{document, flag};
+use crate::arguments::document;
+use crate::command_options::{CommandOption, Takes, subcommand, with_options};
 use crate::rule_lines::RuleLines;
 use crate::rule_options::{rule_lines, with_line_options};
 use clap::{ArgMatches, Command};
@@ -27,6 +28,31 @@ const EXAMPLE: &str =
 pub(crate) const LINES_AND_DOCUMENT: &str =
     "error: a document can't be given beside '--rule', '--file', '--define' and '--with'\n\nFor more information, try '--help'.\n";
 
+/// The options that only `sno check` has.
+const OPTIONS: [CommandOption<'static>; 3] = [
+    CommandOption {
+        name: "json",
+        short: None,
+        takes: Takes::Nothing,
+        conflicts: &[],
+        help: JSON_HELP,
+    },
+    CommandOption {
+        name: "strict",
+        short: None,
+        takes: Takes::Nothing,
+        conflicts: &[],
+        help: STRICT_HELP,
+    },
+    CommandOption {
+        name: "rules",
+        short: None,
+        takes: Takes::Nothing,
+        conflicts: &[],
+        help: RULES_HELP,
+    },
+];
+
 /// What `sno check` is to do.
 #[derive(Drop)]
 pub(crate) struct CheckRequest<'a> {
@@ -37,7 +63,7 @@ pub(crate) struct CheckRequest<'a> {
 }
 
 /// How `sno check` is to be done.
-#[derive(Clone, Copy, Debug, PartialEq, Eq)]
+#[derive(Clone, Copy)]
 pub(crate) struct CheckOptions<'a> {
     /// Whether the findings are written as JSON.
     pub(crate) json: bool,
@@ -56,15 +82,12 @@ impl CheckRequest<'_> {
     }
 }
 
+/// The subcommand.
 pub(crate) fn check_command<'a>(alloc: Global) -> Result<Command<'a>, AllocError> {
-    let command = Command::new(alloc, "check")
-        .about(ABOUT)
-        .override_usage(USAGE)
-        .after_help(EXAMPLE)
-        .arg(flag(alloc, "json", JSON_HELP))?
-        .arg(flag(alloc, "strict", STRICT_HELP))?
-        .arg(flag(alloc, "rules", RULES_HELP))?;
-    with_line_options(alloc, command)?.arg(document(alloc))
+    let check = subcommand(alloc, "check", ABOUT, USAGE, EXAMPLE);
+    let check = with_options(alloc, check, &OPTIONS)?;
+    let check = with_line_options(alloc, check)?;
+    check.arg(document(alloc))
 }
 
 /// What the arguments ask for.

@@ -1,6 +1,7 @@
 //! What the arguments ask for.
 
 use crate::check_command::{CheckRequest, LINES_AND_DOCUMENT, check_command, check_request};
+use crate::command_options::with_subcommand;
 use crate::edit_options::{EditRequest, edit_command, edit_options, edit_request};
 use crate::find_options::{FindRequest, WITHOUT_RULES, find_command, find_request};
 use crate::rule_options::{TRIALS_OUT_OF_RANGE, WITHOUT_LINES, are_without_lines, trials};
@@ -13,8 +14,8 @@ use crate::thread_options::{THREADS_OUT_OF_RANGE, are_threads_in_range};
 use crate::trace_command::{
     TRACE_OUT_OF_RANGE, TraceRequest, trace_command, trace_options, trace_request,
 };
-use clap::error::ErrorKind;
 use clap::{ArgMatches, Command, Error};
+use sno_rewrite::{OptionsFault, fault_of_error};
 use std::alloc::{AllocError, Global};
 
 const ABOUT: &str = "Tools for documents of texts and statements";
@@ -48,18 +49,8 @@ pub(crate) enum Request<'a> {
     Store(StoreRequest<'a>),
 }
 
-/// Why the arguments ask for nothing that can be done.
-#[derive(Debug, Drop)]
-pub(crate) enum Stop {
-    /// Help, or the version, was asked for: its text, with a line feed at the end.
-    Help(String),
-    /// The arguments are refused: what is wrong and how the program is used, with a line feed at the end.
-    Usage(String),
-    /// Out of memory.
-    Memory,
-}
-
-fn program<'a>(alloc: Global) -> Result<Command<'a>, AllocError> {
+/// The program without its subcommands.
+fn bare_program<'a>(alloc: Global) -> Command<'a> {
     Command::new(alloc, "sno")
         .no_binary_name(true)
         .about(ABOUT)
@@ -67,25 +58,17 @@ fn program<'a>(alloc: Global) -> Result<Command<'a>, AllocError> {
         .after_help(EXAMPLE)
         .subcommand_required(true)
         .disable_help_subcommand(true)
-        .subcommand(Command::new(alloc, RUN).about(RUN_ABOUT))?
-        .subcommand(check_command(alloc)?)?
-        .subcommand(edit_command(alloc)?)?
-        .subcommand(find_command(alloc)?)?
-        .subcommand(trace_command(alloc)?)?
-        .subcommand(serve_command(alloc)?)?
-        .subcommand(store_command(alloc)?)
 }
 
-/// What an error of `clap` means, with `clap`'s own text.
-fn stop_of(alloc: Global, error: &Error) -> Stop {
-    let Ok(text) = format!(in alloc; "{error}") else {
-        return Stop::Memory;
-    };
-    match error.kind() {
-        ErrorKind::OutOfMemory => Stop::Memory,
-        ErrorKind::DisplayHelp | ErrorKind::DisplayVersion => Stop::Help(text),
-        _ => Stop::Usage(text),
-    }
+fn program<'a>(alloc: Global) -> Result<Command<'a>, AllocError> {
+    let run = Command::new(alloc, RUN).about(RUN_ABOUT);
+    let program = bare_program(alloc).subcommand(run)?;
+    let program = with_subcommand(program, check_command(alloc))?;
+    let program = with_subcommand(program, edit_command(alloc))?;
+    let program = with_subcommand(program, find_command(alloc))?;
+    let program = with_subcommand(program, trace_command(alloc))?;
+    let program = with_subcommand(program, serve_command(alloc))?;
+    with_subcommand(program, store_command(alloc))
 }
 
 fn matches<'a>(alloc: Global, words: &'a [String]) -> Result<ArgMatches<'a>, Error> {
@@ -94,7 +77,7 @@ fn matches<'a>(alloc: Global, words: &'a [String]) -> Result<ArgMatches<'a>, Err
 }
 
 /// What is found under `sno find`.
-fn find_request_in<'a>(alloc: Global, found: &ArgMatches<'a>) -> Result<Request<'a>, Stop> {
+fn find_request_in<'a>(alloc: Global, found: &ArgMatches<'a>) -> Result<Request<'a>, OptionsFault> {
     let Some(trials) = trials(found) else {
         return Err(refused_with(alloc, TRIALS_OUT_OF_RANGE));
     };
@@ -104,12 +87,15 @@ fn find_request_in<'a>(alloc: Global, found: &ArgMatches<'a>) -> Result<Request<
     match find_request(alloc, found, trials) {
         Ok(request) if request.lines.are_given() => Ok(Request::Find(request)),
         Ok(_) => Err(refused_with(alloc, WITHOUT_RULES)),
-        Err(_) => Err(Stop::Memory),
+        Err(_) => Err(OptionsFault::Memory),
     }
 }
 
 /// What is found under `sno serve`.
-fn serve_request_in<'a>(alloc: Global, found: &ArgMatches<'a>) -> Result<Request<'a>, Stop> {
+fn serve_request_in<'a>(
+    alloc: Global,
+    found: &ArgMatches<'a>,
+) -> Result<Request<'a>, OptionsFault> {
     let request = match (found.get_str("store"), found.get_str("document")) {
         (Some(_), _) if has_seats(found) => return Err(refused_with(alloc, WITHOUT_DOCUMENT)),
         (Some(store), _) => store_options(found, store).map(Request::ServeStore),
@@ -123,7 +109,7 @@ fn serve_request_in<'a>(alloc: Global, found: &ArgMatches<'a>) -> Result<Request
 }
 
 /// What is found under `sno edit`.
-fn edit_request_in<'a>(alloc: Global, found: &ArgMatches<'a>) -> Result<Request<'a>, Stop> {
+fn edit_request_in<'a>(alloc: Global, found: &ArgMatches<'a>) -> Result<Request<'a>, OptionsFault> {
     if are_without_lines(found) {
         return Err(refused_with(alloc, WITHOUT_LINES));
     }
@@ -134,7 +120,7 @@ fn edit_request_in<'a>(alloc: Global, found: &ArgMatches<'a>) -> Result<Request<
         return Err(refused_with(alloc, THREADS_OUT_OF_RANGE));
     }
     let Ok(request) = edit_request(alloc, found, options) else {
-        return Err(Stop::Memory);
+        return Err(OptionsFault::Memory);
     };
     match request.refusal() {
         Some(refusal) => Err(refused_with(alloc, refusal)),
@@ -143,9 +129,12 @@ fn edit_request_in<'a>(alloc: Global, found: &ArgMatches<'a>) -> Result<Request<
 }
 
 /// What is found under `sno check`.
-fn check_request_in<'a>(alloc: Global, found: &ArgMatches<'a>) -> Result<Request<'a>, Stop> {
+fn check_request_in<'a>(
+    alloc: Global,
+    found: &ArgMatches<'a>,
+) -> Result<Request<'a>, OptionsFault> {
     let Ok(request) = check_request(alloc, found) else {
-        return Err(Stop::Memory);
+        return Err(OptionsFault::Memory);
     };
     if request.has_both() {
         return Err(refused_with(alloc, LINES_AND_DOCUMENT));
@@ -154,7 +143,10 @@ fn check_request_in<'a>(alloc: Global, found: &ArgMatches<'a>) -> Result<Request
 }
 
 /// What is found under `sno trace`.
-fn trace_request_in<'a>(alloc: Global, found: &ArgMatches<'a>) -> Result<Request<'a>, Stop> {
+fn trace_request_in<'a>(
+    alloc: Global,
+    found: &ArgMatches<'a>,
+) -> Result<Request<'a>, OptionsFault> {
     if are_without_lines(found) {
         return Err(refused_with(alloc, WITHOUT_LINES));
     }
@@ -162,7 +154,7 @@ fn trace_request_in<'a>(alloc: Global, found: &ArgMatches<'a>) -> Result<Request
         return Err(refused_with(alloc, TRACE_OUT_OF_RANGE));
     };
     let Ok(request) = trace_request(alloc, found, options) else {
-        return Err(Stop::Memory);
+        return Err(OptionsFault::Memory);
     };
     match request.refusal() {
         Some(refusal) => Err(refused_with(alloc, refusal)),
@@ -171,7 +163,7 @@ fn trace_request_in<'a>(alloc: Global, found: &ArgMatches<'a>) -> Result<Request
 }
 
 /// What is found under a subcommand.
-fn request_in<'a>(alloc: Global, matches: &ArgMatches<'a>) -> Result<Request<'a>, Stop> {
+fn request_in<'a>(alloc: Global, matches: &ArgMatches<'a>) -> Result<Request<'a>, OptionsFault> {
     if let Some(found) = matches.subcommand_matches("edit") {
         return edit_request_in(alloc, found);
     }
@@ -194,10 +186,10 @@ fn request_in<'a>(alloc: Global, matches: &ArgMatches<'a>) -> Result<Request<'a>
 }
 
 /// The refusal of arguments that don't go together or of a number that is not in its range, with this text.
-fn refused_with(alloc: Global, text: &str) -> Stop {
+fn refused_with(alloc: Global, text: &str) -> OptionsFault {
     match String::from_str(alloc, text) {
-        Ok(text) => Stop::Usage(text),
-        Err(_) => Stop::Memory,
+        Ok(text) => OptionsFault::Usage(text),
+        Err(_) => OptionsFault::Memory,
     }
 }
 
@@ -210,9 +202,12 @@ fn refused_with(alloc: Global, text: &str) -> Stop {
 ///   an option that is given twice, a number that is not in its range, a second document, a service without a document, an edit
 ///   or a search without rules, or arguments that don't go together;
 /// - `Memory`.
-pub(crate) fn asked_for<'a>(alloc: Global, words: &'a [String]) -> Result<Request<'a>, Stop> {
+pub(crate) fn asked_for<'a>(
+    alloc: Global,
+    words: &'a [String],
+) -> Result<Request<'a>, OptionsFault> {
     match matches(alloc, words) {
         Ok(matches) => request_in(alloc, &matches),
-        Err(error) => Err(stop_of(alloc, &error)),
+        Err(error) => Err(fault_of_error(alloc, &error)),
     }
 }

@@ -3,7 +3,7 @@
 use std::alloc::{AllocError, Global};
 
 /// How many lines are shown before and after a line on which a match starts.
-#[derive(Clone, Copy, Debug, PartialEq, Eq)]
+#[derive(Clone, Copy)]
 pub(crate) struct Context {
     /// How many before.
     pub(crate) before: usize,

@@ -1,6 +1,6 @@
 //! What the arguments of `sno edit` ask for.
 
-use crate::arguments::flag;
+use crate::command_options::{CommandOption, Takes, subcommand, with_options};
 use crate::file_options::{NamedFiles, named_files, with_file_options};
 use crate::rule_lines::RuleLines;
 use crate::rule_options::{rule_lines, trials, values, with_rule_options};
@@ -51,6 +51,45 @@ const FILES_ALONE: &str =
 
 const NO_SUFFIX: &str =
     "error: '--backup' takes a suffix without '/'\n\nFor more information, try '--help'.\n";
+
+/// The options that only `sno edit` has.
+const OPTIONS: [CommandOption<'static>; 5] = [
+    CommandOption {
+        name: "diff",
+        short: None,
+        takes: Takes::Nothing,
+        conflicts: &["check"],
+        help: DIFF_HELP,
+    },
+    CommandOption {
+        name: "check",
+        short: None,
+        takes: Takes::Nothing,
+        conflicts: &[],
+        help: CHECK_HELP,
+    },
+    CommandOption {
+        name: "json",
+        short: None,
+        takes: Takes::Nothing,
+        conflicts: &["diff"],
+        help: JSON_HELP,
+    },
+    CommandOption {
+        name: "sync",
+        short: None,
+        takes: Takes::Nothing,
+        conflicts: &[],
+        help: SYNC_HELP,
+    },
+    CommandOption {
+        name: "backup",
+        short: None,
+        takes: Takes::Value("SUFFIX"),
+        conflicts: &["diff", "check"],
+        help: BACKUP_HELP,
+    },
+];
 
 /// What `sno edit` is to do.
 #[derive(Drop)]
@@ -105,7 +144,7 @@ impl EditRequest<'_> {
 }
 
 /// How `sno edit` is to be done.
-#[derive(Clone, Copy, Debug, PartialEq, Eq)]
+#[derive(Clone, Copy)]
 pub(crate) struct EditOptions<'a> {
     /// What is done with the texts.
     pub(crate) purpose: Purpose,
@@ -125,38 +164,32 @@ pub(crate) struct EditOptions<'a> {
     pub(crate) rules: Option<&'a str>,
 }
 
-/// The subcommand.
-pub(crate) fn edit_command<'a>(alloc: Global) -> Result<Command<'a>, AllocError> {
-    // With rules in lines the first positional argument is a file.
-    let rules = Arg::new(alloc, "rules")
+/// The file of the rules. With rules in lines it is the first file.
+fn rules<'a>(alloc: Global) -> Arg<'a> {
+    Arg::new(alloc, "rules")
         .value_name("RULES")
         .action(ArgAction::Set)
-        .help(RULES_HELP);
-    let files = Arg::new(alloc, "files")
+        .help(RULES_HELP)
+}
+
+/// The files.
+fn files<'a>(alloc: Global) -> Arg<'a> {
+    Arg::new(alloc, "files")
         .value_name("FILE")
         .action(ArgAction::Append)
         .num_args(1..)
-        .help(FILES_HELP);
-    let backup = Arg::new(alloc, "backup")
-        .long("backup")
-        .value_name("SUFFIX")
-        .action(ArgAction::Set)
-        .help(BACKUP_HELP);
-    let json = flag(alloc, "json", JSON_HELP).conflicts_with("diff")?;
-    let edit = Command::new(alloc, "edit")
-        .about(ABOUT)
-        .override_usage(USAGE)
-        .after_help(EXAMPLE)
-        .arg(flag(alloc, "diff", DIFF_HELP).conflicts_with("check")?)?
-        .arg(flag(alloc, "check", CHECK_HELP))?
-        .arg(json)?
-        .arg(flag(alloc, "sync", SYNC_HELP))?
-        .arg(backup.conflicts_with("diff")?.conflicts_with("check")?)?;
+        .help(FILES_HELP)
+}
+
+/// The subcommand.
+pub(crate) fn edit_command<'a>(alloc: Global) -> Result<Command<'a>, AllocError> {
+    let edit = subcommand(alloc, "edit", ABOUT, USAGE, EXAMPLE);
+    let edit = with_options(alloc, edit, &OPTIONS)?;
     let edit = with_rule_options(alloc, edit)?;
-    with_file_options(alloc, edit)?
-        .arg(threads_option(alloc))?
-        .arg(rules)?
-        .arg(files)
+    let edit = with_file_options(alloc, edit)?;
+    let edit = edit.arg(threads_option(alloc))?;
+    let edit = edit.arg(rules(alloc))?;
+    edit.arg(files(alloc))
 }
 
 /// What `sno edit` is to do, with these options.

@@ -1,8 +1,9 @@
 //! The options that say which files are taken.
 
-use crate::arguments::flag;
-use crate::rule_options::{repeated, values};
-use clap::{Arg, ArgAction, ArgMatches, Command};
+use crate::command_options::{CommandOption, Takes, with_argument, with_options};
+use crate::rule_options::values;
+use clap::{Arg, ArgMatches, Command};
+use sno_rewrite::flag;
 use std::alloc::{AllocError, Global};
 
 const NAME_HELP: &str =
@@ -13,8 +14,26 @@ const LIST_HELP: &str =
 
 const NULL_HELP: &str = "In the file of '--files-from' each path ends with a NUL";
 
+/// The options that say which files are taken, but for that of the end of a path.
+const FILE_OPTIONS: [CommandOption<'static>; 2] = [
+    CommandOption {
+        name: "name",
+        short: Some('n'),
+        takes: Takes::Values("GLOB"),
+        conflicts: &[],
+        help: NAME_HELP,
+    },
+    CommandOption {
+        name: "files-from",
+        short: None,
+        takes: Takes::Value("FILE"),
+        conflicts: &[],
+        help: LIST_HELP,
+    },
+];
+
 /// A file with paths.
-#[derive(Clone, Copy, Debug, PartialEq, Eq)]
+#[derive(Clone, Copy)]
 pub(crate) struct PathList<'a> {
     /// Its path; `-` is standard input.
     pub(crate) path: &'a str,
@@ -53,23 +72,20 @@ impl NamedFiles<'_> {
     }
 }
 
+/// The option that says how the paths of a list end.
+fn null_option<'a>(alloc: Global) -> Result<Arg<'a>, AllocError> {
+    flag(alloc, "null", NULL_HELP)
+        .short('0')
+        .requires_arg("files-from")
+}
+
 /// The command with the options for files.
 pub(crate) fn with_file_options<'a>(
     alloc: Global,
     command: Command<'a>,
 ) -> Result<Command<'a>, AllocError> {
-    let list = Arg::new(alloc, "files-from")
-        .long("files-from")
-        .value_name("FILE")
-        .action(ArgAction::Set)
-        .help(LIST_HELP);
-    let null = flag(alloc, "null", NULL_HELP)
-        .short('0')
-        .requires_arg("files-from")?;
-    command
-        .arg(repeated(alloc, "name", 'n', "GLOB", NAME_HELP))?
-        .arg(list)?
-        .arg(null)
+    let command = with_options(alloc, command, &FILE_OPTIONS)?;
+    with_argument(command, null_option(alloc))
 }
 
 /// The files that are named, with these paths among them.

@@ -1,6 +1,6 @@
 //! What the arguments of `sno find` ask for.
 
-use crate::arguments::{flag, optional_number};
+use crate::command_options::{CommandOption, Takes, subcommand, with_options};
 use crate::contexts::Context;
 use crate::file_options::{NamedFiles, named_files, with_file_options};
 use crate::rule_lines::RuleLines;
@@ -40,8 +40,61 @@ const EXAMPLE: &str =
 pub(crate) const WITHOUT_RULES: &str =
     "error: '--rule' or '--file' is wanted\n\nFor more information, try '--help'.\n";
 
+/// The options that only `sno find` has.
+const OPTIONS: [CommandOption<'static>; 7] = [
+    CommandOption {
+        name: "paths",
+        short: Some('l'),
+        takes: Takes::Nothing,
+        conflicts: &[],
+        help: PATHS_HELP,
+    },
+    CommandOption {
+        name: "count",
+        short: Some('c'),
+        takes: Takes::Nothing,
+        conflicts: &["paths"],
+        help: COUNT_HELP,
+    },
+    CommandOption {
+        name: "json",
+        short: None,
+        takes: Takes::Nothing,
+        conflicts: &["paths", "count"],
+        help: JSON_HELP,
+    },
+    CommandOption {
+        name: "only",
+        short: None,
+        takes: Takes::Value("NAME"),
+        conflicts: &["paths", "count", "json"],
+        help: ONLY_HELP,
+    },
+    CommandOption {
+        name: "after-context",
+        short: Some('A'),
+        takes: Takes::Number,
+        conflicts: &["paths", "count", "json", "only"],
+        help: AFTER_HELP,
+    },
+    CommandOption {
+        name: "before-context",
+        short: Some('B'),
+        takes: Takes::Number,
+        conflicts: &["paths", "count", "json", "only"],
+        help: BEFORE_HELP,
+    },
+    CommandOption {
+        name: "context",
+        short: Some('C'),
+        takes: Takes::Number,
+        conflicts: &["paths", "count", "json", "only"],
+        help: CONTEXT_HELP,
+    },
+];
+
 /// What is shown of the matches.
-#[derive(Clone, Copy, Debug, PartialEq, Eq)]
+#[derive(Clone, Copy)]
 pub(crate) enum Shown<'a> {
     /// The line of each, with lines around it if they are asked for.
     Lines(Option<Context>),
@@ -72,57 +125,23 @@ pub(crate) struct FindRequest<'a> {
     pub(crate) threads: Option<u32>,
 }
 
-/// An option for lines around matches.
-fn around<'a>(
-    alloc: Global,
-    name: &'a str,
-    short: char,
-    help: &'a str,
-) -> Result<Arg<'a>, AllocError> {
-    optional_number(alloc, name, help)
-        .short(short)
-        .conflicts_with_all(&["paths", "count", "json", "only"])
+/// The files.
+fn files<'a>(alloc: Global) -> Arg<'a> {
+    Arg::new(alloc, "files")
+        .value_name("FILE")
+        .action(ArgAction::Append)
+        .num_args(0..)
+        .help(FILES_HELP)
 }
 
 /// The subcommand.
 pub(crate) fn find_command<'a>(alloc: Global) -> Result<Command<'a>, AllocError> {
-    let only = Arg::new(alloc, "only")
-        .long("only")
-        .value_name("NAME")
-        .action(ArgAction::Set)
-        .help(ONLY_HELP);
-    let files = Arg::new(alloc, "files")
-        .value_name("FILE")
-        .action(ArgAction::Append)
-        .num_args(0..)
-        .help(FILES_HELP);
-    let find = Command::new(alloc, "find")
-        .about(ABOUT)
-        .override_usage(USAGE)
-        .after_help(EXAMPLE)
-        .arg(flag(alloc, "paths", PATHS_HELP).short('l'))?
-        .arg(
-            flag(alloc, "count", COUNT_HELP)
-                .short('c')
-                .conflicts_with("paths")?,
-        )?
-        .arg(
-            flag(alloc, "json", JSON_HELP)
-                .conflicts_with("paths")?
-                .conflicts_with("count")?,
-        )?
-        .arg(
-            only.conflicts_with("paths")?
-                .conflicts_with("count")?
-                .conflicts_with("json")?,
-        )?
-        .arg(around(alloc, "after-context", 'A', AFTER_HELP)?)?
-        .arg(around(alloc, "before-context", 'B', BEFORE_HELP)?)?
-        .arg(around(alloc, "context", 'C', CONTEXT_HELP)?)?;
+    let find = subcommand(alloc, "find", ABOUT, USAGE, EXAMPLE);
+    let find = with_options(alloc, find, &OPTIONS)?;
     let find = with_rule_options(alloc, find)?;
-    with_file_options(alloc, find)?
-        .arg(threads_option(alloc))?
-        .arg(files)
+    let find = with_file_options(alloc, find)?;
+    let find = find.arg(threads_option(alloc))?;
+    find.arg(files(alloc))
 }
 
 /// How many lines around matches are asked for.

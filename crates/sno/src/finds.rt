@@ -244,7 +244,7 @@ fn find_text<W: Write>(
     output: &mut W,
 ) -> Result<bool, NotFound> {
     let called = name_of(path);
-    if shown == Shown::Paths {
+    if matches!(shown, Shown::Paths) {
         return write_path(alloc, rules, path, called, text, output);
     }
     let findings = match find_in(alloc, rules, path, text) {

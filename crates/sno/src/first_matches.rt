@@ -1,19 +1,23 @@
 //! Whether rules match in a text at all.
 
-use sno_edit::{EditRules, FileFault, RefusedStatement, Statement, Trials, is_for};
+use sno_edit::{EditRules, FileFault, RefusedStatement, Trials, is_for};
 use sno_machine::compile;
 use sno_pattern::ByteText;
-use sno_statement::{StatementFault, first_match};
+use sno_statement::{FileStatement, StatementFault, first_match};
 use std::alloc::Global;
 
 /// Whether the statement matches in the text.
 pub(crate) fn matches(
     alloc: Global,
-    statement: &Statement,
+    statement: &FileStatement,
     trials: Trials,
     text: &ByteText,
 ) -> Result<bool, StatementFault> {
-    let code = compile(alloc, statement.rules(), statement.pattern())?;
+    let code = compile(
+        alloc,
+        statement.search().rules(),
+        statement.search().pattern(),
+    )?;
     let most = trials.on(text.bytes().len());
     let found = first_match(alloc, statement, &code, text, most)?;
     Ok(found.is_some())
@@ -28,14 +32,14 @@ pub(crate) fn have_match(
     text: &ByteText,
 ) -> Result<bool, FileFault> {
     for statement in rules.statements() {
-        if !is_for(statement, path) {
+        if !is_for(statement.search(), path) {
             continue;
         }
         match matches(alloc, statement, rules.trials(), text) {
             Ok(true) => return Ok(true),
             Ok(false) => {}
             Err(fault) => {
-                let statement = statement.number();
+                let statement = statement.search().number();
                 return Err(FileFault::from(RefusedStatement { statement, fault }));
             }
         }

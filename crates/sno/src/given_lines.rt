@@ -35,7 +35,7 @@ impl RuleLines<'_> {
 }
 
 /// Why there are no lines, or no rules.
-#[derive(Debug, Drop)]
+#[derive(Drop)]
 pub(crate) enum NoRules {
     /// What is written about what was given in their place.
     Refused(String),

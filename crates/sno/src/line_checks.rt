@@ -1,11 +1,10 @@
 //! What is found in rules that are given in lines.
 
 use crate::given_lines::{NoRules, RuleLines, read_lines, rule_files};
-use crate::line_rows::rows_of;
 use sno_check::check_rule_rows;
 use sno_lines::{
     GivenLines, LineMistake, LineReport, NoLines, SpelledLines, json_of_report, lines_of_report,
-    report_in_lines, used_by_sets,
+    report_in_lines, rows_of, used_by_sets,
 };
 use std::alloc::{AllocError, Global};
 use std::rt::Files;

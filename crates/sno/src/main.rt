@@ -6,6 +6,7 @@
 //! |---|---|
 //! | `command_line` | what the arguments ask for |
 //! | `arguments` | arguments that several subcommands have |
+//! | `command_options` | options of subcommands, listed in tables |
 //! | `faults` | why nothing was done, with the line and the status of each reason |
 //! | `streams` | bytes in and out |
 //! | `check_command`, `checks` | `sno check`: its arguments; a document or rules in JSON are checked by `sno_check`, and the report written |
@@ -21,13 +22,13 @@
 //! | `rounds_left` | repeated rules that stop at the most rounds that a rule may have |
 //! | `rule_options` | the options that give rules in lines, and say how they are performed |
 //! | `rule_lines` | rules in lines, which `sno_lines` spells, as statements |
-//! | `line_rows` | rules and definitions in lines, as rows |
 //! | `given_lines`, `ready_files` | the lines that options and files give; where the files of ready definitions are |
 //! | `file_options`, `found_files` | the options that say which files are taken; the files that they name |
 //! | `trace_command`, `trace_modes`, `traces` | `sno trace`: its arguments; a statement or a rule is traced by `sno_traces` |
 //! | `serve_command`, `serves` | `sno serve`: its arguments; a document is served by `sno_serve`, and the listing written |
 //! | `listing_files` | the file of a listing |
 //! | `store_command`, `stored` | `sno serve --store` and `sno store`: a document is served over a store by `sno_durable`, and a store looked at |
+//! | `compactions` | a store that replaces the one from which it goes on |
 //! | `program` | from the arguments and the streams to the status |
 #![tactic(auto)]
 
@@ -35,6 +36,8 @@ mod arguments;
 mod check_command;
 mod checks;
 mod command_line;
+mod command_options;
+mod compactions;
 mod contexts;
 mod edit_options;
 mod edit_reports;
@@ -48,7 +51,6 @@ mod first_matches;
 mod found_files;
 mod given_lines;
 mod line_checks;
-mod line_rows;
 mod listing_files;
 mod program;
 mod ready_files;

@@ -1,7 +1,7 @@
 //! From the arguments and the streams of the program to its status.
 
 use crate::checks::run_check;
-use crate::command_line::{RUN, Request, Stop, asked_for};
+use crate::command_line::{RUN, Request, asked_for};
 use crate::edits::run_edit;
 use crate::faults::{FAILED, INPUT, MISUSED, ProgramFault};
 use crate::finds::run_find;
@@ -9,8 +9,8 @@ use crate::serves::run_serve;
 use crate::stored::{Stores, run_store, run_stored};
 use crate::streams::write_all;
 use crate::traces::run_trace;
-use sno_rewrite::run_program;
-use std::alloc::{AllocError, Global};
+use sno_rewrite::{explain, run_program, words_after_name};
+use std::alloc::Global;
 use std::env::{Args, FillError};
 use std::fs::File;
 use std::io;
@@ -29,17 +29,6 @@ fn is_set<R: Env>(rt: &R, name: &str) -> bool {
         Err(FillError::NotPresent) => false,
         Err(_) => true,
     }
-}
-
-/// The arguments after the program's name.
-fn words_after_name(alloc: Global, words: Args) -> Result<Vec<String>, AllocError> {
-    let mut words = words;
-    let _name = words.next();
-    let mut rest = Vec::new(alloc);
-    for word in words {
-        rest.push(word)?;
-    }
-    Ok(rest)
 }
 
 /// Writes the line of a fault, and returns its status. If the line can't be printed, the status is the same.
@@ -68,21 +57,6 @@ fn report_of<E: Write>(request: &Request<'_>, fault: ProgramFault, errors: &mut 
     let called = read_by(request);
     let _printed = errors.writeln(format_args!("{called}: {fault}"));
     FAILED
-}
-
-/// Writes help to the output, or how the program is used to `errors`, and returns the status.
-fn explain<W: Write, E: Write>(stop: &Stop, output: &mut W, errors: &mut E) -> u8 {
-    match stop {
-        Stop::Help(text) => match write_all(output, text.as_bytes()) {
-            Ok(()) => 0,
-            Err(fault) => report(fault, errors),
-        },
-        Stop::Usage(text) => {
-            let _printed = write_all(errors, text.as_bytes());
-            MISUSED
-        }
-        Stop::Memory => report(ProgramFault::Memory, errors),
-    }
 }
 
 /// Why there are no arguments.
@@ -153,6 +127,35 @@ fn run_document<T: Threads + Wait + Sync, I: Read, W: Write, E: Write>(
     run_program(rt, alloc, Ok(words.into_iter()), input, output, errors)
 }
 
+/// Does what is asked for, and returns the status, also that of a fault.
+fn perform<
+    R: Files<File = File, Dir: Send>
+        + Env
+        + Stores
+        + Threads
+        + Wait
+        + AllocGlobal
+        + Clone
+        + Drop
+        + Sync,
+    I: Read + Send + Drop,
+    W: Write + IsTerminal + Send + Drop,
+    E: Write,
+>(
+    rt: &R,
+    alloc: Global,
+    request: &Request<'_>,
+    input: &mut I,
+    output: &mut W,
+    errors: &mut E,
+) -> u8 {
+    match run_request(rt, alloc, request, input, output, errors) {
+        Ok(status) => status,
+        Err(fault) => report_of(request, fault, errors),
+    }
+}
+
+/// Does what the words ask for, and returns the status.
 fn run_words<
     R: Files<File = File, Dir: Send>
         + Env
@@ -168,11 +171,8 @@ fn run_words<
     E: Write,
 >(rt: &R, alloc: Global, words: &[String], input: &mut I, output: &mut W, errors: &mut E) -> u8 {
     match asked_for(alloc, words) {
-        Ok(request) => match run_request(rt, alloc, &request, input, output, errors) {
-            Ok(status) => status,
-            Err(fault) => report_of(&request, fault, errors),
-        },
-        Err(stop) => explain(&stop, output, errors),
+        Ok(request) => perform(rt, alloc, &request, input, output, errors),
+        Err(fault) => explain(&fault, output, errors),
     }
 }
 

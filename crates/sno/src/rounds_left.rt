@@ -1,18 +1,18 @@
 //! Repeated rules that stop at the most rounds that a rule may have.
 
 use crate::first_matches::matches;
-use sno_edit::{Done, EditRules, Folder, Statement, Tally, is_for};
+use sno_edit::{Done, EditRules, Folder, Tally, is_for};
 use sno_files::ReadOnly;
 use sno_pattern::{ByteText, MAX_BYTES};
-use sno_statement::MAX_ROUNDS;
+use sno_statement::{FileStatement, MAX_ROUNDS};
 use std::alloc::Global;
 use std::fs::File;
 use std::io::Write;
 use std::rt::Files;
 
 /// Whether the statement is for the file with this path and has as many rounds as a rule may have.
-fn has_most_rounds(statement: &Statement, path: &str) -> bool {
-    statement.repeat() == Some(MAX_ROUNDS) && is_for(statement, path)
+fn has_most_rounds(statement: &FileStatement, path: &str) -> bool {
+    statement.repeat() == Some(MAX_ROUNDS) && is_for(statement.search(), path)
 }
 
 /// Whether this number of matches may be that of a statement that stopped at the most rounds.
@@ -28,7 +28,7 @@ fn stopped(alloc: Global, rules: &EditRules, path: &str, left: &ByteText) -> Opt
             continue;
         }
         if let Ok(true) = matches(alloc, statement, rules.trials(), left) {
-            return Some(statement.number());
+            return Some(statement.search().number());
         }
     }
     None

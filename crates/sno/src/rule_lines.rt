@@ -1,12 +1,13 @@
 //! Rules that are given in lines.
+ghost use Rattle.sno_statement.specs.Statement.{IsLimit};
 
 pub(crate) use crate::given_lines::RuleLines;
 use crate::given_lines::{NoRules, no_rules, read_lines, rule_files};
-use crate::line_rows::{PatternRows, RuleRows, rows_of};
-use crate::trace_modes::mode_on;
-use sno_document::{Document, DocumentFault, rules_of_rows};
+use sno_document::{DocumentFault, FileRules, Mode, rules_of_rows};
 use sno_edit::{EditRules, Trials};
-use sno_lines::{GivenLines, SpelledLines, lines_of_mistake, mistake_of_fault};
+use sno_lines::{
+    GivenLines, PatternRows, RuleRows, SpelledLines, lines_of_mistake, mistake_of_fault, rows_of,
+};
 use std::alloc::{AllocError, Global};
 use std::rt::Files;
 
@@ -48,14 +49,16 @@ fn rules_of_spelled(
     }
 }
 
-fn document_of_spelled(
+fn file_rules_of_spelled(
     alloc: Global,
     lines: &SpelledLines<'_>,
-    bytes: usize,
-) -> Result<Document, NoRules> {
+    mode: Mode,
+) -> Result<FileRules, NoRules>
+    requires { IsLimit mode.trials }
+{
     let (definitions, rules) = whole_rows(alloc, lines)?;
-    match rules_of_rows(alloc, definitions, rules, mode_on(bytes)) {
-        Ok(document) => Ok(document),
+    match rules_of_rows(alloc, definitions, rules, mode) {
+        Ok(rules) => Ok(rules),
         Err(fault) => Err(refused(alloc, lines, fault)),
     }
 }
@@ -70,13 +73,15 @@ fn rules_of_given(
     rules_of_spelled(alloc, &spelled, anchor, trials)
 }
 
-fn document_of_given(
+fn file_rules_of_given(
     alloc: Global,
     lines: &GivenLines<'_>,
-    bytes: usize,
-) -> Result<Document, NoRules> {
+    mode: Mode,
+) -> Result<FileRules, NoRules>
+    requires { IsLimit mode.trials }
+{
     let spelled = SpelledLines::of(alloc, lines)?;
-    document_of_spelled(alloc, &spelled, bytes)
+    file_rules_of_spelled(alloc, &spelled, mode)
 }
 
 /// The rules that are given in lines, by options and in files.
@@ -94,16 +99,18 @@ pub(crate) fn rules_of_lines<R: Files + AllocGlobal>(
     }
 }
 
-/// The rules that are given in lines, as the statements of a document without texts, for a text of this many bytes.
-pub(crate) fn document_of_lines<R: Files + AllocGlobal>(
+/// The rules that are given in lines, performed in this way.
+pub(crate) fn file_rules_of_lines<R: Files + AllocGlobal>(
     rt: &R,
     alloc: Global,
     given: &RuleLines<'_>,
-    bytes: usize,
-) -> Result<Document, NoRules> {
+    mode: Mode,
+) -> Result<FileRules, NoRules>
+    requires { IsLimit mode.trials }
+{
     let files = rule_files(rt, alloc, given)?;
     match read_lines(alloc, &files, given) {
-        Ok(lines) => document_of_given(alloc, &lines, bytes),
+        Ok(lines) => file_rules_of_given(alloc, &lines, mode),
         Err(reason) => Err(no_rules(alloc, reason)),
     }
 }

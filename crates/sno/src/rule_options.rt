@@ -1,8 +1,9 @@
 //! The options that give rules in lines, and say how they are performed.
 
-use crate::arguments::{flag, is_up_to, optional_number};
+use crate::arguments::is_up_to;
+use crate::command_options::{CommandOption, Takes, with_options};
 use crate::rule_lines::RuleLines;
-use clap::{Arg, ArgAction, ArgMatches, Command};
+use clap::{ArgMatches, Command};
 use sno_edit::{MAX_TRIALS, Trials};
 use std::alloc::{AllocError, Global};
 
@@ -30,32 +31,62 @@ pub(crate) const TRIALS_OUT_OF_RANGE: &str =
 pub(crate) const WITHOUT_LINES: &str =
     "error: '--define' and '--with' are for rules of '--rule' or '--file'\n\nFor more information, try '--help'.\n";
 
-/// An option that may be given several times, each time with a value.
-pub(crate) fn repeated<'a>(
-    alloc: Global,
-    name: &'a str,
-    short: char,
-    value: &'a str,
-    help: &'a str,
-) -> Arg<'a> {
-    Arg::new(alloc, name)
-        .short(short)
-        .long(name)
-        .value_name(value)
-        .action(ArgAction::Append)
-        .help(help)
-}
+/// The options that give rules and definitions in lines.
+const LINE_OPTIONS: [CommandOption<'static>; 4] = [
+    CommandOption {
+        name: "rule",
+        short: Some('e'),
+        takes: Takes::Values("RULE"),
+        conflicts: &[],
+        help: RULE_HELP,
+    },
+    CommandOption {
+        name: "file",
+        short: Some('f'),
+        takes: Takes::Values("RULES"),
+        conflicts: &[],
+        help: RULE_FILE_HELP,
+    },
+    CommandOption {
+        name: "define",
+        short: Some('d'),
+        takes: Takes::Values("DEFINITION"),
+        conflicts: &[],
+        help: DEFINE_HELP,
+    },
+    CommandOption {
+        name: "with",
+        short: Some('w'),
+        takes: Takes::Values("NAME"),
+        conflicts: &[],
+        help: WITH_HELP,
+    },
+];
+
+/// The options that say how rules are performed.
+const RULE_OPTIONS: [CommandOption<'static>; 2] = [
+    CommandOption {
+        name: "anchor",
+        short: None,
+        takes: Takes::Nothing,
+        conflicts: &[],
+        help: ANCHOR_HELP,
+    },
+    CommandOption {
+        name: "trials",
+        short: None,
+        takes: Takes::Number,
+        conflicts: &[],
+        help: TRIALS_HELP,
+    },
+];
 
 /// The command with the options that give rules and definitions in lines.
 pub(crate) fn with_line_options<'a>(
     alloc: Global,
     command: Command<'a>,
 ) -> Result<Command<'a>, AllocError> {
-    command
-        .arg(repeated(alloc, "rule", 'e', "RULE", RULE_HELP))?
-        .arg(repeated(alloc, "file", 'f', "RULES", RULE_FILE_HELP))?
-        .arg(repeated(alloc, "define", 'd', "DEFINITION", DEFINE_HELP))?
-        .arg(repeated(alloc, "with", 'w', "NAME", WITH_HELP))
+    with_options(alloc, command, &LINE_OPTIONS)
 }
 
 /// The command with the options for rules.
@@ -63,9 +94,7 @@ pub(crate) fn with_rule_options<'a>(
     alloc: Global,
     command: Command<'a>,
 ) -> Result<Command<'a>, AllocError> {
-    let command = command
-        .arg(flag(alloc, "anchor", ANCHOR_HELP))?
-        .arg(optional_number(alloc, "trials", TRIALS_HELP))?;
+    let command = with_options(alloc, command, &RULE_OPTIONS)?;
     with_line_options(alloc, command)
 }
 

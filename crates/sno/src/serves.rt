@@ -1,12 +1,14 @@
 //! `sno serve`.
+ghost use Rattle.sno_statement.specs.Statement.{IsLimit};
+ghost use Rattle.sno_document.specs.Reads.{IsReady};
 
 use crate::checks::document_bytes;
 use crate::faults::ProgramFault;
-use crate::listing_files::{open_listing, write_listing};
+use crate::listing_files::{ListingFile, open_listing, write_listing};
 use crate::serve_command::ServeOptions;
-use sno_document::{DocumentFault, Mode, read_document};
+use sno_document::{Document, DocumentFault, Mode, read_document};
 use sno_listing::listing_of;
-use sno_serve::{ServeFault, serve};
+use sno_serve::{ServeFault, Served, serve};
 use std::alloc::Global;
 use std::io::{Read, Write};
 use std::rt::Files;
@@ -23,6 +25,54 @@ fn fault_of(fault: ServeFault) -> ProgramFault {
         ServeFault::Desk => ProgramFault::Closing,
         ServeFault::Read => ProgramFault::Input,
         ServeFault::Write => ProgramFault::Write,
+    }
+}
+
+/// Writes the listing, if it is asked for, and returns the status: 0 unless something ended the service before the end of the input.
+fn end<R: Files>(
+    rt: &R,
+    alloc: Global,
+    options: &ServeOptions<'_>,
+    served: &Served,
+    listing: ListingFile<R::File>,
+) -> Result<u8, ProgramFault> {
+    if options.listing.is_some() {
+        let bytes = listing_of(alloc, &served.book, &served.refused, true)?;
+        write_listing(rt, listing, &bytes)?;
+    }
+    match served.fault {
+        None => Ok(0),
+        Some(fault) => Err(fault_of(fault)),
+    }
+}
+
+/// Serves a document that was read.
+fn serve_document<R: Files + Threads + Wait + Sync, I: Read + Send + Drop, W: Write + Send + Drop>(
+    rt: &R,
+    alloc: Global,
+    options: &ServeOptions<'_>,
+    document: Document,
+    mode: Mode,
+    input: I,
+    output: W,
+) -> Result<u8, ProgramFault>
+    requires limit { IsLimit mode.trials }
+    requires ready { IsReady document }
+{
+    let listing = open_listing(rt, alloc, options.listing)?;
+    let seats = options.seats as usize;
+    match serve(
+        rt,
+        alloc,
+        document,
+        mode,
+        seats,
+        options.tries,
+        input,
+        output,
+    ) {
+        Ok(served) => end(rt, alloc, options, &served, listing),
+        Err(fault) => Err(fault_of(fault)),
     }
 }
 
@@ -48,36 +98,14 @@ pub(crate) fn run_serve<
         anchor: false,
         trials: options.trials,
     };
-    let document = match read_document(alloc, &bytes, mode) {
-        Ok(document) => document,
-        Err(DocumentFault::Memory) => return Err(ProgramFault::Memory),
+    let read = read_document(alloc, &bytes, mode);
+    drop(bytes);
+    match read {
+        Ok(document) => serve_document(rt, alloc, options, document, mode, input, output),
+        Err(DocumentFault::Memory) => Err(ProgramFault::Memory),
         Err(fault) => {
             let _printed = errors.writeln(fault);
-            return Ok(INVALID);
+            Ok(INVALID)
         }
-    };
-    drop(bytes);
-    let listing = open_listing(rt, alloc, options.listing)?;
-    let seats = options.seats as usize;
-    let served = match serve(
-        rt,
-        alloc,
-        document,
-        mode,
-        seats,
-        options.tries,
-        input,
-        output,
-    ) {
-        Ok(served) => served,
-        Err(fault) => return Err(fault_of(fault)),
-    };
-    if options.listing.is_some() {
-        let bytes = listing_of(alloc, &served.book, &served.refused, true)?;
-        write_listing(rt, listing, &bytes)?;
-    }
-    match served.fault {
-        None => Ok(0),
-        Some(fault) => Err(fault_of(fault)),
     }
 }

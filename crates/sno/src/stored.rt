@@ -1,16 +1,16 @@
 //! `sno serve --store` and `sno store`: a document over a store, and a store looked at.
 
 use crate::checks::document_bytes;
+use crate::compactions::compact;
 use crate::faults::{FAILED, ProgramFault};
 use crate::listing_files::{ListingFile, open_listing, write_listing};
 use crate::serve_command::StoreOptions;
 use crate::store_command::{StoreAction, StoreRequest};
 use crate::streams::write_all;
-use sno_durable::{DurableFault, Given, Kept, serve_durably};
-use sno_listing::listing_of;
+use sno_durable::{Client, DurableFault, Given, Kept, serve_durably};
 use sno_store::{File, Lines, OpenFault, Store, open};
 use sqlite_disk::Disk;
-use std::alloc::Global;
+use std::alloc::{AllocError, Global};
 use std::fs;
 use std::io::{Read, Write};
 use std::rt::Files;
@@ -45,19 +45,20 @@ fn status_of(fault: &DurableFault) -> u8 {
         | DurableFault::Format
         | DurableFault::OtherDocument
         | DurableFault::OtherTrials(_)
+        | DurableFault::TextsTooLong
         | DurableFault::Record(_)
         | DurableFault::Outcome(_) => INVALID,
     }
 }
 
 /// Writes the line of a fault, and returns its status.
-fn refuse<E: Write>(fault: &DurableFault, errors: &mut E) -> u8 {
+pub(crate) fn refuse<E: Write>(fault: &DurableFault, errors: &mut E) -> u8 {
     let _printed = errors.writeln(fault);
     status_of(fault)
 }
 
 /// Opens a store; if it can't be opened, its line is written, and the status comes back.
-fn opened<R: Stores, E: Write>(
+pub(crate) fn opened<R: Stores, E: Write>(
     rt: &R,
     path: &str,
     errors: &mut E,
@@ -94,39 +95,192 @@ pub(crate) fn run_stored<R: Files + Stores + Wait, I: Read + Drop, W: Write + Dr
         None => None,
         Some(path) => Some(document_bytes(rt, alloc, &mut input, Some(path))?),
     };
+    serve_listed(rt, alloc, options, document, input, output, errors)
+}
+
+/// Serves the document, or that of the store, and writes the listing.
+fn serve_listed<R: Files + Stores + Wait, I: Read + Drop, W: Write + Drop, E: Write>(
+    rt: &R,
+    alloc: Global,
+    options: &StoreOptions<'_>,
+    document: Option<Vec<u8>>,
+    input: I,
+    output: W,
+    errors: &mut E,
+) -> Result<u8, ProgramFault> {
     let listing = open_listing(rt, alloc, options.listing)?;
-    let (store, lines) = match opened(rt, options.store, errors) {
-        Ok(opened) => opened,
-        Err(status) => return Ok(status),
-    };
+    match serve_given(rt, alloc, options, document, input, output, errors) {
+        Ok(kept) => end(rt, alloc, &kept, listing, errors),
+        Err(status) => Ok(status),
+    }
+}
+
+/// Opens the store and serves lines; if nothing can be served, the line of the fault is written, and the status comes back.
+fn serve_given<R: Files + Stores + Wait, I: Read + Drop, W: Write + Drop, E: Write>(
+    rt: &R,
+    alloc: Global,
+    options: &StoreOptions<'_>,
+    document: Option<Vec<u8>>,
+    input: I,
+    output: W,
+    errors: &mut E,
+) -> Result<Kept<File, I, W>, u8> {
+    let (store, lines) = opened(rt, options.store, errors)?;
     let given = Given {
         document,
         trials: options.trials,
+        most: options.keep,
     };
-    match serve_durably(rt, alloc, store, lines, given, input, output) {
-        Ok(kept) => end(rt, alloc, &kept, listing, errors),
-        Err(fault) => Ok(refuse(&fault, errors)),
+    match Client::new(alloc, input, output) {
+        Ok(client) => serve_on(rt, alloc, options, store, lines, given, client, errors),
+        Err(fault) => Err(refuse(&fault, errors)),
+    }
+}
+
+/// Serves lines until there are no more. Each time that the store has as many entries as it keeps, another one goes on. If it can't, the
+/// line of the fault is written, and the status comes back.
+fn serve_on<R: Files + Stores + Wait, I: Read + Drop, W: Write + Drop, E: Write>(
+    rt: &R,
+    alloc: Global,
+    options: &StoreOptions<'_>,
+    store: Store<File>,
+    lines: Lines,
+    given: Given,
+    client: Client<I, W>,
+    errors: &mut E,
+) -> Result<Kept<File, I, W>, u8> {
+    let mut kept = match serve_durably(rt, alloc, store, lines, given, client) {
+        Ok(kept) => kept,
+        Err(fault) => return Err(refuse(&fault, errors)),
+    };
+    for _ in 0..u64::MAX {
+        if !has_more(&kept) {
+            return Ok(kept);
+        }
+        compact(rt, alloc, options.store, &kept, errors)?;
+        kept = next_store(rt, alloc, options, kept, errors)?;
+    }
+    Ok(kept)
+}
+
+/// Whether the service ended since the store has as many entries as it keeps.
+fn has_more<D: Disk, I: Read, W: Write>(kept: &Kept<D, I, W>) -> bool {
+    match &kept.ended {
+        Ok(ended) => ended.more,
+        Err(_) => false,
+    }
+}
+
+/// Serves the client that is left over the store that goes on.
+fn next_store<R: Stores + Wait, I: Read + Drop, W: Write + Drop, E: Write>(
+    rt: &R,
+    alloc: Global,
+    options: &StoreOptions<'_>,
+    kept: Kept<File, I, W>,
+    errors: &mut E,
+) -> Result<Kept<File, I, W>, u8> {
+    let Kept { client, .. } = kept;
+    let (store, lines) = opened(rt, options.store, errors)?;
+    let given = Given {
+        document: None,
+        trials: None,
+        most: options.keep,
+    };
+    match serve_durably(rt, alloc, store, lines, given, client) {
+        Ok(kept) => Ok(kept),
+        Err(fault) => Err(refuse(&fault, errors)),
     }
 }
 
 /// Writes the listing, or the line of the fault that ended the service, and returns the status.
-fn end<R: Files, D: Disk + Drop, E: Write>(
+fn end<R: Files, D: Disk, I: Read, W: Write, E: Write>(
     rt: &R,
     alloc: Global,
-    kept: &Kept<D>,
+    kept: &Kept<D, I, W>,
     listing: ListingFile<R::File>,
     errors: &mut E,
 ) -> Result<u8, ProgramFault> {
     if let Err(fault) = &kept.ended {
         return Ok(refuse(fault, errors));
     }
-    let bytes = listing_of(alloc, &kept.book, &kept.refused, true)?;
+    let bytes = kept.listing(alloc)?;
     write_listing(rt, listing, &bytes)?;
     Ok(0)
 }
 
+/// No lines, for a store that is only looked at.
+const NO_LINES: &[u8] = &[];
+
+/// What a store leaves that no line is added to.
+type Looked = Kept<File, &'static [u8], Vec<u8>>;
+
+/// Performs the statements of a store again.
+fn replay<R: Wait>(
+    rt: &R,
+    alloc: Global,
+    store: Store<File>,
+    lines: Lines,
+) -> Result<Looked, DurableFault> {
+    let client = Client::new(alloc, NO_LINES, Vec::new(alloc))?;
+    let given = Given {
+        document: None,
+        trials: None,
+        most: None,
+    };
+    serve_durably(rt, alloc, store, lines, given, client)
+}
+
+/// Opens a store and performs its statements again; if that fails, the line of the fault is written, and the status comes back.
+fn replayed<R: Stores + Wait, E: Write>(
+    rt: &R,
+    alloc: Global,
+    path: &str,
+    errors: &mut E,
+) -> Result<Looked, u8> {
+    let (store, lines) = opened(rt, path, errors)?;
+    match replay(rt, alloc, store, lines) {
+        Ok(kept) => Ok(kept),
+        Err(fault) => Err(refuse(&fault, errors)),
+    }
+}
+
+/// What is written of a store: its listing, or how many entries it has.
+fn shown(alloc: Global, action: StoreAction, kept: &Looked) -> Result<Vec<u8>, AllocError> {
+    match action {
+        StoreAction::List => kept.listing(alloc),
+        StoreAction::Check | StoreAction::Compact => {
+            let count = kept.entries();
+            let line = format!(in alloc; "{count} entries\n")?;
+            Ok(line.into_bytes())
+        }
+    }
+}
+
+/// Does with a store what is asked for, and returns the status.
+fn show<R: Files + Stores, W: Write, E: Write>(
+    rt: &R,
+    alloc: Global,
+    request: &StoreRequest<'_>,
+    kept: &Looked,
+    output: &mut W,
+    errors: &mut E,
+) -> Result<u8, ProgramFault> {
+    if let Err(fault) = &kept.ended {
+        return Ok(refuse(fault, errors));
+    }
+    if matches!(request.action, StoreAction::Compact) {
+        if let Err(status) = compact(rt, alloc, request.store, kept, errors) {
+            return Ok(status);
+        }
+    }
+    let shown = shown(alloc, request.action, kept)?;
+    write_all(output, &shown)?;
+    Ok(0)
+}
+
 /// Performs the statements of a store again, and returns the status: 0 if each has the outcome that is stored, otherwise as of
-/// [`run_stored`]. The number of entries, or the listing, goes to the output. Nothing is written to the store.
+/// [`run_stored`]. The number of entries, or the listing, goes to the output. Nothing is written to the store. If it is to be compacted,
+/// another one takes its place.
 pub(crate) fn run_store<R: Files + Stores + Wait, W: Write, E: Write>(
     rt: &R,
     alloc: Global,
@@ -137,29 +291,8 @@ pub(crate) fn run_store<R: Files + Stores + Wait, W: Write, E: Write>(
     if !is_there(rt, request.store) {
         return Err(ProgramFault::Read);
     }
-    let (store, lines) = match opened(rt, request.store, errors) {
-        Ok(opened) => opened,
-        Err(status) => return Ok(status),
-    };
-    let given = Given {
-        document: None,
-        trials: None,
-    };
-    let no_lines: &[u8] = &[];
-    let kept = match serve_durably(rt, alloc, store, lines, given, no_lines, Vec::new(alloc)) {
-        Ok(kept) => kept,
-        Err(fault) => return Ok(refuse(&fault, errors)),
-    };
-    if let Err(fault) = &kept.ended {
-        return Ok(refuse(fault, errors));
+    match replayed(rt, alloc, request.store, errors) {
+        Ok(kept) => show(rt, alloc, request, &kept, output, errors),
+        Err(status) => Ok(status),
     }
-    let shown = match request.action {
-        StoreAction::List => listing_of(alloc, &kept.book, &kept.refused, true)?,
-        StoreAction::Check => {
-            let count = kept.book.journal().len();
-            format!(in alloc; "{count} entries\n")?.into_bytes()
-        }
-    };
-    write_all(output, &shown)?;
-    Ok(0)
 }

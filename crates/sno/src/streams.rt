@@ -34,14 +34,10 @@ pub(crate) fn read_up_to<R: Read>(
     Ok(bytes)
 }
 
-/// Writes all bytes. `Write` if a write fails, even if it was only interrupted, or takes no byte.
+/// Writes all bytes, as `sno_rewrite` does.
 pub(crate) fn write_all<W: Write>(writer: &mut W, bytes: &[u8]) -> Result<(), ProgramFault> {
-    let mut rest = bytes;
-    while !rest.is_empty() {
-        match writer.write(rest) {
-            Ok(0) | Err(_) => return Err(ProgramFault::Write),
-            Ok(count) => rest = rest.split_at(count).1,
-        }
+    match sno_rewrite::write_all(writer, bytes) {
+        Ok(()) => Ok(()),
+        Err(_) => Err(ProgramFault::Write),
     }
-    Ok(())
 }

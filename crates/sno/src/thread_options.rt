@@ -1,8 +1,9 @@
 //! The option that says how many threads share the files.
 ghost use Rattle.std.specs.Prelude.{◌≡◌, ◌≤◌, ◌<◌};
 
-use crate::arguments::{is_up_to, optional_number};
+use crate::arguments::is_up_to;
 use clap::{Arg, ArgMatches};
+use sno_rewrite::numeric;
 use std::alloc::Global;
 use std::thread;
 use std::thread::Threads;
@@ -19,7 +20,7 @@ pub(crate) const THREADS_OUT_OF_RANGE: &str =
 
 /// The option.
 pub(crate) fn threads_option<'a>(alloc: Global) -> Arg<'a> {
-    optional_number(alloc, "threads", THREADS_HELP)
+    numeric(alloc, "threads", THREADS_HELP)
 }
 
 /// How many threads are asked for.

@@ -3,21 +3,22 @@
 use crate::checks::document_bytes;
 use crate::faults::{FAILED, MISUSED, ProgramFault};
 use crate::given_lines::NoRules;
-use crate::rule_lines::document_of_lines;
+use crate::rule_lines::file_rules_of_lines;
 use crate::streams::{read_up_to, write_all};
 use crate::trace_command::{TraceOptions, TraceRequest};
-use crate::trace_modes::mode_on;
-use sno_document::{Document, DocumentFault, Mode, read_document, read_rules};
+use crate::trace_modes::{document_mode, mode_on};
+use sno_document::{DocumentFault, FileRules, read_document, read_rules};
 use sno_edit::is_for;
 use sno_findings::{Position, position_of};
 use sno_pattern::{MAX_TEXT, Text, TextFault};
-use sno_statement::USUAL_TRIALS;
+use sno_statement::{FileStatement, Statement};
 use sno_trace::page_of;
 use sno_traces::{NoTrace, TraceLines, Wanted, take_statement, trace_of_document, trace_on_text};
-use std::alloc::{AllocError, Global};
+use std::alloc::{AllocError, AllocFailed, Global};
 use std::fs;
 use std::io::{Read, Write};
 use std::rt::Files;
+use std::sync::Arc;
 
 /// The status after a document, rules or a text that are refused.
 const INVALID: u8 = 2;
@@ -33,7 +34,7 @@ struct Written {
 }
 
 /// Why nothing is shown.
-#[derive(Debug, Drop)]
+#[derive(Drop)]
 enum Unshown {
     /// There is no trace.
     NoTrace(NoTrace),
@@ -45,6 +46,12 @@ enum Unshown {
 
 impl From<AllocError> for Unshown {
     fn from(_refused: AllocError) -> Unshown {
+        Unshown::Fault(ProgramFault::Memory)
+    }
+}
+
+impl<T: Drop> From<AllocFailed<T>> for Unshown {
+    fn from(_refused: AllocFailed<T>) -> Unshown {
         Unshown::Fault(ProgramFault::Memory)
     }
 }
@@ -77,13 +84,14 @@ fn bytes_of(alloc: Global, shown: Option<TraceLines>, html: bool) -> Result<Writ
         return Ok(Written { bytes, status: 1 });
     };
     let TraceLines {
+        pattern,
         text,
         lines,
         matched,
     } = shown;
     let status = if matched { 0 } else { 1 };
     let bytes = if html {
-        page_of(alloc, &text, &lines)?
+        page_of(alloc, &pattern, &text, &lines)?
     } else {
         lines
     };
@@ -94,6 +102,7 @@ fn bytes_of(alloc: Global, shown: Option<TraceLines>, html: bool) -> Result<Writ
 fn wanted(options: &TraceOptions<'_>) -> Wanted {
     Wanted {
         number: options.number,
+        between: options.between,
         lines: options.lines,
     }
 }
@@ -117,11 +126,7 @@ fn shown_of_document<R: Files, I: Read>(
     input: &mut I,
 ) -> Result<Written, Unshown> {
     let bytes = document_bytes(rt, alloc, input, options.document)?;
-    let mode = Mode {
-        anchor: false,
-        trials: USUAL_TRIALS,
-    };
-    match read_document(alloc, &bytes, mode) {
+    match read_document(alloc, &bytes, document_mode(options.mode)) {
         Ok(document) => {
             let shown = trace_of_document(alloc, document, options.statement, wanted(options))?;
             Ok(bytes_of(alloc, shown, options.html)?)
@@ -178,16 +183,68 @@ fn rules_for<R: Files + AllocGlobal, I: Read>(
     request: &TraceRequest<'_>,
     text: &Text,
     input: &mut I,
-) -> Result<Document, Unshown> {
-    let count = text.bytes().len();
+) -> Result<FileRules, Unshown> {
+    let mode = mode_on(text.bytes().len(), request.options.mode);
     if request.lines.are_given() {
-        return Ok(document_of_lines(rt, alloc, &request.lines, count)?);
+        return Ok(file_rules_of_lines(rt, alloc, &request.lines, mode)?);
     }
     let bytes = document_bytes(rt, alloc, input, request.options.document)?;
-    match read_rules(alloc, &bytes, mode_on(count)) {
-        Ok(document) => Ok(document),
+    match read_rules(alloc, &bytes, mode) {
+        Ok(rules) => Ok(rules),
         Err(fault) => Err(refused_by(alloc, fault)),
     }
+}
+
+/// A rule as a statement on texts; `None` if a literal of its object is not a text.
+fn shared_for_texts(alloc: Global, rule: FileStatement) -> Result<Option<Arc<Statement>>, Unshown> {
+    let Some(statement) = rule.for_texts(alloc)? else {
+        return Ok(None);
+    };
+    Ok(Some(Arc::new(alloc, statement)?))
+}
+
+/// What is said of a rule that is none on texts.
+fn not_for_texts(alloc: Global, number: u32) -> Unshown {
+    let said = format!(in alloc;
+        "statement {number}: the object is not ASCII: a rule is traced on ASCII alone\n"
+    );
+    match said {
+        Ok(said) => Unshown::Refused(said),
+        Err(refused) => Unshown::from(refused),
+    }
+}
+
+/// The rules as statements on texts. Refused with the first that has a literal in its object that is not a text.
+fn statements_for_texts(
+    alloc: Global,
+    rules: Vec<FileStatement>,
+) -> Result<Vec<Arc<Statement>>, Unshown> {
+    let mut statements = Vec::with_capacity(alloc, rules.len())?;
+    for rule in rules {
+        let number = rule.search().number();
+        match shared_for_texts(alloc, rule)? {
+            Some(statement) => statements.push(statement)?,
+            None => return Err(not_for_texts(alloc, number)),
+        }
+    }
+    Ok(statements)
+}
+
+/// The trace of one of the rules on the text of a file; `None` if it isn't for the file.
+fn trace_of_rule(
+    alloc: Global,
+    options: &TraceOptions<'_>,
+    path: &str,
+    text: Text,
+    mut statements: Vec<Arc<Statement>>,
+) -> Result<Option<TraceLines>, NoTrace> {
+    let rule = take_statement(&mut statements, options.statement)?;
+    if !is_for(&rule, path) {
+        return Ok(None);
+    }
+    statements.retain(|earlier| is_for(earlier, path));
+    let lines = trace_on_text(alloc, &statements, rule, text, wanted(options))?;
+    Ok(Some(lines))
 }
 
 /// The trace of a rule on the text of a file, as the rules before it that are for the file leave it.
@@ -200,13 +257,9 @@ fn shown_of_rules<R: Files + AllocGlobal, I: Read>(
 ) -> Result<Written, Unshown> {
     let options = &request.options;
     let text = text_of_file(rt, alloc, path)?;
-    let Document { mut statements, .. } = rules_for(rt, alloc, request, &text, input)?;
-    let rule = take_statement(&mut statements, options.statement)?;
-    let mut shown = None;
-    if is_for(&rule, path) {
-        statements.retain(|earlier| is_for(earlier, path));
-        shown = Some(trace_on_text(alloc, &statements, rule, text, wanted(options))?);
-    }
+    let FileRules { statements, .. } = rules_for(rt, alloc, request, &text, input)?;
+    let statements = statements_for_texts(alloc, statements)?;
+    let shown = trace_of_rule(alloc, options, path, text, statements)?;
     Ok(bytes_of(alloc, shown, options.html)?)
 }
 
@@ -230,7 +283,7 @@ fn without_trace<E: Write>(reason: NoTrace, errors: &mut E) -> Result<u8, Progra
     }
     let _printed = errors.writeln(reason);
     match reason {
-        NoTrace::NoStatement | NoTrace::NoMatch(_) => Ok(MISUSED),
+        NoTrace::NoStatement | NoTrace::NoMatch(_) | NoTrace::NoCursor(_) => Ok(MISUSED),
         NoTrace::TooDeep | NoTrace::Memory => Ok(FAILED),
     }
 }
@@ -239,7 +292,7 @@ fn without_trace<E: Write>(reason: NoTrace, errors: &mut E) -> Result<u8, Progra
 ///
 /// - 0 if the match that is asked for is there, and 1 if it isn't, or is refused;
 /// - 2 if the document, the rules or the text of the file are refused, after the line of their fault in `errors`;
-/// - 3 if there is no such statement, or the statement can't have such a match, which `errors` says;
+/// - 3 if there is no such statement or cursor, or the statement can't have such a match, which `errors` says;
 /// - 4 if calls would nest too deep, which `errors` says.
 ///
 /// Refused with `Read`, `Memory` or `Write`. Unless it is `Write`, nothing was written to `output`.

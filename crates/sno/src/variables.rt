@@ -24,8 +24,9 @@ pub(crate) fn has_variable(rules: &EditRules, name: &str) -> bool {
         return false;
     };
     rules.statements().iter().any(|statement| {
-        assigns(statement.pattern(), &variable)
-            || statement
+        let search = statement.search();
+        assigns(search.pattern(), &variable)
+            || search
                 .rules()
                 .bodies()
                 .iter()

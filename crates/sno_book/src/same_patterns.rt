@@ -11,6 +11,9 @@ fn same_leaf(one: &Pattern, other: &Pattern) -> bool
 {
     match (one, other) {
         (Pattern::Lit(s), Pattern::Lit(t)) => s == t,
+        (Pattern::Bytes(s), Pattern::Bytes(t)) => s == t,
+        (Pattern::Lit(s), Pattern::Bytes(t)) => s.bytes() == t.bytes(),
+        (Pattern::Bytes(s), Pattern::Lit(t)) => s.bytes() == t.bytes(),
         (Pattern::Len(m), Pattern::Len(n))
         | (Pattern::Pos(m), Pattern::Pos(n))
         | (Pattern::Rpos(m), Pattern::Rpos(n))

@@ -1,1 +1,3 @@
-pub mod FaultLemmas
+mod Crossings
+mod FaultLemmas
+mod Values

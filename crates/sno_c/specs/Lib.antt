@@ -1,1 +1,7 @@
 pub mod Answers
+pub mod Assignments
+pub mod Blocks
+pub mod Kept
+pub mod Openings
+pub mod Patterns
+pub mod Replacements

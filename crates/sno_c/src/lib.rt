@@ -1,12 +1,33 @@
-//! The serial run of a document for callers in C, C++, Rust and Python: a static library of one function.
+//! The library for callers in C, C++, Rust and Python: a static library.
 //!
-//! [`sno_rewrite_list`] takes the bytes of a document and a buffer, and puts the listing in the buffer. It makes no
-//! thread and waits for nobody, and several threads may call it at once. The header `embed/sno_rewrite.h` declares it;
+//! [`sno_rewrite_list`] takes the bytes of a document and a buffer, and puts the listing of its serial run in the buffer. The calls
+//! with handles read a pattern once, seek it in any number of texts, and replace its matches. No call makes a thread or waits for
+//! anybody, and several threads may call at once, each with handles of its own. The header `embed/sno_rewrite.h` declares the calls;
 //! `embed/` has callers in C, C++, Rust and Python.
 //!
 //! | File | What it holds |
 //! |---|---|
 //! | `listing` | [`sno_rewrite_list`] |
+//! | `handle_calls` | the calls with handles |
+//! | `held` | what a handle holds: a pattern or a text |
+//! | `handle` | handles, which are places in the caller's memory |
+//! | `kept`, `loose` | a box as its pointer, with and without its type |
+//! | `openings`, `texts` | patterns and texts that are put into handles |
+//! | `searches`, `assignments`, `replacements` | what is reported of a search, of an assignment, of a new text |
+//! | `buffers` | buffers of callers |
+//! | `statuses` | what the calls with handles return |
 #![tactic(auto)]
 
+mod assignments;
+mod buffers;
+mod handle;
+mod handle_calls;
+mod held;
+mod kept;
 mod listing;
+mod loose;
+mod openings;
+mod replacements;
+mod searches;
+mod statuses;
+mod texts;

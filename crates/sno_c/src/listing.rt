@@ -1,26 +1,13 @@
 //! The listing of a document's serial run, in a caller's buffer.
-ghost use Rattle.std.specs.Prelude.{◌≡◌, ◌<◌, ◌≤◌, ◌↔◌, ◌⊎◌, ◌++◌, ℕ, Bool, List, drop, length, take};
+ghost use Rattle.std.specs.Prelude.{◌≡◌, ◌<◌, ◌≤◌, ◌↔◌, ◌⊎◌, ◌++◌, drop, length};
 ghost use Rattle.sno_c.specs.Answers.{IsFaulty, IsListed, IsLonger};
 ghost use Rattle.sno_document.specs.declared.modes.Mode.{Mode};
 ghost use Rattle.sno_rewrite.specs.Reports.{IsReport, status_of_run};
 
+use crate::buffers::{copy_to, put_line};
+use crate::statuses::{BAD_LIMIT, TOO_SHORT};
 use sno_rewrite::{MAX_TRIALS, Options, Report, RunFault, run_serial, status_of};
 use std::alloc::Global;
-
-/// The limit of trials is not one of 1 to 1,000,000,000.
-const BAD_LIMIT: u8 = 3;
-
-/// The buffer is too short for the listing.
-const TOO_SHORT: u8 = 5;
-
-/// Copies the bytes to the beginning of the buffer, which must be long enough.
-fn copy_to(buffer: &mut [u8], bytes: &[u8])
-    requires { length bytes.now ≤ length buffer.old }
-    ensures { buffer.new ≡ bytes.now ++ drop (length bytes.now) buffer.old }
-{
-    let (room, _) = buffer.split_at_mut(bytes.len());
-    room.copy_from_slice(bytes);
-}
 
 /// Puts the line of a fault in the buffer, as much of it as there is room for, and sets `told` to that many bytes.
 fn put_fault(alloc: Global, fault: &RunFault, buffer: &mut [u8], told: &mut usize)
@@ -30,10 +17,7 @@ fn put_fault(alloc: Global, fault: &RunFault, buffer: &mut [u8], told: &mut usiz
 {
     *told = 0;
     if let Ok(line) = fault.to_string(alloc) {
-        let count = line.len().min(buffer.len());
-        let (front, _) = line.as_bytes().split_at(count);
-        copy_to(buffer, front);
-        *told = count;
+        *told = put_line(buffer, line.as_bytes());
     }
 }
 

@@ -2,7 +2,7 @@
 use Rattle.std.specs.Prelude.{ℕ, List, [], ◌∷◌, Ok, Err}
 use Rattle.sno_document.specs.Document as document
 use Rattle.sno_document.specs.Document.{IsDocument}
-use Rattle.sno_document.specs.Rules.{AreRules, IsRules}
+use Rattle.sno_document.specs.Rules.{AreRules, IsRules, RuleSet}
 use Rattle.sno_document.specs.Shape.{Rows}
 use Rattle.sno_document.specs.declared.modes.Mode.{Mode}
 use Rattle.sno_findings.specs.declared.findings.Mistake.{Mistake}
@@ -14,10 +14,10 @@ Tells mode bytes (mistake ∷ others) = IsDocument mode bytes (Err mistake.fault
 
 -- the same of rules in JSON
 abbrev pub TellsRules : Mode → List ℕ → List Mistake → Type 0
-TellsRules mode bytes [] = (d : document.Document) × IsRules mode bytes (Ok d)
+TellsRules mode bytes [] = (d : RuleSet) × IsRules mode bytes (Ok d)
 TellsRules mode bytes (mistake ∷ others) = IsRules mode bytes (Err mistake.fault)
 
 -- the same of the rows of rules
 abbrev pub TellsRows : Mode → Rows → List Mistake → Type 0
-TellsRows mode rows [] = (d : document.Document) × AreRules mode rows (Ok d)
+TellsRows mode rows [] = (d : RuleSet) × AreRules mode rows (Ok d)
 TellsRows mode rows (mistake ∷ others) = AreRules mode rows (Err mistake.fault)

@@ -100,7 +100,7 @@ pub(crate) fn led_by(
 
 /// What is found in a document or in rules by their rows.
 pub(crate) fn check_rows<'t>(findings: &mut Collector, rows: &Rows<'t>) -> Result<(), AllocError> {
-    let definitions = check_definitions(findings, &rows.patterns)?;
+    let definitions = check_definitions(findings, rows.wide, &rows.patterns)?;
     let texts = check_texts(findings, &rows.texts)?;
     let Some(definitions) = definitions else {
         return Ok(());

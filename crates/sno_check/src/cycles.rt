@@ -2,12 +2,13 @@
 //!
 //! They are found by `Rules::admit`, which takes names and patterns. Both are still needed after it, so they are made again.
 
+use crate::expressions::read;
 use crate::rows::Pair;
 use crate::vocabulary::Vocabulary;
 use sno_document::DocumentFault;
 use sno_findings::{Collector, advice_of};
 use sno_pattern::{Name, Names, NamesFault, Pattern, Rules, RulesFault};
-use sno_read::{ReadFault, read_pattern};
+use sno_read::ReadFault;
 use std::alloc::{AllocError, Global};
 
 /// These names, made again.
@@ -28,7 +29,7 @@ fn names_again(alloc: Global, names: &Names) -> Result<Option<Names>, AllocError
 /// The patterns of the definitions, read again. `None` if one can't be read.
 fn bodies_again(
     alloc: Global,
-    names: &Names,
+    vocabulary: &Vocabulary<'_>,
     rows: &[Pair<'_>],
 ) -> Result<Option<Vec<Pattern>>, AllocError> {
     let mut bodies = Vec::new(alloc);
@@ -36,7 +37,7 @@ fn bodies_again(
         let Some(written) = row.content else {
             return Ok(None);
         };
-        match read_pattern(alloc, names, place, written.as_bytes()) {
+        match read(alloc, vocabulary, place, written) {
             Ok(pattern) => bodies.push(pattern)?,
             Err(ReadFault::Memory) => return Err(AllocError),
             Err(_) => return Ok(None),
@@ -73,7 +74,7 @@ fn unguarded_name(
     let Some(names) = names_again(alloc, &vocabulary.names)? else {
         return Ok(None);
     };
-    let Some(bodies) = bodies_again(alloc, &names, rows)? else {
+    let Some(bodies) = bodies_again(alloc, vocabulary, rows)? else {
         return Ok(None);
     };
     match first_unguarded(alloc, names, bodies)? {

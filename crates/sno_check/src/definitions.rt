@@ -38,6 +38,7 @@ fn bodies_of(
 /// the names can't be used.
 pub(crate) fn check_definitions<'t>(
     findings: &mut Collector,
+    wide: bool,
     rows: &[Pair<'t>],
 ) -> Result<Option<Definitions<'t>>, AllocError> {
     if rows.len() > MAX_DEFINITIONS {
@@ -45,7 +46,7 @@ pub(crate) fn check_definitions<'t>(
         findings.refuse_plainly(fault, advice_of(&fault))?;
     }
     let checked = checked_rows(rows);
-    let Some(vocabulary) = vocabulary_of(findings, checked)? else {
+    let Some(vocabulary) = vocabulary_of(findings, wide, checked)? else {
         return Ok(None);
     };
     let bodies = bodies_of(findings, &vocabulary, checked)?;

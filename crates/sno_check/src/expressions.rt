@@ -2,10 +2,13 @@
 
 use crate::vocabulary::{RESERVED, Vocabulary};
 use sno_findings::{
-    Collector, Form, Whose, around, habit_advice, nearest, place_of, reading_advice, shown, text_of,
+    Collector, Form, WIDE_SET_ADVICE, Whose, around, habit_advice, nearest, place_of,
+    reading_advice, shown, text_of,
 };
 use sno_pattern::{Pattern, is_name_char};
-use sno_read::{Object, ReadFault, read_object, read_pattern};
+use sno_read::{
+    ByteObject, ReadFault, read_object, read_pattern, read_rule_object, read_rule_pattern,
+};
 use std::alloc::{AllocError, Global};
 
 /// The word that begins after `place` characters.
@@ -100,6 +103,9 @@ fn advice_in(
         ReadFault::UnknownName(place) => {
             advice_of_unknown(findings, vocabulary, whose, written, *place)
         }
+        ReadFault::NonAscii(_) if vocabulary.wide => {
+            String::from_str(findings.alloc, WIDE_SET_ADVICE)
+        }
         _ => String::from_str(findings.alloc, reading_advice(is_object, fault, written)),
     }
 }
@@ -123,6 +129,19 @@ fn refuse(
     findings.refuse(whose.fault(fault), Some(excerpt), advice)
 }
 
+/// The pattern that is written, as documents or as rules have it.
+pub(crate) fn read(
+    alloc: Global,
+    vocabulary: &Vocabulary<'_>,
+    earlier: usize,
+    written: &str,
+) -> Result<Pattern, ReadFault> {
+    if vocabulary.wide {
+        return read_rule_pattern(alloc, &vocabulary.names, earlier, written.as_bytes());
+    }
+    read_pattern(alloc, &vocabulary.names, earlier, written.as_bytes())
+}
+
 /// The pattern that is written, in which plain names refer to the first `earlier` definitions. One that can't be read is
 /// an error.
 pub(crate) fn pattern_in(
@@ -132,12 +151,7 @@ pub(crate) fn pattern_in(
     earlier: usize,
     written: &str,
 ) -> Result<Option<Pattern>, AllocError> {
-    match read_pattern(
-        findings.alloc,
-        &vocabulary.names,
-        earlier,
-        written.as_bytes(),
-    ) {
+    match read(findings.alloc, vocabulary, earlier, written) {
         Ok(pattern) => Ok(Some(pattern)),
         Err(fault) => {
             refuse(findings, vocabulary, whose, written, fault)?;
@@ -146,14 +160,27 @@ pub(crate) fn pattern_in(
     }
 }
 
+/// The object that is written, as documents or as rules have it. An object of a document means the same in a rule.
+fn read_either(
+    alloc: Global,
+    vocabulary: &Vocabulary<'_>,
+    written: &str,
+) -> Result<ByteObject, ReadFault> {
+    let bytes = written.as_bytes();
+    if !vocabulary.wide {
+        let _ = read_object(alloc, &vocabulary.names, bytes)?;
+    }
+    read_rule_object(alloc, &vocabulary.names, bytes)
+}
+
 /// The object that is written. One that can't be read is an error.
 pub(crate) fn object_in(
     findings: &mut Collector,
     vocabulary: &Vocabulary<'_>,
     whose: Whose,
     written: &str,
-) -> Result<Option<Object>, AllocError> {
-    match read_object(findings.alloc, &vocabulary.names, written.as_bytes()) {
+) -> Result<Option<ByteObject>, AllocError> {
+    match read_either(findings.alloc, vocabulary, written) {
         Ok(object) => Ok(Some(object)),
         Err(fault) => {
             refuse(findings, vocabulary, whose, written, fault)?;

@@ -40,6 +40,8 @@ pub(crate) struct Rows<'t> {
     pub(crate) statements: Vec<Row<'t>>,
     /// Whether the document has the member `texts`.
     pub(crate) has_texts: bool,
+    /// Whether literals may have any bytes.
+    pub(crate) wide: bool,
     /// The definitions that are used by something else than its statements, a bit for each.
     pub(crate) used: u64,
 }
@@ -294,6 +296,7 @@ pub(crate) fn rows_of<'t>(
         texts,
         statements,
         has_texts,
+        wide: kind == Kind::Rules,
         used: 0,
     })
 }
@@ -337,6 +340,7 @@ pub(crate) fn rows_of_lines<'t>(
         texts: Vec::new(alloc),
         statements: rows,
         has_texts: false,
+        wide: true,
         used,
     })
 }

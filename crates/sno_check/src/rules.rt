@@ -1,8 +1,7 @@
 //! Checking rules, which are statements for files: in JSON, or as rows of another form.
 ghost use Rattle.std.specs.Prelude.{◌≡◌, ◌≢◌, [], map, IfOk, Ok, Err, MatchOption};
-ghost use Rattle.sno_document.specs.Document as document;
 ghost use Rattle.sno_document.specs.DocumentRows.{pair_seen, statement_seen};
-ghost use Rattle.sno_document.specs.Rules.{AreRules, IsRules};
+ghost use Rattle.sno_document.specs.Rules.{AreRules, IsRules, RuleSet};
 ghost use Rattle.sno_check.specs.declared.checking.TheConstants.{USUAL};
 ghost use Rattle.sno_check.specs.Reports.{TellsRows, TellsRules};
 
@@ -14,7 +13,7 @@ use std::alloc::{AllocError, Global};
 
 /// The first fault of the bytes, if they are not rules.
 fn first_fault(alloc: Global, bytes: &[u8]) -> Result<Option<DocumentFault>, AllocError>
-    ensures { IfOk result (λ fault. MatchOption fault ((d : document.Document) × IsRules USUAL bytes.now (Ok d)) (λ e. IsRules USUAL bytes.now (Err e))) }
+    ensures { IfOk result (λ fault. MatchOption fault ((d : RuleSet) × IsRules USUAL bytes.now (Ok d)) (λ e. IsRules USUAL bytes.now (Err e))) }
 {
     match read_rules(alloc, bytes, USUAL).err() {
         None => Ok(None),
@@ -29,7 +28,7 @@ fn first_fault_of_rows<'t>(
     patterns: Vec<(&'t str, &'t str)>,
     statements: Vec<StatementRow<'t>>,
 ) -> Result<Option<DocumentFault>, AllocError>
-    ensures { IfOk result (λ fault. MatchOption fault ((d : document.Document) × AreRules USUAL (record { patterns = map pair_seen patterns.entry.items; texts = []; statements = map statement_seen statements.entry.items }) (Ok d)) (λ e. AreRules USUAL (record { patterns = map pair_seen patterns.entry.items; texts = []; statements = map statement_seen statements.entry.items }) (Err e))) }
+    ensures { IfOk result (λ fault. MatchOption fault ((d : RuleSet) × AreRules USUAL (record { patterns = map pair_seen patterns.entry.items; texts = []; statements = map statement_seen statements.entry.items }) (Ok d)) (λ e. AreRules USUAL (record { patterns = map pair_seen patterns.entry.items; texts = []; statements = map statement_seen statements.entry.items }) (Err e))) }
 {
     match rules_of_rows(alloc, patterns, statements, USUAL).err() {
         None => Ok(None),

@@ -11,7 +11,7 @@ use sno_findings::{
     warn_of_literals, warn_of_missing_text, warn_of_variables,
 };
 use sno_pattern::{MAX_DEFINITIONS, Pattern};
-use sno_read::Object;
+use sno_read::ByteObject;
 use sno_statement::MAX_ROUNDS;
 use std::alloc::AllocError;
 
@@ -75,7 +75,7 @@ fn object_of<'t>(
     surroundings: &Surroundings<'t>,
     number: usize,
     row: &Row<'t>,
-) -> Result<Option<Object>, AllocError> {
+) -> Result<Option<ByteObject>, AllocError> {
     let Some(written) = row.object else {
         return Ok(None);
     };
@@ -125,7 +125,7 @@ fn check_object<'t>(
     surroundings: &Surroundings<'t>,
     number: usize,
     facts: Facts,
-    object: &Object,
+    object: &ByteObject,
 ) -> Result<(), AllocError> {
     warn_of_literals(findings, Whose::Object(number), object)?;
     let Facts {

@@ -21,6 +21,8 @@ pub(crate) struct Vocabulary<'t> {
     pub(crate) words: Vec<&'t str>,
     /// Whether no name was replaced.
     pub(crate) is_whole: bool,
+    /// Whether literals may have any bytes, as in rules for files.
+    pub(crate) wide: bool,
 }
 
 /// The first rows, as many as there may be definitions.
@@ -164,6 +166,7 @@ fn words_of<'t>(
 /// The names of the definitions. Each that can't be used is an error. `None` if a name can't be replaced.
 pub(crate) fn vocabulary_of<'t>(
     findings: &mut Collector,
+    wide: bool,
     rows: &[Pair<'t>],
 ) -> Result<Option<Vocabulary<'t>>, AllocError> {
     let alloc = findings.alloc;
@@ -177,6 +180,7 @@ pub(crate) fn vocabulary_of<'t>(
             names,
             words,
             is_whole,
+            wide,
         })),
         Err(NamesFault::Memory) => Err(AllocError),
         Err(_) => Ok(None),

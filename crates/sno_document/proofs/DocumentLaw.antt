@@ -1,5 +1,5 @@
 -- Bytes have only one result.
-use Rattle.std.proofs.Common.{◌≡◌, ℕ, List, [], ◌∷◌, Result, Ok, Err, refl, sym, ap, subst, ◌∙◌, inl, inr, arith}
+use Rattle.std.proofs.Common.{◌≡◌, ℕ, List, [], ◌∷◌, Result, Ok, Err, false, refl, sym, ap, subst, ◌∙◌, inl, inr, arith}
 use Rattle.std.proofs.lemmas.Bool.{cases_lt}
 use Rattle.serde_json.specs.Data.{Data}
 use Rattle.sno_pattern.specs.Tree.{Tree}
@@ -45,8 +45,8 @@ module _ (bytes : List ℕ) (d e : Data) (a : value_in bytes ≡ Ok d) (b : valu
     same_rows : rows ≡ more
     same_rows = let same : d ≡ e = same_value in cc
 
-    same_definitions : definitions_of rows.patterns ≡ definitions_of more.patterns
-    same_definitions = ap (λ (r : Rows). definitions_of r.patterns) same_rows
+    same_definitions : definitions_of false rows.patterns ≡ definitions_of false more.patterns
+    same_definitions = ap (λ (r : Rows). definitions_of false r.patterns) same_rows
 
 -- bytes represent only one document or have only one first fault
 pub one_answer : (mode : Mode) (bytes : List ℕ) (r s : Result Document DocumentFault) → IsDocument mode bytes r → IsDocument mode bytes s → r ≡ s

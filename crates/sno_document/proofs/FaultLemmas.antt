@@ -1,5 +1,5 @@
 -- A fault passes through the steps that follow.
-use Rattle.std.proofs.Common.{◌≡◌, ◌≢◌, ℕ, List, Result, Ok, Err, IsErrAnd, map, sym, ◌∙◌, ap, subst}
+use Rattle.std.proofs.Common.{◌≡◌, ◌≢◌, ℕ, Bool, List, Result, Ok, Err, IsErrAnd, map, sym, ◌∙◌, ap, subst}
 use Rattle.sno_document.specs.Faults.{Fails, Gives, ◌>>=◌}
 use Rattle.std.specs.Borrow.{Bor}
 use Rattle.sno_pattern.specs.Definitions.{Definitions}
@@ -10,6 +10,7 @@ use Rattle.sno_document.specs.Reads.{Reads}
 use Rattle.sno_document.specs.Rules.{AreRules, GivesRules, IsRules, ReadsRules}
 use Rattle.sno_document.specs.Shape as written
 use Rattle.sno_document.specs.declared.documents.Document.{Document}
+use Rattle.sno_document.specs.declared.file_rules.FileRules.{FileRules}
 use Rattle.sno_document.specs.declared.faults.DocumentFault.{DocumentFault}
 use Rattle.sno_document.specs.declared.faults.DocumentFault.TheVariants.{Memory}
 use Rattle.sno_document.specs.declared.modes.Mode.{Mode}
@@ -30,18 +31,18 @@ reads_err mode bytes (Err d) e is h = λ memory. subst (λ f. IsDocument mode by
 reads_err mode bytes (Ok x) e is h = absurd is
 
 -- the exit of a `?` of rules
-pub rules_err : (mode : Mode) (bytes : List ℕ) (result : Result Document DocumentFault) (e : DocumentFault) → IsErrAnd result (λ d. d ≡ e)
+pub rules_err : (mode : Mode) (bytes : List ℕ) (result : Result FileRules DocumentFault) (e : DocumentFault) → IsErrAnd result (λ d. d ≡ e)
     → (e ≢ Memory → IsRules mode bytes (Err e)) → ReadsRules mode bytes result
 rules_err mode bytes (Err d) e is h = λ memory. subst (λ f. IsRules mode bytes (Err f)) (sym is) (h (λ m. memory (is ∙ m)))
 rules_err mode bytes (Ok x) e is h = absurd is
 
 -- the exit of a `?` of rows
-pub rows_err : (mode : Mode) (rows : written.Rows) (result : Result Document DocumentFault) (e : DocumentFault) → IsErrAnd result (λ d. d ≡ e)
+pub rows_err : (mode : Mode) (rows : written.Rows) (result : Result FileRules DocumentFault) (e : DocumentFault) → IsErrAnd result (λ d. d ≡ e)
     → (e ≢ Memory → AreRules mode rows (Err e)) → GivesRules mode rows result
 rows_err mode rows (Err d) e is h = λ memory. subst (λ f. AreRules mode rows (Err f)) (sym is) (h (λ m. memory (is ∙ m)))
 rows_err mode rows (Ok x) e is h = absurd is
 
 -- the definitions of the rows are those of the slice of them
-pub drafted_from : (rows : Rows) (slice : List (Bor (List ℕ) × Bor (List ℕ))) (r : Result Definitions DocumentFault) → slice ≡ rows.patterns.items
-    → definitions_of (map pair_seen slice) ≡ r → definitions_of (rows_seen rows).patterns ≡ r
-drafted_from rows slice r is h = ap (λ (l : List (Bor (List ℕ) × Bor (List ℕ))). definitions_of (map pair_seen l)) (sym is) ∙ h
+pub drafted_from : (wide : Bool) (rows : Rows) (slice : List (Bor (List ℕ) × Bor (List ℕ))) (r : Result Definitions DocumentFault) → slice ≡ rows.patterns.items
+    → definitions_of wide (map pair_seen slice) ≡ r → definitions_of wide (rows_seen rows).patterns ≡ r
+drafted_from wide rows slice r is h = ap (λ (l : List (Bor (List ℕ) × Bor (List ℕ))). definitions_of wide (map pair_seen l)) (sym is) ∙ h

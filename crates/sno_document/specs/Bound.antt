@@ -1,6 +1,6 @@
 -- One statement in which names represent texts. They are read as names of definitions are, after these, and are then replaced by
 -- literals.
-use Rattle.std.specs.Prelude.{◌≡◌, ℕ, ◌-◌, ◌++◌, List, length, map, nat_lt, Option, Some, None, Result, Ok, slice_get, unwrap_or, false, if◌then◌else◌}
+use Rattle.std.specs.Prelude.{◌≡◌, ℕ, ◌-◌, ◌++◌, List, length, map, nat_lt, Option, Some, None, is_some, Result, Ok, slice_get, unwrap_or, false, if◌then◌else◌}
 use Rattle.std.specs.Option.{option_map}
 use Rattle.sno_pattern.specs.Tree.{Tree, Lit, Ref, Arbno, Seq, Alt, Cond, Imm}
 use Rattle.sno_pattern.specs.NameList.{place_of}
@@ -68,7 +68,7 @@ bound_pattern_row rules names texts s text =
 
 -- its object. It is read with the names of the definitions alone, so each other name in it is a variable, or represents a text
 abbrev pub bound_object_row : Definitions → List (List ℕ) → List (List ℕ) → ℕ → Option (List ℕ) → Result (Option (List Part)) DocumentFault
-bound_object_row rules names texts s text = object_row rules.names s text >>= λ object. Ok (bound_object names (length rules.names) texts object)
+bound_object_row rules names texts s text = object_row false rules.names s text >>= λ object. Ok (bound_object names (length rules.names) texts object)
 
 -- statement number s, performed once, with the usual limit of trials
 unfoldable pub bound_usual_row : Definitions → List (List ℕ) → List (List ℕ) → Mode → ℕ → StatementRow → Result Statement DocumentFault
@@ -90,7 +90,7 @@ bound_usual_row rules names texts mode s row =
 -- the statement with what else it says of itself
 unfoldable pub bound_row : Definitions → List (List ℕ) → List (List ℕ) → Mode → ℕ → StatementRow → Result Statement DocumentFault
 bound_row rules names texts mode s row =
-    bound_usual_row rules names texts mode s row >>= λ statement. repeat_row s statement.object row.repeat >>= λ repeat.
+    bound_usual_row rules names texts mode s row >>= λ statement. repeat_row s (is_some statement.object) row.repeat >>= λ repeat.
     all_row s repeat (unwrap_or row.all false) >>= λ all. Ok (bounded statement mode.trials repeat all)
 
 -- statement number s that bytes are, in which the names after those of the definitions represent these texts

@@ -1,6 +1,6 @@
 -- Documents: what JSON represents, and the first fault of input that is not a document. `IsDocument`, at the end, says
 -- in which order the checks come. Numbers in faults count from 1.
-use Rattle.std.specs.Prelude.{◌≡◌, ℕ, ◌+◌, ◌&&◌, nat_le, Bool, List, [], ◌∷◌, ◌++◌, length, map, nat_lt, Option, Some, None, Result, Ok, Err, unwrap_or, slice_get, if◌then◌else◌, false, is_some}
+use Rattle.std.specs.Prelude.{◌≡◌, ℕ, ◌+◌, ◌&&◌, nat_le, Bool, List, [], ◌∷◌, ◌++◌, length, map, nat_lt, Option, Some, None, Result, Ok, Err, unwrap_or, slice_get, if◌then◌else◌, true, false, is_some}
 use Rattle.serde_json.specs.Data.{Num, unsigned, negative, float, Data}
 use Rattle.sno_pattern.specs.Tree.{Tree}
 use Rattle.sno_pattern.specs.Identifiers.{name_of}
@@ -15,8 +15,8 @@ use Rattle.sno_pattern.specs.declared.name_list.NamesFault.{NamesFault}
 use Rattle.sno_pattern.specs.declared.name_list.NamesFault.TheVariants as names
 use Rattle.sno_pattern.specs.declared.texts.TextFault.{TextFault}
 use Rattle.sno_pattern.specs.declared.texts.TextFault.TheVariants as texts
-use Rattle.sno_read.specs.Reading.{pattern_of}
-use Rattle.sno_read.specs.Objects.{object_of}
+use Rattle.sno_read.specs.Reading.{pattern_of, rule_pattern_of}
+use Rattle.sno_read.specs.Objects.{object_of, rule_object_of}
 use Rattle.sno_read.specs.declared.faults.ReadFault.{ReadFault}
 use Rattle.sno_read.specs.declared.objects.Part.{Part}
 use Rattle.sno_statement.specs.Statement.{Statement, with_all, with_limit, with_repeat}
@@ -55,6 +55,13 @@ abbrev pub reading : {A : Type 0} → (ReadFault → DocumentFault) → Result A
 reading fault_of (Ok x) = Ok x
 reading fault_of (Err e) = Err (fault_of e)
 
+-- The pattern that a text spells, and the object. `wide` says that it is for files, so that literals may have any bytes.
+abbrev pub pattern_in : (wide : Bool) → List (List ℕ) → ℕ → List ℕ → Result Tree ReadFault
+pattern_in wide names earlier text = if wide then rule_pattern_of names earlier text else pattern_of names earlier text
+
+abbrev pub object_in : (wide : Bool) → List (List ℕ) → List ℕ → Result (List Part) ReadFault
+object_in wide names text = if wide then rule_object_of names text else object_of names text
+
 -- no more rows than there may be
 abbrev pub at_most : {A : Type 0} → ℕ → DocumentFault → List A → Result (List A) DocumentFault
 at_most most e rows = if nat_lt most (length rows) then Err e else Ok rows
@@ -73,16 +80,16 @@ check_names (Err (names.Duplicate place)) = Err (fault.PatternDuplicate (place +
 check_names (Err names.Memory) = Err fault.Memory
 
 -- the patterns of the definitions after the first d, to which plain names may refer
-abbrev pub bodies_from : List (List ℕ) → ℕ → List Tree → List (List ℕ × List ℕ) → Result (List Tree) DocumentFault
-bodies_from defined d done [] = Ok done
-bodies_from defined d done (row ∷ rows) =
-    reading (fault.PatternRead (d + 1)) (pattern_of defined d row.1) >>= λ body. bodies_from defined (d + 1) (done ++ body ∷ []) rows
+abbrev pub bodies_from : (wide : Bool) → List (List ℕ) → ℕ → List Tree → List (List ℕ × List ℕ) → Result (List Tree) DocumentFault
+bodies_from wide defined d done [] = Ok done
+bodies_from wide defined d done (row ∷ rows) =
+    reading (fault.PatternRead (d + 1)) (pattern_in wide defined d row.1) >>= λ body. bodies_from wide defined (d + 1) (done ++ body ∷ []) rows
 
 -- the definitions, before they are admitted
-unfoldable pub definitions_of : List (List ℕ × List ℕ) → Result Definitions DocumentFault
-definitions_of rows =
+unfoldable pub definitions_of : (wide : Bool) → List (List ℕ × List ℕ) → Result Definitions DocumentFault
+definitions_of wide rows =
     at_most MAX_DEFINITIONS fault.TooManyPatterns rows >>= λ rows. names_from 1 [] rows >>= λ written. check_names (names_of written) >>= λ defined.
-    bodies_from defined 0 [] rows >>= λ bodies. Ok (record { names = defined; bodies = bodies })
+    bodies_from wide defined 0 [] rows >>= λ bodies. Ok (record { names = defined; bodies = bodies })
 
 -- the characters of text number t
 abbrev pub check_text : ℕ → Result (List ℕ) TextFault → Result (List ℕ) DocumentFault
@@ -112,9 +119,9 @@ unfoldable pub texts_of : List (List ℕ × List ℕ) → Result NamedTexts Docu
 texts_of rows = at_most MAX_TEXTS fault.TooManyTexts rows >>= λ rows. texts_from 1 [] rows >>= λ done. distinct done
 
 -- the object of statement number s, if it has one
-abbrev pub object_row : List (List ℕ) → ℕ → Option (List ℕ) → Result (Option (List Part)) DocumentFault
-object_row defined s None = Ok None
-object_row defined s (Some text) = reading (fault.StatementObject s) (object_of defined text) >>= λ parts. Ok (Some parts)
+abbrev pub object_row : (wide : Bool) → List (List ℕ) → ℕ → Option (List ℕ) → Result (Option (List Part)) DocumentFault
+object_row wide defined s None = Ok None
+object_row wide defined s (Some text) = reading (fault.StatementObject s) (object_in wide defined text) >>= λ parts. Ok (Some parts)
 
 -- the name of the text of statement number s
 abbrev pub text_name_row : ℕ → List ℕ → Result (List ℕ) DocumentFault
@@ -123,10 +130,10 @@ text_name_row s name = if is_text_name name then Ok name else Err (fault.Stateme
 -- statement number s, performed once, with the usual limit of trials: the name of its text, then its pattern, in which
 -- plain names may refer to all definitions, then its object. `anchor` is for statements that don't say whether they are
 -- anchored
-unfoldable pub usual_row : Definitions → Bool → ℕ → StatementRow → Result Statement DocumentFault
-usual_row rules anchor s row =
-    text_name_row s row.text >>= λ text. reading (fault.StatementPattern s) (pattern_of rules.names (length rules.names) row.pattern) >>= λ pattern.
-    object_row rules.names s row.object >>= λ object.
+unfoldable pub usual_row : (wide : Bool) → Definitions → Bool → ℕ → StatementRow → Result Statement DocumentFault
+usual_row wide rules anchor s row =
+    text_name_row s row.text >>= λ text. reading (fault.StatementPattern s) (pattern_in wide rules.names (length rules.names) row.pattern) >>= λ pattern.
+    object_row wide rules.names s row.object >>= λ object.
     Ok (record { number = s; rules = rules; pattern = pattern; object = object; text = text; anchored = unwrap_or row.anchored anchor; limit = USUAL_TRIALS; repeat = None; all = false })
 
 -- how many rounds a number says, if it is from 1 to 1,000 and written without sign, fraction and exponent
@@ -136,10 +143,10 @@ rounds_in (negative z) = None
 rounds_in (float x) = None
 
 -- how often statement number s is repeated at most, if it says so; it must have an object then
-abbrev pub repeat_row : ℕ → Option (List Part) → Option Num → Result (Option ℕ) DocumentFault
-repeat_row s object None = Ok None
-repeat_row s None (Some n) = Err (fault.StatementRepeat s)
-repeat_row s (Some parts) (Some n) = or_fault (fault.StatementRepeat s) (rounds_in n) >>= λ rounds. Ok (Some rounds)
+abbrev pub repeat_row : ℕ → (has_object : Bool) → Option Num → Result (Option ℕ) DocumentFault
+repeat_row s has_object None = Ok None
+repeat_row s false (Some n) = Err (fault.StatementRepeat s)
+repeat_row s true (Some n) = or_fault (fault.StatementRepeat s) (rounds_in n) >>= λ rounds. Ok (Some rounds)
 
 -- whether statement number s is for all matches, if it says so; it must not be repeated then
 abbrev pub all_row : ℕ → Option ℕ → Bool → Result Bool DocumentFault
@@ -152,20 +159,20 @@ bounded statement limit (Some rounds) all = with_repeat (with_limit statement li
 
 -- statement number s with what the mode says: whether it is anchored if it doesn't say so itself, and how many trials
 -- it may take. How often it is repeated is checked after its object, and whether it is for all matches after that
-unfoldable pub task_row : Definitions → Mode → ℕ → StatementRow → Result Statement DocumentFault
-task_row rules mode s row =
-    usual_row rules mode.anchor s row >>= λ statement. repeat_row s statement.object row.repeat >>= λ repeat.
+unfoldable pub task_row : (wide : Bool) → Definitions → Mode → ℕ → StatementRow → Result Statement DocumentFault
+task_row wide rules mode s row =
+    usual_row wide rules mode.anchor s row >>= λ statement. repeat_row s (is_some statement.object) row.repeat >>= λ repeat.
     all_row s repeat (unwrap_or row.all false) >>= λ all. Ok (bounded statement mode.trials repeat all)
 
 -- the statements from number s on, after those before
-abbrev pub statements_from : Definitions → Mode → ℕ → List Statement → List StatementRow → Result (List Statement) DocumentFault
-statements_from rules mode s done [] = Ok done
-statements_from rules mode s done (row ∷ rows) =
-    task_row rules mode s row >>= λ statement. statements_from rules mode (s + 1) (done ++ statement ∷ []) rows
+abbrev pub statements_from : (wide : Bool) → Definitions → Mode → ℕ → List Statement → List StatementRow → Result (List Statement) DocumentFault
+statements_from wide rules mode s done [] = Ok done
+statements_from wide rules mode s done (row ∷ rows) =
+    task_row wide rules mode s row >>= λ statement. statements_from wide rules mode (s + 1) (done ++ statement ∷ []) rows
 
 -- the statements
-unfoldable pub statements_of : Definitions → Mode → List StatementRow → Result (List Statement) DocumentFault
-statements_of rules mode rows = at_most MAX_STATEMENTS fault.TooManyStatements rows >>= λ rows. statements_from rules mode 1 [] rows
+unfoldable pub statements_of : (wide : Bool) → Definitions → Mode → List StatementRow → Result (List Statement) DocumentFault
+statements_of wide rules mode rows = at_most MAX_STATEMENTS fault.TooManyStatements rows >>= λ rows. statements_from wide rules mode 1 [] rows
 
 -- the value that bytes represent; the length is checked first
 abbrev pub value_or : Option Data → Result Data DocumentFault
@@ -178,7 +185,7 @@ value_in bytes = if nat_lt MAX_DOCUMENT (length bytes) then Err fault.DocumentTo
 -- what comes after the definitions, once they are admitted
 unfoldable pub document_with : Definitions → Mode → Rows → Result Document DocumentFault
 document_with rules mode rows =
-    texts_of rows.texts >>= λ done. statements_of rules mode rows.statements >>= λ statements.
+    texts_of rows.texts >>= λ done. statements_of false rules mode rows.statements >>= λ statements.
     Ok (record { rules = rules; texts = done; statements = statements })
 
 -- What definitions represent: themselves if they are guarded. Otherwise the result is the fault with the name of the
@@ -193,9 +200,9 @@ pub data IsAdmitted (rules : Definitions) : Result Definitions DocumentFault →
 pub data IsDocument (mode : Mode) (bytes : List ℕ) : Result Document DocumentFault → Type 0 where
   no_value : {e : DocumentFault} → value_in bytes ≡ Err e → IsDocument mode bytes (Err e)
   no_rows : {e : DocumentFault} (d : Data) → value_in bytes ≡ Ok d → rows_of d ≡ Err e → IsDocument mode bytes (Err e)
-  no_definitions : {e : DocumentFault} (d : Data) (rows : Rows) → value_in bytes ≡ Ok d → rows_of d ≡ Ok rows → definitions_of rows.patterns ≡ Err e
+  no_definitions : {e : DocumentFault} (d : Data) (rows : Rows) → value_in bytes ≡ Ok d → rows_of d ≡ Ok rows → definitions_of false rows.patterns ≡ Err e
       → IsDocument mode bytes (Err e)
   not_admitted : {e : DocumentFault} (d : Data) (rows : Rows) (rules : Definitions) → value_in bytes ≡ Ok d → rows_of d ≡ Ok rows
-      → definitions_of rows.patterns ≡ Ok rules → IsAdmitted rules (Err e) → IsDocument mode bytes (Err e)
+      → definitions_of false rows.patterns ≡ Ok rules → IsAdmitted rules (Err e) → IsDocument mode bytes (Err e)
   whole : {r : Result Document DocumentFault} (d : Data) (rows : Rows) (rules : Definitions) → value_in bytes ≡ Ok d → rows_of d ≡ Ok rows
-      → definitions_of rows.patterns ≡ Ok rules → IsAdmitted rules (Ok rules) → document_with rules mode rows ≡ r → IsDocument mode bytes r
+      → definitions_of false rows.patterns ≡ Ok rules → IsAdmitted rules (Ok rules) → document_with rules mode rows ≡ r → IsDocument mode bytes r

@@ -1,16 +1,16 @@
--- Rules: what JSON represents that is read for texts from elsewhere. As a document, but without texts, and a statement
--- need not name its text.
-use Rattle.std.specs.Prelude.{◌≡◌, ◌≢◌, ℕ, List, [], Result, Ok, Err, codes, unwrap_or}
+-- Rules: what JSON represents that is read for files. As a document, but without texts; a statement need not name its text, and
+-- literals may have any bytes.
+use Rattle.std.specs.Prelude.{◌≡◌, ◌≢◌, ℕ, List, [], Result, Ok, Err, codes, map, true, unwrap_or}
+use Rattle.std.specs.Arc.{arc_value}
 use Rattle.serde_json.specs.Data.{Data}
 use Rattle.serde_json.specs.Find.{as_object}
 use Rattle.sno_pattern.specs.Definitions.{Definitions}
 use Rattle.sno_document.specs.Json.{array_at, string_at, optional_string_at, optional_bool_at, optional_number_at}
 use Rattle.sno_document.specs.Shape.{StatementRow, Rows, or_shape, each_row, pairs_at}
 use Rattle.sno_document.specs.Faults.{◌>>=◌}
-use Rattle.sno_document.specs.Document as document
-use Rattle.sno_document.specs.Document.{IsAdmitted, definitions_of, document_with, value_in}
-use Rattle.sno_document.specs.Reads.{document_seen}
-use Rattle.sno_document.specs.declared.documents.Document.{Document}
+use Rattle.sno_document.specs.Document.{IsAdmitted, definitions_of, statements_of, value_in}
+use Rattle.sno_document.specs.declared.file_rules.FileRules.{FileRules}
+use Rattle.sno_statement.specs.Statement.{Statement}
 use Rattle.sno_document.specs.declared.faults.DocumentFault.{DocumentFault}
 use Rattle.sno_document.specs.declared.faults.DocumentFault.TheVariants.{Memory}
 use Rattle.sno_document.specs.declared.modes.Mode.{Mode}
@@ -45,27 +45,39 @@ rule_arrays_of d =
 abbrev pub rule_rows_of : Data → Result Rows DocumentFault
 rule_rows_of d = or_shape (as_object d) >>= λ members. rule_arrays_of d
 
+-- what rules represent: definitions and statements
+pub record RuleSet : Type 0 where
+  pub rules : Definitions
+  pub statements : List Statement
+
+abbrev pub rules_seen : FileRules → RuleSet
+rules_seen d = record { rules = arc_value d.rules; statements = d.statements.items }
+
+-- what comes after the definitions, once they are admitted
+unfoldable pub rules_with : Definitions → Mode → Rows → Result RuleSet DocumentFault
+rules_with rules mode rows = statements_of true rules mode rows.statements >>= λ statements. Ok (record { rules = rules; statements = statements })
+
 -- What rows represent as rules, in whichever form they were written: their definitions, admitted, and then their statements.
 -- Otherwise the result is the first fault among these.
-pub data AreRules (mode : Mode) (rows : Rows) : Result document.Document DocumentFault → Type 0 where
-  no_definitions : {e : DocumentFault} → definitions_of rows.patterns ≡ Err e → AreRules mode rows (Err e)
-  not_admitted : {e : DocumentFault} (rules : Definitions) → definitions_of rows.patterns ≡ Ok rules → IsAdmitted rules (Err e) → AreRules mode rows (Err e)
-  whole : {r : Result document.Document DocumentFault} (rules : Definitions) → definitions_of rows.patterns ≡ Ok rules → IsAdmitted rules (Ok rules)
-      → document_with rules mode rows ≡ r → AreRules mode rows r
+pub data AreRules (mode : Mode) (rows : Rows) : Result RuleSet DocumentFault → Type 0 where
+  no_definitions : {e : DocumentFault} → definitions_of true rows.patterns ≡ Err e → AreRules mode rows (Err e)
+  not_admitted : {e : DocumentFault} (rules : Definitions) → definitions_of true rows.patterns ≡ Ok rules → IsAdmitted rules (Err e) → AreRules mode rows (Err e)
+  whole : {r : Result RuleSet DocumentFault} (rules : Definitions) → definitions_of true rows.patterns ≡ Ok rules → IsAdmitted rules (Ok rules)
+      → rules_with rules mode rows ≡ r → AreRules mode rows r
 
 -- What bytes represent as rules: a document without texts, or the first fault, in the order of a document's.
-pub data IsRules (mode : Mode) (bytes : List ℕ) : Result document.Document DocumentFault → Type 0 where
+pub data IsRules (mode : Mode) (bytes : List ℕ) : Result RuleSet DocumentFault → Type 0 where
   no_value : {e : DocumentFault} → value_in bytes ≡ Err e → IsRules mode bytes (Err e)
   no_rows : {e : DocumentFault} (d : Data) → value_in bytes ≡ Ok d → rule_rows_of d ≡ Err e → IsRules mode bytes (Err e)
-  of_rows : {r : Result document.Document DocumentFault} (d : Data) (rows : Rows) → value_in bytes ≡ Ok d → rule_rows_of d ≡ Ok rows → AreRules mode rows r
+  of_rows : {r : Result RuleSet DocumentFault} (d : Data) (rows : Rows) → value_in bytes ≡ Ok d → rule_rows_of d ≡ Ok rows → AreRules mode rows r
       → IsRules mode bytes r
 
 -- the result is what the bytes represent as rules, or out of memory
-abbrev pub ReadsRules : Mode → List ℕ → Result Document DocumentFault → Type 0
-ReadsRules mode bytes (Ok d) = IsRules mode bytes (Ok (document_seen d))
+abbrev pub ReadsRules : Mode → List ℕ → Result FileRules DocumentFault → Type 0
+ReadsRules mode bytes (Ok d) = IsRules mode bytes (Ok (rules_seen d))
 ReadsRules mode bytes (Err e) = e ≢ Memory → IsRules mode bytes (Err e)
 
 -- the result is what the rows represent, or out of memory
-abbrev pub GivesRules : Mode → Rows → Result Document DocumentFault → Type 0
-GivesRules mode rows (Ok d) = AreRules mode rows (Ok (document_seen d))
+abbrev pub GivesRules : Mode → Rows → Result FileRules DocumentFault → Type 0
+GivesRules mode rows (Ok d) = AreRules mode rows (Ok (rules_seen d))
 GivesRules mode rows (Err e) = e ≢ Memory → AreRules mode rows (Err e)

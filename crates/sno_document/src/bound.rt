@@ -11,7 +11,7 @@ ghost use Rattle.sno_document.specs.Bound.{IsBound, bound_text, bound_tree, boun
 
 use crate::document_rows::{StatementRow, statement_row};
 use crate::last_patterns::read;
-use crate::statements::{for_all, object, repeat, text_name};
+use crate::statements::{for_all, has_object, object, repeat, text_name};
 use crate::trees::value_in;
 use crate::{DocumentFault, Mode};
 use json::Scratch;
@@ -156,7 +156,7 @@ fn bound_pattern(
     ensures read { Gives tree_of result (bound_pattern_row rules.now names.now texts.now number text.now) }
     ensures covered { IfOk result (λ p. IsTrue (refs_below (length rules.now.bodies) (tree_of p))) }
 {
-    let mut pattern = read(alloc, names, number, text)?;
+    let mut pattern = read(alloc, false, names, number, text)?;
     let defined = rules.names().len();
     bind(alloc, &mut pattern, defined, texts)?;
     Ok(pattern)
@@ -202,7 +202,7 @@ fn bound_statement(
     ensures { Gives (λ s. s) result (bound_row (arc_value rules.now) names.now texts.now mode number (statement_seen row.now)) }
 {
     let usual = bound_usual(alloc, rules, names, texts, mode, number, row)?;
-    let repeat = repeat(number, usual.object(), row.repeat)?;
+    let repeat = repeat(number, has_object(&usual), row.repeat)?;
     let all = for_all(number, repeat, row.all)?;
     let limited = usual.limited(mode.trials);
     match repeat {

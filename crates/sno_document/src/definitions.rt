@@ -3,17 +3,17 @@ ghost use Rattle.std.specs.Prelude.{◌≡◌, ◌<◌, ◌≤◌, ◌+◌, [], 
 ghost use Rattle.std.specs.List.{list_all};
 ghost use Rattle.sno_pattern.specs.Tree.{tree_of, trees, refs_below};
 ghost use Rattle.sno_pattern.specs.NameList.{names_of};
-ghost use Rattle.sno_read.specs.Reading.{pattern_of};
 ghost use Rattle.sno_document.specs.Faults.{Gives};
 ghost use Rattle.sno_document.specs.DocumentRows.{pair_seen};
 ghost use Rattle.sno_document.specs.Drafts.{drafted_seen, IsDrafted, Admits};
-ghost use Rattle.sno_document.specs.Document.{names_from, check_names, reading, bodies_from, definitions_of};
+ghost use Rattle.sno_document.specs.Document.{names_from, check_names, reading, pattern_in, bodies_from, definitions_of};
 ghost use Rattle.sno_document.specs.declared.faults.DocumentFault.TheVariants.{PatternRead};
 
 use crate::DocumentFault;
 use crate::document_rows::PairRow;
+use crate::patterns::pattern_in;
 use sno_pattern::{MAX_DEFINITIONS, Name, Names, NamesFault, Pattern, Rules, RulesFault};
-use sno_read::{ReadFault, read_pattern};
+use sno_read::ReadFault;
 use std::alloc::Global;
 
 fn names_in(alloc: Global, rows: &[PairRow<'_>]) -> Result<Vec<Name>, DocumentFault>
@@ -45,28 +45,38 @@ fn check_names(alloc: Global, names: &[Name]) -> Result<Names, DocumentFault>
 }
 
 /// The pattern of the definition at a place. Its references are to definitions.
-#[tactic(auto, using(crate::proofs::References::spelled_covered))]
-fn body(alloc: Global, names: &Names, place: usize, text: &str) -> Result<Pattern, DocumentFault>
+fn body(
+    alloc: Global,
+    wide: bool,
+    names: &Names,
+    place: usize,
+    text: &str,
+) -> Result<Pattern, DocumentFault>
     requires { place < MAX_DEFINITIONS }
-    ensures read { Gives tree_of result (reading (λ e. PatternRead (place + 1) e) (pattern_of names.now place text.now)) }
+    ensures read { Gives tree_of result (reading (λ e. PatternRead (place + 1) e) (pattern_in wide names.now place text.now)) }
     ensures covered { IfOk result (λ p. IsTrue (refs_below (length names.now) (tree_of p))) }
 {
-    match read_pattern(alloc, names, place, text.as_bytes()) {
+    match pattern_in(alloc, wide, names, place, text) {
         Ok(pattern) => Ok(pattern),
         Err(ReadFault::Memory) => Err(DocumentFault::Memory),
         Err(fault) => Err(DocumentFault::PatternRead(place + 1, fault)),
     }
 }
 
-fn bodies(alloc: Global, names: &Names, rows: &[PairRow<'_>]) -> Result<Vec<Pattern>, DocumentFault>
+fn bodies(
+    alloc: Global,
+    wide: bool,
+    names: &Names,
+    rows: &[PairRow<'_>],
+) -> Result<Vec<Pattern>, DocumentFault>
     requires { length rows.now ≤ MAX_DEFINITIONS }
-    ensures bodies { Gives (λ v. trees v.items) result (bodies_from names.now 0 [] (map pair_seen rows.now)) }
+    ensures bodies { Gives (λ v. trees v.items) result (bodies_from wide names.now 0 [] (map pair_seen rows.now)) }
     ensures covered { IfOk result (λ v. IsTrue (list_all (refs_below (length names.now)) (trees v.items))) }
     ensures as_many { IfOk result (λ v. length v.items ≡ length rows.now) }
 {
     let mut bodies = Vec::new(alloc);
     for (place, (_, text)) in rows.iter().enumerate() {
-        bodies.push(body(alloc, names, place, text)?)?;
+        bodies.push(body(alloc, wide, names, place, text)?)?;
     }
     Ok(bodies)
 }
@@ -79,10 +89,15 @@ pub(crate) struct Drafted {
     pub(crate) written: Vec<Name>,
 }
 
-/// The definitions, before they are admitted: as many bodies as names, and their references are to definitions.
+/// The definitions, before they are admitted: as many bodies as names, and their references are to definitions. If they are `wide`,
+/// their literals may have any bytes.
 #[tactic(auto, unfolding(crate::specs::Document::definitions_of))]
-pub(crate) fn definitions(alloc: Global, rows: &[PairRow<'_>]) -> Result<Drafted, DocumentFault>
-    ensures definitions { Gives drafted_seen result (definitions_of (map pair_seen rows.now)) }
+pub(crate) fn definitions(
+    alloc: Global,
+    wide: bool,
+    rows: &[PairRow<'_>],
+) -> Result<Drafted, DocumentFault>
+    ensures definitions { Gives drafted_seen result (definitions_of wide (map pair_seen rows.now)) }
     ensures sound { IfOk result IsDrafted }
 {
     if rows.len() > MAX_DEFINITIONS {
@@ -90,7 +105,7 @@ pub(crate) fn definitions(alloc: Global, rows: &[PairRow<'_>]) -> Result<Drafted
     }
     let written = names_in(alloc, rows)?;
     let names = check_names(alloc, &written)?;
-    let bodies = bodies(alloc, &names, rows)?;
+    let bodies = bodies(alloc, wide, &names, rows)?;
     Ok(Drafted {
         names,
         bodies,

@@ -75,7 +75,7 @@ pub fn read_document(alloc: Global, bytes: &[u8], mode: Mode) -> Result<Document
     let value = value_in(alloc, bytes, &mut scratch)?;
     let rows = rows_of(alloc, &value)?;
     drop(value);
-    let drafted = definitions(alloc, &rows.patterns)?;
+    let drafted = definitions(alloc, false, &rows.patterns)?;
     let rules = admit(alloc, drafted)?;
     let document = document_with(alloc, rules, mode, &rows)?;
     Ok(document)

@@ -3,7 +3,7 @@
 //!
 //! [`read_document`] takes the bytes to a [`Document`], whose texts are in a book, or to the first fault of the bytes,
 //! by `IsDocument` of `specs/Document.antt`. Bytes have only one such result ([`one_answer`]). `DocumentFault::Memory` is a
-//! further result. [`read_rules`] reads statements without texts, for texts from elsewhere (`IsRules` of `specs/Rules.antt`).
+//! further result. [`read_rules`] reads statements for files, whose literals may have any bytes (`IsRules` of `specs/Rules.antt`).
 //! [`read_statement`] reads one statement by itself, for definitions that are there (`specs/Single.antt`), and
 //! [`read_bound_statement`] one in which names represent texts (`specs/Bound.antt`).
 //!
@@ -13,7 +13,8 @@
 //! | `trees`, `members`, `document_rows` | the JSON tree of the bytes; its members; the rows of the document as it is written |
 //! | `definitions`, `texts`, `statements`, `documents` | the checks, in the order of the document |
 //! | `last_patterns` | one pattern for statements in a row that are written alike |
-//! | `rules` | statements that are read for texts from elsewhere |
+//! | `patterns` | a pattern, in the characters that it may have |
+//! | `rules`, `file_statements`, `file_rules` | statements that are read for files |
 //! | `single`, `bound` | one statement by itself; one in which names represent texts |
 //! | `rounds` | how often a statement is to be repeated |
 //! | `laws` | what follows from the definitions |
@@ -27,10 +28,13 @@ mod definitions;
 mod document_rows;
 mod documents;
 mod faults;
+mod file_rules;
+mod file_statements;
 mod last_patterns;
 mod laws;
 mod members;
 mod modes;
+mod patterns;
 mod rounds;
 mod rules;
 mod single;
@@ -42,6 +46,7 @@ pub use bound::read_bound_statement;
 pub use document_rows::StatementRow;
 pub use documents::{Document, MAX_DOCUMENT, read_document};
 pub use faults::DocumentFault;
+pub use file_rules::FileRules;
 pub use laws::one_answer;
 pub use modes::Mode;
 pub use rules::{read_rules, rules_of_rows};
@@ -49,6 +54,6 @@ pub use single::read_statement;
 pub use sno_book::Book;
 pub use sno_pattern::{Name, Rules};
 pub use sno_read::ReadFault;
-pub use sno_statement::Statement;
+pub use sno_statement::{FileStatement, Statement};
 pub use statements::MAX_STATEMENTS;
 pub use trees::MAX_DEPTH;

@@ -1,21 +1,24 @@
-//! Rules: statements that are read for texts from elsewhere.
-ghost use Rattle.std.specs.Prelude.{[], codes, map, IfOk};
+//! Rules: statements that are read for files.
+ghost use Rattle.std.specs.Prelude.{◌≤◌, [], codes, length, map, IfOk};
 ghost use Rattle.sno_statement.specs.Statement.{IsLimit};
 ghost use Rattle.sno_document.specs.Faults.{Gives};
 ghost use Rattle.sno_document.specs.Shape.{each_row};
 ghost use Rattle.sno_document.specs.DocumentRows.{pair_seen, statement_seen, rows_seen};
 ghost use Rattle.sno_document.specs.Trees.{tree_seen};
-ghost use Rattle.sno_document.specs.Reads.{IsReady};
-ghost use Rattle.sno_document.specs.Rules.{rule_row, rules_at, rule_arrays_of, rule_rows_of, GivesRules, ReadsRules};
+ghost use Rattle.sno_document.specs.declared.statements.TheConstants.{MAX_STATEMENTS};
+ghost use Rattle.sno_document.specs.Rules.{rule_row, rules_at, rule_arrays_of, rule_rows_of, rules_seen, rules_with, GivesRules, ReadsRules};
 
 use crate::definitions::{admit, definitions};
 use crate::document_rows::{Rows, StatementRow, pairs_at, row_on};
-use crate::documents::document_with;
+use crate::file_rules::FileRules;
+use crate::file_statements::file_statements;
 use crate::members::{elements, is_object, member, optional_string_at};
 use crate::trees::value_in;
-use crate::{Document, DocumentFault, Mode};
+use crate::{DocumentFault, MAX_STATEMENTS, Mode};
 use json::{Scratch, Value};
+use sno_pattern::Rules;
 use std::alloc::Global;
+use std::sync::Arc;
 
 /// A statement, which is for every text if it names none.
 fn rule_row<'t>(value: &Value<'t>) -> Result<StatementRow<'t>, DocumentFault>
@@ -77,16 +80,33 @@ fn rule_rows_of<'t>(alloc: Global, value: &Value<'t>) -> Result<Rows<'t>, Docume
     rule_arrays_of(alloc, value)
 }
 
+/// What comes after the definitions, once they are admitted.
+#[tactic(auto, unfolding(crate::specs::Rules::rules_with))]
+fn rules_with(
+    alloc: Global,
+    rules: Rules,
+    mode: Mode,
+    rows: &Rows<'_>,
+) -> Result<FileRules, DocumentFault>
+    requires { IsLimit mode.trials }
+    ensures rules { Gives rules_seen result (rules_with rules mode (rows_seen rows.now)) }
+    ensures few { IfOk result (λ d. length d.statements.items ≤ MAX_STATEMENTS) }
+{
+    let rules = Arc::new(alloc, rules)?;
+    let statements = file_statements(alloc, &rules, mode, &rows.statements)?;
+    Ok(FileRules { rules, statements })
+}
+
 /// What rows represent as rules.
-fn of_rows(alloc: Global, rows: &Rows<'_>, mode: Mode) -> Result<Document, DocumentFault>
+fn of_rows(alloc: Global, rows: &Rows<'_>, mode: Mode) -> Result<FileRules, DocumentFault>
     requires { IsLimit mode.trials }
     ensures rules { GivesRules mode (rows_seen rows.now) result }
-    ensures ready { IfOk result (λ d. IsReady d) }
+    ensures few { IfOk result (λ d. length d.statements.items ≤ MAX_STATEMENTS) }
 {
-    let drafted = definitions(alloc, &rows.patterns)?;
-    let rules = admit(alloc, drafted)?;
-    let document = document_with(alloc, rules, mode, rows)?;
-    Ok(document)
+    let drafted = definitions(alloc, true, &rows.patterns)?;
+    let admitted = admit(alloc, drafted)?;
+    let rules = rules_with(alloc, admitted, mode, rows)?;
+    Ok(rules)
 }
 
 /// Returns the statements that these are as rules, as [`read_rules`] does for rules in JSON: rules of the same rows are the
@@ -104,22 +124,22 @@ pub fn rules_of_rows<'t>(
     patterns: Vec<(&'t str, &'t str)>,
     statements: Vec<StatementRow<'t>>,
     mode: Mode,
-) -> Result<Document, DocumentFault>
+) -> Result<FileRules, DocumentFault>
     requires { IsLimit mode.trials }
     ensures rules { GivesRules mode (record { patterns = map pair_seen patterns.entry.items; texts = []; statements = map statement_seen statements.entry.items }) result }
-    ensures ready { IfOk result (λ d. IsReady d) }
+    ensures few { IfOk result (λ d. length d.statements.items ≤ MAX_STATEMENTS) }
 {
     let rows = Rows {
         patterns,
         texts: Vec::new(alloc),
         statements,
     };
-    let document = of_rows(alloc, &rows, mode)?;
-    Ok(document)
+    let rules = of_rows(alloc, &rows, mode)?;
+    Ok(rules)
 }
 
-/// Returns the statements that the bytes are as rules, in a document whose book has no texts. Rules are a document
-/// without texts, whose statements need not name a text: one that names none has the name `*`. The member `texts` is
+/// Returns the statements that the bytes are as rules. Rules are a document without texts, whose statements need not name a text:
+/// one that names none has the name `*`. The literals of their patterns and objects may have any bytes. The member `texts` is
 /// ignored. `mode` has what the statements don't say themselves, with 1 to 1,000,000,000 trials.
 ///
 /// Refused with the first fault, in this order, each as `specs/Document.antt` checks it:
@@ -129,15 +149,15 @@ pub fn rules_of_rows<'t>(
 /// - those of the statements.
 ///
 /// `Memory` may come instead of any result. After a refusal nothing is left of the rules.
-pub fn read_rules(alloc: Global, bytes: &[u8], mode: Mode) -> Result<Document, DocumentFault>
+pub fn read_rules(alloc: Global, bytes: &[u8], mode: Mode) -> Result<FileRules, DocumentFault>
     requires { IsLimit mode.trials }
     ensures rules { ReadsRules mode bytes.now result }
-    ensures ready { IfOk result (λ d. IsReady d) }
+    ensures few { IfOk result (λ d. length d.statements.items ≤ MAX_STATEMENTS) }
 {
     let mut scratch = Scratch::new(alloc);
     let value = value_in(alloc, bytes, &mut scratch)?;
     let rows = rule_rows_of(alloc, &value)?;
     drop(value);
-    let document = of_rows(alloc, &rows, mode)?;
-    Ok(document)
+    let rules = of_rows(alloc, &rows, mode)?;
+    Ok(rules)
 }

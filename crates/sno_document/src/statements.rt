@@ -1,8 +1,9 @@
 //! The statements of a document.
-ghost use Rattle.std.specs.Prelude.{◌≡◌, ◌≤◌, ◌<◌, ◌^◌, ◌+◌, [], map, length, false, IfOk, IfSome, IsTrue, unwrap_or};
-ghost use Rattle.std.specs.Option.{option_copied, option_map};
+ghost use Rattle.std.specs.Prelude.{◌≡◌, ◌≤◌, ◌<◌, ◌^◌, ◌+◌, [], map, length, false, is_some, IfOk, IfSome, IsTrue, unwrap_or};
+ghost use Rattle.std.specs.Option.{option_map};
 ghost use Rattle.std.specs.Arc.{arc_value};
-ghost use Rattle.sno_statement.specs.Statement.{IsLimit, IsRepeat};
+ghost use Rattle.sno_statement.specs.Statement.{IsLimit};
+ghost use Rattle.sno_statement.specs.declared.statements.TheConstants.{MAX_ROUNDS};
 ghost use Rattle.sno_document.specs.Faults.{Gives};
 ghost use Rattle.sno_document.specs.LastPatterns.{IsOfNames};
 ghost use Rattle.sno_document.specs.DocumentRows.{statement_seen};
@@ -29,7 +30,7 @@ pub(crate) fn object(
     number: usize,
     text: Option<&str>,
 ) -> Result<Option<Object>, DocumentFault>
-    ensures { Gives (λ o. o) result (object_row names.now number (option_map (λ s. s.now) text.entry)) }
+    ensures { Gives (λ o. o) result (object_row false names.now number (option_map (λ s. s.now) text.entry)) }
 {
     let Some(text) = text else {
         return Ok(None);
@@ -52,20 +53,30 @@ pub(crate) fn text_name(alloc: Global, number: usize, name: &str) -> Result<Text
     }
 }
 
+/// Whether the statement replaces.
+pub(crate) fn has_object(statement: &Statement) -> bool
+    ensures { result ≡ is_some statement.now.object }
+{
+    match statement.object() {
+        None => false,
+        Some(_) => true,
+    }
+}
+
 /// How often statement number `number` is repeated at most, if it says so. It must have an object then.
 pub(crate) fn repeat(
     number: usize,
-    object: Option<&Object>,
+    has_object: bool,
     written: Option<&str>,
 ) -> Result<Option<u32>, DocumentFault>
-    ensures repeat { Gives (λ r. r) result (repeat_row number (option_copied object.entry) (option_map (λ s. number_seen s.now) written.entry)) }
-    ensures within { IfOk result (λ r. IfSome r (λ rounds. IsRepeat (option_copied object.entry) rounds)) }
+    ensures repeat { Gives (λ r. r) result (repeat_row number has_object (option_map (λ s. number_seen s.now) written.entry)) }
+    ensures within { IfOk result (λ r. IfSome r (λ rounds. IsTrue has_object × (1 ≤ rounds) × (rounds ≤ MAX_ROUNDS))) }
 {
     let Some(written) = written else {
         return Ok(None);
     };
-    match (object, rounds_in(written)) {
-        (Some(_), Some(rounds)) => Ok(Some(rounds)),
+    match rounds_in(written) {
+        Some(rounds) if has_object => Ok(Some(rounds)),
         _ => Err(DocumentFault::StatementRepeat(number)),
     }
 }
@@ -96,12 +107,12 @@ fn usual_statement<'t>(
     last: &mut LastPattern<'t>,
 ) -> Result<Statement, DocumentFault>
     requires number { number < 2 ^ 32 }
-    requires last { IsOfNames (arc_value rules.now).names last.old }
-    ensures row { Gives (λ s. s) result (usual_row (arc_value rules.now) anchor number (statement_seen row.now)) }
-    ensures last { IsOfNames (arc_value rules.now).names last.new }
+    requires last { IsOfNames false (arc_value rules.now).names last.old }
+    ensures row { Gives (λ s. s) result (usual_row false (arc_value rules.now) anchor number (statement_seen row.now)) }
+    ensures last { IsOfNames false (arc_value rules.now).names last.new }
 {
     let name = text_name(alloc, number, row.text)?;
-    let pattern = last.pattern(alloc, rules.names(), number, row.pattern)?;
+    let pattern = last.pattern(alloc, false, rules.names(), number, row.pattern)?;
     let object = object(alloc, rules.names(), number, row.object)?;
     let rules = Arc::try_clone(rules)?;
     let anchored = row.anchored.unwrap_or(anchor);
@@ -120,12 +131,12 @@ pub(crate) fn statement<'t>(
 ) -> Result<Statement, DocumentFault>
     requires number { number < 2 ^ 32 }
     requires limit { IsLimit mode.trials }
-    requires last { IsOfNames (arc_value rules.now).names last.old }
-    ensures row { Gives (λ s. s) result (task_row (arc_value rules.now) mode number (statement_seen row.now)) }
-    ensures last { IsOfNames (arc_value rules.now).names last.new }
+    requires last { IsOfNames false (arc_value rules.now).names last.old }
+    ensures row { Gives (λ s. s) result (task_row false (arc_value rules.now) mode number (statement_seen row.now)) }
+    ensures last { IsOfNames false (arc_value rules.now).names last.new }
 {
     let usual = usual_statement(alloc, rules, mode.anchor, number, row, last)?;
-    let repeat = repeat(number, usual.object(), row.repeat)?;
+    let repeat = repeat(number, has_object(&usual), row.repeat)?;
     let all = for_all(number, repeat, row.all)?;
     let limited = usual.limited(mode.trials);
     match repeat {
@@ -144,7 +155,7 @@ pub(crate) fn statements(
     rows: &[StatementRow<'_>],
 ) -> Result<Vec<Arc<Statement>>, DocumentFault>
     requires { IsLimit mode.trials }
-    ensures statements { Gives (λ v. map arc_value v.items) result (statements_of (arc_value rules.now) mode (map statement_seen rows.now)) }
+    ensures statements { Gives (λ v. map arc_value v.items) result (statements_of false (arc_value rules.now) mode (map statement_seen rows.now)) }
     ensures few { IfOk result (λ v. length v.items ≤ MAX_STATEMENTS) }
 {
     if rows.len() > MAX_STATEMENTS {

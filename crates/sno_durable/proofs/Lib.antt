@@ -1,1 +1,3 @@
+pub mod CompactedLemmas
 pub mod Keeping
+pub mod ShownLemmas

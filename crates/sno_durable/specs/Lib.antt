@@ -1,2 +1,5 @@
+pub mod Compacted
 pub mod Kept
+pub mod Past
 pub mod Records
+pub mod Sought

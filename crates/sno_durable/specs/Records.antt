@@ -1,11 +1,23 @@
 -- What the lines of a store are.
 use Rattle.std.specs.Prelude.{ℕ, List, codes}
 use Rattle.serde_json.specs.Data.{Data, number, unsigned, string, object, no_members, member}
-use Rattle.sno_durable.specs.declared.records.TheConstants.{FORMAT}
+use Rattle.sno_durable.specs.declared.records.TheConstants.{FORMAT, LATER_FORMAT}
 
 -- the first line: the document that the store was made of, as it was written, the format, and the limit of trials
 abbrev pub origin_data : List ℕ → ℕ → Data
 origin_data document trials = object (member (codes "document") (string document) (member (codes "nomyake") (number (unsigned FORMAT)) (member (codes "trials") (number (unsigned trials)) no_members)))
+
+-- what came before: how many entries and statements, and the version that each text had
+abbrev pub past_data : ℕ → ℕ → Data → Data
+past_data entries statements versions =
+    object (member (codes "entries") (number (unsigned entries)) (member (codes "statements") (number (unsigned statements)) (member (codes "versions") versions no_members)))
+
+-- the first line of a store that goes on from others: the document with the texts that its first entry finds, the document that the first
+-- store was made of, the format, what came before, and the limit of trials
+abbrev pub later_data : List ℕ → ℕ → List ℕ → Data → Data
+later_data document trials made_of past =
+    object (member (codes "document") (string document) (member (codes "made_of") (string made_of) (member (codes "nomyake") (number (unsigned LATER_FORMAT))
+    (member (codes "past") past (member (codes "trials") (number (unsigned trials)) no_members)))))
 
 -- the record of an entry: the line of a client, as it came, and its reply
 abbrev pub record_data : List ℕ → Data → Data

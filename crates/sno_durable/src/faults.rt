@@ -42,6 +42,9 @@ pub enum DurableFault {
     /// The store was made with this other limit of trials.
     #[error("store: made with --trials {0}")]
     OtherTrials(u32),
+    /// A document with the texts of the store would have more than 16,777,216 bytes, so no store goes on from it.
+    #[error("store: its texts are too long for one document")]
+    TextsTooLong,
     /// The line with this number, from 1, isn't a record.
     #[error("store: line {0}: not a record")]
     Record(u64),

@@ -6,12 +6,14 @@ ghost use Rattle.sno_store.specs.Store.{is_clean};
 ghost use Rattle.sno_durable.specs.Kept.{AreKept, HasNoted, HasKept};
 
 use crate::DurableFault;
+use crate::past::Past;
 use crate::records::{record_in, record_line};
 use crate::replies::{put_noted, put_reply, too_long};
+use crate::sought::{Shown, reply_here};
 use sno_desk::{Desk, Naming, Seat, SubmitFault};
 use sno_document::{Mode, Rules};
 use sno_listing::Refusal;
-use sno_serve::{Answered, Asked, Intake, Next, answer, line_in, refusal_in, submit};
+use sno_serve::{Asked, Intake, Next, line_in, refusal_in, submit};
 use sno_statement::Statement;
 use sno_store::{Lines, LinesIter, Store};
 use sqlite_disk::Disk;
@@ -43,6 +45,10 @@ pub(crate) struct Keeper<D: Disk, I: Read, W: Write> {
     /// The number of the next statement.
     pub(crate) number: u32,
     pub(crate) store: Store<D>,
+    /// What came before the desk's first entry.
+    pub(crate) past: Past,
+    /// With this many entries the desk is closed.
+    pub(crate) most: u64,
     pub(crate) intake: Intake<I>,
     pub(crate) writer: W,
     pub(crate) refused: Vec<Refusal>,
@@ -69,7 +75,7 @@ impl<D: Disk + Drop, I: Read + Drop, W: Write + Drop> Keeper<D, I, W> {
             self.number = self.number.saturating_add(1);
         }
         let before = seat.accepted();
-        let Answered { reply, refused } = answer(rt, alloc, desk, seat, read, TRIES)?;
+        let Shown { reply, refused } = reply_here(rt, alloc, desk, seat, &self.past, read, TRIES)?;
         put_noted(alloc, &mut waiting.replies, &reply, ignored)?;
         if let Some(refused) = refused {
             self.refused.push(refused)?;
@@ -167,22 +173,26 @@ impl<D: Disk + Drop, I: Read + Drop, W: Write + Drop> Keeper<D, I, W> {
         Ok(more)
     }
 
-    /// Replies to lines until there are no more.
+    /// Replies to lines until there are no more, or the desk has as many entries as it may have. Returns whether there may be more
+    /// lines.
     pub(crate) fn serve<L: Naming, R: Wait>(
         &mut self,
         rt: &R,
         alloc: Global,
         desk: &Desk<L>,
         seat: &mut Seat<L>,
-    ) -> Result<(), DurableFault>
+    ) -> Result<bool, DurableFault>
         ensures kept { OnOk result (HasKept self.old.store self.new.store seat.old.accepted seat.new.accepted) }
     {
         for _ in 0..u64::MAX {
+            if seat.accepted() >= self.most {
+                return Ok(true);
+            }
             if !self.turn(rt, alloc, desk, seat)? {
-                return Ok(());
+                return Ok(false);
             }
         }
-        Ok(())
+        Ok(false)
     }
 
     /// Performs the statements of the document.
@@ -253,7 +263,7 @@ impl<D: Disk + Drop, I: Read + Drop, W: Write + Drop> Keeper<D, I, W> {
         let line = record.line.as_bytes();
         let read = line_in(alloc, &self.rules, self.mode, record.number, line)?;
         let before = seat.accepted();
-        let Answered { reply, .. } = answer(rt, alloc, desk, seat, read, TRIES)?;
+        let Shown { reply, .. } = reply_here(rt, alloc, desk, seat, &self.past, read, TRIES)?;
         if seat.accepted() == before {
             return Err(DurableFault::Outcome(place));
         }

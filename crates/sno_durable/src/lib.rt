@@ -4,20 +4,30 @@
 //! the record of an entry: the line of a client as it came, and its reply (`specs/Records.antt`). Begun again, the service
 //! performs them once more, and compares each reply with the stored one.
 //!
+//! So a store that grows takes ever longer to begin, and a journal has room for 1,000,000 entries. [`Kept::compacted`] is the first line
+//! of a store that goes on from another one: it has the texts as they are, and indices of entries, versions and numbers of
+//! statements go on.
+//!
 //! | File | What it does |
 //! |---|---|
 //! | `records` | the lines of a store, as JSON |
+//! | `past` | what came before the first entry of a store, and the numbers that a client is shown |
+//! | `sought` | what a line asks of a desk whose numbers begin at 0, and its reply as the client is shown it |
+//! | `compacted` | the first line of a store that goes on from another one |
 //! | `replies` | the lines that a client gets |
 //! | `keeper` | lines with their replies, and the store between the two |
 //! | `service` | from a store and its document to the book that is left |
 //! | `faults` | why a service didn't begin, or ended early |
 #![tactic(auto)]
 
+mod compacted;
 mod faults;
 mod keeper;
+mod past;
 mod records;
 mod replies;
 mod service;
+mod sought;
 
 pub use faults::DurableFault;
-pub use service::{Given, Kept, serve_durably};
+pub use service::{Client, Ended, Given, Kept, serve_durably};

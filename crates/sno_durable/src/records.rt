@@ -1,23 +1,48 @@
 //! The lines of a store: first what it was made of, and then a record of each entry.
-ghost use Rattle.std.specs.Prelude.{◌≡◌, ◌≤◌, IfOk, Some};
+ghost use Rattle.std.specs.Prelude.{◌≡◌, ◌≤◌, ◌+◌, IfOk, Some};
 ghost use Rattle.serde_json.specs.Data.{depth};
 ghost use Rattle.serde_json.specs.Read.{read, max_depth};
 ghost use Rattle.serde_json.specs.View.{view};
-ghost use Rattle.sno_durable.specs.Records.{origin_data, record_data};
+ghost use Rattle.sno_durable.specs.Records.{later_data, origin_data, past_data, record_data};
 
+use crate::past::Past;
 use serde_json::{Category, Map, Value, put};
 use std::alloc::{AllocError, Global};
 
-/// The number of this format. Another one is refused.
+/// The number of this format. A number that is neither this one nor that of a later store is refused.
 const FORMAT: u64 = 1;
+
+/// The number of the format of a store that goes on from others.
+const LATER_FORMAT: u64 = 2;
 
 /// What a store was made of.
 #[derive(Drop)]
 pub(crate) struct Origin {
-    /// The bytes of the document, as they came.
+    /// The bytes of the document whose texts the first entry finds.
     pub(crate) document: Vec<u8>,
     /// How many trials a match may take.
     pub(crate) trials: u32,
+    /// What came before, if the store goes on from others.
+    pub(crate) before: Option<Before>,
+}
+
+impl Origin {
+    /// The bytes of the document that the store was made of, or the first of those that it goes on from.
+    pub(crate) fn made_of(&self) -> &[u8] {
+        match &self.before {
+            None => &self.document,
+            Some(before) => &before.made_of,
+        }
+    }
+}
+
+/// What came before a store that goes on from others.
+#[derive(Drop)]
+pub(crate) struct Before {
+    /// The bytes of the document that the first of them was made of, as they came.
+    pub(crate) made_of: Vec<u8>,
+    /// The numbers that go on.
+    pub(crate) past: Past,
 }
 
 /// A line that a client wrote, with the number that its statement has.
@@ -37,6 +62,45 @@ pub(crate) fn origin_line(alloc: Global, document: &str, trials: u32) -> Result<
     let mut members = Map::new(alloc);
     put(&mut members, alloc, "trials", Value::from(trials))?;
     put(&mut members, alloc, "nomyake", Value::from(FORMAT))?;
+    put(&mut members, alloc, "document", text)?;
+    let bytes = Value::Object(members).to_vec(alloc)?;
+    Ok(bytes)
+}
+
+/// What came before, as a member of the first line.
+fn past_value(alloc: Global, past: &Past) -> Result<Value, AllocError>
+    ensures { IfOk result (λ v. view v ≡ past_data past.now.entries past.now.statements (view past.now.versions)) }
+{
+    let versions = past.versions.clone()?;
+    let mut members = Map::new(alloc);
+    put(&mut members, alloc, "versions", versions)?;
+    put(
+        &mut members,
+        alloc,
+        "statements",
+        Value::from(past.statements),
+    )?;
+    put(&mut members, alloc, "entries", Value::from(past.entries))?;
+    Ok(Value::Object(members))
+}
+
+/// The first line of a store that goes on from others.
+pub(crate) fn later_line(
+    alloc: Global,
+    document: &str,
+    trials: u32,
+    made_of: &str,
+    past: &Past,
+) -> Result<Vec<u8>, AllocError>
+    ensures { IfOk result (λ b. depth (view past.now.versions) + 2 ≤ max_depth → read b.items ≡ Some (later_data document.now trials made_of.now (past_data past.now.entries past.now.statements (view past.now.versions)))) }
+{
+    let text = Value::try_from_str(alloc, document)?;
+    let first = Value::try_from_str(alloc, made_of)?;
+    let mut members = Map::new(alloc);
+    put(&mut members, alloc, "trials", Value::from(trials))?;
+    put(&mut members, alloc, "past", past_value(alloc, past)?)?;
+    put(&mut members, alloc, "nomyake", Value::from(LATER_FORMAT))?;
+    put(&mut members, alloc, "made_of", first)?;
     put(&mut members, alloc, "document", text)?;
     let bytes = Value::Object(members).to_vec(alloc)?;
     Ok(bytes)
@@ -70,22 +134,58 @@ fn number_at(value: &Value, key: &str) -> Option<u64> {
     value.get(key).and_then(Value::as_u64)
 }
 
+/// What a member says that came before; nothing if it doesn't.
+fn past_in(member: &Value) -> Result<Option<Past>, AllocError> {
+    let (Some(entries), Some(statements)) = (
+        number_at(member, "entries"),
+        number_at(member, "statements"),
+    ) else {
+        return Ok(None);
+    };
+    match member.get("versions") {
+        Some(versions) if versions.is_object() && statements <= u32::MAX as u64 => Ok(Some(Past {
+            entries,
+            statements: statements as u32,
+            versions: versions.clone()?,
+        })),
+        _ => Ok(None),
+    }
+}
+
+/// What a first line of the later format says that came before; nothing if it doesn't.
+fn before_in(alloc: Global, line: &Value) -> Result<Option<Before>, AllocError> {
+    let (Some(made_of), Some(member)) = (
+        line.get("made_of").and_then(Value::as_str),
+        line.get("past"),
+    ) else {
+        return Ok(None);
+    };
+    let Some(past) = past_in(member)? else {
+        return Ok(None);
+    };
+    let made_of = String::from_str(alloc, made_of)?.into_bytes();
+    Ok(Some(Before { made_of, past }))
+}
+
 /// What the first line of a store says that it was made of; nothing if it isn't such a line.
 pub(crate) fn origin_in(alloc: Global, line: &[u8]) -> Result<Option<Origin>, AllocError> {
     let Some(value) = value_of(alloc, line)? else {
         return Ok(None);
     };
+    let before = before_in(alloc, &value)?;
+    let is_known = match number_at(&value, "nomyake") {
+        Some(FORMAT) => before.is_none(),
+        Some(LATER_FORMAT) => before.is_some(),
+        _ => false,
+    };
     let text = value.get("document").and_then(Value::as_str);
-    match (
-        number_at(&value, "nomyake"),
-        number_at(&value, "trials"),
-        text,
-    ) {
-        (Some(FORMAT), Some(trials), Some(text)) if trials <= u32::MAX as u64 => {
+    match (number_at(&value, "trials"), text) {
+        (Some(trials), Some(text)) if is_known && trials <= u32::MAX as u64 => {
             let document = String::from_str(alloc, text)?.into_bytes();
             Ok(Some(Origin {
                 document,
                 trials: trials as u32,
+                before,
             }))
         }
         _ => Ok(None),

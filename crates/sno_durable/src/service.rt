@@ -7,6 +7,7 @@ ghost use Rattle.sno_document.specs.Reads.{IsReady};
 
 use crate::DurableFault;
 use crate::keeper::Keeper;
+use crate::past::Past;
 use crate::records::{Origin, origin_in, origin_line};
 use sno_book::Book;
 use sno_desk::{Blank, Desk, Naming, Seat, SubmitFault, close};
@@ -16,7 +17,7 @@ use sno_serve::Intake;
 use sno_statement::{MAX_TRIALS, Statement, USUAL_TRIALS};
 use sno_store::{Lines, Store};
 use sqlite_disk::Disk;
-use std::alloc::Global;
+use std::alloc::{AllocError, Global};
 use std::io::{Read, Write};
 use std::marker::Brand;
 use std::sync::{Arc, Wait};
@@ -28,35 +29,76 @@ pub struct Given {
     pub document: Option<Vec<u8>>,
     /// How many trials a match may take, 1 to 1,000,000,000; for a new store usually 1,000,000.
     pub trials: Option<u32>,
+    /// With how many entries the service ends before the end of the input, so that another store can go on from this one.
+    pub most: Option<u64>,
+}
+
+/// Where lines come from, and where replies go.
+#[derive(Drop)]
+pub struct Client<I: Read, W: Write> {
+    /// The lines.
+    pub intake: Intake<I>,
+    /// What the replies are written to.
+    pub writer: W,
+}
+
+impl<I: Read + Drop, W: Write + Drop> Client<I, W> {
+    /// The client whose lines come from this reader, and who is written the replies. Refused only if memory runs out.
+    pub fn new(alloc: Global, reader: I, writer: W) -> Result<Client<I, W>, DurableFault> {
+        let intake = Intake::new(alloc, reader)?;
+        Ok(Client { intake, writer })
+    }
+}
+
+/// How a service ended.
+#[derive(Clone, Copy, Debug, PartialEq, Eq)]
+pub struct Ended {
+    /// How many entries are of the document's own statements.
+    pub first: u64,
+    /// Whether there may be more lines: the service ended since it has as many entries as it may have.
+    pub more: bool,
 }
 
 /// What a durable service leaves.
 #[derive(Drop)]
-pub struct Kept<D: Disk> {
+pub struct Kept<D: Disk, I: Read, W: Write> {
     /// The book, whose journal has the entries that were accepted.
     pub book: Book,
     /// What the listing has of refused statements, by rising number.
     pub refused: Vec<Refusal>,
     /// The store.
     pub store: Store<D>,
-    /// How many entries are of the document's own statements, if the input has ended; otherwise what ended the service.
-    pub ended: Result<u64, DurableFault>,
+    /// What the store was made of.
+    pub(crate) origin: Origin,
+    /// The number of the next statement.
+    pub(crate) number: u32,
+    /// The client.
+    pub client: Client<I, W>,
+    /// How the service ended, or the fault that ended it.
+    pub ended: Result<Ended, DurableFault>,
 }
 
 /// What the store was made of, by its first line; what is given, if it has no lines.
 fn origin_of(alloc: Global, lines: &Lines, given: Given) -> Result<Origin, DurableFault> {
-    let Given { document, trials } = given;
+    let Given {
+        document,
+        trials,
+        ..
+    } = given;
     let Some(first) = lines.iter().next() else {
         let Some(document) = document else {
             return Err(DurableFault::NoDocument);
         };
-        let trials = trials.unwrap_or(USUAL_TRIALS);
-        return Ok(Origin { document, trials });
+        return Ok(Origin {
+            document,
+            trials: trials.unwrap_or(USUAL_TRIALS),
+            before: None,
+        });
     };
     let Some(origin) = origin_in(alloc, first)? else {
         return Err(DurableFault::Format);
     };
-    if !is_of(document, &origin.document) {
+    if !is_of(document, origin.made_of()) {
         return Err(DurableFault::OtherDocument);
     }
     if trials.unwrap_or(origin.trials) != origin.trials {
@@ -118,7 +160,7 @@ fn at_seat<L: Naming, D: Disk + Drop, I: Read + Drop, W: Write + Drop, R: Wait>(
     keeper: &mut Keeper<D, I, W>,
     statements: &[Arc<Statement>],
     lines: Lines,
-) -> Result<u64, DurableFault> {
+) -> Result<Ended, DurableFault> {
     keeper.begin(rt, alloc, desk, seat, statements)?;
     let first = seat.accepted();
     let mut records = lines.iter();
@@ -126,8 +168,8 @@ fn at_seat<L: Naming, D: Disk + Drop, I: Read + Drop, W: Write + Drop, R: Wait>(
     keeper.replay_all(rt, alloc, desk, seat, records)?;
     // The lines may take much memory, and a service may go on for long.
     drop(lines);
-    keeper.serve(rt, alloc, desk, seat)?;
-    Ok(first)
+    let more = keeper.serve(rt, alloc, desk, seat)?;
+    Ok(Ended { first, more })
 }
 
 /// Opens a desk with this blank, works at its only seat, and closes it.
@@ -139,7 +181,7 @@ fn at_named_desk<L: Naming, D: Disk + Drop, I: Read + Drop, W: Write + Drop, R: 
     keeper: &mut Keeper<D, I, W>,
     statements: &[Arc<Statement>],
     lines: Lines,
-) -> Result<(Book, Result<u64, DurableFault>), DurableFault>
+) -> Result<(Book, Result<Ended, DurableFault>), DurableFault>
     requires name { (blank.ledger.name ≡ L.name) × (blank.ledger.parts ≡ L.parts) }
     requires histories { (blank.history ≡ record { history = L.book; entries = [] }) × (blank.attempts.history ≡ L.tries) }
     requires opening { book.opening ≡ L.opening }
@@ -162,18 +204,29 @@ fn at_named_desk<L: Naming, D: Disk + Drop, I: Read + Drop, W: Write + Drop, R: 
     }
 }
 
-/// Serves the document of a store: performs its statements and those of its records again, then replies to each line of
-/// the reader by a line of the writer, until there are no more. A line is that of [`sno_serve::line_in`], and its reply that of
-/// [`sno_serve::answer`]. `lines` are those that the store had when it was opened. If it had none, the store is made of the
-/// document that is given.
+/// What came before the first entry of a store, and the number of the statement after those of its document.
+fn beginning(alloc: Global, origin: &Origin, statements: u32) -> Result<(Past, u32), AllocError> {
+    let past = match &origin.before {
+        None => Past::nothing(alloc),
+        Some(before) => before.past.clone()?,
+    };
+    let number = past.statements.saturating_add(statements).saturating_add(1);
+    Ok((past, number))
+}
+
+/// Serves the document of a store: performs its statements and those of its records again, then replies to each line of the
+/// client, until there are no more, or the desk has as many entries as are given as the most. A line is that of
+/// [`sno_serve::line_in`], and its reply that of [`sno_serve::answer`]; if the store goes on from others, their indices and
+/// versions go on, too. `lines` are those that the store had when it was opened. If it had none, the store is made of the document
+/// that is given.
 ///
 /// Lines get their replies in the order in which they come. Those that were read together, up to 1,024, share one wait for the
 /// disk: the records of their entries are put into the store, and the replies are written when these are on the disk. So no
-/// reply shows an entry that a crash could take back.
+/// reply shows an entry that a crash could take back. The most entries are looked at between such shares, so there may be up to
+/// 1,023 more.
 ///
-/// On `Ok` the journal of the book is legal. If the input has ended, `ended` is how many entries are of the document's own
-/// statements, and the store has its first line and one line for each further entry, as far as the disk gave no other bytes than it has.
-/// Otherwise it is the fault that ended the service.
+/// On `Ok` the journal of the book is legal. Unless `ended` is a fault, the store has its first line and one line for each entry
+/// after the document's own statements, as far as the disk gave no other bytes than it has.
 ///
 /// Refused before the first reply:
 ///
@@ -193,15 +246,15 @@ pub fn serve_durably<D: Disk + Drop, I: Read + Drop, W: Write + Drop, R: Wait>(
     store: Store<D>,
     lines: Lines,
     given: Given,
-    reader: I,
-    writer: W,
-) -> Result<Kept<D>, DurableFault>
+    client: Client<I, W>,
+) -> Result<Kept<D, I, W>, DurableFault>
     ensures valid { IfOk result (λ k. IsValid (view_of k.book)) }
 {
     // A file that has something but no lines is another program's, or was cut while it was made.
     if lines.is_empty() && store.is_torn() {
         return Err(DurableFault::Format);
     }
+    let most = given.most.unwrap_or(u64::MAX);
     let origin = origin_of(alloc, &lines, given)?;
     if !is_limit(origin.trials) {
         return Err(DurableFault::Format);
@@ -219,13 +272,16 @@ pub fn serve_durably<D: Disk + Drop, I: Read + Drop, W: Write + Drop, R: Wait>(
     if lines.is_empty() {
         begin_store(alloc, &mut store, &origin)?;
     }
-    drop(origin);
+    let (past, number) = beginning(alloc, &origin, statements.len() as u32)?;
+    let Client { intake, writer } = client;
     let mut keeper = Keeper {
         rules,
         mode,
-        number: statements.len() as u32 + 1,
+        number,
         store,
-        intake: Intake::new(alloc, reader)?,
+        past,
+        most,
+        intake,
         writer,
         refused: Vec::new(alloc),
     };
@@ -239,11 +295,33 @@ pub fn serve_durably<D: Disk + Drop, I: Read + Drop, W: Write + Drop, R: Wait>(
         &statements,
         lines,
     )?;
-    let Keeper { store, refused, .. } = keeper;
-    Ok(Kept {
+    Ok(left_by(keeper, origin, book, ended))
+}
+
+/// What the service leaves, of what was between the client and the desk.
+fn left_by<D: Disk + Drop, I: Read + Drop, W: Write + Drop>(
+    keeper: Keeper<D, I, W>,
+    origin: Origin,
+    book: Book,
+    ended: Result<Ended, DurableFault>,
+) -> Kept<D, I, W>
+    ensures { result.book ≡ book }
+{
+    let Keeper {
+        store,
+        refused,
+        number,
+        intake,
+        writer,
+        ..
+    } = keeper;
+    Kept {
         book,
         refused,
         store,
+        origin,
+        number,
+        client: Client { intake, writer },
         ended,
-    })
+    }
 }

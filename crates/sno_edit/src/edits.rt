@@ -9,7 +9,7 @@ ghost use Rattle.sno_edit.specs.Rules.{rules_seen};
 use crate::utf8::first_non_utf8;
 use crate::{EditRules, FileFault, Position};
 use sno_pattern::ByteText;
-use sno_statement::{Rewritten, Statement, StatementFault, rewrite};
+use sno_statement::{FileStatement, Rewritten, Statement, StatementFault, rewrite};
 use std::alloc::{AllocError, Global};
 use std::sync::Arc;
 
@@ -63,7 +63,7 @@ fn is_utf8(edited: &EditedText) -> bool
 
 /// What is left of a text that this statement has rewritten. Refused with `Cut` if that cuts a character.
 fn left_by(
-    statement: &Statement,
+    statement: &FileStatement,
     rewritten: Rewritten,
     before: EditedText,
 ) -> Result<EditedText, FileFault>
@@ -97,7 +97,7 @@ fn left_by(
             utf8: Some(true),
         }),
         Some(place) => Err(FileFault::Cut(CutCharacter {
-            statement: statement.number(),
+            statement: statement.search().number(),
             position: Position::of(text.bytes(), place),
         })),
     }
@@ -107,7 +107,7 @@ fn left_by(
 fn turn(
     alloc: Global,
     rules: &EditRules,
-    statement: &Statement,
+    statement: &FileStatement,
     path: &str,
     before: EditedText,
 ) -> Result<EditedText, FileFault>
@@ -117,14 +117,14 @@ fn turn(
     ensures known { IfOk result (λ e. IsKnown e) }
     ensures few { IfOk result (λ e. e.matches ≤ before.matches + 2 ^ 32) }
 {
-    if !is_for(statement, path) {
+    if !is_for(statement.search(), path) {
         return Ok(before);
     }
     let trials = rules.trials().on(before.text.bytes().len());
     match rewrite(alloc, statement, &before.text, trials) {
         Ok(rewritten) => left_by(statement, rewritten, before),
         Err(fault) => {
-            let statement = statement.number();
+            let statement = statement.search().number();
             Err(FileFault::from(RefusedStatement { statement, fault }))
         }
     }

@@ -1,19 +1,17 @@
 //! Rules, as they are read.
-ghost use Rattle.std.specs.Prelude.{◌≡◌, ◌≢◌, ◌≤◌, map, length, Err, MatchResult};
-ghost use Rattle.std.specs.Arc.{arc_value};
+ghost use Rattle.std.specs.Prelude.{◌≡◌, ◌≢◌, ◌≤◌, length, Err, MatchResult};
 ghost use Rattle.sno_document.specs.declared.statements.TheConstants.{MAX_STATEMENTS};
 ghost use Rattle.sno_document.specs.Rules.{AreRules, IsRules};
 
 use crate::Trials;
-use sno_document::{Document, DocumentFault, Mode, StatementRow, read_rules, rules_of_rows};
-use sno_statement::{MAX_TRIALS, Statement};
+use sno_document::{DocumentFault, FileRules, Mode, StatementRow, read_rules, rules_of_rows};
+use sno_statement::{FileStatement, MAX_TRIALS};
 use std::alloc::Global;
-use std::sync::Arc;
 
 /// Statements that are performed on files: at most 1,000,000.
 #[derive(Drop)]
 pub struct EditRules {
-    statements: Vec<Arc<Statement>>,
+    statements: Vec<FileStatement>,
     trials: Trials,
     ghost few: { length statements.items ≤ MAX_STATEMENTS },
 }
@@ -21,7 +19,7 @@ pub struct EditRules {
 impl EditRules {
     ghost use Rattle.sno_edit.specs.Rules.{HoldsRows, HoldsRules, mode_of, rows_in, rules_seen};
 
-    /// Reads rules: a document without texts, whose statements need not name a text. The faults are those of
+    /// Reads rules: a document without texts, whose statements need not name a text. Literals may have any bytes. The faults are those of
     /// `read_rules` of `sno_document`, in its order. A statement that doesn't say it is anchored if `anchor` says so,
     /// and each may take `trials`.
     pub fn read(
@@ -36,8 +34,8 @@ impl EditRules {
             anchor,
             trials: MAX_TRIALS,
         };
-        let document = read_rules(alloc, bytes, mode)?;
-        let Document { statements, .. } = document;
+        let rules = read_rules(alloc, bytes, mode)?;
+        let FileRules { statements, .. } = rules;
         Ok(EditRules { statements, trials })
     }
 
@@ -57,14 +55,14 @@ impl EditRules {
             anchor,
             trials: MAX_TRIALS,
         };
-        let document = rules_of_rows(alloc, patterns, statements, mode)?;
-        let Document { statements, .. } = document;
+        let rules = rules_of_rows(alloc, patterns, statements, mode)?;
+        let FileRules { statements, .. } = rules;
         Ok(EditRules { statements, trials })
     }
 
     /// The statements, in order: at most 1,000,000.
-    pub fn statements(&self) -> &[Arc<Statement>]
-        ensures value { map arc_value result.now ≡ (rules_seen self.now).statements }
+    pub fn statements(&self) -> &[FileStatement]
+        ensures value { result.now ≡ (rules_seen self.now).statements }
         ensures few { length result.now ≤ MAX_STATEMENTS }
     {
         &self.statements

@@ -25,6 +25,7 @@ pub fn leaf(
 {
     match pattern {
         Pattern::Lit(_)
+        | Pattern::Bytes(_)
         | Pattern::Len(_)
         | Pattern::Pos(_)
         | Pattern::Rpos(_)

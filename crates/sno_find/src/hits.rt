@@ -15,7 +15,7 @@ use crate::faults::fault_of;
 use sno_edit::{Trials, is_for};
 use sno_machine::{Code, compile};
 use sno_pattern::ByteText;
-use sno_statement::{ByteMatch, BytePass, Statement, StatementFault, first_match};
+use sno_statement::{ByteMatch, BytePass, FileStatement, StatementFault, first_match};
 use std::alloc::{AllocError, Global};
 
 /// A match of a statement.
@@ -30,7 +30,7 @@ pub(crate) struct Hit<'t> {
 /// Adds all matches of a statement. The code is that of its pattern.
 fn add_all<'t>(
     alloc: Global,
-    statement: &Statement,
+    statement: &FileStatement,
     code: &Code<'_>,
     text: &'t ByteText,
     trials: u32,
@@ -45,7 +45,7 @@ fn add_all<'t>(
     let mut pass = BytePass::new(alloc, statement, code, text, trials);
     while let Some(found) = pass.next(alloc)? {
         hits.push(Hit {
-            statement: statement.number(),
+            statement: statement.search().number(),
             found,
         })?;
     }
@@ -55,7 +55,7 @@ fn add_all<'t>(
 /// Adds the first match of a statement, if it has one. The code is that of its pattern.
 fn add_first<'t>(
     alloc: Global,
-    statement: &Statement,
+    statement: &FileStatement,
     code: &Code<'_>,
     text: &'t ByteText,
     trials: u32,
@@ -69,7 +69,7 @@ fn add_first<'t>(
 {
     if let Some(found) = first_match(alloc, statement, code, text, trials)? {
         hits.push(Hit {
-            statement: statement.number(),
+            statement: statement.search().number(),
             found,
         })?;
     }
@@ -79,7 +79,7 @@ fn add_first<'t>(
 /// Adds what is found of a statement: all matches of one for all matches, and the first of any other.
 fn add_sought<'t>(
     alloc: Global,
-    statement: &Statement,
+    statement: &FileStatement,
     text: &'t ByteText,
     trials: u32,
     hits: &mut Vec<Hit<'t>>,
@@ -89,8 +89,9 @@ fn add_sought<'t>(
     ensures refused { IfErr result (λ e. e ≡ TooManyTrials → trials < sought_trials (with_limit statement.now trials) text.now) }
     ensures never { IfErr result (λ e. e ≡ TextTooLong → ⊥) }
 {
-    let code = compile(alloc, statement.rules(), statement.pattern())?;
-    if statement.is_for_all() {
+    let search = statement.search();
+    let code = compile(alloc, search.rules(), search.pattern())?;
+    if search.is_for_all() {
         return add_all(alloc, statement, &code, text, trials, hits);
     }
     add_first(alloc, statement, &code, text, trials, hits)
@@ -100,7 +101,7 @@ fn add_sought<'t>(
 pub(crate) fn add_hits<'t>(
     alloc: Global,
     trials: Trials,
-    statement: &Statement,
+    statement: &FileStatement,
     path: &str,
     text: &'t ByteText,
     hits: &mut Vec<Hit<'t>>,
@@ -109,13 +110,13 @@ pub(crate) fn add_hits<'t>(
     ensures within { OnOk result (is_refused trials path.now text.now statement.now ≡ false) }
     ensures refused { IfErr result (IsRefusal (is_refused trials path.now text.now statement.now) statement.now.number) }
 {
-    if !is_for(statement, path) {
+    if !is_for(statement.search(), path) {
         return Ok(());
     }
     let trials = trials.on(text.bytes().len());
     match add_sought(alloc, statement, text, trials, hits) {
         Ok(()) => Ok(()),
-        Err(fault) => Err(fault_of(statement.number(), fault)),
+        Err(fault) => Err(fault_of(statement.search().number(), fault)),
     }
 }
 

@@ -31,7 +31,11 @@ impl<'p> Taken<'p> {
 
 /// Whether some character is taken at both places.
 fn overlap(one: &Taken, other: &Taken) -> bool {
-    (0..128).any(|character: u8| one.has(character) && other.has(character))
+    match (one, other) {
+        (Taken::This(byte), _) => other.has(*byte),
+        (_, Taken::This(byte)) => one.has(*byte),
+        _ => (0..128).any(|character: u8| one.has(character) && other.has(character)),
+    }
 }
 
 /// Whether some characters are taken by both, place by place; they have the same length.
@@ -61,6 +65,7 @@ fn add_any<'p>(places: &mut Vec<Taken<'p>>, count: usize) -> Result<(), AllocErr
 fn add_places<'p>(places: &mut Vec<Taken<'p>>, pattern: &'p Pattern) -> Result<bool, AllocError> {
     match pattern {
         Pattern::Lit(text) => add_each(places, text.bytes())?,
+        Pattern::Bytes(text) => add_each(places, text.bytes())?,
         Pattern::Len(count) => add_any(places, *count as usize)?,
         Pattern::AnyOf(set) => places.push(Taken::OneOf(set))?,
         Pattern::NoneOf(set) => places.push(Taken::NoneOf(set))?,

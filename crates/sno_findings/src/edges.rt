@@ -29,6 +29,7 @@ fn last_part(pattern: &Pattern) -> &Pattern {
 fn beginnings(pattern: &Pattern) -> &[u8] {
     match first_part(pattern) {
         Pattern::Lit(text) => text.bytes().get(..1).unwrap_or(&[]),
+        Pattern::Bytes(text) => text.bytes().get(..1).unwrap_or(&[]),
         Pattern::AnyOf(set) | Pattern::Span(set) => set.members(),
         _ => &[],
     }
@@ -57,6 +58,7 @@ pub(crate) fn blocked_after(first: &Pattern, second: &Pattern) -> Option<Blocked
 fn is_null_anywhere(pattern: &Pattern) -> bool {
     match pattern {
         Pattern::Lit(text) => text.bytes().is_empty(),
+        Pattern::Bytes(text) => text.bytes().is_empty(),
         Pattern::Len(n) => *n == 0,
         Pattern::Arb | Pattern::Arbno(_) | Pattern::At(_) => true,
         Pattern::Seq(first, second) => is_null_anywhere(first) && is_null_anywhere(second),

@@ -1,7 +1,6 @@
 //! What a pattern assigns, refers to and seeks.
 
 use crate::ambiguous::is_ambiguous;
-use crate::ascii::text_of;
 use crate::edges::{Blocked, blocked_after};
 use sno_pattern::{Name, Pattern};
 use std::alloc::{AllocError, Global};
@@ -77,6 +76,7 @@ impl Facts {
     ) -> Result<(), AllocError> {
         match pattern {
             Pattern::Lit(text) => self.note_characters(text.bytes()),
+            Pattern::Bytes(text) => self.note_characters(text.bytes()),
             Pattern::AnyOf(set) | Pattern::NoneOf(set) | Pattern::Span(set) | Pattern::Break(set) =>
                 self.note_set(set.members()),
             Pattern::At(name) => self.variables.push(*name)?,
@@ -157,18 +157,22 @@ pub fn facts_of(
     Ok(facts)
 }
 
+/// Whether what is sought is in these characters; at their start if it is anchored. The null string is not.
+fn is_in(sought: &[u8], anchored: bool, characters: &[u8]) -> bool {
+    if sought.is_empty() {
+        return false;
+    }
+    if anchored {
+        return characters.starts_with(sought);
+    }
+    characters.windows(sought.len()).any(|part| part == sought)
+}
+
 /// Whether the pattern is a choice of literals, one of which is in these characters; at their start if it is anchored.
-pub(crate) fn has_what_is_sought(pattern: &Pattern, anchored: bool, characters: &str) -> bool {
+pub(crate) fn has_what_is_sought(pattern: &Pattern, anchored: bool, characters: &[u8]) -> bool {
     match pattern {
-        Pattern::Lit(text) => {
-            let sought = text_of(text.bytes());
-            let is_there = if anchored {
-                characters.starts_with(sought)
-            } else {
-                characters.contains(sought)
-            };
-            is_there && !sought.is_empty()
-        }
+        Pattern::Lit(text) => is_in(text.bytes(), anchored, characters),
+        Pattern::Bytes(text) => is_in(text.bytes(), anchored, characters),
         Pattern::Alt(first, second) => {
             has_what_is_sought(first, anchored, characters)
                 || has_what_is_sought(second, anchored, characters)

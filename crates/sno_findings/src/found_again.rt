@@ -3,18 +3,18 @@
 ghost use Rattle.std.specs.Prelude.{◌≤◌};
 
 use sno_pattern::{Class, Name, Pattern};
-use sno_read::{Object, Part};
+use sno_read::{ByteObject, BytePart};
 
 /// How many parts of the patterns are looked at: definitions that name one another could give far more.
 const MOST_PARTS: u32 = 10_000;
 
 /// Whether the literal stands in a quoted part of the object.
-fn has_literal(object: &Object, sought: &[u8]) -> bool {
+fn has_literal(object: &ByteObject, sought: &[u8]) -> bool {
     if sought.is_empty() {
         return true;
     }
     for part in object.parts() {
-        if let Part::Quoted(text) = part {
+        if let BytePart::Quoted(text) = part {
             if text
                 .bytes()
                 .windows(sought.len())
@@ -28,9 +28,9 @@ fn has_literal(object: &Object, sought: &[u8]) -> bool {
 }
 
 /// Whether a quoted part of the object has a character that is in the set, or one that isn't.
-fn has_character(object: &Object, set: &Class, inside: bool) -> bool {
+fn has_character(object: &ByteObject, set: &Class, inside: bool) -> bool {
     for part in object.parts() {
-        if let Part::Quoted(text) = part {
+        if let BytePart::Quoted(text) = part {
             if text
                 .bytes()
                 .iter()
@@ -44,9 +44,9 @@ fn has_character(object: &Object, set: &Class, inside: bool) -> bool {
 }
 
 /// Whether the object puts the variable's value back.
-fn has_variable(object: &Object, variable: &Name) -> bool {
+fn has_variable(object: &ByteObject, variable: &Name) -> bool {
     for part in object.parts() {
-        if let Part::Var(name) = part {
+        if let BytePart::Var(name) = part {
             if name.bytes() == variable.bytes() {
                 return true;
             }
@@ -61,7 +61,7 @@ fn has_variable(object: &Object, variable: &Name) -> bool {
 pub(crate) fn may_find_again(
     bodies: &[Option<Pattern>],
     pattern: &Pattern,
-    object: &Object,
+    object: &ByteObject,
 ) -> bool {
     let mut search = PartSearch {
         bodies,
@@ -75,7 +75,7 @@ pub(crate) fn may_find_again(
 #[derive(Drop)]
 struct PartSearch<'a> {
     bodies: &'a [Option<Pattern>],
-    object: &'a Object,
+    object: &'a ByteObject,
     room: u32,
 }
 
@@ -89,6 +89,7 @@ impl<'a> PartSearch<'a> {
         self.room -= 1;
         match pattern {
             Pattern::Lit(text) => has_literal(self.object, text.bytes()),
+            Pattern::Bytes(text) => has_literal(self.object, text.bytes()),
             Pattern::AnyOf(set) | Pattern::Span(set) => has_character(self.object, set, true),
             Pattern::NoneOf(set) => has_character(self.object, set, false),
             Pattern::Seq(first, second) => self.may_find(first) && self.may_find(second),

@@ -152,6 +152,9 @@ fn instead_of_next(is_object: bool, front: &[u8], next: u8, after: &[u8]) -> Opt
         b'\'' | b'"' if sign == Some(b'.') || sign == Some(b'$') => {
             Some("a variable is wanted after . and $, and a variable has no quotes")
         }
+        b'\'' | b'"' if has_set(front) && front.last().is_some_and(|c| is_quote(*c)) => {
+            Some("a set is one string, as ANY('ab')")
+        }
         b' ' | b'\t' | b'\'' | b'"' if has_set(front) => {
             Some("a set is one string, as ANY('ab'), and not several")
         }

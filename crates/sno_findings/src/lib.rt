@@ -54,7 +54,7 @@ pub use habits::habit_advice;
 pub use json_lines::json_of;
 pub use json_places::json_mistake;
 pub use lines::{lines_of, put_mistake, put_pointed, put_source};
-pub use reading::{place_of, reading_advice};
+pub use reading::{WIDE_SET_ADVICE, place_of, reading_advice};
 pub use sno_document::DocumentFault;
 pub use spelling::nearest;
 pub use warnings::{

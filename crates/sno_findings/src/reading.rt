@@ -3,6 +3,10 @@
 use sno_pattern::is_name_char;
 use sno_read::ReadFault;
 
+/// What is wanted in place of a character in a set of a rule that is not ASCII.
+pub const WIDE_SET_ADVICE: &str =
+    "a set has only ASCII characters; write alternatives, as ('é' | 'à')";
+
 /// How many characters come before the point of a fault.
 pub fn place_of(fault: &ReadFault) -> usize {
     match fault {
@@ -19,6 +23,10 @@ pub fn place_of(fault: &ReadFault) -> usize {
         ReadFault::Memory => 0,
     }
 }
+
+/// What is wanted for a character outside quotes that is not ASCII.
+const OUTSIDE_QUOTES: &str =
+    "this can't come here; what isn't ASCII comes in straight quotes, as 'é'";
 
 /// A space or a tab.
 pub(crate) fn is_blank(character: u8) -> bool {
@@ -44,6 +52,7 @@ fn at_front(is_object: bool, next: u8) -> &'static str {
         b'[' => "a set is written in quotes, as in ANY('abc') or SPAN('abc')",
         b'\\' => "nothing is escaped; characters are written in quotes, as 'abc'",
         b'0'..=b'9' => "characters are written in quotes, digits too, as '3'",
+        128.. => OUTSIDE_QUOTES,
         _ => "this can't come here; characters are written in quotes, as 'abc'",
     }
 }
@@ -61,6 +70,7 @@ fn after_part(is_object: bool, previous: u8, next: u8) -> &'static str {
         b' ' | b'\t' => "( comes right after its word, as in LEN(3)",
         b'\'' | b'"' => "a blank is wanted before this quote",
         b'\n' | b'\r' => "parts have spaces or tabs between them, not line ends",
+        128.. => OUTSIDE_QUOTES,
         _ => "a blank is wanted here; characters with ' in them go between \" and \"",
     }
 }

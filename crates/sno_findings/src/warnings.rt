@@ -8,7 +8,7 @@ use crate::found_again::may_find_again;
 use crate::spelling::nearest;
 use crate::{Form, Place, Whose};
 use sno_pattern::{Name, Pattern};
-use sno_read::{Object, Part};
+use sno_read::{ByteObject, BytePart};
 use std::alloc::{AllocError, Global};
 
 fn warn_of_escape(
@@ -99,6 +99,15 @@ fn warn_of_streams(
     findings.warn(whose.place(), message)
 }
 
+/// A character as a warning has it. A byte above 127 is a part of one, and isn't shown.
+fn character_shown(alloc: Global, character: u8) -> Result<String, AllocError> {
+    if character > 127 {
+        return String::from_str(alloc, "what isn't ASCII");
+    }
+    let character = char::from(character);
+    format!(in alloc; "{character:?}")
+}
+
 fn warn_of_blocked(
     findings: &mut Collector,
     whose: Whose,
@@ -108,15 +117,15 @@ fn warn_of_blocked(
     let message = match blocked {
         None => return Ok(()),
         Some(Blocked::BySpan(character)) => {
-            let character = char::from(character);
+            let character = character_shown(alloc, character)?;
             format!(in alloc;
-                "pattern: no match goes on with {character:?} after SPAN, which takes all characters of its set and gives none back"
+                "pattern: no match goes on with {character} after SPAN, which takes all characters of its set and gives none back"
             )?
         }
         Some(Blocked::ByBreak(character)) => {
-            let character = char::from(character);
+            let character = character_shown(alloc, character)?;
             format!(in alloc;
-                "pattern: no match goes on with {character:?} after BREAK, which ends before a character of its set"
+                "pattern: no match goes on with {character} after BREAK, which ends before a character of its set"
             )?
         }
     };
@@ -179,11 +188,11 @@ pub fn warn_of_variables(
     findings: &mut Collector,
     place: Place,
     assigned: &[Name],
-    object: &Object,
+    object: &ByteObject,
 ) -> Result<(), AllocError> {
     let mut seen = Vec::new(findings.alloc);
     for part in object.parts() {
-        if let Part::Var(name) = part {
+        if let BytePart::Var(name) = part {
             if !is_among(assigned, name) && !is_among(&seen, name) {
                 warn_of_variable(findings, place, assigned, name)?;
                 seen.push(*name)?;
@@ -197,11 +206,11 @@ pub fn warn_of_variables(
 pub fn warn_of_literals(
     findings: &mut Collector,
     whose: Whose,
-    object: &Object,
+    object: &ByteObject,
 ) -> Result<(), AllocError> {
     let mut escape = None;
     for part in object.parts() {
-        if let Part::Quoted(text) = part {
+        if let BytePart::Quoted(text) = part {
             if escape.is_none() {
                 escape = escape_in(text.bytes());
             }
@@ -211,15 +220,15 @@ pub fn warn_of_literals(
 }
 
 /// Whether the object has what the pattern seeks; in its first part if the match is anchored, since that stands in front.
-fn finds_itself_again(pattern: &Pattern, anchored: bool, object: &Object) -> bool {
+fn finds_itself_again(pattern: &Pattern, anchored: bool, object: &ByteObject) -> bool {
     let parts = object.parts();
     let parts = match parts.get(..1) {
         Some(front) if anchored => front,
         _ => parts,
     };
     for part in parts {
-        if let Part::Quoted(text) = part {
-            if has_what_is_sought(pattern, anchored, text_of(text.bytes())) {
+        if let BytePart::Quoted(text) = part {
+            if has_what_is_sought(pattern, anchored, text.bytes()) {
                 return true;
             }
         }
@@ -237,7 +246,7 @@ pub fn warn_of_growth(
     bodies: &[Option<Pattern>],
     pattern: &Pattern,
     anchored: bool,
-    object: &Object,
+    object: &ByteObject,
 ) -> Result<(), AllocError> {
     let one_pass = match findings.form {
         Form::Json => "\"all\": true is one pass",

@@ -8,6 +8,7 @@
 //! |---|---|
 //! | `given_lines` | definitions and rules, each in a line, with where it comes from |
 //! | `spelled_lines` | the lines as they are spelled, and those that can't be |
+//! | `line_rows` | the rows of the lines, for `sno_document` |
 //! | `used_sets` | the definitions that sets use |
 //! | `line_faults` | faults of lines and of their parts, with their places in the lines |
 //! | `reports` | what a check finds in rules, by their lines |
@@ -16,6 +17,7 @@
 
 mod given_lines;
 mod line_faults;
+mod line_rows;
 mod report_json;
 mod report_lines;
 mod reports;
@@ -24,6 +26,7 @@ mod used_sets;
 
 pub use given_lines::{GivenLine, GivenLines, NoLines, Source};
 pub use line_faults::{LineMistake, mistake_of_fault};
+pub use line_rows::{PatternRows, RuleRows, rows_of};
 pub use report_json::json_of_report;
 pub use report_lines::{lines_of_mistake, lines_of_report};
 pub use reports::{LineReport, LineWarning, report_in_lines};

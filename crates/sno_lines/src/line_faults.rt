@@ -4,7 +4,8 @@ use crate::given_lines::{GivenLine, Source};
 use crate::spelled_lines::{SpelledLines, SpelledPart};
 use sno_document::DocumentFault;
 use sno_findings::{
-    Excerpt, Mistake, Place, advice_of, around, habit_advice, place_of, reading_advice,
+    Excerpt, Mistake, Place, WIDE_SET_ADVICE, advice_of, around, habit_advice, place_of,
+    reading_advice,
 };
 use sno_read::ReadFault;
 use sno_rules::{LineFault, SpellingFault};
@@ -87,7 +88,7 @@ pub(crate) fn fault_of_line<'l>(
 /// How many characters come before the place of a fault of a set, and what is wanted there.
 fn place_and_advice(fault: &SpellingFault) -> (usize, &'static str) {
     match fault {
-        SpellingFault::NotAscii(place) => (*place, "a set has only ASCII characters"),
+        SpellingFault::NotAscii(place) => (*place, WIDE_SET_ADVICE),
         SpellingFault::OpenQuote(place) => (
             *place,
             "this quote isn't closed; characters with ' in them go between \" and \"",
@@ -101,10 +102,6 @@ fn place_and_advice(fault: &SpellingFault) -> (usize, &'static str) {
             "a set is written in quotes or by its name, as in SPAN(LETTER '_')",
         ),
         SpellingFault::OpenArgument(place) => (*place, "a ) is wanted after the set of this"),
-        SpellingFault::BothQuotes(place) => (
-            *place,
-            "no set has both kinds of quotes; join two of them by a bar",
-        ),
         SpellingFault::Memory => (0, "there is too little memory"),
     }
 }

@@ -5,7 +5,8 @@ use denote.RawPtr.{null_ptr}
 use Rattle.sno_pattern.specs.declared.tree.Pattern.{Pattern}
 use Rattle.sno_pattern.specs.declared.tree.Pattern.TheVariants as pattern
 
--- one constructor for each variant of `Pattern`; characters, names and sets are lists of codes
+-- One constructor for each variant of `Pattern`, but that a literal of ASCII characters and one of bytes are alike. Characters,
+-- names and sets are lists of codes.
 pub data Tree : Type 0 where
   Lit : List ℕ → Tree
   Len : ℕ → Tree
@@ -34,6 +35,7 @@ pub data Tree : Type 0 where
 -- the tree of a pattern of the program
 abbrev pub tree_of : Pattern → Tree
 tree_of (pattern.Lit s) = Lit s
+tree_of (pattern.Bytes s) = Lit s
 tree_of (pattern.Len n) = Len n
 tree_of (pattern.Pos n) = Pos n
 tree_of (pattern.Rpos n) = Rpos n

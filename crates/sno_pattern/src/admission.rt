@@ -24,6 +24,7 @@ fn takes(marks: &[bool], pattern: &Pattern) -> bool
 {
     match pattern {
         Pattern::Lit(text) => !text.bytes().is_empty(),
+        Pattern::Bytes(text) => !text.bytes().is_empty(),
         Pattern::Len(count) => *count != 0,
         Pattern::AnyOf(_) | Pattern::NoneOf(_) | Pattern::Span(_) => true,
         Pattern::Bal | Pattern::Fail | Pattern::Abort => true,

@@ -1,5 +1,5 @@
 //! The tree of a pattern.
-use crate::{Class, Name, Text};
+use crate::{ByteText, Class, Name, Text};
 
 /// A pattern.
 ///
@@ -8,6 +8,9 @@ use crate::{Class, Name, Text};
 pub enum Pattern {
     /// These characters; if there are none, the null string.
     Lit(Text),
+    /// These bytes. Only rules for files have such literals, for characters that aren't ASCII; `Lit` with other characters, in all
+    /// else.
+    Bytes(ByteText),
     /// `LEN(n)`: n characters.
     Len(u32),
     /// `POS(n)`: the null string, if the cursor is n.

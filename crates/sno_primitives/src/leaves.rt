@@ -22,6 +22,7 @@ pub fn leaf_end(text: &[u8], pattern: &Pattern, c: usize) -> Option<usize>
 {
     match pattern {
         Pattern::Lit(literal) => literal_end(text, literal.bytes(), c),
+        Pattern::Bytes(literal) => literal_end(text, literal.bytes(), c),
         Pattern::Len(n) => len_end(text, *n as usize, c),
         Pattern::Pos(n) => pos_end(*n as usize, c),
         Pattern::Rpos(n) => rpos_end(text, *n as usize, c),

@@ -47,7 +47,7 @@ letter_start c h =
       no_bar = ne_eqb c 124 (λ e. omega (arith, r.1));
     }
 
-quote_start : (c : ℕ) → is_quote c ≡ true → IsStart c
+pub quote_start : (c : ℕ) → is_quote c ≡ true → IsStart c
 quote_start c h = by_case (quote_cases c h)
   where
     by_case : (c ≡ 39) ⊎ (c ≡ 34) → IsStart c
@@ -71,28 +71,28 @@ named_starts w h = let n = name_starts w h in (n.0, letter_start n.0 n.1, n.2, n
 pub literal_starts : (x s : List ℕ) → IsLiteral x s → Starts x
 literal_starts x s l = (l.quote, quote_start l.quote l.is_quote, s ++ (l.quote ∷ []), l.spelled)
 
-module _ (names : List (List ℕ)) (earlier : ℕ) where
-  pub element_starts : (k : ℕ) (x : List ℕ) (t : Tree) → IsElement names earlier k x t → Starts x
+module _ (IsSet : List ℕ → List ℕ → Type 0) (names : List (List ℕ)) (earlier : ℕ) where
+  pub element_starts : (k : ℕ) (x : List ℕ) (t : Tree) → IsElement IsSet names earlier k x t → Starts x
   element_starts k x t (grammar.quoted y s l) = literal_starts y s l
   element_starts k x t (grammar.cursor v h) = (64, record { no_blank = refl; no_closing = refl; no_dot = refl; no_dollar = refl; no_bar = refl }, v, refl)
   element_starts k x t (grammar.starred w i n e) = (42, record { no_blank = refl; no_closing = refl; no_dot = refl; no_dollar = refl; no_bar = refl }, w, refl)
   element_starts k x t (grammar.plain w i n r e l) = named_starts w n
   element_starts k x t (grammar.word w it e) = named_starts w (keyword_name w _ e)
   element_starts k x t (grammar.counted w b ds c call n e bb d cb) = starts_more w _ (named_starts w (keyword_name w _ e))
-  element_starts k x t (grammar.chosen w b y s c call e bb l o cb) = starts_more w _ (named_starts w (keyword_name w _ e))
+  element_starts k x t (grammar.chosen w b y s c call e bb l cb) = starts_more w _ (named_starts w (keyword_name w _ e))
   element_starts k x t (grammar.repeated w b y c u e bb a cb) = starts_more w _ (named_starts w (keyword_name w _ e))
   element_starts k x t (grammar.group b y c u bb a cb) = (40, record { no_blank = refl; no_closing = refl; no_dot = refl; no_dollar = refl; no_bar = refl }, _, refl)
 
-  pub item_starts : (k : ℕ) (x : List ℕ) (t : Tree) → IsItem names earlier k x t → Starts x
+  pub item_starts : (k : ℕ) (x : List ℕ) (t : Tree) → IsItem IsSet names earlier k x t → Starts x
   item_starts k x t (grammar.element y u e) = element_starts k y u e
   item_starts k x t (grammar.later y b c v u i bb cb h) = starts_more y _ (item_starts k y u i)
   item_starts k x t (grammar.at_once y b c v u i bb cb h) = starts_more y _ (item_starts k y u i)
 
-  pub concatenation_starts : (k : ℕ) (x : List ℕ) (t : Tree) → IsConcatenation names earlier k x t → Starts x
+  pub concatenation_starts : (k : ℕ) (x : List ℕ) (t : Tree) → IsConcatenation IsSet names earlier k x t → Starts x
   concatenation_starts k x t (grammar.single y u i) = item_starts k y u i
   concatenation_starts k x t (grammar.followed y b z u v i bb r) = starts_more y _ (item_starts k y u i)
 
-  pub alternation_starts : (k : ℕ) (x : List ℕ) (t : Tree) → IsAlternation names earlier k x t → Starts x
+  pub alternation_starts : (k : ℕ) (x : List ℕ) (t : Tree) → IsAlternation IsSet names earlier k x t → Starts x
   alternation_starts k x t (grammar.only y u i) = concatenation_starts k y u i
   alternation_starts k x t (grammar.otherwise y b c z u v i bb cb r) = starts_more y _ (concatenation_starts k y u i)
 

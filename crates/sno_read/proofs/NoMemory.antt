@@ -20,10 +20,10 @@ use Rattle.sno_read.specs.declared.keywords.SetCall.{SetCall}
 use Rattle.sno_read.specs.Depth.{depth}
 use Rattle.sno_read.specs.Gives.{◌>>=◌, found_or}
 use Rattle.sno_read.specs.Keywords.{keyword_of}
-use Rattle.sno_read.specs.Characters.{is_blank, is_other, quote_of, front, skip, begins, value_of, start_of, what_follows}
-use Rattle.sno_read.specs.Laws.{MemoryIsNoFault}
-use Rattle.sno_read.specs.Reading.{Env, Read, place, below, literal_at, set_at, number_at, name_at, variable_at, opening_at, closing_at, blanks_at, sign_at, cursor_at, reference_at, plain_of, number_call_at, set_call_at, group_at, repetition_at, from_name, from_name_at, quotation_at, element_by, element_at, target_by, targets_at, item_at, item_by, items_at, next_part_by, parts_at, concatenation_at, alternation_at, inside, end_at, unless_too_deep, whole_of, ascii_only, short_ascii, pattern_of}
-use Rattle.sno_read.specs.Objects.{gap_at, parts_of, object_of}
+use Rattle.sno_read.specs.Characters.{is_blank, is_other, quote_of, front, skip, begins, value_of, start_of, what_follows, goes_on}
+use Rattle.sno_read.specs.Laws.{MemoryIsNoFault, MemoryIsNoRuleFault}
+use Rattle.sno_read.specs.Reading.{Env, Read, place, below, unless_above, literal_at, ascii_literal_at, literals_by, literals_at, set_at, number_at, name_at, variable_at, opening_at, closing_at, blanks_at, sign_at, cursor_at, reference_at, plain_of, number_call_at, set_call_at, group_at, repetition_at, from_name, from_name_at, quotation_at, element_by, element_at, target_by, targets_at, item_at, item_by, items_at, next_part_by, parts_at, concatenation_at, alternation_at, inside, end_at, unless_too_deep, whole_of, ascii_only, short_text, short_ascii, pattern_of, rule_pattern_of}
+use Rattle.sno_read.specs.Objects.{gap_at, parts_of, object_of, rule_object_of}
 use Rattle.sno_read.specs.Objects as objects
 
 -- it isn't `Memory`
@@ -49,9 +49,26 @@ literal_safe : (env : Env) (text : List ℕ) → Safe (literal_at env text)
 unfolding literal_at
 literal_safe env text = safe_bind (found_or (fault.Unexpected (place env text)) (quote_of text)) _ (safe_found _ (quote_of text) (λ e. (cc))) (λ q. safe_if (nat_lt (prefix_len (is_other q) (drop 1 text)) (length (drop 1 text))) _ _ (λ e. (cc)) (λ e. (cc)))
 
+above_safe : (env : Env) (inside : List ℕ) (s : List ℕ × List ℕ) (o : Option ℕ) → Safe (unless_above env inside s o)
+above_safe env inside s None = λ e. (cc)
+above_safe env inside s (Some i) = λ e. (cc)
+
+ascii_literal_safe : (env : Env) (text : List ℕ) → Safe (ascii_literal_at env text)
+unfolding ascii_literal_at
+ascii_literal_safe env text = safe_bind (literal_at env text) _ (literal_safe env text) (λ s. above_safe env (drop 1 text) s (first_non_ascii s.0))
+
+literals_safe : (env : Env) (n : ℕ) (text : List ℕ) → Safe (literals_at env n text)
+unfolding literals_at
+literals_safe env zero text = λ e. (cc)
+literals_safe env (suc n) text = safe_bind (ascii_literal_at env text) _ (ascii_literal_safe env text) (λ s. by_next (literals_at env n) (λ a. literals_safe env n a) s (goes_on s.1))
+  where
+    by_next : (more : List ℕ → Read (List ℕ)) → ((a : List ℕ) → Safe (more a)) → (s : List ℕ × List ℕ) (g : Bool) → Safe (literals_by more s g)
+    by_next more h s true = safe_bind (more (skip s.1)) _ (h (skip s.1)) (λ u e. (cc))
+    by_next more h s false = λ e. (cc)
+
 set_safe : (env : Env) (text : List ℕ) → Safe (set_at env text)
 unfolding set_at
-set_safe env text = safe_bind (literal_at env text) _ (literal_safe env text) (λ s. safe_if (nat_eq (length s.0) 0) _ _ (λ e. (cc)) (λ e. (cc)))
+set_safe env text = safe_bind (cond env.in_rule (literals_at env (suc (length text)) text) (ascii_literal_at env text)) _ (safe_if env.in_rule _ _ (literals_safe env (suc (length text)) text) (ascii_literal_safe env text)) (λ s. safe_if (nat_eq (length s.0) 0) _ _ (λ e. (cc)) (λ e. (cc)))
 
 number_safe : (env : Env) (text : List ℕ) → Safe (number_at env text)
 unfolding number_at
@@ -197,6 +214,16 @@ object_parts_safe env (suc n) text =
 pub memory_is_no_fault : MemoryIsNoFault
 unfolding pattern_of object_of
 memory_is_no_fault = (
-  λ names earlier text. safe_bind (short_ascii text) _ (checked_safe text) (λ t. whole_safe (record { names = names; earlier = earlier; total = length text }) t),
-  λ names text. safe_bind (short_ascii text) _ (checked_safe text) (λ t. object_parts_safe (record { names = names; earlier = 0; total = length text }) (suc (length (skip t))) (skip t)),
+  λ names earlier text. safe_bind (short_ascii text) _ (checked_safe text) (λ t. whole_safe (record { names = names; earlier = earlier; total = length text; in_rule = false }) t),
+  λ names text. safe_bind (short_ascii text) _ (checked_safe text) (λ t. object_parts_safe (record { names = names; earlier = 0; total = length text; in_rule = false }) (suc (length (skip t))) (skip t)),
+)
+
+short_safe : (text : List ℕ) → Safe (short_text text)
+short_safe text = safe_if (nat_lt 4096 (length text)) _ _ (λ e. (cc)) (λ e. (cc))
+
+pub memory_is_no_rule_fault : MemoryIsNoRuleFault
+unfolding rule_pattern_of rule_object_of
+memory_is_no_rule_fault = (
+  λ names earlier text. safe_bind (short_text text) _ (short_safe text) (λ t. whole_safe (record { names = names; earlier = earlier; total = length text; in_rule = true }) t),
+  λ names text. safe_bind (short_text text) _ (short_safe text) (λ t. object_parts_safe (record { names = names; earlier = 0; total = length text; in_rule = true }) (suc (length (skip t))) (skip t)),
 )

@@ -10,11 +10,11 @@ use Rattle.sno_read.specs.declared.objects.Part.TheVariants.{Quoted, Var}
 use Rattle.sno_read.specs.Gives.{◌>>=◌}
 use Rattle.sno_read.specs.Characters.{is_blank, front, skip, begins, start_of}
 use Rattle.sno_read.specs.Grammar.{AreBlanks, SomeBlanks}
-use Rattle.sno_read.specs.ObjectGrammar.{IsPart, AreParts, SpellsObject}
+use Rattle.sno_read.specs.ObjectGrammar.{IsPart, AreParts, SpellsObject, SpellsRuleObject}
 use Rattle.sno_read.specs.ObjectGrammar as grammar
-use Rattle.sno_read.specs.Laws.{OneObject}
-use Rattle.sno_read.specs.Reading.{Env, literal_at, variable_at, blanks_at, short_ascii}
-use Rattle.sno_read.specs.Objects.{part_by, part_at, gap_at, parts_of, object_of}
+use Rattle.sno_read.specs.Laws.{OneObject, OneRuleObject}
+use Rattle.sno_read.specs.Reading.{Env, literal_at, variable_at, blanks_at, short_text, short_ascii}
+use Rattle.sno_read.specs.Objects.{part_by, part_at, gap_at, parts_of, object_of, rule_object_of}
 use Rattle.sno_read.proofs.Fronts.{front_passes, front_behind}
 use Rattle.sno_read.proofs.Results.{bind_ok, ok_same, pair_ok}
 use Rattle.sno_read.proofs.TokensRead.{literal_sound, variable_sound, parted_sound}
@@ -22,10 +22,10 @@ use Rattle.sno_read.proofs.TokensAgain.{literal_again, variable_again, parted_ag
 use Rattle.sno_read.proofs.Marks.{Starts, starts_more, literal_starts, named_starts, name_starts, letter_begins, starts_no_blank, blanks_or, skip_blanks}
 use Rattle.sno_read.proofs.Complete.{quoted_starts, blank_ends_name}
 use Rattle.sno_read.proofs.Parts.{more_step, end_step}
-use Rattle.sno_read.proofs.SoundTexts.{checked_ok, nothing_left}
-use Rattle.sno_read.proofs.CompleteTexts.{checked_again}
+use Rattle.sno_read.proofs.SoundTexts.{checked_ok, short_ok, nothing_left}
+use Rattle.sno_read.proofs.CompleteTexts.{checked_again, short_again}
 
-part_by_sound : (env : Env) (text : List ℕ) (p : Part) (rest : List ℕ) (st : Start) → part_by env text st ≡ Ok (p, rest) → (x : List ℕ) × IsPart env.names x p × (text ≡ x ++ rest)
+pub part_by_sound : (env : Env) (text : List ℕ) (p : Part) (rest : List ℕ) (st : Start) → part_by env text st ≡ Ok (p, rest) → (x : List ℕ) × IsPart env.names x p × (text ≡ x ++ rest)
 part_by_sound env text p rest start.Quote h =
     let a = bind_ok (literal_at env text) _ (p, rest) h in
     let same = pair_ok (Quoted a.0.0, a.0.1) p rest a.2 in
@@ -56,7 +56,7 @@ no_parts names x ps (grammar.last y b p i bb) h = absurd (omega arith)
 no_parts names x ps (grammar.more y b z p q qs i bb r) h = absurd (omega arith)
 
 -- nothing, or blanks with something after them
-gap_sound : (env : Env) (text rest : List ℕ) → gap_at env text ≡ Ok rest → (b : List ℕ) × AreBlanks b × (text ≡ b ++ rest) × (0 < length rest → 0 < length b)
+pub gap_sound : (env : Env) (text rest : List ℕ) → gap_at env text ≡ Ok rest → (b : List ℕ) × AreBlanks b × (text ≡ b ++ rest) × (0 < length rest → 0 < length b)
 unfolding gap_at
 gap_sound env text rest h = by_case (nat_eq (length text) 0) refl h
   where
@@ -109,8 +109,22 @@ object_sound names text ps h =
       before = front is_blank c.0;
       inside = skip c.0;
       blank_before = front_passes is_blank c.0;
-      are_parts = parts_sound (record { names = names; earlier = 0; total = length text }) (suc (length (skip c.0))) (skip c.0) ps c.2;
+      are_parts = parts_sound (record { names = names; earlier = 0; total = length text; in_rule = false }) (suc (length (skip c.0))) (skip c.0) ps c.2;
       joined = k.2 ∙ front_behind is_blank c.0;
+    }
+
+pub rule_object_sound : (names : List (List ℕ)) (text : List ℕ) (ps : List Part) → rule_object_of names text ≡ Ok ps → SpellsRuleObject names text ps
+unfolding rule_object_of
+rule_object_sound names text ps h =
+    let c = bind_ok (short_text text) _ ps h in
+    let k = short_ok text c.0 c.1 in
+    record {
+      short = k.0;
+      before = front is_blank c.0;
+      inside = skip c.0;
+      blank_before = front_passes is_blank c.0;
+      are_parts = parts_sound (record { names = names; earlier = 0; total = length text; in_rule = true }) (suc (length (skip c.0))) (skip c.0) ps c.2;
+      joined = k.1 ∙ front_behind is_blank c.0;
     }
 
 part_again : (env : Env) (x : List ℕ) (p : Part) (r : List ℕ) → IsPart env.names x p → begins is_name_char r ≡ false → part_at env (x ++ r) ≡ Ok (p, r)
@@ -165,7 +179,16 @@ pub object_again : (names : List (List ℕ)) (text : List ℕ) (ps : List Part) 
 unfolding object_of
 object_again names text ps s =
     let skipped : skip text ≡ s.inside = ap skip s.joined ∙ skip_blanks s.before s.inside s.blank_before (inside_no_blank names s.inside ps s.are_parts) in
-    rw (checked_again text s.short s.ascii, skipped) (parts_again (record { names = names; earlier = 0; total = length text }) s.inside ps s.are_parts (suc (length s.inside)) (omega arith))
+    rw (checked_again text s.short s.ascii, skipped) (parts_again (record { names = names; earlier = 0; total = length text; in_rule = false }) s.inside ps s.are_parts (suc (length s.inside)) (omega arith))
 
 pub one_object_law : OneObject
 one_object_law names text ps qs s r = ok_same ps qs (sym (object_again names text ps s) ∙ object_again names text qs r)
+
+pub rule_object_again : (names : List (List ℕ)) (text : List ℕ) (ps : List Part) → SpellsRuleObject names text ps → rule_object_of names text ≡ Ok ps
+unfolding rule_object_of
+rule_object_again names text ps s =
+    let skipped : skip text ≡ s.inside = ap skip s.joined ∙ skip_blanks s.before s.inside s.blank_before (inside_no_blank names s.inside ps s.are_parts) in
+    rw (short_again text s.short, skipped) (parts_again (record { names = names; earlier = 0; total = length text; in_rule = true }) s.inside ps s.are_parts (suc (length s.inside)) (omega arith))
+
+pub one_rule_object_law : OneRuleObject
+one_rule_object_law names text ps qs s r = ok_same ps qs (sym (rule_object_again names text ps s) ∙ rule_object_again names text qs r)

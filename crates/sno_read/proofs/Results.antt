@@ -41,3 +41,11 @@ none_is (Some x) h = cc
 
 pub pair_ok : {A B : Type 0} (p : A × B) (x : A) (y : B) → ◌≡◌ {A = Result (A × B) ReadFault} (Ok p) (Ok (x, y)) → (p.0 ≡ x) × (p.1 ≡ y)
 pair_ok {A} {B} p x y h = (ap (λ (z : A × B). z.0) (ok_same p (x, y) h), ap (λ (z : A × B). z.1) (ok_same p (x, y) h))
+
+pub if_false : {A : Type 0} (v : Bool) (x y : A) → v ≡ false → cond v x y ≡ y
+if_false true x y h = cc
+if_false false x y h = refl
+
+pub if_true : {A : Type 0} (v : Bool) (x y : A) → v ≡ true → cond v x y ≡ x
+if_true true x y h = refl
+if_true false x y h = cc

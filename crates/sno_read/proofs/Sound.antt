@@ -23,7 +23,8 @@ use Rattle.sno_read.specs.Grammar as grammar
 use Rattle.sno_read.specs.Reading.{Env, Read, place, below, literal_at, set_at, number_at, name_at, variable_at, opening_at, closing_at, sign_at, cursor_at, reference_at, plain_of, number_call_at, set_call_at, group_at, repetition_at, from_name, from_name_at, quotation_at, element_by, element_at, target_by, targets_at, item_at, item_by, items_at, next_part_by, parts_at, concatenation_at, alternation_at, inside}
 use Rattle.sno_read.proofs.Results.{bind_ok, found_ok, if_some, pair_ok}
 use Rattle.sno_read.proofs.Reserved.{reserved_not}
-use Rattle.sno_read.proofs.TokensRead.{literal_sound, set_sound, number_sound, name_sound, variable_sound, opened_sound, closed_sound, Signed, dot_sound, dollar_sound, bar_sound, follows_shape}
+use Rattle.sno_read.proofs.SetsRead.{SetsSound}
+use Rattle.sno_read.proofs.TokensRead.{literal_sound, number_sound, name_sound, variable_sound, opened_sound, closed_sound, Signed, dot_sound, dollar_sound, bar_sound, follows_shape}
 
 -- a text in parentheses, and what comes after it
 pub paren_split : (b x c rest : List ℕ) → parenthesized b x c ++ rest ≡ 40 ∷ (b ++ (x ++ (c ++ (41 ∷ rest))))
@@ -88,33 +89,32 @@ counted_sound env room call text t rest h =
     let same = pair_ok (number_tree call n.0.0, e.0) t rest e.2 in
     (n.0.0, same.0, parens_sound env room (λ k ds. IsNumber ds n.0.0) text a.0 n.0.1 rest a.1 (λ k _. number_sound env a.0 n.0.0 n.0.1 n.1) (e.1 ∙ ap (λ l. Ok l) same.1))
 
-chosen_sound : (env : Env) (room : ℕ) (call : SetCall) (text : List ℕ) (t : Tree) (rest : List ℕ) → set_call_at env room call text ≡ Ok (t, rest) → (s : List ℕ) × (set_tree call s ≡ t) × Inside room text rest (λ k x. IsLiteral x s × (0 < length s))
+chosen_sound : (IsSet : List ℕ → List ℕ → Type 0) (env : Env) → SetsSound IsSet env → (room : ℕ) (call : SetCall) (text : List ℕ) (t : Tree) (rest : List ℕ) → set_call_at env room call text ≡ Ok (t, rest) → (s : List ℕ) × (set_tree call s ≡ t) × Inside room text rest (λ k x. IsSet x s)
 unfolding set_call_at
-chosen_sound env room call text t rest h =
+chosen_sound IsSet env sets room call text t rest h =
     let a = bind_ok (opening_at env room text) _ (t, rest) h in
     let n = bind_ok (set_at env a.0) _ (t, rest) a.2 in
     let e = bind_ok (closing_at env n.0.1) _ (t, rest) n.2 in
     let same = pair_ok (set_tree call n.0.0, e.0) t rest e.2 in
-    let l = set_sound env a.0 n.0.0 n.0.1 n.1 in
-    (n.0.0, same.0, parens_sound env room (λ k x. IsLiteral x n.0.0 × (0 < length n.0.0)) text a.0 n.0.1 rest a.1 (λ k _. (l.0, (l.1, l.2), l.3)) (e.1 ∙ ap (λ l. Ok l) same.1))
+    (n.0.0, same.0, parens_sound env room (λ k x. IsSet x n.0.0) text a.0 n.0.1 rest a.1 (λ k _. sets a.0 n.0.0 n.0.1 n.1) (e.1 ∙ ap (λ l. Ok l) same.1))
 
-module _ (env : Env) (room : ℕ) (inner : List ℕ → Read Tree) where
+module _ (IsSet : List ℕ → List ℕ → Type 0) (env : Env) (sets : SetsSound IsSet env) (room : ℕ) (inner : List ℕ → Read Tree) where
   -- what `inner` reads is an alternation, with one parenthesis fewer to open
   abbrev Reads : Type 0
-  Reads = (text : List ℕ) (t : Tree) (rest : List ℕ) → inner text ≡ Ok (t, rest) → (k : ℕ) → room ≡ suc k → (x : List ℕ) × IsAlternation env.names env.earlier k x t × (text ≡ x ++ rest)
+  Reads = (text : List ℕ) (t : Tree) (rest : List ℕ) → inner text ≡ Ok (t, rest) → (k : ℕ) → room ≡ suc k → (x : List ℕ) × IsAlternation IsSet env.names env.earlier k x t × (text ≡ x ++ rest)
 
-  group_sound : Reads → (text : List ℕ) (t : Tree) (rest : List ℕ) → group_at env room inner text ≡ Ok (t, rest) → Inside room text rest (λ k x. IsAlternation env.names env.earlier k x t)
+  group_sound : Reads → (text : List ℕ) (t : Tree) (rest : List ℕ) → group_at env room inner text ≡ Ok (t, rest) → Inside room text rest (λ k x. IsAlternation IsSet env.names env.earlier k x t)
   unfolding group_at
   group_sound reads text t rest h =
       let a = bind_ok (opening_at env room text) _ (t, rest) h in
       let n = bind_ok (inner a.0) _ (t, rest) a.2 in
       let e = bind_ok (closing_at env n.0.1) _ (t, rest) n.2 in
       let same = pair_ok (n.0.0, e.0) t rest e.2 in
-      parens_sound env room (λ k x. IsAlternation env.names env.earlier k x t) text a.0 n.0.1 rest a.1 (λ k i. reads a.0 t n.0.1 (n.1 ∙ ap (λ u. Ok (u, n.0.1)) same.0) k i) (e.1 ∙ ap (λ l. Ok l) same.1)
+      parens_sound env room (λ k x. IsAlternation IsSet env.names env.earlier k x t) text a.0 n.0.1 rest a.1 (λ k i. reads a.0 t n.0.1 (n.1 ∙ ap (λ u. Ok (u, n.0.1)) same.0) k i) (e.1 ∙ ap (λ l. Ok l) same.1)
 
   -- an element that was read
   abbrev Element : List ℕ → Tree → List ℕ → Type 0
-  Element text t rest = (x : List ℕ) × IsElement env.names env.earlier room x t × (text ≡ x ++ rest)
+  Element text t rest = (x : List ℕ) × IsElement IsSet env.names env.earlier room x t × (text ≡ x ++ rest)
 
   below_ok : (n i : ℕ) (o : Option ℕ) → below n o ≡ Some i → (o ≡ Some i) × (i < n)
   below_ok n i None h = cc
@@ -124,7 +124,7 @@ module _ (env : Env) (room : ℕ) (inner : List ℕ → Read Tree) where
       (p.1, rw (← e) (ltb-true j n p.0))
 
   -- what was read in parentheses after a name
-  called : (text w m rest : List ℕ) (t u : Tree) (P : ℕ → List ℕ → Type 0) → text ≡ w ++ m → u ≡ t → Inside room m rest P → ((k : ℕ) (b x c : List ℕ) → AreBlanks b → P k x → AreBlanks c → IsElement env.names env.earlier (suc k) (w ++ parenthesized b x c) u) → Element text t rest
+  called : (text w m rest : List ℕ) (t u : Tree) (P : ℕ → List ℕ → Type 0) → text ≡ w ++ m → u ≡ t → Inside room m rest P → ((k : ℕ) (b x c : List ℕ) → AreBlanks b → P k x → AreBlanks c → IsElement IsSet env.names env.earlier (suc k) (w ++ parenthesized b x c) u) → Element text t rest
   called text w m rest t u P split same p make =
       let d = make p.0 p.2 p.4 p.6 p.3 p.5 p.7 in
       (w ++ parenthesized p.2 p.4 p.6, rw (p.1, ← same) d, split ∙ ap (λ l. w ++ l) p.8 ∙ sym (append_assoc w (parenthesized p.2 p.4 p.6) rest))
@@ -143,13 +143,13 @@ module _ (env : Env) (room : ℕ) (inner : List ℕ → Read Tree) where
       let p = counted_sound env room call m t rest h in
       called text w m rest t (number_tree call p.0) (λ k ds. IsNumber ds p.0) split p.1 p.2 (λ j b x c bb d cb. grammar.counted w b x c call p.0 k bb d cb)
   named_by_sound reads text unknown w m t rest (Some (Chosen call)) n split k h =
-      let p = chosen_sound env room call m t rest h in
-      called text w m rest t (set_tree call p.0) (λ k x. IsLiteral x p.0 × (0 < length p.0)) split p.1 p.2 (λ j b x c bb d cb. grammar.chosen w b x p.0 c call k bb d.0 d.1 cb)
+      let p = chosen_sound IsSet env sets room call m t rest h in
+      called text w m rest t (set_tree call p.0) (λ k x. IsSet x p.0) split p.1 p.2 (λ j b x c bb d cb. grammar.chosen w b x p.0 c call k bb d cb)
   named_by_sound reads text unknown w m t rest (Some Repeated) n split k h =
       let a = bind_ok (group_at env room inner m) _ (t, rest) h in
       let same = pair_ok (tree.Arbno a.0.0, a.0.1) t rest a.2 in
       let p = group_sound reads m a.0.0 rest (a.1 ∙ ap (λ l. Ok (a.0.0, l)) same.1) in
-      called text w m rest t (tree.Arbno a.0.0) (λ k x. IsAlternation env.names env.earlier k x a.0.0) split same.0 p (λ j b x c bb d cb. grammar.repeated w b x c a.0.0 k bb d cb)
+      called text w m rest t (tree.Arbno a.0.0) (λ k x. IsAlternation IsSet env.names env.earlier k x a.0.0) split same.0 p (λ j b x c bb d cb. grammar.repeated w b x c a.0.0 k bb d cb)
 
   named_sound : Reads → (text : List ℕ) (t : Tree) (rest : List ℕ) → from_name_at env room inner text ≡ Ok (t, rest) → Element text t rest
   unfolding from_name_at
@@ -164,22 +164,22 @@ module _ (env : Env) (room : ℕ) (inner : List ℕ → Read Tree) where
       let a = bind_ok (literal_at env text) _ (t, rest) h in
       let same = pair_ok (tree.Lit a.0.0, a.0.1) t rest a.2 in
       let l = literal_sound env text a.0.0 a.0.1 a.1 in
-      (l.0, subst (λ u. IsElement env.names env.earlier room l.0 u) same.0 (grammar.quoted l.0 a.0.0 l.1), l.2 ∙ ap (λ r. l.0 ++ r) same.1)
+      (l.0, subst (λ u. IsElement IsSet env.names env.earlier room l.0 u) same.0 (grammar.quoted l.0 a.0.0 l.1), l.2 ∙ ap (λ r. l.0 ++ r) same.1)
   element_by_sound reads text t rest start.At s h =
       let a = bind_ok (variable_at env (drop 1 text)) _ (t, rest) h in
       let same = pair_ok (tree.At a.0.0, a.0.1) t rest a.2 in
       let v = variable_sound env (drop 1 text) a.0.0 a.0.1 a.1 in
-      (64 ∷ a.0.0, subst (λ u. IsElement env.names env.earlier room (64 ∷ a.0.0) u) same.0 (grammar.cursor a.0.0 v.0), at_shape text s ∙ ap (λ r. 64 ∷ r) (v.1 ∙ ap (λ r. a.0.0 ++ r) same.1))
+      (64 ∷ a.0.0, subst (λ u. IsElement IsSet env.names env.earlier room (64 ∷ a.0.0) u) same.0 (grammar.cursor a.0.0 v.0), at_shape text s ∙ ap (λ r. 64 ∷ r) (v.1 ∙ ap (λ r. a.0.0 ++ r) same.1))
   element_by_sound reads text t rest start.Star s h =
       let a = bind_ok (name_at env (drop 1 text)) _ (t, rest) h in
       let i = bind_ok (found_or (fault.UnknownName (place env (drop 1 text))) (place_of env.names a.0.0)) _ (t, rest) a.2 in
       let same = pair_ok (tree.Ref i.0, a.0.1) t rest i.2 in
       let n = name_sound env (drop 1 text) a.0.0 a.0.1 a.1 in
-      (42 ∷ a.0.0, subst (λ u. IsElement env.names env.earlier room (42 ∷ a.0.0) u) same.0 (grammar.starred a.0.0 i.0 n.0 (found_ok _ _ _ i.1)), star_shape text s ∙ ap (λ r. 42 ∷ r) (n.1 ∙ ap (λ r. a.0.0 ++ r) same.1))
+      (42 ∷ a.0.0, subst (λ u. IsElement IsSet env.names env.earlier room (42 ∷ a.0.0) u) same.0 (grammar.starred a.0.0 i.0 n.0 (found_ok _ _ _ i.1)), star_shape text s ∙ ap (λ r. 42 ∷ r) (n.1 ∙ ap (λ r. a.0.0 ++ r) same.1))
   element_by_sound reads text t rest start.Open s h =
       let p = group_sound reads text t rest h in
       let d = grammar.group p.2 p.4 p.6 t p.3 p.5 p.7 in
-      (parenthesized p.2 p.4 p.6, subst (λ j. IsElement env.names env.earlier j (parenthesized p.2 p.4 p.6) t) (sym p.1) d, p.8)
+      (parenthesized p.2 p.4 p.6, subst (λ j. IsElement IsSet env.names env.earlier j (parenthesized p.2 p.4 p.6) t) (sym p.1) d, p.8)
   element_by_sound reads text t rest start.Letter s h = named_sound reads text t rest h
   element_by_sound reads text t rest start.Other s h = cc
 
@@ -189,9 +189,9 @@ module _ (env : Env) (room : ℕ) (inner : List ℕ → Read Tree) where
 
   -- an item that grew from one that spells t
   abbrev Item : List ℕ → List ℕ → Tree → List ℕ → Type 0
-  Item x text t rest = (y : List ℕ) × IsItem env.names env.earlier room (x ++ y) t × (text ≡ y ++ rest)
+  Item x text t rest = (y : List ℕ) × IsItem IsSet env.names env.earlier room (x ++ y) t × (text ≡ y ++ rest)
 
-  item_as_is : (x text : List ℕ) (t u : Tree) (rest : List ℕ) → IsItem env.names env.earlier room x t → ◌≡◌ {A = Result (Tree × List ℕ) ReadFault} (Ok (t, text)) (Ok (u, rest)) → Item x text u rest
+  item_as_is : (x text : List ℕ) (t u : Tree) (rest : List ℕ) → IsItem IsSet env.names env.earlier room x t → ◌≡◌ {A = Result (Tree × List ℕ) ReadFault} (Ok (t, text)) (Ok (u, rest)) → Item x text u rest
   item_as_is x text t u rest i h =
       let same = pair_ok (t, text) u rest h in
       ([], rw (append-nil x, ← same.0) i, same.1)
@@ -204,12 +204,12 @@ module _ (env : Env) (room : ℕ) (inner : List ℕ → Read Tree) where
     s.4 ∙ ap (λ l. s.0 ++ (sign ∷ (s.2 ++ l))) split ∙ sym (signed_split sign s.0 s.2 v r) ∙ ap (λ l. signed_by sign s.0 s.2 v ++ l) i.2 ∙ sym (append_assoc (signed_by sign s.0 s.2 v) i.0 rest),
   )
 
-  targets_sound : (n : ℕ) (x : List ℕ) (t : Tree) (text : List ℕ) (u : Tree) (rest : List ℕ) → IsItem env.names env.earlier room x t → targets_at env n t text ≡ Ok (u, rest) → Item x text u rest
+  targets_sound : (n : ℕ) (x : List ℕ) (t : Tree) (text : List ℕ) (u : Tree) (rest : List ℕ) → IsItem IsSet env.names env.earlier room x t → targets_at env n t text ≡ Ok (u, rest) → Item x text u rest
   unfolding targets_at
   targets_sound zero x t text u rest i h = cc
   targets_sound (suc n) x t text u rest i h = by_sign (targets_at env n) (λ y v a. targets_sound n y v a u rest) (what_follows text) refl h
     where
-      by_sign : (more : Tree → List ℕ → Read Tree) → ((y : List ℕ) (v : Tree) (a : List ℕ) → IsItem env.names env.earlier room y v → more v a ≡ Ok (u, rest) → Item y a u rest) → (f : Following) → what_follows text ≡ f → target_by env more t text f ≡ Ok (u, rest) → Item x text u rest
+      by_sign : (more : Tree → List ℕ → Read Tree) → ((y : List ℕ) (v : Tree) (a : List ℕ) → IsItem IsSet env.names env.earlier room y v → more v a ≡ Ok (u, rest) → Item y a u rest) → (f : Following) → what_follows text ≡ f → target_by env more t text f ≡ Ok (u, rest) → Item x text u rest
       by_sign more sound follows.Dot e g =
           let a = bind_ok (sign_at env text) _ (u, rest) g in
           let v = bind_ok (variable_at env a.0) _ (u, rest) a.2 in
@@ -226,7 +226,7 @@ module _ (env : Env) (room : ℕ) (inner : List ℕ → Read Tree) where
       by_sign more sound follows.Bar e g = item_as_is x text t u rest i g
       by_sign more sound follows.Item e g = item_as_is x text t u rest i g
 
-  item_sound : Reads → (text : List ℕ) (t : Tree) (rest : List ℕ) → item_at env room inner text ≡ Ok (t, rest) → (x : List ℕ) × IsItem env.names env.earlier room x t × (text ≡ x ++ rest)
+  item_sound : Reads → (text : List ℕ) (t : Tree) (rest : List ℕ) → item_at env room inner text ≡ Ok (t, rest) → (x : List ℕ) × IsItem IsSet env.names env.earlier room x t × (text ≡ x ++ rest)
   unfolding item_at
   item_sound reads text t rest h =
       let a = bind_ok (element_at env room inner text) _ (t, rest) h in
@@ -235,9 +235,9 @@ module _ (env : Env) (room : ℕ) (inner : List ℕ → Read Tree) where
       (e.0 ++ i.0, i.1, e.2 ∙ ap (λ l. e.0 ++ l) i.2 ∙ sym (append_assoc e.0 i.0 rest))
 
   abbrev Concatenation : List ℕ → Tree → List ℕ → Type 0
-  Concatenation text t rest = (x : List ℕ) × IsConcatenation env.names env.earlier room x t × (text ≡ x ++ rest)
+  Concatenation text t rest = (x : List ℕ) × IsConcatenation IsSet env.names env.earlier room x t × (text ≡ x ++ rest)
 
-  item_alone : (text : List ℕ) (p : Tree × List ℕ) (t : Tree) (rest : List ℕ) (x : List ℕ) → IsItem env.names env.earlier room x p.0 → text ≡ x ++ p.1 → ◌≡◌ {A = Result (Tree × List ℕ) ReadFault} (Ok p) (Ok (t, rest)) → Concatenation text t rest
+  item_alone : (text : List ℕ) (p : Tree × List ℕ) (t : Tree) (rest : List ℕ) (x : List ℕ) → IsItem IsSet env.names env.earlier room x p.0 → text ≡ x ++ p.1 → ◌≡◌ {A = Result (Tree × List ℕ) ReadFault} (Ok p) (Ok (t, rest)) → Concatenation text t rest
   item_alone text p t rest x i split h =
       let same = pair_ok p t rest h in
       (x, rw (← same.0) (grammar.single x p.0 i), split ∙ ap (λ l. x ++ l) same.1)
@@ -250,14 +250,14 @@ module _ (env : Env) (room : ℕ) (inner : List ℕ → Read Tree) where
       let i = item_sound reads text a.0.0 a.0.1 a.1 in
       by_next (items_at env (item_at env room inner) n) (λ m u. items_sound reads n m u rest) a.0 i.0 i.1 i.2 (what_follows a.0.1) refl a.2
     where
-      by_next : (more : List ℕ → Read Tree) → ((m : List ℕ) (u : Tree) → more m ≡ Ok (u, rest) → Concatenation m u rest) → (p : Tree × List ℕ) (x : List ℕ) → IsItem env.names env.earlier room x p.0 → text ≡ x ++ p.1 → (f : Following) → what_follows p.1 ≡ f → item_by more p f ≡ Ok (t, rest) → Concatenation text t rest
+      by_next : (more : List ℕ → Read Tree) → ((m : List ℕ) (u : Tree) → more m ≡ Ok (u, rest) → Concatenation m u rest) → (p : Tree × List ℕ) (x : List ℕ) → IsItem IsSet env.names env.earlier room x p.0 → text ≡ x ++ p.1 → (f : Following) → what_follows p.1 ≡ f → item_by more p f ≡ Ok (t, rest) → Concatenation text t rest
       by_next more sound p x i split follows.Item e g =
           let b = bind_ok (more (skip p.1)) _ (t, rest) g in
           let s = follows_shape p.1 follows.Item e (λ k. (cc)) in
           let same = pair_ok (tree.Seq p.0 b.0.0, b.0.1) t rest b.2 in
           let y = sound (skip p.1) b.0.0 (b.1 ∙ ap (λ l. Ok (b.0.0, l)) same.1) in (
             x ++ (front is_blank p.1 ++ y.0),
-            subst (λ u. IsConcatenation env.names env.earlier room (x ++ (front is_blank p.1 ++ y.0)) u) same.0 (grammar.followed x (front is_blank p.1) y.0 p.0 b.0.0 i s.0 y.1),
+            subst (λ u. IsConcatenation IsSet env.names env.earlier room (x ++ (front is_blank p.1 ++ y.0)) u) same.0 (grammar.followed x (front is_blank p.1) y.0 p.0 b.0.0 i s.0 y.1),
             split ∙ ap (λ l. x ++ l) (s.1 ∙ ap (λ l. front is_blank p.1 ++ l) y.2 ∙ sym (append_assoc (front is_blank p.1) y.0 rest)) ∙ sym (append_assoc x (front is_blank p.1 ++ y.0) rest),
           )
       by_next more sound p x i split follows.Nothing e g = item_alone text p t rest x i split g
@@ -266,9 +266,9 @@ module _ (env : Env) (room : ℕ) (inner : List ℕ → Read Tree) where
       by_next more sound p x i split follows.Bar e g = item_alone text p t rest x i split g
 
   abbrev Alternation : List ℕ → Tree → List ℕ → Type 0
-  Alternation text t rest = (x : List ℕ) × IsAlternation env.names env.earlier room x t × (text ≡ x ++ rest)
+  Alternation text t rest = (x : List ℕ) × IsAlternation IsSet env.names env.earlier room x t × (text ≡ x ++ rest)
 
-  part_alone : (text : List ℕ) (p : Tree × List ℕ) (t : Tree) (rest : List ℕ) (x : List ℕ) → IsConcatenation env.names env.earlier room x p.0 → text ≡ x ++ p.1 → ◌≡◌ {A = Result (Tree × List ℕ) ReadFault} (Ok p) (Ok (t, rest)) → Alternation text t rest
+  part_alone : (text : List ℕ) (p : Tree × List ℕ) (t : Tree) (rest : List ℕ) (x : List ℕ) → IsConcatenation IsSet env.names env.earlier room x p.0 → text ≡ x ++ p.1 → ◌≡◌ {A = Result (Tree × List ℕ) ReadFault} (Ok p) (Ok (t, rest)) → Alternation text t rest
   part_alone text p t rest x i split h =
       let same = pair_ok p t rest h in
       (x, rw (← same.0) (grammar.only x p.0 i), split ∙ ap (λ l. x ++ l) same.1)
@@ -281,7 +281,7 @@ module _ (env : Env) (room : ℕ) (inner : List ℕ → Read Tree) where
       let i = items_sound reads (suc (length text)) text a.0.0 a.0.1 a.1 in
       by_next (parts_at env (concatenation_at env room inner) n) (λ m u. parts_sound reads n m u rest) a.0 i.0 i.1 i.2 (what_follows a.0.1) refl a.2
     where
-      by_next : (more : List ℕ → Read Tree) → ((m : List ℕ) (u : Tree) → more m ≡ Ok (u, rest) → Alternation m u rest) → (p : Tree × List ℕ) (x : List ℕ) → IsConcatenation env.names env.earlier room x p.0 → text ≡ x ++ p.1 → (f : Following) → what_follows p.1 ≡ f → next_part_by env more p f ≡ Ok (t, rest) → Alternation text t rest
+      by_next : (more : List ℕ → Read Tree) → ((m : List ℕ) (u : Tree) → more m ≡ Ok (u, rest) → Alternation m u rest) → (p : Tree × List ℕ) (x : List ℕ) → IsConcatenation IsSet env.names env.earlier room x p.0 → text ≡ x ++ p.1 → (f : Following) → what_follows p.1 ≡ f → next_part_by env more p f ≡ Ok (t, rest) → Alternation text t rest
       by_next more sound p x i split follows.Bar e g =
           let a = bind_ok (sign_at env p.1) _ (t, rest) g in
           let b = bind_ok (more a.0) _ (t, rest) a.2 in
@@ -289,7 +289,7 @@ module _ (env : Env) (room : ℕ) (inner : List ℕ → Read Tree) where
           let same = pair_ok (tree.Alt p.0 b.0.0, b.0.1) t rest b.2 in
           let y = sound a.0 b.0.0 (b.1 ∙ ap (λ l. Ok (b.0.0, l)) same.1) in (
             x ++ signed_by 124 s.0 s.2 y.0,
-            subst (λ u. IsAlternation env.names env.earlier room (x ++ signed_by 124 s.0 s.2 y.0) u) same.0 (grammar.otherwise x s.0 s.2 y.0 p.0 b.0.0 i s.1 s.3 y.1),
+            subst (λ u. IsAlternation IsSet env.names env.earlier room (x ++ signed_by 124 s.0 s.2 y.0) u) same.0 (grammar.otherwise x s.0 s.2 y.0 p.0 b.0.0 i s.1 s.3 y.1),
             split ∙ ap (λ l. x ++ l) (s.4 ∙ ap (λ l. s.0 ++ (124 ∷ (s.2 ++ l))) y.2 ∙ sym (signed_split 124 s.0 s.2 y.0 rest)) ∙ sym (append_assoc x (signed_by 124 s.0 s.2 y.0) rest),
           )
       by_next more sound p x i split follows.Nothing e g = part_alone text p t rest x i split g
@@ -297,14 +297,15 @@ module _ (env : Env) (room : ℕ) (inner : List ℕ → Read Tree) where
       by_next more sound p x i split follows.Dollar e g = part_alone text p t rest x i split g
       by_next more sound p x i split follows.Item e g = part_alone text p t rest x i split g
 
--- what is read inside parentheses
-inside_sound : (env : Env) (room : ℕ) → Reads env room (inside env room)
-unfolding inside alternation_at
-inside_sound env zero text t rest h k e = cc
-inside_sound env (suc room) text t rest h k e =
-    let same : room ≡ k = cc in
-    rw (← same) (parts_sound env room (inside env room) (inside_sound env room) (suc (length text)) text t rest h)
+module _ (IsSet : List ℕ → List ℕ → Type 0) (env : Env) (sets : SetsSound IsSet env) where
+  -- what is read inside parentheses
+  inside_sound : (room : ℕ) → Reads IsSet env sets room (inside env room)
+  unfolding inside alternation_at
+  inside_sound zero text t rest h k e = cc
+  inside_sound (suc room) text t rest h k e =
+      let same : room ≡ k = cc in
+      rw (← same) (parts_sound IsSet env sets room (inside env room) (inside_sound room) (suc (length text)) text t rest h)
 
-pub alternation_sound : (env : Env) (room : ℕ) (text : List ℕ) (t : Tree) (rest : List ℕ) → alternation_at env room (inside env room) text ≡ Ok (t, rest) → (x : List ℕ) × IsAlternation env.names env.earlier room x t × (text ≡ x ++ rest)
-unfolding alternation_at
-alternation_sound env room text t rest h = parts_sound env room (inside env room) (inside_sound env room) (suc (length text)) text t rest h
+  pub alternation_sound : (room : ℕ) (text : List ℕ) (t : Tree) (rest : List ℕ) → alternation_at env room (inside env room) text ≡ Ok (t, rest) → (x : List ℕ) × IsAlternation IsSet env.names env.earlier room x t × (text ≡ x ++ rest)
+  unfolding alternation_at
+  alternation_sound room text t rest h = parts_sound IsSet env sets room (inside env room) (inside_sound room) (suc (length text)) text t rest h

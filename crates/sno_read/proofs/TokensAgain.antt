@@ -7,7 +7,7 @@ use Rattle.sno_pattern.specs.Identifiers.{is_letter, is_name_char, is_name}
 use Rattle.sno_read.specs.declared.faults.ReadFault.{ReadFault}
 use Rattle.sno_read.specs.Characters.{is_blank, is_other, begins, number_from}
 use Rattle.sno_read.specs.Grammar.{AreBlanks, SomeBlanks, decimal, IsNumber, IsLiteral, IsVariable}
-use Rattle.sno_read.specs.Reading.{Env, literal_by, literal_at, set_at, number_at, name_at, variable_at, opening_at, closing_at, blanks_at, sign_at}
+use Rattle.sno_read.specs.Reading.{Env, literal_by, literal_at, number_at, name_at, variable_at, opening_at, closing_at, blanks_at, sign_at}
 use Rattle.sno_read.proofs.Fronts.{prefix_run, front_run, behind_run}
 use Rattle.sno_read.proofs.Marks.{name_starts, letter_in_name, blanks_begin, skip_blanks}
 
@@ -22,12 +22,6 @@ unfolding literal_at
 literal_again env x s r l =
     let split : x ++ r ≡ l.quote ∷ (s ++ (l.quote ∷ r)) = ap (λ k. k ++ r) l.spelled ∙ ap (λ k. l.quote ∷ k) (append_assoc s (l.quote ∷ []) r) in
     rw (split, l.is_quote) (closed_again _ l.quote s r l.others)
-
-pub set_again : (env : Env) (x s r : List ℕ) → IsLiteral x s → 0 < length s → set_at env (x ++ r) ≡ Ok (s, r)
-unfolding set_at
-set_again env x s r l h =
-    let some : nat_eq (length s) 0 ≡ false = ne_eqb (length s) 0 (λ e. omega arith) in
-    rw (literal_again env x s r l, some) refl
 
 grows : (m : ℕ) (ds : List ℕ) → m ≤ decimal m ds
 grows m [] = omega arith

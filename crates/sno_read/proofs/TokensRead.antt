@@ -13,7 +13,7 @@ use Rattle.sno_read.specs.declared.characters.Following.TheVariants as follows
 use Rattle.sno_read.specs.Gives.{found_or}
 use Rattle.sno_read.specs.Characters.{is_blank, is_quote, is_other, quote_of, front, rest_after, skip, begins, value_of, number_from, what_follows, sign_of}
 use Rattle.sno_read.specs.Grammar.{AreBlanks, SomeBlanks, decimal, IsNumber, IsLiteral, IsVariable}
-use Rattle.sno_read.specs.Reading.{Env, place, literal_by, literal_at, set_at, number_at, name_at, variable_at, opening_at, closing_at, blanks_at, sign_at}
+use Rattle.sno_read.specs.Reading.{Env, place, literal_by, literal_at, number_at, name_at, variable_at, opening_at, closing_at, blanks_at, sign_at}
 use Rattle.sno_read.proofs.Fronts.{front_passes, behind_stops, front_behind, begins_shape, other_shape}
 use Rattle.sno_read.proofs.Results.{bind_ok, found_ok, if_ok, unless_ok, if_some, unless_some, ok_same, pair_ok, or_false, none_is}
 
@@ -44,16 +44,6 @@ literal_sound env text s rest h =
       record { quote = a.0; is_quote = q.0; others = c.0; spelled = refl },
       q.1 ∙ ap (λ l. a.0 ∷ l) (c.1 ∙ sym (append_assoc s (a.0 ∷ []) rest)),
     )
-
-pub set_sound : (env : Env) (text s rest : List ℕ) → set_at env text ≡ Ok (s, rest) → (x : List ℕ) × IsLiteral x s × (0 < length s) × (text ≡ x ++ rest)
-unfolding set_at
-set_sound env text s rest h =
-    let a = bind_ok (literal_at env text) _ (s, rest) h in
-    let b = unless_ok (nat_eq (length a.0.0) 0) (Ok a.0) _ (s, rest) a.2 in
-    let same = (pair_ok a.0 s rest b.1).0 in
-    let l = literal_sound env text s rest (a.1 ∙ b.1) in
-    let e : length s ≡ 0 → ⊥ = eqb-false _ _ (rw same at b.0) in
-    (l.0, l.1, omega (arith, e), l.2)
 
 -- the value of digits, as it is read
 number_decimal : (m : ℕ) (ds : List ℕ) (n : ℕ) → m ≤ 65536 → number_from m ds ≡ Some n → (decimal m ds ≡ n) × (n ≤ 65536)
@@ -123,7 +113,7 @@ closed_sound env text rest h =
     )
 
 -- a front of blanks that isn't empty, if a blank begins the text
-some_front : (p : ℕ → Bool) (text : List ℕ) → begins p text ≡ true → 0 < length (front p text)
+pub some_front : (p : ℕ → Bool) (text : List ℕ) → begins p text ≡ true → 0 < length (front p text)
 some_front p [] h = cc
 some_front p (c ∷ cs) h = some_taken p c cs (prefix_len p cs) (p c) h
   where

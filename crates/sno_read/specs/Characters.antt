@@ -1,5 +1,5 @@
 -- Characters, runs of them, and how a text continues.
-use Rattle.std.specs.Prelude.{ℕ, Bool, false, not, ◌||◌, ◌+◌, ◌-◌, ◌*◌, List, [], ◌∷◌, length, take, drop, nat_eq, nat_lt, Option, Some, None, if◌then◌else◌}
+use Rattle.std.specs.Prelude.{ℕ, Bool, false, not, ◌&&◌, ◌||◌, ◌+◌, ◌-◌, ◌*◌, List, [], ◌∷◌, length, take, drop, nat_eq, nat_lt, Option, Some, None, if◌then◌else◌}
 use Rattle.std.specs.List.{prefix_len}
 use Rattle.sno_pattern.specs.Identifiers.{is_letter}
 use Rattle.sno_read.specs.Signs.{tab, space, double_quote, dollar, single_quote, open_parenthesis, close_parenthesis, asterisk, period, digit_zero, at_sign, bar}
@@ -75,3 +75,7 @@ sign_of (c ∷ cs) =
 -- what follows an item: it needs blanks before it
 unfoldable pub what_follows : List ℕ → Following
 what_follows text = if begins is_blank text then sign_of (skip text) else follows.Nothing
+
+-- whether another literal of a set comes: it needs blanks before it
+unfoldable pub goes_on : List ℕ → Bool
+goes_on text = begins is_blank text && begins is_quote (skip text)

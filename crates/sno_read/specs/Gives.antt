@@ -33,10 +33,10 @@ OnMemory (Err stop.Memory) holds = holds
 OnMemory (Err (stop.Fault e)) holds = Unit {0}
 
 -- as `Gives`, for a public function: what it returned is what the reading gives, unless out of memory
-abbrev pub Answers : {X Y : Type 0} → (X → Y) → Result X ReadFault → Result Y ReadFault → Type 0
-Answers view (Ok x) reading = reading ≡ Ok (view x)
-Answers view (Err fault.Memory) reading = Unit {0}
-Answers view (Err e) reading = reading ≡ Err e
+abbrev pub Returns : {X Y : Type 0} → (X → Y) → Result X ReadFault → Result Y ReadFault → Type 0
+Returns view (Ok x) reading = reading ≡ Ok (view x)
+Returns view (Err fault.Memory) reading = Unit {0}
+Returns view (Err e) reading = reading ≡ Err e
 
 -- what holds if a public function returned `Memory`
 abbrev pub OnOutOfMemory : {X : Type 0} → Result X ReadFault → Type 0 → Type 0

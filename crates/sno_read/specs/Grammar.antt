@@ -58,7 +58,25 @@ parenthesized b x c = open_parenthesis ∷ (b ++ (x ++ (c ++ (close_parenthesis 
 abbrev pub signed_by : ℕ → List ℕ → List ℕ → List ℕ → List ℕ
 signed_by sign b c v = b ++ (sign ∷ (c ++ v))
 
-module _ (names : List (List ℕ)) (earlier : ℕ) where
+-- the argument of a set in a document: a literal that isn't empty
+abbrev pub IsSetOfDocument : List ℕ → List ℕ → Type 0
+IsSetOfDocument x s = IsLiteral x s × (0 < length s)
+
+-- literals with blanks between them, joined
+pub data AreLiterals : List ℕ → List ℕ → Type 0 where
+  -- literals: literal
+  one : (x s : List ℕ) → IsLiteral x s → AreLiterals x s
+  -- literals: literal _ literals
+  another : (x b y s u : List ℕ) → IsLiteral x s → SomeBlanks b → AreLiterals y u → AreLiterals (x ++ (b ++ y)) (s ++ u)
+
+-- the argument of a set in a rule: literals of ASCII characters, not all of them empty
+pub record IsSetOfRule (text members : List ℕ) : Type 0 where
+  pub literals : AreLiterals text members
+  pub some : 0 < length members
+  pub ascii : IsTrue (list_all is_ascii members)
+
+-- what is the argument of a set is said by `IsSet`
+module _ (IsSet : List ℕ → List ℕ → Type 0) (names : List (List ℕ)) (earlier : ℕ) where
   mutual
     pub data IsElement : ℕ → List ℕ → Tree → Type 0 where
       -- element: literal
@@ -73,8 +91,8 @@ module _ (names : List (List ℕ)) (earlier : ℕ) where
       word : {k : ℕ} (w : List ℕ) (it : Word) → keyword_of w ≡ Some (Primitive it) → IsElement k w (word_tree it)
       -- element: LEN(~ number ~), and likewise POS, RPOS, TAB, RTAB
       counted : {k : ℕ} (w b ds c : List ℕ) (call : NumberCall) (n : ℕ) → keyword_of w ≡ Some (Counted call) → AreBlanks b → IsNumber ds n → AreBlanks c → IsElement (suc k) (w ++ parenthesized b ds c) (number_tree call n)
-      -- element: ANY(~ literal ~), and likewise NOTANY, SPAN, BREAK; the literal isn't empty
-      chosen : {k : ℕ} (w b x s c : List ℕ) (call : SetCall) → keyword_of w ≡ Some (Chosen call) → AreBlanks b → IsLiteral x s → 0 < length s → AreBlanks c → IsElement (suc k) (w ++ parenthesized b x c) (set_tree call s)
+      -- element: ANY(~ set ~), and likewise NOTANY, SPAN, BREAK
+      chosen : {k : ℕ} (w b x s c : List ℕ) (call : SetCall) → keyword_of w ≡ Some (Chosen call) → AreBlanks b → IsSet x s → AreBlanks c → IsElement (suc k) (w ++ parenthesized b x c) (set_tree call s)
       -- element: ARBNO(~ alternation ~)
       repeated : {k : ℕ} (w b x c : List ℕ) (t : Tree) → keyword_of w ≡ Some Repeated → AreBlanks b → IsAlternation k x t → AreBlanks c → IsElement (suc k) (w ++ parenthesized b x c) (Arbno t)
       -- element: (~ alternation ~)
@@ -110,7 +128,20 @@ pub record Spells (names : List (List ℕ)) (earlier : ℕ) (text : List ℕ) (t
   pub inside : List ℕ
   pub after : List ℕ
   pub blank_before : AreBlanks before
-  pub alternation : IsAlternation names earlier MAX_OPEN inside tree
+  pub alternation : IsAlternation IsSetOfDocument names earlier MAX_OPEN inside tree
+  pub blank_after : AreBlanks after
+  pub joined : text ≡ before ++ (inside ++ after)
+  pub shallow : depth tree ≤ MAX_DEPTH
+
+-- pattern of a rule: ~ alternation ~
+-- The text of a rule spells the tree: as `Spells`, but that literals may have any bytes, and that a set may have several.
+pub record SpellsRule (names : List (List ℕ)) (earlier : ℕ) (text : List ℕ) (tree : Tree) : Type 0 where
+  pub short : length text ≤ MAX_WRITTEN
+  pub before : List ℕ
+  pub inside : List ℕ
+  pub after : List ℕ
+  pub blank_before : AreBlanks before
+  pub alternation : IsAlternation IsSetOfRule names earlier MAX_OPEN inside tree
   pub blank_after : AreBlanks after
   pub joined : text ≡ before ++ (inside ++ after)
   pub shallow : depth tree ≤ MAX_DEPTH

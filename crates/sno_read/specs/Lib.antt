@@ -5,6 +5,7 @@ pub mod Depth
 pub mod Gives
 pub mod Reading
 pub mod Objects
+pub mod ByteParts
 pub mod Grammar
 pub mod ObjectGrammar
 pub mod Examples

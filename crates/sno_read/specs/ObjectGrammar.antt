@@ -34,3 +34,13 @@ pub record SpellsObject (names : List (List ℕ)) (text : List ℕ) (parts : Lis
   pub blank_before : AreBlanks before
   pub are_parts : AreParts names inside parts
   pub joined : text ≡ before ++ inside
+
+-- object of a rule: ~ parts
+-- The text of a rule spells the parts: as `SpellsObject`, but that literals may have any bytes.
+pub record SpellsRuleObject (names : List (List ℕ)) (text : List ℕ) (parts : List Part) : Type 0 where
+  pub short : length text ≤ MAX_WRITTEN
+  pub before : List ℕ
+  pub inside : List ℕ
+  pub blank_before : AreBlanks before
+  pub are_parts : AreParts names inside parts
+  pub joined : text ≡ before ++ inside

@@ -1,5 +1,5 @@
 -- Reading an object from left to right, with the first fault that is met.
-use Rattle.std.specs.Prelude.{ℕ, zero, suc, List, [], ◌∷◌, ◌++◌, length, nat_eq, Result, Ok, Err, if◌then◌else◌}
+use Rattle.std.specs.Prelude.{ℕ, zero, suc, true, false, List, [], ◌∷◌, ◌++◌, length, nat_eq, Result, Ok, Err, if◌then◌else◌}
 use Rattle.sno_read.specs.declared.faults.ReadFault.{ReadFault}
 use Rattle.sno_read.specs.declared.faults.ReadFault.TheVariants as fault
 use Rattle.sno_read.specs.declared.characters.Start.{Start}
@@ -8,7 +8,7 @@ use Rattle.sno_read.specs.declared.objects.Part.{Part}
 use Rattle.sno_read.specs.declared.objects.Part.TheVariants.{Quoted, Var}
 use Rattle.sno_read.specs.Gives.{◌>>=◌}
 use Rattle.sno_read.specs.Characters.{skip, start_of}
-use Rattle.sno_read.specs.Reading.{Env, Read, place, literal_at, variable_at, blanks_at, short_ascii}
+use Rattle.sno_read.specs.Reading.{Env, Read, place, literal_at, variable_at, blanks_at, short_text, short_ascii}
 
 -- a part, by how it begins
 abbrev pub part_by : Env → List ℕ → Start → Read Part
@@ -42,4 +42,10 @@ with_front front others = others >>= λ ps. Ok (front ++ ps)
 unfoldable pub object_of : (names : List (List ℕ)) → List ℕ → Result (List Part) ReadFault
 object_of names text = do
   t ← short_ascii text
-  parts_of (record { names = names; earlier = 0; total = length text }) (suc (length (skip t))) (skip t)
+  parts_of (record { names = names; earlier = 0; total = length text; in_rule = false }) (suc (length (skip t))) (skip t)
+
+-- The parts of the object that the text of a rule spells, or the first fault of the text. It may have any bytes.
+unfoldable pub rule_object_of : (names : List (List ℕ)) → List ℕ → Result (List Part) ReadFault
+rule_object_of names text = do
+  t ← short_text text
+  parts_of (record { names = names; earlier = 0; total = length text; in_rule = true }) (suc (length (skip t))) (skip t)

@@ -1,5 +1,5 @@
 -- Reading a pattern from left to right, with the first fault that is met.
-use Rattle.std.specs.Prelude.{◌≡◌, ℕ, zero, suc, ◌-◌, ◌<◌, ◌||◌, List, length, drop, nat_eq, nat_lt, Option, Some, None, Result, Ok, Err, if◌then◌else◌}
+use Rattle.std.specs.Prelude.{◌≡◌, ℕ, zero, suc, ◌-◌, ◌<◌, Bool, true, false, ◌||◌, List, ◌++◌, length, drop, nat_eq, nat_lt, Option, Some, None, Result, Ok, Err, if◌then◌else◌}
 use Rattle.std.specs.Option.{is_some}
 use Rattle.std.specs.List.{prefix_len}
 use Rattle.std.specs.Char.{is_ascii_digit}
@@ -22,14 +22,16 @@ use Rattle.sno_read.specs.Depth.{depth}
 use Rattle.sno_read.specs.Signs.{open_parenthesis, close_parenthesis}
 use Rattle.sno_read.specs.Gives.{◌>>=◌, found_or}
 use Rattle.sno_read.specs.Keywords.{keyword_of, word_tree, number_tree, set_tree}
-use Rattle.sno_read.specs.Characters.{is_blank, is_other, quote_of, front, rest_after, skip, begins, value_of, start_of, what_follows}
+use Rattle.sno_read.specs.Characters.{is_blank, is_other, quote_of, front, rest_after, skip, begins, value_of, start_of, what_follows, goes_on}
 use Rattle.sno_read.specs.declared.reading.TheConstants.{MAX_WRITTEN, MAX_OPEN, MAX_DEPTH}
 
--- what is needed to read a text: the names of the definitions, how many of them a plain name may name, and the text's length
+-- What is needed to read a text: the names of the definitions, how many of them a plain name may name, the text's length, and
+-- whether it is of a rule for files.
 pub record Env : Type 0 where
   pub names : List (List ℕ)
   pub earlier : ℕ
   pub total : ℕ
+  pub in_rule : Bool
 
 -- what was read, and the text after it; or the first fault
 abbrev pub Read : Type 0 → Type 0
@@ -49,11 +51,34 @@ literal_at env text = do
   q ← found_or (fault.Unexpected (place env text)) (quote_of text)
   literal_by (fault.OpenQuote (place env text)) q (drop 1 text)
 
--- the members of a set: a literal that isn't empty
-unfoldable pub set_at : Env → List ℕ → Read (List ℕ)
-set_at env text = do
+-- a literal that was read, unless it has a byte above 127; `inside` is the text from its characters on
+abbrev pub unless_above : Env → List ℕ → List ℕ × List ℕ → Option ℕ → Read (List ℕ)
+unless_above env inside s None = Ok s
+unless_above env inside s (Some i) = Err (fault.NonAscii (place env (drop i inside)))
+
+-- a literal of ASCII characters, as sets have them
+unfoldable pub ascii_literal_at : Env → List ℕ → Read (List ℕ)
+ascii_literal_at env text = do
   s ← literal_at env text
-  if nat_eq (length s.0) 0 then Err (fault.EmptySet (place env text)) else Ok s
+  unless_above env (drop 1 text) s (first_non_ascii s.0)
+
+-- one literal, and the literals after it if there are more
+abbrev pub literals_by : (List ℕ → Read (List ℕ)) → List ℕ × List ℕ → Bool → Read (List ℕ)
+literals_by more s true = more (skip s.1) >>= λ u. Ok (s.0 ++ u.0, u.1)
+literals_by more s false = Ok s
+
+-- literals with blanks between them, joined; the number bounds how many there are
+unfoldable pub literals_at : Env → ℕ → List ℕ → Read (List ℕ)
+literals_at env zero text = Err (fault.Unexpected (place env text))
+literals_at env (suc n) text = ascii_literal_at env text >>= λ s. literals_by (literals_at env n) s (goes_on s.1)
+
+-- members that were read, if there is at least one
+abbrev pub unless_empty : ReadFault → List ℕ × List ℕ → Read (List ℕ)
+unless_empty empty s = if nat_eq (length s.0) 0 then Err empty else Ok s
+
+-- the members of a set: those of one literal, and in a rule those of one or more
+unfoldable pub set_at : Env → List ℕ → Read (List ℕ)
+set_at env text = (if env.in_rule then literals_at env (suc (length text)) text else ascii_literal_at env text) >>= unless_empty (fault.EmptySet (place env text))
 
 -- the number of all the digits that begin here
 unfoldable pub number_at : Env → List ℕ → Read ℕ
@@ -232,7 +257,7 @@ end_at env text = if nat_eq (length text) 0 then Ok 0 else Err (fault.Unexpected
 unfoldable pub unless_too_deep : Env → Tree → Result Tree ReadFault
 unless_too_deep env t = if nat_lt MAX_DEPTH (depth t) then Err (fault.TooDeep env.total) else Ok t
 
--- a whole text that is short and ASCII
+-- a whole text
 unfoldable pub whole_of : Env → List ℕ → Result Tree ReadFault
 whole_of env text =
     if nat_eq (length (skip text)) 0 then Err (fault.Empty env.total)
@@ -245,6 +270,10 @@ abbrev pub ascii_only : Option ℕ → List ℕ → Result (List ℕ) ReadFault
 ascii_only None text = Ok text
 ascii_only (Some i) text = Err (fault.NonAscii i)
 
+-- a text that is short
+abbrev pub short_text : List ℕ → Result (List ℕ) ReadFault
+short_text text = if nat_lt MAX_WRITTEN (length text) then Err (fault.TooLong MAX_WRITTEN) else Ok text
+
 -- a text that is short and ASCII
 abbrev pub short_ascii : List ℕ → Result (List ℕ) ReadFault
 short_ascii text = if nat_lt MAX_WRITTEN (length text) then Err (fault.TooLong MAX_WRITTEN) else ascii_only (first_non_ascii text) text
@@ -253,9 +282,19 @@ short_ascii text = if nat_lt MAX_WRITTEN (length text) then Err (fault.TooLong M
 abbrev pub AsksForMemory : List ℕ → Type 0
 AsksForMemory text = (short_ascii text ≡ Ok text) × (0 < length (skip text))
 
+-- as `AsksForMemory`, for a text of a rule: it may have any bytes
+abbrev pub RuleAsksForMemory : List ℕ → Type 0
+RuleAsksForMemory text = (short_text text ≡ Ok text) × (0 < length (skip text))
+
 -- The tree that a text spells, or the first fault of the text. `names` are the names of the definitions, and a plain name may
 -- name the first `earlier` of them.
 unfoldable pub pattern_of : (names : List (List ℕ)) (earlier : ℕ) → List ℕ → Result Tree ReadFault
 pattern_of names earlier text = do
   t ← short_ascii text
-  whole_of (record { names = names; earlier = earlier; total = length text }) t
+  whole_of (record { names = names; earlier = earlier; total = length text; in_rule = false }) t
+
+-- The tree that the text of a rule spells, or the first fault of the text. It may have any bytes.
+unfoldable pub rule_pattern_of : (names : List (List ℕ)) (earlier : ℕ) → List ℕ → Result Tree ReadFault
+rule_pattern_of names earlier text = do
+  t ← short_text text
+  whole_of (record { names = names; earlier = earlier; total = length text; in_rule = true }) t

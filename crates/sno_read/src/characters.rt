@@ -5,7 +5,7 @@ ghost use Rattle.std.specs.Char.{is_ascii_digit};
 ghost use Rattle.sno_pattern.specs.Identifiers.{is_letter, is_name_char};
 ghost use Rattle.sno_read.specs.declared.characters.Start.TheVariants.{Other};
 ghost use Rattle.sno_read.specs.declared.characters.Following.TheVariants.{Nothing};
-ghost use Rattle.sno_read.specs.Characters.{value_of, is_blank, is_quote, is_other, quote_of, skip, begins, number_from, start_of, sign_of, what_follows};
+ghost use Rattle.sno_read.specs.Characters.{value_of, is_blank, is_quote, is_other, quote_of, skip, begins, number_from, start_of, sign_of, what_follows, goes_on};
 
 use sno_pattern::{is_letter, is_name_char};
 
@@ -97,6 +97,12 @@ pub fn begins_letter(text: &[u8]) -> bool
     matches!(text.first(), Some(c) if is_letter(*c))
 }
 
+fn begins_quote(text: &[u8]) -> bool
+    ensures { result ≡ begins is_quote text.now }
+{
+    matches!(text.first(), Some(c) if is_quote(*c))
+}
+
 /// Whether the text begins with a blank.
 pub fn begins_blank(text: &[u8]) -> bool
     ensures { result ≡ begins is_blank text.now }
@@ -164,4 +170,16 @@ pub fn what_follows(text: &[u8]) -> Following
     } else {
         Following::Nothing
     }
+}
+
+/// Whether another literal of a set comes: it needs blanks before it.
+#[tactic(auto, using(crate::proofs::Runs::runs), unfolding(crate::specs::Characters::goes_on))]
+pub fn goes_on(text: &[u8]) -> bool
+    ensures { result ≡ goes_on text.now }
+{
+    if !begins_blank(text) {
+        return false;
+    }
+    let (_blanks, rest) = text.split_at(count_blanks(text));
+    begins_quote(rest)
 }

@@ -23,7 +23,7 @@ pub enum ReadFault {
     /// A name of no definition that may be named here.
     #[error("unknown name at {0}")]
     UnknownName(usize),
-    /// The empty literal when a set of characters is due.
+    /// Empty literals alone when a set of characters is due, the first of them here.
     #[error("empty set at {0}")]
     EmptySet(usize),
     /// A parenthesis that would be the 101st open one; or, at the text's length, a tree deeper than 1,000.
@@ -35,7 +35,7 @@ pub enum ReadFault {
     /// A reserved name or the name of a definition when a variable is due.
     #[error("reserved name at {0}")]
     ReservedTarget(usize),
-    /// A byte above 127.
+    /// A byte above 127; in a rule, one in a set.
     #[error("not ASCII at {0}")]
     NonAscii(usize),
     /// Out of memory.

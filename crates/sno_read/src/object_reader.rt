@@ -1,5 +1,7 @@
-//! The reader of objects.
-ghost use Rattle.std.specs.Prelude.{◌<◌, ◌≤◌, length, suc, IfOk};
+//! The reader of objects of documents.
+ghost use Rattle.std.specs.Prelude.{◌<◌, ◌≤◌, length, suc, IfOk, IsTrue};
+ghost use Rattle.std.specs.List.{list_all};
+ghost use Rattle.std.specs.Char.{is_ascii};
 ghost use Rattle.sno_read.specs.Gives.{Gives};
 ghost use Rattle.sno_read.specs.Objects.{part_at, gap_at, parts_of};
 ghost use Rattle.sno_read.specs.Views.{env_of};
@@ -11,9 +13,10 @@ use crate::piece::Piece;
 use crate::reader::Reader;
 
 impl<'a> Reader<'a> {
-    // One part.
+    // One part of an object of a document, whose text is ASCII.
     #[tactic(auto, unfolding(crate::specs::Objects::part_at))]
     fn part(&self, rest: Piece<'a>) -> Result<(Part, Piece<'a>), Stop>
+        requires { IsTrue (list_all is_ascii rest.characters.now) }
         ensures read { Gives (λ p. (p.0, p.1.characters.now)) result (part_at (env_of self.now) rest.entry.characters.now) }
         ensures shorter { IfOk result (λ p. length p.1.characters.now < length rest.entry.characters.now) }
     {
@@ -31,9 +34,9 @@ impl<'a> Reader<'a> {
         }
     }
 
-    // The rest after a part: nothing, or blanks and more.
+    /// The rest after a part: nothing, or blanks and more.
     #[tactic(auto, unfolding(crate::specs::Objects::gap_at))]
-    fn gap(&self, rest: Piece<'a>) -> Result<Piece<'a>, Stop>
+    pub fn gap(&self, rest: Piece<'a>) -> Result<Piece<'a>, Stop>
         ensures read { Gives (λ p. p.characters.now) result (gap_at (env_of self.now) rest.entry.characters.now) }
         ensures shorter { IfOk result (λ p. length p.characters.now ≤ length rest.entry.characters.now) }
     {
@@ -44,8 +47,9 @@ impl<'a> Reader<'a> {
         Ok(rest)
     }
 
-    /// The parts of an object, whose text doesn't begin with a blank.
+    /// The parts of an object of a document, whose text is ASCII and doesn't begin with a blank.
     pub fn parts(&self, start: Piece<'a>) -> Result<Vec<Part>, Stop>
+        requires { IsTrue (list_all is_ascii start.characters.now) }
         ensures { Gives (λ parts. parts.items) result (parts_of (env_of self.now) (suc (length start.entry.characters.now)) start.entry.characters.now) }
     {
         let mut parts = Vec::new(self.alloc);

@@ -1,19 +1,16 @@
 //! Pieces of the text that is being read.
-ghost use Rattle.std.specs.Prelude.{◌≡◌, ◌≤◌, ◌+◌, length, take, drop, IsTrue};
-ghost use Rattle.std.specs.List.{list_all};
-ghost use Rattle.std.specs.Char.{is_ascii};
+ghost use Rattle.std.specs.Prelude.{◌≡◌, ◌≤◌, ◌+◌, length, take, drop};
 ghost use Rattle.sno_pattern.specs.Identifiers.{is_name_char};
 ghost use Rattle.sno_read.specs.Characters.{rest_after, skip};
 ghost use Rattle.sno_read.specs.declared.reading.TheConstants.{MAX_WRITTEN};
 
 use crate::characters;
 
-/// A piece of the text that is being read: at most 4,096 characters, all ASCII.
+/// A piece of the text that is being read: at most 4,096 characters.
 #[derive(Clone, Copy)]
 pub struct Piece<'a> {
     pub characters: &'a [u8],
     ghost short: { length characters.now ≤ MAX_WRITTEN },
-    ghost ascii: { IsTrue (list_all is_ascii characters.now) },
 }
 
 impl<'a> Piece<'a> {

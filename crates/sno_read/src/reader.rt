@@ -1,6 +1,6 @@
 //! The reader of patterns: a method for each rule of the grammar.
 ghost use Rattle.std.specs.Prelude.{◌≡◌, ℕ, ◌<◌, ◌≤◌, length, IfOk, Ok};
-ghost use Rattle.sno_pattern.specs.Tree.{tree_of, Cond, Imm};
+ghost use Rattle.sno_pattern.specs.Tree.{tree_of, Lit, Cond, Imm};
 ghost use Rattle.sno_read.specs.Characters.{skip};
 ghost use Rattle.sno_read.specs.Gives.{Gives, ◌>>=◌ as ◌and_then◌};
 ghost use Rattle.sno_read.specs.Reading.{place, sign_at, cursor_at, reference_at, plain_of, number_call_at, set_call_at, group_at, repetition_at, from_name_at, quotation_at, element_at, targets_at, item_at, items_at, parts_at, concatenation_at, inside};
@@ -12,7 +12,7 @@ use crate::characters::{self, Following, Start};
 use crate::faults::{ReadFault, Stop};
 use crate::keywords::{self, Keyword, NumberCall, SetCall};
 use crate::piece::Piece;
-use sno_pattern::{Name, Names, Pattern};
+use sno_pattern::{Name, Names, Pattern, Text};
 use std::alloc::Global;
 
 /// What is needed to read a text.
@@ -25,6 +25,8 @@ pub struct Reader<'a> {
     pub earlier: usize,
     /// The length of the text.
     pub total: usize,
+    /// Whether it is the text of a rule for files: then sets may have several literals.
+    pub in_rule: bool,
 }
 
 impl<'a> Reader<'a> {
@@ -93,6 +95,20 @@ impl<'a> Reader<'a> {
         }
     }
 
+    // The pattern of these characters: a text if they are ASCII, and bytes otherwise.
+    #[tactic(auto, using(crate::proofs::Ascii::text_is))]
+    fn quoted(&self, content: Piece<'a>) -> Result<Pattern, Stop>
+        ensures { Gives tree_of result (Ok (Lit content.entry.characters.now)) }
+    {
+        let characters = Vec::from_slice(self.alloc, content.characters)?;
+        // Most literals are ASCII, which this sees.
+        if let Ok(text) = Text::new(characters) {
+            return Ok(Pattern::Lit(text));
+        }
+        let bytes = self.bytes(content)?;
+        Ok(Pattern::Bytes(bytes))
+    }
+
     // A literal.
     #[tactic(auto, unfolding(crate::specs::Reading::quotation_at))]
     fn quotation(&self, rest: Piece<'a>) -> Result<(Pattern, Piece<'a>), Stop>
@@ -100,8 +116,8 @@ impl<'a> Reader<'a> {
         ensures shorter { IfOk result (λ p. length p.1.characters.now < length rest.entry.characters.now) }
     {
         let (content, rest) = self.literal(rest)?;
-        let text = self.text(content)?;
-        Ok((Pattern::Lit(text), rest))
+        let literal = self.quoted(content)?;
+        Ok((literal, rest))
     }
 
     // `@` and a variable.

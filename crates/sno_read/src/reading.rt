@@ -1,10 +1,12 @@
-//! Reading whole texts.
-ghost use Rattle.std.specs.Prelude.{◌≡◌, ◌<◌, List, length, IfOk, Ok};
+//! Reading whole texts of documents.
+ghost use Rattle.std.specs.Prelude.{◌≡◌, ◌<◌, List, length, IfOk, IsTrue, Ok};
+ghost use Rattle.std.specs.List.{list_all};
+ghost use Rattle.std.specs.Char.{is_ascii};
 ghost use Rattle.sno_pattern.specs.Tree.{Tree, tree_of};
 ghost use Rattle.sno_read.specs.declared.objects.Part.{Part};
 ghost use Rattle.sno_read.specs.Grammar.{Spells};
 ghost use Rattle.sno_read.specs.ObjectGrammar.{SpellsObject};
-ghost use Rattle.sno_read.specs.Gives.{Gives, ◌>>=◌ as ◌and_then◌, Answers, OnMemory, OnOutOfMemory};
+ghost use Rattle.sno_read.specs.Gives.{Gives, ◌>>=◌ as ◌and_then◌, Returns, OnMemory, OnOutOfMemory};
 ghost use Rattle.sno_read.specs.Characters.{skip};
 ghost use Rattle.sno_read.specs.Reading.{short_ascii, end_at, unless_too_deep, whole_of, pattern_of, AsksForMemory};
 ghost use Rattle.sno_read.specs.Objects.{object_of};
@@ -32,6 +34,7 @@ pub const MAX_DEPTH: usize = 1_000;
 fn check(text: &[u8]) -> Result<Piece<'_>, Stop>
     ensures read { Gives (λ p. p.characters.now) result (short_ascii text.now) }
     ensures same { IfOk result (λ p. p.characters.now ≡ text.now) }
+    ensures ascii { IfOk result (λ p. IsTrue (list_all is_ascii p.characters.now)) }
     ensures late { OnMemory result ⊥ }
 {
     if text.len() > MAX_WRITTEN {
@@ -59,9 +62,9 @@ fn finish(reader: &Reader, pattern: &Pattern, rest: Piece) -> Result<(), Stop>
     }
 }
 
-// The pattern that a whole text spells.
+/// The pattern that a whole text spells.
 #[tactic(auto, unfolding(crate::specs::Reading::whole_of, crate::specs::Reading::alternation_at))]
-fn whole(reader: &Reader, text: Piece) -> Result<Pattern, Stop>
+pub fn whole(reader: &Reader, text: Piece) -> Result<Pattern, Stop>
     ensures read { Gives tree_of result (whole_of (env_of reader.now) text.entry.characters.now) }
     ensures late { OnMemory result (0 < length (skip text.entry.characters.now)) }
 {
@@ -85,12 +88,13 @@ fn pattern(alloc: Global, names: &Names, earlier: usize, text: &[u8]) -> Result<
         names,
         earlier,
         total: text.len(),
+        in_rule: false,
     };
     let pattern = whole(&reader, piece)?;
     Ok(pattern)
 }
 
-#[tactic(auto, unfolding(crate::specs::Objects::object_of))]
+#[tactic(auto, using(crate::proofs::AsciiRests::skip_ascii), unfolding(crate::specs::Objects::object_of))]
 fn object(alloc: Global, names: &Names, text: &[u8]) -> Result<Object, Stop>
     ensures read { Gives (λ object. object) result (object_of names.now text.now) }
     ensures late { OnMemory result (AsksForMemory text.now) }
@@ -101,6 +105,7 @@ fn object(alloc: Global, names: &Names, text: &[u8]) -> Result<Object, Stop>
         names,
         earlier: 0,
         total: text.len(),
+        in_rule: false,
     };
     let start = piece.after_blanks();
     // Blanks alone take no memory.
@@ -131,13 +136,13 @@ pub fn read_pattern(
     text: &[u8],
 ) -> Result<Pattern, ReadFault>
     // Which result it is, with the fault and its place.
-    ensures exact { Answers tree_of result (pattern_of names.now earlier text.now) }
+    ensures exact { Returns tree_of result (pattern_of names.now earlier text.now) }
     // `Memory` comes only if length, characters and blanks give no result yet.
     ensures late { OnOutOfMemory result (AsksForMemory text.now) }
     // What is read is spelled so.
     ensures found { IfOk result (λ p. Spells names.now earlier text.now (tree_of p)) }
     // What is spelled so is read.
-    ensures only { (t : Tree) → Spells names.now earlier text.now t → Answers tree_of result (Ok t) }
+    ensures only { (t : Tree) → Spells names.now earlier text.now t → Returns tree_of result (Ok t) }
 {
     match pattern(alloc, names, earlier, text) {
         Ok(pattern) => Ok(pattern),
@@ -158,13 +163,13 @@ pub fn read_pattern(
 /// `Memory` is returned only if out of memory, and never for a text that is too long, not ASCII or blank.
 pub fn read_object(alloc: Global, names: &Names, text: &[u8]) -> Result<Object, ReadFault>
     // Which result it is, with the fault and its place.
-    ensures exact { Answers (λ object. object) result (object_of names.now text.now) }
+    ensures exact { Returns (λ object. object) result (object_of names.now text.now) }
     // `Memory` comes only if length, characters and blanks give no result yet.
     ensures late { OnOutOfMemory result (AsksForMemory text.now) }
     // What is read is spelled so.
     ensures found { IfOk result (λ parts. SpellsObject names.now text.now parts) }
     // What is spelled so is read.
-    ensures only { (parts : List Part) → SpellsObject names.now text.now parts → Answers (λ object. object) result (Ok parts) }
+    ensures only { (parts : List Part) → SpellsObject names.now text.now parts → Returns (λ object. object) result (Ok parts) }
 {
     match object(alloc, names, text) {
         Ok(object) => Ok(object),

@@ -1,11 +1,13 @@
-//! Literals, sets, numbers, names, parentheses and blanks.
-ghost use Rattle.std.specs.Prelude.{◌≡◌, ◌||◌, ◌<◌, ◌≤◌, length, IfOk, OnOk, Ok};
+//! Literals, numbers, names, parentheses and blanks.
+ghost use Rattle.std.specs.Prelude.{◌≡◌, ◌||◌, ◌<◌, ◌≤◌, length, IfOk, IsTrue, OnOk, Ok};
 ghost use Rattle.std.specs.Option.{is_some};
+ghost use Rattle.std.specs.List.{list_all};
+ghost use Rattle.std.specs.Char.{is_ascii};
 ghost use Rattle.sno_pattern.specs.Identifiers.{is_name_char, is_reserved};
 ghost use Rattle.sno_pattern.specs.NameList.{place_of};
 ghost use Rattle.sno_read.specs.Gives.{Gives};
 ghost use Rattle.sno_read.specs.Characters.{rest_after, skip};
-ghost use Rattle.sno_read.specs.Reading.{place, literal_at, set_at, number_at, name_at, variable_at, opening_at, closing_at, blanks_at, sign_at};
+ghost use Rattle.sno_read.specs.Reading.{place, literal_at, number_at, name_at, variable_at, opening_at, closing_at, blanks_at, sign_at};
 ghost use Rattle.sno_read.specs.Views.{env_of};
 ghost use Rattle.sno_read.specs.declared.faults.ReadFault.TheVariants.{Unexpected};
 ghost use Rattle.sno_read.specs.declared.faults.Stop.TheVariants.{Fault};
@@ -14,7 +16,7 @@ use crate::characters;
 use crate::faults::{ReadFault, Stop};
 use crate::piece::Piece;
 use crate::reader::Reader;
-use sno_pattern::{Class, Name, Text};
+use sno_pattern::{ByteText, Name, Text};
 
 impl<'a> Reader<'a> {
     /// The place where this rest of the text begins.
@@ -50,9 +52,10 @@ impl<'a> Reader<'a> {
         Ok((content, rest_after))
     }
 
-    /// A text of these characters.
+    /// A text of these characters, which are ASCII.
     #[tactic(auto, using(crate::proofs::Ascii::text_ok))]
     pub fn text(&self, content: Piece<'a>) -> Result<Text, Stop>
+        requires { IsTrue (list_all is_ascii content.characters.now) }
         ensures { Gives (λ text. text) result (Ok content.entry.characters.now) }
     {
         let characters = Vec::from_slice(self.alloc, content.characters)?;
@@ -62,17 +65,15 @@ impl<'a> Reader<'a> {
         }
     }
 
-    /// The members of a set: a literal that is not empty.
-    #[tactic(auto, unfolding(crate::specs::Reading::set_at))]
-    pub fn set(&self, rest: Piece<'a>) -> Result<(Class, Piece<'a>), Stop>
-        ensures read { Gives (λ p. (p.0, p.1.characters.now)) result (set_at (env_of self.now) rest.entry.characters.now) }
-        ensures shorter { IfOk result (λ p. length p.1.characters.now < length rest.entry.characters.now) }
+    /// A text of these bytes.
+    #[tactic(auto, using(crate::proofs::Ascii::bytes_ok))]
+    pub fn bytes(&self, content: Piece<'a>) -> Result<ByteText, Stop>
+        ensures { Gives (λ text. text) result (Ok content.entry.characters.now) }
     {
-        let (content, rest_after) = self.literal(rest)?;
-        let members = Vec::from_slice(self.alloc, content.characters)?;
-        match Class::new(members) {
-            Some(class) => Ok((class, rest_after)),
-            None => Err(Stop::Fault(ReadFault::EmptySet(self.place(rest)))),
+        let bytes = Vec::from_slice(self.alloc, content.characters)?;
+        match ByteText::new(bytes) {
+            Ok(text) => Ok(text),
+            Err(_) => unreachable!(),
         }
     }
 

@@ -46,8 +46,8 @@ pub enum OptionsFault {
     Memory,
 }
 
-/// An option with a number of at most 32 bits.
-fn numeric<'a>(alloc: Global, name: &'a str, help: &'a str) -> Arg<'a>
+/// An option with a number of at most 32 bits. It takes no memory.
+pub fn numeric<'a>(alloc: Global, name: &'a str, help: &'a str) -> Arg<'a>
     ensures rule { rule_of result ≡ numeric name.entry.now }
     ensures local { result.global ≡ false }
     ensures help { result.help ≡ Some help.entry }
@@ -60,7 +60,8 @@ fn numeric<'a>(alloc: Global, name: &'a str, help: &'a str) -> Arg<'a>
         .help(help)
 }
 
-fn numeric_or<'a>(alloc: Global, default: &'a str, name: &'a str, help: &'a str) -> Arg<'a>
+/// As [`numeric`], with the number that it has if it isn't given.
+pub fn numeric_or<'a>(alloc: Global, default: &'a str, name: &'a str, help: &'a str) -> Arg<'a>
     ensures rule { rule_of result ≡ numeric_or default.entry.now name.entry.now }
     ensures local { result.global ≡ false }
     ensures help { result.help ≡ Some help.entry }
@@ -68,7 +69,8 @@ fn numeric_or<'a>(alloc: Global, default: &'a str, name: &'a str, help: &'a str)
     numeric(alloc, name, help).default_value(default)
 }
 
-fn flag<'a>(alloc: Global, name: &'a str, help: &'a str) -> Arg<'a>
+/// An option without a value. It takes no memory.
+pub fn flag<'a>(alloc: Global, name: &'a str, help: &'a str) -> Arg<'a>
     ensures rule { rule_of result ≡ flag name.entry.now }
     ensures local { result.global ≡ false }
     ensures help { result.help ≡ Some help.entry }
@@ -155,8 +157,9 @@ fn are_valid(options: &Options) -> bool
     workers && is_up_to(MAX_TRIES, options.tries) && is_up_to(MAX_TRIALS, options.trials)
 }
 
-/// The fault of an error of `clap`, with `clap`'s own text.
-fn fault_of_error(alloc: Global, error: &Error) -> OptionsFault
+/// The fault of an error of `clap`, with `clap`'s own text: `Help` if help or the version was asked for, `Memory` if memory ran out
+/// before or now, and otherwise `Usage`.
+pub fn fault_of_error(alloc: Global, error: &Error) -> OptionsFault
     ensures { Tells (kind_of error.now) result }
 {
     let Ok(text) = format!(in alloc; "{error}") else {

@@ -16,6 +16,9 @@
 //! | `program` | `run_program`, from the arguments and the streams of the program to its status |
 //! | `laws` | what follows from the definitions |
 //!
+//! The program `sno` has its arguments, its help and its output by the same functions: `flag`, `numeric`, `numeric_or`,
+//! `fault_of_error`, `words_after_name`, `explain` and `write_all`.
+//!
 //! `Mode` and `DocumentFault` are those of `sno_document`, `Reason` and `Refusal` those of `sno_listing`, `Name` that of
 //! `sno_pattern`, `ReadFault` that of `sno_read`, `MAX_TRIES` that of `sno_desk` and `MAX_TRIALS` that of
 //! `sno_statement`.
@@ -33,11 +36,11 @@ mod serial;
 mod shared;
 mod streams;
 
-pub use command_line::{OptionsFault, options_of};
+pub use command_line::{OptionsFault, fault_of_error, flag, numeric, numeric_or, options_of};
 pub use faults::{RunFault, status_of};
 pub use laws::each_document_has_a_serial_run;
 pub use options::{MAX_WORKERS, Options};
-pub use program::run_program;
+pub use program::{explain, run_program, words_after_name};
 pub use runs::{Report, run, run_serial, run_shared};
 pub use sno_desk::MAX_TRIES;
 pub use sno_document::{DocumentFault, Mode};
@@ -45,3 +48,4 @@ pub use sno_listing::{Reason, Refusal};
 pub use sno_pattern::Name;
 pub use sno_read::ReadFault;
 pub use sno_statement::MAX_TRIALS;
+pub use streams::write_all;

@@ -22,8 +22,8 @@ const USAGE_STATUS: u8 = 3;
 
 const NOT_TEXT: &str = "error: a word is not UTF-8\n\nFor more information, try '--help'.\n";
 
-/// The arguments after the program's name.
-fn words_after_name(alloc: Global, words: Args) -> Result<Vec<String>, AllocError>
+/// The arguments after the program's name. Refused only if out of memory.
+pub fn words_after_name(alloc: Global, words: Args) -> Result<Vec<String>, AllocError>
     ensures { IfOk result (λ v. v.items ≡ drop 1 (into_iter_items words)) }
 {
     let mut words = words;
@@ -66,8 +66,9 @@ fn report<E: Write>(fault: &RunFault, errors: &mut E) -> u8
     status_of(fault)
 }
 
-/// Writes help to the output, or how the program is used to `errors`, and returns the status.
-fn explain<W: Write, E: Write>(fault: &OptionsFault, writer: &mut W, errors: &mut E) -> u8
+/// Writes help to the output, or how the program is used to `errors`, and returns the status with which the program ends: 0 after
+/// help, 4 if help can't be written or memory ran out, and 3 after arguments that are refused.
+pub fn explain<W: Write, E: Write>(fault: &OptionsFault, writer: &mut W, errors: &mut E) -> u8
     ensures { EndsBy writer.old writer.new (W.contents writer.old) (W.contents writer.new) errors.old errors.new (E.contents errors.old) (E.contents errors.new) fault.now result }
 {
     match fault {

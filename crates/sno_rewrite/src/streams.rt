@@ -51,7 +51,7 @@ pub(crate) fn read_all<R: Read>(alloc: Global, reader: &mut R) -> Result<Vec<u8>
 
 /// Writes all bytes. `Write` if a write fails, even if it was only interrupted, or takes no byte. A beginning of the
 /// bytes is written then.
-pub(crate) fn write_all<W: Write>(writer: &mut W, bytes: &[u8]) -> Result<(), RunFault>
+pub fn write_all<W: Write>(writer: &mut W, bytes: &[u8]) -> Result<(), RunFault>
     ensures written { OnOk result (Appends (W.contents writer.old) (W.contents writer.new) bytes.now) }
     ensures begun { OnErr result (AppendsFront (W.contents writer.old) (W.contents writer.new) bytes.now) }
     ensures fault { IfErr result (λ e. e ≡ WriteFailed) }

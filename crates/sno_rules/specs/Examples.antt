@@ -138,14 +138,14 @@ not_ascii : part_at [] 5 (39 ∷ 97 ∷ 195 ∷ 169 ∷ 39 ∷ []) ≡ Err (spel
 not_ascii = refl
 
 -- quotes that the characters don't have
-single_quotes : quoted (codes "a\"") ≡ Some (codes "'a\"'")
+single_quotes : quoted (codes "a\"") ≡ codes "'a\"'"
 single_quotes = refl
 
-double_quotes : quoted (codes "a'") ≡ Some (codes "\"a'\"")
+double_quotes : quoted (codes "a'") ≡ codes "\"a'\""
 double_quotes = refl
 
-no_quotes_left : quoted (codes "'\"") ≡ None
-no_quotes_left = refl
+both_quotes : quoted (codes "a'\"b'") ≡ codes "'a\"b' \"'\""
+both_quotes = refl
 
 -- calls, from their sets on
 span : set_text word.Span (codes "'ab'") ≡ codes "'ab')"

@@ -1,5 +1,5 @@
 -- Sets as a hand writes them, and what is spelled in their place: a pattern or an object as `sno_read` reads it.
-use Rattle.std.specs.Prelude.{ℕ, suc, ◌-◌, ◌+◌, ◌<◌, ◌≡◌, ◌≢◌, Bool, true, false, not, ◌&&◌, ◌||◌, List, [], ◌∷◌, ◌++◌, length, take, drop, nat_eq, nat_le, nat_lt, Option, Some, None, Result, Ok, Err, codes, if◌then◌else◌}
+use Rattle.std.specs.Prelude.{ℕ, suc, ◌-◌, ◌+◌, ◌<◌, ◌≡◌, ◌≢◌, Bool, true, false, not, ◌&&◌, ◌||◌, List, [], ◌∷◌, ◌++◌, length, take, drop, filter, nat_eq, nat_le, nat_lt, Option, Some, None, Result, Ok, Err, codes, if◌then◌else◌}
 use Rattle.std.specs.Option.{option_map}
 use Rattle.std.specs.List.{find, list_any, prefix_len}
 use Rattle.sno_pattern.specs.Identifiers.{is_letter, is_name_char, same}
@@ -150,15 +150,19 @@ is_copied word.NSpan = false
 abbrev pub set_text : SetWord → List ℕ → List ℕ
 set_text w set = set ++ call_end w set
 
--- characters in a kind of quotes that they don't have
+-- Characters in a kind of quotes that they don't have. If they have both kinds, the single quote comes after the others, in a
+-- quotation of its own; as members of a set they are the same in any order.
 abbrev pub has : ℕ → List ℕ → Bool
 has c text = list_any (nat_eq c) text
 
 abbrev pub in_quotes : ℕ → List ℕ → List ℕ
 in_quotes quote text = quote ∷ (text ++ (quote ∷ []))
 
-abbrev pub quoted : List ℕ → Option (List ℕ)
-quoted text = if not (has 39 text) then Some (in_quotes 39 text) else (if not (has 34 text) then Some (in_quotes 34 text) else None)
+abbrev pub without : ℕ → List ℕ → List ℕ
+without c text = filter (λ d. not (nat_eq d c)) text
+
+abbrev pub quoted : List ℕ → List ℕ
+quoted text = if not (has 39 text) then in_quotes 39 text else (if not (has 34 text) then in_quotes 34 text else in_quotes 39 (without 39 text) ++ codes " \"'\"")
 
 -- ---- A text
 
@@ -219,9 +223,8 @@ with_piece s place piece None = with_part s place true piece
 with_piece s place piece (Some literal) = with_part s place false (in_quotes 39 literal)
 
 -- a call of this word at this place, whose argument is inside, from there on
-abbrev pub with_set : Spelled → ℕ → ℕ → SetWord → Option (List ℕ) → List ℕ → Step
-with_set s place inside w None rest = Err (fault.BothQuotes place)
-with_set s place inside w (Some set) rest = Ok (with_part (with_part s place (is_copied w) (call_begin w)) inside false (set_text w set), rest)
+abbrev pub with_set : Spelled → ℕ → ℕ → SetWord → List ℕ → List ℕ → Step
+with_set s place inside w set rest = Ok (with_part (with_part s place (is_copied w) (call_begin w)) inside false (set_text w set), rest)
 
 -- a call with these members, if its parenthesis is closed
 abbrev pub with_members : Spelled → ℕ → ℕ → SetWord → List ℕ → List ℕ → Step

@@ -1,7 +1,6 @@
 //! The words that take a set, and what is spelled for each.
 ghost use Rattle.std.specs.Prelude.{◌≡◌, ◌++◌, IfOk, OnOk};
-ghost use Rattle.std.specs.Option.{option_map};
-ghost use Rattle.sno_rules.specs.Spelling.{call_begin, call_end, has, is_copied, in_quotes, quoted, set_text, set_word};
+ghost use Rattle.sno_rules.specs.Spelling.{call_begin, call_end, has, is_copied, in_quotes, quoted, set_text, set_word, without};
 
 use std::alloc::{AllocError, Global};
 
@@ -62,17 +61,34 @@ pub(crate) fn literal(alloc: Global, text: &[u8]) -> Result<Vec<u8>, AllocError>
     in_quotes(alloc, b'\'', text)
 }
 
-/// The characters in quotes of a kind that they don't have; `None` if they have both.
-pub(crate) fn quoted(alloc: Global, text: &[u8]) -> Result<Option<Vec<u8>>, AllocError>
-    ensures { IfOk result (λ q. option_map (λ v. v.items) q ≡ quoted text.now) }
+/// The other characters of a text.
+fn without(alloc: Global, character: u8, text: &[u8]) -> Result<Vec<u8>, AllocError>
+    ensures { IfOk result (λ v. v.items ≡ without character text.now) }
 {
-    if !has(b'\'', text) {
-        return Ok(Some(in_quotes(alloc, b'\'', text)?));
+    let mut others = Vec::new(alloc);
+    for other in text {
+        if *other != character {
+            others.push(*other)?;
+        }
     }
-    if !has(b'"', text) {
-        return Ok(Some(in_quotes(alloc, b'"', text)?));
+    Ok(others)
+}
+
+/// The members of a set in quotes of a kind that they don't have. If they have both kinds, the single quote comes last, in a
+/// quotation of its own.
+pub(crate) fn quoted(alloc: Global, members: &[u8]) -> Result<Vec<u8>, AllocError>
+    ensures { IfOk result (λ v. v.items ≡ quoted members.now) }
+{
+    if !has(b'\'', members) {
+        return in_quotes(alloc, b'\'', members);
     }
-    Ok(None)
+    if !has(b'"', members) {
+        return in_quotes(alloc, b'"', members);
+    }
+    let others = without(alloc, b'\'', members)?;
+    let mut quoted = in_quotes(alloc, b'\'', &others)?;
+    quoted.extend_from_slice(b" \"'\"")?;
+    Ok(quoted)
 }
 
 impl SetWord {

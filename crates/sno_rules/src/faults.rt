@@ -32,9 +32,6 @@ pub enum SpellingFault {
     /// The argument of the word at this place is not closed.
     #[error("open argument at {0}")]
     OpenArgument(usize),
-    /// The set of the word at this place has both kinds of quotes, which no quotation has.
-    #[error("both quotes in the set at {0}")]
-    BothQuotes(usize),
     /// Out of memory.
     #[error("out of memory")]
     Memory,

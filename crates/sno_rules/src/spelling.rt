@@ -177,9 +177,7 @@ fn put_call<'t>(
     let Some((_, rest)) = rest.split_first() else {
         return Err(SpellingFault::OpenArgument(place));
     };
-    let Some(set) = quoted(alloc, &members)? else {
-        return Err(SpellingFault::BothQuotes(place));
-    };
+    let set = quoted(alloc, &members)?;
     let text = word.from_set(alloc, &set)?;
     spelling.put(place, word.is_copied(), word.begin())?;
     spelling.put(total - inside.len(), false, &text)?;
@@ -230,7 +228,8 @@ fn step<'t>(
 
 /// What is spelled in place of a pattern or an object that a hand has written with these names of sets. `sno_read` reads it.
 ///
-/// - The argument of `ANY`, `NOTANY`, `SPAN` and `BREAK` may join quotations and names of sets. It is spelled as one quotation.
+/// - The argument of `ANY`, `NOTANY`, `SPAN` and `BREAK` may join quotations and names of sets. It is spelled as one
+///   quotation, or as two if it has both kinds of quotes.
 /// - `BREAKX(S)` is spelled `(BREAK(S) ARBNO(LEN(1) BREAK(S)))`, and `NSPAN(S)` is spelled `(SPAN(S) | '')`.
 /// - `NL`, `CR` and `HT` are spelled as a literal of a line feed, a carriage return or a tab, unless rules define them.
 /// - All else is spelled as it is written.
@@ -242,8 +241,7 @@ fn step<'t>(
 ///
 /// - `NotAscii` for a quotation in a set that has another character, with that character's place; `OpenQuote`; `UnknownSet` for
 ///   another name; `NoSet` for what is neither;
-/// - `OpenArgument` for a set without its closing parenthesis, with the place of its word; then `BothQuotes` for a set that has
-///   both kinds of quotes;
+/// - `OpenArgument` for a set without its closing parenthesis, with the place of its word;
 /// - `Memory`.
 pub fn spelled<'n>(
     alloc: Global,

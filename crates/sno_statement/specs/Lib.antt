@@ -1,4 +1,6 @@
 pub mod Statement
+pub mod FileStatements
+pub mod Sought
 pub mod StatementPatterns
 pub mod Bindings
 pub mod LastAssignments

@@ -14,7 +14,7 @@ use crate::assigned::Assigned;
 use crate::binding_refs::last_of;
 use crate::searches::Searches;
 use crate::spans::SpanValue;
-use crate::{Statement, StatementFault};
+use crate::{FileStatement, StatementFault};
 use sno_machine::{Code, MAX_KEPT, Workspace};
 use sno_pattern::{Assigns, ByteText, Hit, Name, cursors_lie_within_the_text};
 use std::alloc::{AllocError, Global};
@@ -110,7 +110,7 @@ impl<'c, 't, 'a> BytePass<'c, 't, 'a> {
     /// `trials` is the limit in place of the statement's own, of the trials of all searches together. It takes no memory.
     pub fn new(
         alloc: Global,
-        statement: &'c Statement,
+        statement: &'c FileStatement,
         code: &'c Code<'a>,
         text: &'t ByteText,
         trials: u32,
@@ -180,7 +180,7 @@ fn match_in<'t>(
 /// - `Memory` if out of memory, or if the search would have to keep more than [`MAX_KEPT`] entries in its history.
 pub fn first_match<'t>(
     alloc: Global,
-    statement: &Statement,
+    statement: &FileStatement,
     code: &Code<'_>,
     text: &'t ByteText,
     trials: u32,
@@ -194,7 +194,7 @@ pub fn first_match<'t>(
     // for the proof
     cursors_lie_within_the_text();
     let mut workspace = Workspace::bounded(alloc, MAX_KEPT);
-    let anchored = statement.anchored();
+    let anchored = statement.search().anchored();
     let found = code.first_in_bytes(alloc, &mut workspace, text, anchored, trials)?;
     match &found.end {
         None => Ok(None),

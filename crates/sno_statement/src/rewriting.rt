@@ -14,10 +14,10 @@ use crate::assigned::Assigned;
 use crate::searches::Searches;
 use crate::spans::Spans;
 use crate::values::{back, between, front};
-use crate::{Statement, StatementFault};
+use crate::{FileStatement, StatementFault};
 use sno_machine::{Code, MAX_KEPT, Workspace, compile};
 use sno_pattern::{Assigns, ByteText, Found, Hit, MAX_BYTES, cursors_lie_within_the_text};
-use sno_read::Part;
+use sno_read::ByteObject;
 use std::alloc::{AllocError, Global};
 use std::sync::Arc;
 
@@ -44,26 +44,26 @@ fn text_of(bytes: Vec<u8>) -> ByteText
 /// The text in which the object's value replaces the match of a search. Its length is known before any of it is written.
 fn new_text(
     alloc: Global,
-    parts: &[Part],
+    object: &ByteObject,
     subject: &[u8],
     sets: &Assigns,
     hit: &Hit,
 ) -> Result<ByteText, StatementFault>
     requires short { length subject.now ≤ MAX_BYTES }
     requires lies { SetsLie subject.now sets.now }
-    ensures { GivesBytes result (new_text subject.now hit.now.start hit.now.end (value_of (match_by subject.now sets.now hit.now).bindings parts.now)) }
+    ensures { GivesBytes result (new_text subject.now hit.now.start hit.now.end (value_of (match_by subject.now sets.now hit.now).bindings object.now)) }
 {
     let mut one = Assigned::new(alloc);
     one.replace(alloc, subject, sets.as_slice(), hit.conds.as_slice())?;
     let values = Spans::of(subject, one.as_slice());
     let before = front(subject, hit.start);
     let after = back(subject, hit.end);
-    let Some(length) = values.length_with(before.len() + after.len(), parts) else {
+    let Some(length) = values.length_with(before.len() + after.len(), object.parts()) else {
         return Err(StatementFault::TextTooLong);
     };
     let mut bytes = Vec::with_capacity(alloc, length)?;
     bytes.extend_from_slice(before)?;
-    values.put(alloc, parts, &mut bytes)?;
+    values.put(alloc, object.parts(), &mut bytes)?;
     bytes.extend_from_slice(after)?;
     Ok(text_of(bytes))
 }
@@ -71,17 +71,17 @@ fn new_text(
 /// What is done to the text after a search of a statement with an object: the new text, or `None` if the search failed.
 fn finish(
     alloc: Global,
-    parts: &[Part],
+    object: &ByteObject,
     subject: &ByteText,
     found: &Found,
 ) -> Result<Option<ByteText>, StatementFault>
     requires { SetsLie subject.now found.now.sets }
-    ensures { GivesRound result (finish_found_within MAX_BYTES (Some parts.now) subject.now found.now) }
+    ensures { GivesRound result (finish_found_within MAX_BYTES (Some object.now) subject.now found.now) }
 {
     match &found.end {
         None => Ok(None),
         Some(hit) => {
-            let after = new_text(alloc, parts, subject.bytes(), &found.sets, hit)?;
+            let after = new_text(alloc, object, subject.bytes(), &found.sets, hit)?;
             Ok(Some(after))
         }
     }
@@ -93,20 +93,20 @@ fn round<'a>(
     alloc: Global,
     code: &Code<'a>,
     workspace: &mut Workspace<'a>,
-    statement: &Statement,
-    parts: &[Part],
+    statement: &FileStatement,
+    object: &ByteObject,
     subject: &ByteText,
     trials: u32,
 ) -> Result<Option<ByteText>, StatementFault>
     requires code { IsCodeOf code.now statement.now }
-    requires object { statement.now.object ≡ Some parts.now }
+    requires object { statement.now.object ≡ Some object.now }
     ensures { GivesRound result (perform_once_within MAX_BYTES (with_limit statement.now trials) subject.now) }
 {
     // for the proof
     cursors_lie_within_the_text();
-    let anchored = statement.anchored();
+    let anchored = statement.search().anchored();
     let found = code.first_in_bytes(alloc, workspace, subject, anchored, trials)?;
-    let after = finish(alloc, parts, subject, &found);
+    let after = finish(alloc, object, subject, &found);
     workspace.give_back(found);
     after
 }
@@ -122,7 +122,7 @@ fn latest<'t>(last: &'t Option<ByteText>, subject: &'t ByteText) -> &'t ByteText
 }
 
 /// How many rounds a statement may have: one if it isn't repeated.
-fn rounds_of(statement: &Statement) -> u32
+fn rounds_of(statement: &FileStatement) -> u32
     ensures value { result ≡ unwrap_or statement.now.repeat 1 }
     ensures some { 1 ≤ result }
 {
@@ -152,14 +152,14 @@ fn left_by(alloc: Global, matches: u32, last: Option<ByteText>) -> Result<Rewrit
 fn rewrite_rounds(
     alloc: Global,
     code: &Code<'_>,
-    statement: &Statement,
-    parts: &[Part],
+    statement: &FileStatement,
+    object: &ByteObject,
     subject: &ByteText,
     trials: u32,
     times: u32,
 ) -> Result<Rewritten, StatementFault>
     requires code { IsCodeOf code.now statement.now }
-    requires object { statement.now.object ≡ Some parts.now }
+    requires object { statement.now.object ≡ Some object.now }
     requires some { 1 ≤ times }
     ensures rewritten { GivesRewritten result (rewriting (perform_times_within MAX_BYTES (with_limit statement.now trials) (Some times) subject.now)) }
     ensures few { IfOk result (λ r. r.matches < 2 ^ 32) }
@@ -168,7 +168,7 @@ fn rewrite_rounds(
     let mut last = None;
     for matches in 0..times {
         let text = latest(&last, subject);
-        match round(alloc, code, &mut workspace, statement, parts, text, trials)? {
+        match round(alloc, code, &mut workspace, statement, object, text, trials)? {
             None => return left_by(alloc, matches, last),
             Some(next) => last = Some(next),
         }
@@ -180,7 +180,7 @@ fn rewrite_rounds(
 fn match_once(
     alloc: Global,
     code: &Code<'_>,
-    statement: &Statement,
+    statement: &FileStatement,
     subject: &ByteText,
     trials: u32,
 ) -> Result<Rewritten, StatementFault>
@@ -190,7 +190,7 @@ fn match_once(
     ensures few { IfOk result (λ r. r.matches < 2 ^ 32) }
 {
     let mut workspace = Workspace::bounded(alloc, MAX_KEPT);
-    let anchored = statement.anchored();
+    let anchored = statement.search().anchored();
     let found = code.first_in_bytes(alloc, &mut workspace, subject, anchored, trials)?;
     let matches = if found.end.is_some() { 1 } else { 0 };
     Ok(Rewritten {
@@ -204,22 +204,25 @@ fn with_match(
     alloc: Global,
     text: Option<Vec<u8>>,
     kept: &[u8],
-    parts: &[Part],
+    object: &ByteObject,
     values: &Spans<'_>,
 ) -> Result<Option<Vec<u8>>, AllocError>
     requires text { IfSome text (λ v. length v.items ≤ MAX_BYTES) }
     requires kept { length kept.now ≤ MAX_BYTES }
-    ensures added { IfOk result (λ new. MatchOption text (new ≡ None) (λ v. MatchOption new (MAX_BYTES < length ((v.items ++ kept.now) ++ value_of values.now parts.now)) (λ w. w.items ≡ (v.items ++ kept.now) ++ value_of values.now parts.now))) }
+    ensures added { IfOk result (λ new. MatchOption text (new ≡ None) (λ v. MatchOption new (MAX_BYTES < length ((v.items ++ kept.now) ++ value_of values.now object.now)) (λ w. w.items ≡ (v.items ++ kept.now) ++ value_of values.now object.now))) }
     ensures short { IfOk result (λ new. IfSome new (λ v. length v.items ≤ MAX_BYTES)) }
 {
     let Some(mut text) = text else {
         return Ok(None);
     };
-    if values.length_with(text.len() + kept.len(), parts).is_none() {
+    if values
+        .length_with(text.len() + kept.len(), object.parts())
+        .is_none()
+    {
         return Ok(None);
     }
     text.extend_from_slice(kept)?;
-    values.put(alloc, parts, &mut text)?;
+    values.put(alloc, object.parts(), &mut text)?;
     Ok(Some(text))
 }
 
@@ -229,7 +232,7 @@ fn with_hit(
     subject: &[u8],
     text: Option<Vec<u8>>,
     cursor: usize,
-    parts: &[Part],
+    object: &ByteObject,
     one: &mut Assigned,
     sets: &Assigns,
     hit: &Hit,
@@ -237,13 +240,13 @@ fn with_hit(
     requires subject { length subject.now ≤ MAX_BYTES }
     requires lies { SetsLie subject.now sets.now }
     requires text { IfSome text (λ v. length v.items ≤ MAX_BYTES) }
-    ensures added { IfOk result (λ new. MatchOption text (new ≡ None) (λ v. MatchOption new (MAX_BYTES < length ((v.items ++ part subject.now cursor hit.now.start) ++ value_of (match_by subject.now sets.now hit.now).bindings parts.now)) (λ w. w.items ≡ (v.items ++ part subject.now cursor hit.now.start) ++ value_of (match_by subject.now sets.now hit.now).bindings parts.now))) }
+    ensures added { IfOk result (λ new. MatchOption text (new ≡ None) (λ v. MatchOption new (MAX_BYTES < length ((v.items ++ part subject.now cursor hit.now.start) ++ value_of (match_by subject.now sets.now hit.now).bindings object.now)) (λ w. w.items ≡ (v.items ++ part subject.now cursor hit.now.start) ++ value_of (match_by subject.now sets.now hit.now).bindings object.now))) }
     ensures short { IfOk result (λ new. IfSome new (λ v. length v.items ≤ MAX_BYTES)) }
 {
     one.replace(alloc, subject, sets.as_slice(), hit.conds.as_slice())?;
     let values = Spans::of(subject, one.as_slice());
     let kept = between(subject, cursor, hit.start);
-    let new = with_match(alloc, text, kept, parts, &values)?;
+    let new = with_match(alloc, text, kept, object, &values)?;
     Ok(new)
 }
 
@@ -286,12 +289,12 @@ fn replace_left(
     alloc: Global,
     subject: &[u8],
     pass: &mut Searches<'_, '_, '_>,
-    parts: &[Part],
+    object: &ByteObject,
 ) -> Result<(u64, Option<Vec<u8>>), StatementFault>
     requires few { length (matches_left pass.old) ≤ MAX_BYTES + 1 }
     requires short { length subject.now ≤ MAX_BYTES }
     requires text { pass.old.text ≡ subject.now }
-    ensures replaced { IfOk result (λ left. IsReplaced (replaced parts.now subject.now 0 (matches_left pass.old)) left.1) }
+    ensures replaced { IfOk result (λ left. IsReplaced (replaced object.now subject.now 0 (matches_left pass.old)) left.1) }
     ensures counted { IfOk result (λ left. left.0 ≡ length (matches_left pass.old)) }
     ensures within { IfOk result (λ _. trials_together pass.old ≤ pass.old.statement.limit) }
     ensures refused { IfErr result (λ e. e ≡ TooManyTrials → pass.old.statement.limit < trials_together pass.old) }
@@ -302,7 +305,7 @@ fn replace_left(
     let mut cursor = 0;
     let mut matches = 0;
     while let Some((sets, hit)) = pass.next_hit(alloc)? {
-        text = with_hit(alloc, subject, text, cursor, parts, &mut one, &sets, &hit)?;
+        text = with_hit(alloc, subject, text, cursor, object, &mut one, &sets, &hit)?;
         cursor = hit.end;
         matches += 1;
         pass.give_back(sets, hit);
@@ -338,7 +341,7 @@ fn finished(alloc: Global, matches: u64, text: Option<Vec<u8>>) -> Result<Rewrit
 fn rewrite_all(
     alloc: Global,
     code: &Code<'_>,
-    statement: &Statement,
+    statement: &FileStatement,
     subject: &ByteText,
     trials: u32,
 ) -> Result<Rewritten, StatementFault>
@@ -357,7 +360,7 @@ fn rewrite_all(
             })
         }
         Some(object) => {
-            let (matches, text) = replace_left(alloc, bytes, &mut pass, object.parts())?;
+            let (matches, text) = replace_left(alloc, bytes, &mut pass, object)?;
             finished(alloc, matches, text)
         }
     }
@@ -378,30 +381,23 @@ fn rewrite_all(
 ///   so instead of any refusal that would have come later.
 pub fn rewrite(
     alloc: Global,
-    statement: &Statement,
+    statement: &FileStatement,
     subject: &ByteText,
     trials: u32,
 ) -> Result<Rewritten, StatementFault>
     ensures rewritten { GivesRewritten result (rewriting (perform_within MAX_BYTES (with_limit statement.now trials) subject.now)) }
     ensures few { IfOk result (λ r. r.matches < 2 ^ 32) }
 {
-    let code = compile(alloc, statement.rules(), statement.pattern())?;
-    if statement.is_for_all() {
+    let search = statement.search();
+    let code = compile(alloc, search.rules(), search.pattern())?;
+    if search.is_for_all() {
         return rewrite_all(alloc, &code, statement, subject, trials);
     }
     match statement.object() {
         None => match_once(alloc, &code, statement, subject, trials),
         Some(object) => {
             let times = rounds_of(statement);
-            rewrite_rounds(
-                alloc,
-                &code,
-                statement,
-                object.parts(),
-                subject,
-                trials,
-                times,
-            )
+            rewrite_rounds(alloc, &code, statement, object, subject, trials, times)
         }
     }
 }

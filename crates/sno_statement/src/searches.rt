@@ -3,20 +3,41 @@ ghost use Rattle.std.specs.Prelude.{◌≡◌, ◌+◌, ◌<◌, ◌≤◌, ◌�
 ghost use Rattle.sno_pattern.specs.CursorLaws.{SetsLie};
 ghost use Rattle.sno_statement.specs.declared.outcomes.StatementFault.TheVariants.{TooManyTrials, TextTooLong};
 ghost use Rattle.sno_statement.specs.Passes.{begun, counts, cursors_left, match_by, matches_left, moved, next_search, search, search_trials, trials_together};
+ghost use Rattle.sno_statement.specs.Sought.{sought};
 ghost use Rattle.sno_statement.specs.Perform.{IsCodeOf};
 ghost use Rattle.sno_statement.specs.Statement.{with_limit};
 
 use crate::passes::{counts, next_cursor};
-use crate::{Statement, StatementFault};
+use crate::{FileStatement, Statement, StatementFault};
 use sno_machine::{Code, SearchOutcome, Searched};
 use sno_pattern::{Assigns, ByteText, Found, Hit, Text, searches_lie_within_the_text};
 use std::alloc::Global;
 use std::marker::Model;
 
+/// A statement whose matches are sought: in a text, or in a file.
+#[derive(Clone, Copy)]
+pub(crate) enum Sought<'c> {
+    InText(&'c Statement),
+    InFile(&'c FileStatement),
+}
+
+impl<'c> Sought<'c> {
+    /// Whether a match begins at its cursor alone.
+    #[inline(always)]
+    fn anchored(self) -> bool
+        ensures { result ≡ (sought self.entry).anchored }
+    {
+        match self {
+            Sought::InText(statement) => statement.anchored(),
+            Sought::InFile(statement) => statement.search().anchored(),
+        }
+    }
+}
+
 /// The searches of one pass over a text, as far as it has come. All of them together may take `limit` trials.
 #[derive(Drop)]
 pub(crate) struct Searches<'c, 't, 'a> {
-    statement: &'c Statement,
+    statement: Sought<'c>,
     code: &'c Code<'a>,
     searched: Searched<'t, 'a>,
     before: Option<usize>,
@@ -30,14 +51,15 @@ impl<'c, 't, 'a> Model for Searches<'c, 't, 'a> {
     ghost use Rattle.sno_statement.specs.Passes.{Pass, IsCursor, pass_code};
     ghost use Rattle.sno_statement.specs.Perform.{IsCodeOf};
     ghost use Rattle.sno_statement.specs.Statement.{with_limit};
+    ghost use Rattle.sno_statement.specs.Sought.{sought};
 
     ghost Value = { Pass };
 
     ghost coded = { pass_code };
 
-    ghost view = { λ s. record { statement = with_limit s.statement.now s.limit; text = s.searched; before = s.before; at = s.at; spent = s.limit - s.left } };
+    ghost view = { λ s. record { statement = with_limit (sought s.statement) s.limit; text = s.searched; before = s.before; at = s.at; spent = s.limit - s.left } };
 
-    ghost invariant = { λ s. IsCodeOf s.code.now s.statement.now × IsCursor s.searched s.at × (s.left ≤ s.limit) };
+    ghost invariant = { λ s. IsCodeOf s.code.now (sought s.statement) × IsCursor s.searched s.at × (s.left ≤ s.limit) };
 }
 
 impl<'c, 't, 'a> Searches<'c, 't, 'a> {
@@ -53,7 +75,7 @@ impl<'c, 't, 'a> Searches<'c, 't, 'a> {
     {
         let limit = statement.limit();
         Searches {
-            statement,
+            statement: Sought::InText(statement),
             code,
             searched: Searched::new(alloc, text),
             before: None,
@@ -66,7 +88,7 @@ impl<'c, 't, 'a> Searches<'c, 't, 'a> {
     /// As [`Searches::in_text`], in a text of bytes, with a limit of their own.
     pub(crate) fn in_bytes(
         alloc: Global,
-        statement: &'c Statement,
+        statement: &'c FileStatement,
         code: &'c Code<'a>,
         text: &'t ByteText,
         limit: u32,
@@ -75,7 +97,7 @@ impl<'c, 't, 'a> Searches<'c, 't, 'a> {
         ensures { result ≡ begun (with_limit statement.now limit) text.now }
     {
         Searches {
-            statement,
+            statement: Sought::InFile(statement),
             code,
             searched: Searched::of_bytes(alloc, text),
             before: None,

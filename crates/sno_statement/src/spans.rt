@@ -1,7 +1,8 @@
 //! What a search assigned, as spans of the bytes that were searched: nothing is cut from them.
-ghost use Rattle.std.specs.Prelude.{◌≡◌, ◌+◌, ◌*◌, ◌≤◌, ◌<◌, ◌++◌, IfSome, IfNone, OnOk, length};
+ghost use Rattle.std.specs.Prelude.{◌≡◌, ◌+◌, ◌*◌, ◌≤◌, ◌<◌, ◌++◌, IfSome, IfNone, OnOk, length, map};
 ghost use Rattle.std.specs.Option.{option_map};
 ghost use Rattle.sno_pattern.specs.declared.byte_texts.TheConstants.{MAX_BYTES};
+ghost use Rattle.sno_read.specs.ByteParts.{part_of};
 ghost use Rattle.sno_statement.specs.Bindings.{lookup};
 ghost use Rattle.sno_statement.specs.LastAssignments.{value_of_last, values_of_last};
 ghost use Rattle.sno_statement.specs.Spans.{IsShort, value_lent};
@@ -12,7 +13,7 @@ use crate::last_assignments::Last;
 use crate::lengths::decimal_length;
 use crate::values::{between, put_number};
 use sno_pattern::{MAX_BYTES, Name};
-use sno_read::Part;
+use sno_read::BytePart;
 use std::alloc::{AllocError, Global};
 use std::marker::Model;
 
@@ -83,13 +84,13 @@ impl<'t> Spans<'t> {
 
     /// How many bytes a part's value has.
     #[tactic(auto, using(crate::proofs::Decimals::few_digits))]
-    fn part_length(&self, part: &Part) -> usize
-        ensures value { result ≡ length (part_value self.now part.now) }
+    fn part_length(&self, part: &BytePart) -> usize
+        ensures value { result ≡ length (part_value self.now (part_of part.now)) }
         ensures short { result ≤ MAX_BYTES }
     {
         match part {
-            Part::Quoted(text) => text.bytes().len(),
-            Part::Var(name) => match self.value(name) {
+            BytePart::Quoted(text) => text.bytes().len(),
+            BytePart::Var(name) => match self.value(name) {
                 None => 0,
                 Some(SpanValue::Bytes(bytes)) => bytes.len(),
                 Some(SpanValue::Number(number)) => decimal_length(number),
@@ -98,11 +99,11 @@ impl<'t> Spans<'t> {
     }
 
     /// This many bytes and those of the object's value; `None` if they are more than a text of bytes can have.
-    pub(crate) fn length_with(&self, already: usize, parts: &[Part]) -> Option<usize>
+    pub(crate) fn length_with(&self, already: usize, parts: &[BytePart]) -> Option<usize>
         requires { already ≤ 2 * MAX_BYTES }
-        ensures value { IfSome result (λ n. n ≡ already + length (value_of self.now parts.now)) }
+        ensures value { IfSome result (λ n. n ≡ already + length (value_of self.now (map part_of parts.now))) }
         ensures short { IfSome result (λ n. n ≤ MAX_BYTES) }
-        ensures long { IfNone result (MAX_BYTES < already + length (value_of self.now parts.now)) }
+        ensures long { IfNone result (MAX_BYTES < already + length (value_of self.now (map part_of parts.now))) }
     {
         let mut total = already;
         for part in parts {
@@ -126,12 +127,12 @@ impl<'t> Spans<'t> {
     }
 
     /// Appends a part's value.
-    fn put_part(&self, alloc: Global, part: &Part, out: &mut Vec<u8>) -> Result<(), AllocError>
-        ensures { OnOk result (out.new.items ≡ out.old.items ++ part_value self.now part.now) }
+    fn put_part(&self, alloc: Global, part: &BytePart, out: &mut Vec<u8>) -> Result<(), AllocError>
+        ensures { OnOk result (out.new.items ≡ out.old.items ++ part_value self.now (part_of part.now)) }
     {
         match part {
-            Part::Quoted(text) => out.extend_from_slice(text.bytes()),
-            Part::Var(name) => self.put_variable(alloc, name, out),
+            BytePart::Quoted(text) => out.extend_from_slice(text.bytes()),
+            BytePart::Var(name) => self.put_variable(alloc, name, out),
         }
     }
 
@@ -139,10 +140,10 @@ impl<'t> Spans<'t> {
     pub(crate) fn put(
         &self,
         alloc: Global,
-        parts: &[Part],
+        parts: &[BytePart],
         out: &mut Vec<u8>,
     ) -> Result<(), AllocError>
-        ensures { OnOk result (out.new.items ≡ out.old.items ++ value_of self.now parts.now) }
+        ensures { OnOk result (out.new.items ≡ out.old.items ++ value_of self.now (map part_of parts.now)) }
     {
         for part in parts {
             self.put_part(alloc, part, out)?;

@@ -3,6 +3,7 @@ ghost use Rattle.std.specs.Prelude.{◌≡◌, length, IsTrue, IfSome, None, fal
 ghost use Rattle.std.specs.Option.{option_map};
 ghost use Rattle.std.specs.Arc.{arc_value};
 ghost use Rattle.sno_pattern.specs.Tree.{tree_of, refs_below};
+ghost use Rattle.sno_statement.specs.FileStatements.{searching, with_object_and_repeat};
 ghost use Rattle.sno_statement.specs.Statement.{IsLimit, IsOneWay, IsRepeat, with_all, with_limit, with_repeat};
 ghost use Rattle.sno_statement.specs.StatementPatterns.{tree_in};
 
@@ -154,6 +155,32 @@ impl Statement {
             repeat: None,
             all: false,
         }
+    }
+
+    /// What this statement finds, its object, and how often it is repeated at most.
+    pub(crate) fn split(self) -> (Statement, Option<Object>, Option<u32>)
+        ensures search { result.0 ≡ searching self }
+        ensures object { result.1 ≡ self.object }
+        ensures repeat { result.2 ≡ self.repeat }
+        ensures within { IfSome self.repeat (λ r. IsRepeat self.object r) }
+        ensures one_way { IsOneWay self.repeat self.all }
+    {
+        let mut search = self;
+        let repeat = search.repeat.take();
+        let object = search.object.take();
+        (search, object, repeat)
+    }
+
+    /// This statement with this object, repeated at most this often if at all.
+    pub(crate) fn replacing(self, object: Option<Object>, repeat: Option<u32>) -> Statement
+        requires repeat { IfSome repeat (λ r. IsRepeat object r) }
+        requires one_way { IsOneWay repeat self.all }
+        ensures { result ≡ with_object_and_repeat self object repeat }
+    {
+        let mut replacing = self;
+        replacing.object = object;
+        replacing.repeat = repeat;
+        replacing
     }
 
     /// This statement with this limit: how many trials a match may have, 1 to 1,000,000,000. It takes no memory and is never refused.

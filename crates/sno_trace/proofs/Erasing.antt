@@ -9,14 +9,19 @@ use Rattle.sno_primitives.specs.Leaves.{leaf_ends}
 use Rattle.sno_pattern.specs.declared.events.What.TheVariants.{Part}
 use Rattle.sno_pattern.specs.declared.events.Event.{Event}
 use Rattle.sno_pattern.specs.declared.events.Event.TheVariants as event
+use Rattle.std.proofs.lemmas.List.{append-nil}
+use Rattle.std.specs.List.{list_any}
+use Rattle.sno_trace.specs.declared.events.Landmark.TheVariants.{Fail, NullRound}
 use Rattle.sno_trace.specs.declared.events.Noted.{Noted}
-use Rattle.sno_trace.specs.declared.events.Noted.TheVariants.{Try, Set, End, Halt, Stop}
-use Rattle.sno_trace.specs.Noted.{erase, cut, put_before, spread, go_on, assign_later, assign_now, noted_tries, noted_ends, noted_rounds, noted_of, noted_body, noted_definition, noted}
+use Rattle.sno_trace.specs.declared.events.Noted.TheVariants.{Try, Set, Mark, End, Halt, Stop}
+use Rattle.sno_trace.specs.Noted.{erase, cut, put_before, spread, go_on, assign_later, assign_now, marked, leave_each, leave_last, within_definition, noted_tries, noted_ends, noted_rounds, noted_of, noted_body, noted_definition, noted}
+use Rattle.sno_trace.specs.Steps.{is_last}
 
 erase-append : (l m : List Noted) → erase (l ++ m) ≡ erase l ++ erase m
 erase-append [] m = refl
 erase-append (Try x ∷ l) m = ap (λ r. event.Try ∷ r) (erase-append l m)
 erase-append (Set a ∷ l) m = ap (λ r. event.Set a ∷ r) (erase-append l m)
+erase-append (Mark d ∷ l) m = erase-append l m
 erase-append (End e a ∷ l) m = ap (λ r. event.End e a ∷ r) (erase-append l m)
 erase-append (Halt ∷ l) m = ap (λ r. event.Halt ∷ r) (erase-append l m)
 erase-append (Stop ∷ l) m = ap (λ r. event.Halt ∷ r) (erase-append l m)
@@ -25,6 +30,7 @@ erase-cut : (l : List Noted) → erase (cut l) ≡ events.cut (erase l)
 erase-cut [] = refl
 erase-cut (Try x ∷ l) = ap (λ r. event.Try ∷ r) (erase-cut l)
 erase-cut (Set a ∷ l) = ap (λ r. event.Set a ∷ r) (erase-cut l)
+erase-cut (Mark d ∷ l) = erase-cut l
 erase-cut (End e a ∷ l) = ap (λ r. event.End e a ∷ r) (erase-cut l)
 erase-cut (Halt ∷ l) = refl
 erase-cut (Stop ∷ l) = refl
@@ -33,6 +39,7 @@ erase-put_before : (a : CondList) (l : List Noted) → erase (put_before a l) �
 erase-put_before a [] = refl
 erase-put_before a (Try x ∷ l) = ap (λ r. event.Try ∷ r) (erase-put_before a l)
 erase-put_before a (Set x ∷ l) = ap (λ r. event.Set x ∷ r) (erase-put_before a l)
+erase-put_before a (Mark d ∷ l) = erase-put_before a l
 erase-put_before a (End e b ∷ l) = ap (λ r. event.End e (a ++ b) ∷ r) (erase-put_before a l)
 erase-put_before a (Halt ∷ l) = ap (λ r. event.Halt ∷ r) (erase-put_before a l)
 erase-put_before a (Stop ∷ l) = ap (λ r. event.Halt ∷ r) (erase-put_before a l)
@@ -41,6 +48,7 @@ erase-spread : (f : ℕ → List Noted) (g : ℕ → List Event) → ((e : ℕ) 
 erase-spread f g h [] = refl
 erase-spread f g h (Try x ∷ l) = ap (λ r. event.Try ∷ r) (erase-spread f g h l)
 erase-spread f g h (Set x ∷ l) = ap (λ r. event.Set x ∷ r) (erase-spread f g h l)
+erase-spread f g h (Mark d ∷ l) = erase-spread f g h l
 erase-spread f g h (End e a ∷ l) =
     erase-append (put_before a (f e)) (spread l f)
     ∙ ap (λ r. r ++ erase (spread l f)) (erase-put_before a (f e) ∙ ap (events.put_before a) (h e))
@@ -56,6 +64,7 @@ erase-later : (v : List ℕ) (c : ℕ) (l : List Noted) → erase (assign_later 
 erase-later v c [] = refl
 erase-later v c (Try x ∷ l) = ap (λ r. event.Try ∷ r) (erase-later v c l)
 erase-later v c (Set x ∷ l) = ap (λ r. event.Set x ∷ r) (erase-later v c l)
+erase-later v c (Mark d ∷ l) = erase-later v c l
 erase-later v c (End e a ∷ l) = ap (λ r. event.End e (a ++ (v, c, e) ∷ []) ∷ r) (erase-later v c l)
 erase-later v c (Halt ∷ l) = ap (λ r. event.Halt ∷ r) (erase-later v c l)
 erase-later v c (Stop ∷ l) = ap (λ r. event.Halt ∷ r) (erase-later v c l)
@@ -64,9 +73,30 @@ erase-now : (v : List ℕ) (c : ℕ) (l : List Noted) → erase (assign_now v c 
 erase-now v c [] = refl
 erase-now v c (Try x ∷ l) = ap (λ r. event.Try ∷ r) (erase-now v c l)
 erase-now v c (Set x ∷ l) = ap (λ r. event.Set x ∷ r) (erase-now v c l)
+erase-now v c (Mark d ∷ l) = erase-now v c l
 erase-now v c (End e a ∷ l) = ap (λ r. event.Set (record { name = v; what = Part c e }) ∷ event.End e a ∷ r) (erase-now v c l)
 erase-now v c (Halt ∷ l) = ap (λ r. event.Halt ∷ r) (erase-now v c l)
 erase-now v c (Stop ∷ l) = ap (λ r. event.Halt ∷ r) (erase-now v c l)
+
+erase-each : (k i c : ℕ) (l : List Noted) → erase (leave_each k i c l) ≡ erase l
+erase-each k i c [] = refl
+erase-each k i c (Try x ∷ l) = ap (λ r. event.Try ∷ r) (erase-each k i c l)
+erase-each k i c (Set x ∷ l) = ap (λ r. event.Set x ∷ r) (erase-each k i c l)
+erase-each k i c (Mark d ∷ l) = erase-each k i c l
+erase-each k i c (End e a ∷ l) = ap (λ r. event.End e a ∷ r) (erase-each k i c l)
+erase-each k i c (Halt ∷ l) = ap (λ r. event.Halt ∷ r) (erase-each k i c l)
+erase-each k i c (Stop ∷ l) = ap (λ r. event.Halt ∷ r) (erase-each k i c l)
+
+erase-last : (k i c : ℕ) (b : Bool) → erase (cond b [] (marked k (Fail i) c ∷ [])) ≡ []
+erase-last k i c true = refl
+erase-last k i c false = refl
+
+erase-within : (k i c : ℕ) (l : List Noted) → erase (within_definition k i c l) ≡ erase l
+erase-within k i c l =
+    erase-append (leave_each k i c l) (leave_last k i c l)
+    ∙ ap (λ r. r ++ erase (leave_last k i c l)) (erase-each k i c l)
+    ∙ ap (λ r. erase l ++ r) (erase-last k i c (list_any is_last l))
+    ∙ append-nil (erase l)
 
 erase-tries : (k : ℕ) (again : Bool) (p : Tree) (c : ℕ) (es : List ℕ) → erase (noted_tries k again p c es) ≡ further_ends es
 erase-tries k again p c [] = refl
@@ -76,16 +106,16 @@ erase-ends : (k : ℕ) (p : Tree) (c : ℕ) (es : List ℕ) → erase (noted_end
 erase-ends k p c [] = refl
 erase-ends k p c (e ∷ es) = ap (λ r. event.Try ∷ event.End e [] ∷ r) (erase-tries k true p c es)
 
-erase-if : (b : Bool) (l : List Noted) (m : List Event) → erase l ≡ m → erase (cond b l []) ≡ cond b m []
-erase-if true l m h = h
-erase-if false l m h = refl
+erase-if : (k e : ℕ) (b : Bool) (l : List Noted) (m : List Event) → erase l ≡ m → erase (cond b l (marked k NullRound e ∷ [])) ≡ cond b m []
+erase-if k e true l m h = h
+erase-if k e false l m h = refl
 
-erase-rounds : (f : ℕ → List Noted) (g : ℕ → List Event) → ((e : ℕ) → erase (f e) ≡ g e) → (n c : ℕ) → erase (noted_rounds f n c) ≡ rounds g n c
-erase-rounds f g h zero c = refl
-erase-rounds f g h (suc n) c =
+erase-rounds : (k : ℕ) (f : ℕ → List Noted) (g : ℕ → List Event) → ((e : ℕ) → erase (f e) ≡ g e) → (n c : ℕ) → erase (noted_rounds k f n c) ≡ rounds g n c
+erase-rounds k f g h zero c = refl
+erase-rounds k f g h (suc n) c =
     ap (λ r. event.End c [] ∷ r)
-    (erase-go_on (λ e. cond (nat_lt c e) (noted_rounds f n e) []) (λ e. cond (nat_lt c e) (rounds g n e) [])
-    (λ e. erase-if (nat_lt c e) (noted_rounds f n e) (rounds g n e) (erase-rounds f g h n e)) (f c) (g c) (h c))
+    (erase-go_on (λ e. cond (nat_lt c e) (noted_rounds k f n e) (marked k NullRound e ∷ [])) (λ e. cond (nat_lt c e) (rounds g n e) [])
+    (λ e. erase-if k e (nat_lt c e) (noted_rounds k f n e) (rounds g n e) (erase-rounds k f g h n e)) (f c) (g c) (h c))
 
 module _ (t : List ℕ) (named : ℕ → ℕ → List Noted) (known : ℕ → ℕ → List Event) (h : (i c : ℕ) → erase (named i c) ≡ known i c) where
   pub erase-of : (k : ℕ) (p : Tree) (c : ℕ) → erase (noted_of t named k p c) ≡ results_of t known p c
@@ -101,14 +131,14 @@ module _ (t : List ℕ) (named : ℕ → ℕ → List Noted) (known : ℕ → �
   erase-of k (tree.Span s) c = erase-ends k (tree.Span s) c (leaf_ends t (tree.Span s) c)
   erase-of k (tree.Break s) c = erase-ends k (tree.Break s) c (leaf_ends t (tree.Break s) c)
   erase-of k tree.Arb c = erase-ends k tree.Arb c (leaf_ends t tree.Arb c)
-  erase-of k (tree.Arbno p) c = erase-rounds (noted_of t named k p) (results_of t known p) (erase-of k p) (length t - c + 1) c
+  erase-of k (tree.Arbno p) c = erase-rounds k (noted_of t named k p) (results_of t known p) (erase-of k p) (length t - c + 1) c
   erase-of k tree.Bal c = erase-ends k tree.Bal c (leaf_ends t tree.Bal c)
   erase-of k tree.Rem c = erase-ends k tree.Rem c (leaf_ends t tree.Rem c)
   erase-of k tree.Fence c = refl
   erase-of k tree.Abort c = refl
   erase-of k tree.Fail c = refl
   erase-of k (tree.At v) c = refl
-  erase-of k (tree.Ref i) c = h i c
+  erase-of k (tree.Ref i) c = erase-within k i c (named i c) ∙ h i c
   erase-of k (tree.Seq p q) c = erase-go_on (noted_of t named k q) (results_of t known q) (erase-of k q) (noted_of t named k p c) (results_of t known p c) (erase-of k p c)
   erase-of k (tree.Alt p q) c =
       erase-cut (noted_of t named k p c ++ noted_of t named k q c)

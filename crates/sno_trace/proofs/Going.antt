@@ -7,9 +7,11 @@ use Rattle.sno_pattern.specs.Events.{CondList}
 use Rattle.sno_pattern.specs.Laws.{AllEnds}
 use Rattle.sno_pattern.specs.declared.events.Assign.{Assign}
 use Rattle.sno_trace.specs.declared.events.Trial.{Trial}
+use Rattle.sno_trace.specs.declared.events.Marked.{Marked}
+use Rattle.sno_trace.specs.declared.events.Landmark.TheVariants.{NullRound}
 use Rattle.sno_trace.specs.declared.events.Noted.{Noted}
-use Rattle.sno_trace.specs.declared.events.Noted.TheVariants.{Try, Set, End, Halt, Stop}
-use Rattle.sno_trace.specs.Noted.{cut, put_before, spread, go_on, upto, erase, noted_rounds}
+use Rattle.sno_trace.specs.declared.events.Noted.TheVariants.{Try, Set, Mark, End, Halt, Stop}
+use Rattle.sno_trace.specs.Noted.{cut, put_before, spread, go_on, upto, erase, marked, noted_rounds}
 use Rattle.sno_trace.specs.Steps.{is_last, trials_of}
 use Rattle.sno_trace.proofs.NotedLaws.{go_on_ended, go_on_unended, upto_one, upto_none}
 use Rattle.sno_trace.proofs.Limit.{enough}
@@ -37,6 +39,11 @@ module _ (f : ℕ → List Noted) (total : List Noted) where
   go_on_set n all new l rest t is added e =
       ap (λ m. m ++ upto n (go_on rest f)) added ∙ append_assoc all (Set t ∷ []) (upto n (go_on rest f)) ∙ sym (ap (λ m. all ++ upto n (go_on m f)) is) ∙ e
 
+  -- a mark is added
+  pub go_on_mark : (n : ℕ) (all new l rest : List Noted) (t : Marked) → l ≡ Mark t ∷ rest → new ≡ all ++ Mark t ∷ [] → all ++ upto n (go_on l f) ≡ total → new ++ upto n (go_on rest f) ≡ total
+  go_on_mark n all new l rest t is added e =
+      ap (λ m. m ++ upto n (go_on rest f)) added ∙ append_assoc all (Mark t ∷ []) (upto n (go_on rest f)) ∙ sym (ap (λ m. all ++ upto n (go_on m f)) is) ∙ e
+
   -- a Halt is the last event, and so is a Stop
   pub go_on_halt : (n : ℕ) (all new l rest : List Noted) → l ≡ Halt ∷ rest → new ≡ all ++ Halt ∷ [] → all ++ upto n (go_on l f) ≡ total → new ≡ total
   go_on_halt n all new l rest is added e = added ∙ sym (ap (λ m. all ++ upto n (go_on m f)) is) ∙ e
@@ -63,10 +70,11 @@ module _ (f : ℕ → List Noted) (total : List Noted) where
       ∙ sym (ap (λ m. all ++ m) (go_on_ended n c a rest f (sym (ended ∙ ap (list_any is_last) same))))
       ∙ sym (ap (λ m. all ++ upto n (go_on m f)) is) ∙ e
 
-  -- nothing follows an End
-  pub go_on_none : (n : ℕ) (all l rest : List Noted) (c : ℕ) (a : CondList) → l ≡ End c a ∷ rest → f c ≡ [] → all ++ upto n (go_on l f) ≡ total → all ++ upto n (go_on rest f) ≡ total
-  go_on_none n all l rest c a is none e =
-      ap (λ m. all ++ upto n (cut (put_before a m ++ spread rest f))) (sym none) ∙ sym (ap (λ m. all ++ upto n (go_on m f)) is) ∙ e
+  -- only a mark follows an End
+  pub go_on_marked : (n : ℕ) (all new l rest : List Noted) (c : ℕ) (a : CondList) (t : Marked) → l ≡ End c a ∷ rest → f c ≡ Mark t ∷ [] → new ≡ all ++ Mark t ∷ [] → all ++ upto n (go_on l f) ≡ total → new ++ upto n (go_on rest f) ≡ total
+  go_on_marked n all new l rest c a t is alone added e =
+      ap (λ m. m ++ upto n (go_on rest f)) added ∙ append_assoc all (Mark t ∷ []) (upto n (go_on rest f))
+      ∙ ap (λ m. all ++ upto n (cut (put_before a m ++ spread rest f))) (sym alone) ∙ sym (ap (λ m. all ++ upto n (go_on m f)) is) ∙ e
 
   -- nothing is left to go on from
   pub go_on_all : (n : ℕ) (all l : List Noted) (i : ℕ) → length l ≤ i → all ++ upto n (go_on (drop i l) f) ≡ total → all ≡ total
@@ -79,6 +87,7 @@ AllEnds-tail P l rest x is h = tail x (subst (λ m. AllEnds P (erase m)) is h)
     tail : (x : Noted) → AllEnds P (erase (x ∷ rest)) → AllEnds P (erase rest)
     tail (Try y) g = g
     tail (Set t) g = g
+    tail (Mark d) g = g
     tail (End e a) g = g.1
     tail Halt g = g
     tail Stop g = g
@@ -93,24 +102,25 @@ AllEnds-upto P n [] h = tt
 AllEnds-upto P zero (Try x ∷ l) h = tt
 AllEnds-upto P (suc n) (Try x ∷ l) h = AllEnds-upto P n l h
 AllEnds-upto P n (Set t ∷ l) h = AllEnds-upto P n l h
+AllEnds-upto P n (Mark d ∷ l) h = AllEnds-upto P n l h
 AllEnds-upto P n (End e a ∷ l) h = (h.0, AllEnds-upto P n l h.1)
 AllEnds-upto P n (Halt ∷ l) h = AllEnds-upto P n l h
 AllEnds-upto P n (Stop ∷ l) h = AllEnds-upto P n l h
 
 -- what follows a round that ended at e
-abbrev pub next_round : (ℕ → List Noted) → ℕ → ℕ → ℕ → List Noted
-next_round once n c e = cond (nat_lt c e) (noted_rounds once (n - 1) e) []
+abbrev pub next_round : ℕ → (ℕ → List Noted) → ℕ → ℕ → ℕ → List Noted
+next_round k once n c e = cond (nat_lt c e) (noted_rounds k once (n - 1) e) (marked k NullRound e ∷ [])
 
 -- no round
-pub rounds_none : (limit : ℕ) (once : ℕ → List Noted) (n c : ℕ) (l : List Noted) → l ≡ [] → n ≡ 0 → l ≡ upto limit (noted_rounds once n c)
-rounds_none limit once n c l none h = none ∙ sym (ap (λ m. upto limit (noted_rounds once m c)) h)
+pub rounds_none : (limit k : ℕ) (once : ℕ → List Noted) (n c : ℕ) (l : List Noted) → l ≡ [] → n ≡ 0 → l ≡ upto limit (noted_rounds k once n c)
+rounds_none limit k once n c l none h = none ∙ sym (ap (λ m. upto limit (noted_rounds k once m c)) h)
 
 -- one round and then what follows it
-pub rounds_begun : (limit : ℕ) (once : ℕ → List Noted) (n c : ℕ) (all begun : List Noted) → 0 < n → all ≡ End c [] ∷ [] → begun ≡ upto limit (once c)
-    → all ++ upto limit (go_on begun (next_round once n c)) ≡ upto limit (noted_rounds once n c)
-rounds_begun limit once zero c all begun h is same = absurd (omega arith)
-rounds_begun limit once (suc n) c all begun h is same =
-    ap (λ m. m ++ upto limit (go_on begun (next_round once (suc n) c))) is
-    ∙ ap (λ m. End c [] ∷ upto limit (go_on m (next_round once (suc n) c))) same
-    ∙ ap (λ m. End c [] ∷ m) (enough (once c) (next_round once (suc n) c) limit limit (omega arith))
-    ∙ ap (λ k. End c [] ∷ upto limit (go_on (once c) (λ e. cond (nat_lt c e) (noted_rounds once k e) []))) (sub-one (suc n))
+pub rounds_begun : (limit k : ℕ) (once : ℕ → List Noted) (n c : ℕ) (all begun : List Noted) → 0 < n → all ≡ End c [] ∷ [] → begun ≡ upto limit (once c)
+    → all ++ upto limit (go_on begun (next_round k once n c)) ≡ upto limit (noted_rounds k once n c)
+rounds_begun limit k once zero c all begun h is same = absurd (omega arith)
+rounds_begun limit k once (suc n) c all begun h is same =
+    ap (λ m. m ++ upto limit (go_on begun (next_round k once (suc n) c))) is
+    ∙ ap (λ m. End c [] ∷ upto limit (go_on m (next_round k once (suc n) c))) same
+    ∙ ap (λ m. End c [] ∷ m) (enough (once c) (next_round k once (suc n) c) limit limit (omega arith))
+    ∙ ap (λ j. End c [] ∷ upto limit (go_on (once c) (λ e. cond (nat_lt c e) (noted_rounds k once j e) (marked k NullRound e ∷ [])))) (sub-one (suc n))

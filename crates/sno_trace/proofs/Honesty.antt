@@ -5,9 +5,12 @@ use Rattle.sno_pattern.specs.Tree.{Tree}
 use Rattle.sno_pattern.specs.Events.{CondList}
 use Rattle.sno_primitives.specs.Leaves.{leaf_ends}
 use Rattle.sno_trace.specs.declared.events.Trial.{Trial}
+use Rattle.std.specs.List.{list_any}
+use Rattle.sno_trace.specs.declared.events.Landmark.TheVariants.{Fail, NullRound}
 use Rattle.sno_trace.specs.declared.events.Noted.{Noted}
-use Rattle.sno_trace.specs.declared.events.Noted.TheVariants.{Try, Set, End, Halt, Stop}
-use Rattle.sno_trace.specs.Noted.{cut, put_before, spread, go_on, assign_later, assign_now, noted_tries, noted_ends, noted_rounds, noted_of, noted_body, noted_definition}
+use Rattle.sno_trace.specs.declared.events.Noted.TheVariants.{Try, Set, Mark, End, Halt, Stop}
+use Rattle.sno_trace.specs.Noted.{cut, put_before, spread, go_on, assign_later, assign_now, marked, leave_each, leave_last, within_definition, noted_tries, noted_ends, noted_rounds, noted_of, noted_body, noted_definition}
+use Rattle.sno_trace.specs.Steps.{is_last}
 use Rattle.sno_trace.specs.Promise.{AllTrials, IsHonest, ends_of, NotesAreHonest}
 use Rattle.std.proofs.Common.{append_assoc}
 
@@ -16,6 +19,7 @@ module _ (P : Trial → Type 0) where
   all-cut [] h = tt
   all-cut (Try x ∷ l) h = (h.0, all-cut l h.1)
   all-cut (Set a ∷ l) h = all-cut l h
+  all-cut (Mark d ∷ l) h = all-cut l h
   all-cut (End e a ∷ l) h = all-cut l h
   all-cut (Halt ∷ l) h = tt
   all-cut (Stop ∷ l) h = tt
@@ -24,6 +28,7 @@ module _ (P : Trial → Type 0) where
   all-append [] m h g = g
   all-append (Try x ∷ l) m h g = (h.0, all-append l m h.1 g)
   all-append (Set a ∷ l) m h g = all-append l m h g
+  all-append (Mark d ∷ l) m h g = all-append l m h g
   all-append (End e a ∷ l) m h g = all-append l m h g
   all-append (Halt ∷ l) m h g = all-append l m h g
   all-append (Stop ∷ l) m h g = all-append l m h g
@@ -32,6 +37,7 @@ module _ (P : Trial → Type 0) where
   all-put_before b [] h = tt
   all-put_before b (Try x ∷ l) h = (h.0, all-put_before b l h.1)
   all-put_before b (Set a ∷ l) h = all-put_before b l h
+  all-put_before b (Mark d ∷ l) h = all-put_before b l h
   all-put_before b (End e a ∷ l) h = all-put_before b l h
   all-put_before b (Halt ∷ l) h = all-put_before b l h
   all-put_before b (Stop ∷ l) h = all-put_before b l h
@@ -40,6 +46,7 @@ module _ (P : Trial → Type 0) where
   all-spread f each [] h = tt
   all-spread f each (Try x ∷ l) h = (h.0, all-spread f each l h.1)
   all-spread f each (Set a ∷ l) h = all-spread f each l h
+  all-spread f each (Mark d ∷ l) h = all-spread f each l h
   all-spread f each (End e a ∷ l) h = all-append (put_before a (f e)) (spread l f) (all-put_before a (f e) (each e)) (all-spread f each l h)
   all-spread f each (Halt ∷ l) h = all-spread f each l h
   all-spread f each (Stop ∷ l) h = all-spread f each l h
@@ -51,6 +58,7 @@ module _ (P : Trial → Type 0) where
   all-later v c [] h = tt
   all-later v c (Try x ∷ l) h = (h.0, all-later v c l h.1)
   all-later v c (Set a ∷ l) h = all-later v c l h
+  all-later v c (Mark d ∷ l) h = all-later v c l h
   all-later v c (End e a ∷ l) h = all-later v c l h
   all-later v c (Halt ∷ l) h = all-later v c l h
   all-later v c (Stop ∷ l) h = all-later v c l h
@@ -59,17 +67,35 @@ module _ (P : Trial → Type 0) where
   all-now v c [] h = tt
   all-now v c (Try x ∷ l) h = (h.0, all-now v c l h.1)
   all-now v c (Set a ∷ l) h = all-now v c l h
+  all-now v c (Mark d ∷ l) h = all-now v c l h
   all-now v c (End e a ∷ l) h = all-now v c l h
   all-now v c (Halt ∷ l) h = all-now v c l h
   all-now v c (Stop ∷ l) h = all-now v c l h
 
-  all-if : (b : Bool) (l : List Noted) → AllTrials P l → AllTrials P (cond b l [])
-  all-if true l h = h
-  all-if false l h = tt
+  all-each : (k i c : ℕ) (l : List Noted) → AllTrials P l → AllTrials P (leave_each k i c l)
+  all-each k i c [] h = tt
+  all-each k i c (Try x ∷ l) h = (h.0, all-each k i c l h.1)
+  all-each k i c (Set a ∷ l) h = all-each k i c l h
+  all-each k i c (Mark d ∷ l) h = all-each k i c l h
+  all-each k i c (End e a ∷ l) h = all-each k i c l h
+  all-each k i c (Halt ∷ l) h = all-each k i c l h
+  all-each k i c (Stop ∷ l) h = all-each k i c l h
 
-  all-rounds : (once : ℕ → List Noted) → ((e : ℕ) → AllTrials P (once e)) → (n c : ℕ) → AllTrials P (noted_rounds once n c)
-  all-rounds once each zero c = tt
-  all-rounds once each (suc n) c = all-go_on (λ e. cond (nat_lt c e) (noted_rounds once n e) []) (λ e. all-if (nat_lt c e) (noted_rounds once n e) (all-rounds once each n e)) (once c) (each c)
+  all-last : (k i c : ℕ) (b : Bool) → AllTrials P (cond b [] (marked k (Fail i) c ∷ []))
+  all-last k i c true = tt
+  all-last k i c false = tt
+
+  all-within : (k i c : ℕ) (l : List Noted) → AllTrials P l → AllTrials P (within_definition k i c l)
+  all-within k i c l h = all-append (leave_each k i c l) (leave_last k i c l) (all-each k i c l h) (all-last k i c (list_any is_last l))
+
+  all-if : (k e : ℕ) (b : Bool) (l : List Noted) → AllTrials P l → AllTrials P (cond b l (marked k NullRound e ∷ []))
+  all-if k e true l h = h
+  all-if k e false l h = tt
+
+  all-rounds : (k : ℕ) (once : ℕ → List Noted) → ((e : ℕ) → AllTrials P (once e)) → (n c : ℕ) → AllTrials P (noted_rounds k once n c)
+  all-rounds k once each zero c = tt
+  all-rounds k once each (suc n) c =
+      all-go_on (λ e. cond (nat_lt c e) (noted_rounds k once n e) (marked k NullRound e ∷ [])) (λ e. all-if k e (nat_lt c e) (noted_rounds k once n e) (all-rounds k once each n e)) (once c) (each c)
 
 -- the trials that back into a leaf: each shows a later end
 honest-further : (t : List ℕ) (k : ℕ) (p : Tree) (c first : ℕ) (between es : List ℕ) → ends_of t p c ≡ first ∷ (between ++ es) → AllTrials (IsHonest t) (noted_tries k true p c es)
@@ -95,14 +121,14 @@ module _ (t : List ℕ) (named : ℕ → ℕ → List Noted) (h : (i c : ℕ) �
   honest-of (tree.Span s) c = honest-ends t k (tree.Span s) c (leaf_ends t (tree.Span s) c) refl
   honest-of (tree.Break s) c = honest-ends t k (tree.Break s) c (leaf_ends t (tree.Break s) c) refl
   honest-of tree.Arb c = honest-ends t k tree.Arb c (leaf_ends t tree.Arb c) refl
-  honest-of (tree.Arbno p) c = all-rounds (IsHonest t) (noted_of t named k p) (honest-of p) (length t - c + 1) c
+  honest-of (tree.Arbno p) c = all-rounds (IsHonest t) k (noted_of t named k p) (honest-of p) (length t - c + 1) c
   honest-of tree.Bal c = honest-ends t k tree.Bal c (leaf_ends t tree.Bal c) refl
   honest-of tree.Rem c = honest-ends t k tree.Rem c (leaf_ends t tree.Rem c) refl
   honest-of tree.Fence c = (([], refl), tt)
   honest-of tree.Abort c = (refl, tt)
   honest-of tree.Fail c = (refl, tt)
   honest-of (tree.At v) c = (([], refl), tt)
-  honest-of (tree.Ref i) c = h i c
+  honest-of (tree.Ref i) c = all-within (IsHonest t) k i c (named i c) (h i c)
   honest-of (tree.Seq p q) c = all-go_on (IsHonest t) (noted_of t named k q) (honest-of q) (noted_of t named k p c) (honest-of p c)
   honest-of (tree.Alt p q) c = all-cut (IsHonest t) (noted_of t named k p c ++ noted_of t named k q c) (all-append (IsHonest t) (noted_of t named k p c) (noted_of t named k q c) (honest-of p c) (honest-of q c))
   honest-of (tree.Cond p v) c = all-later (IsHonest t) v c (noted_of t named k p c) (honest-of p c)

@@ -1,4 +1,5 @@
 mod NotedLaws
+mod Copies
 mod Erasing
 mod Limit
 mod Whole

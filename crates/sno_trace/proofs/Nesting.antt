@@ -6,7 +6,7 @@ use Rattle.std.specs.Result.{IfErr, IsErrAnd}
 use Rattle.sno_pattern.specs.Events.{CondList}
 use Rattle.sno_pattern.specs.Tree.{Tree, Seq, Alt, Arbno, Cond, Imm, Ref}
 use Rattle.sno_trace.specs.declared.events.Noted.{Noted}
-use Rattle.sno_trace.specs.declared.events.Noted.TheVariants.{Try, Set, End, Halt, Stop}
+use Rattle.sno_trace.specs.declared.events.Noted.TheVariants.{Try, Set, Mark, End, Halt, Stop}
 use Rattle.sno_trace.specs.declared.faults.TraceFault.{TraceFault}
 use Rattle.sno_trace.specs.declared.faults.TraceFault.TheVariants.{TooDeep}
 use Rattle.sno_trace.specs.Noted.{noted, upto}
@@ -23,6 +23,7 @@ shown_end n [] e h = h
 shown_end zero (Try x ∷ l) e h = absurd h
 shown_end (suc n) (Try x ∷ l) e h = shown_end n l e h
 shown_end n (Set t ∷ l) e h = shown_end n l e h
+shown_end n (Mark d ∷ l) e h = shown_end n l e h
 shown_end n (End f a ∷ l) e (inl h) = inl h
 shown_end n (End f a ∷ l) e (inr h) = inr (shown_end n l e h)
 shown_end n (Halt ∷ l) e h = shown_end n l e h
@@ -32,6 +33,7 @@ shown_end n (Stop ∷ l) e h = shown_end n l e h
 pub later_end : (x : Noted) (l : List Noted) (e : ℕ) → EndsAt l e → EndsAt (x ∷ l) e
 later_end (Try x) l e h = h
 later_end (Set t) l e h = h
+later_end (Mark d) l e h = h
 later_end (End f a) l e h = inr h
 later_end Halt l e h = h
 later_end Stop l e h = h

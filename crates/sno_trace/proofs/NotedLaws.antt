@@ -2,12 +2,14 @@
 use Rattle.std.proofs.Common.{◌≡◌, ℕ, zero, suc, ◌+◌, ◌-◌, ◌<◌, ◌≤◌, true, false, List, [], ◌∷◌, ◌++◌, ap, sym, ◌∙◌, arith, refl, take, Some, None}
 use Rattle.std.specs.List.{list_any, position, position_from}
 use Rattle.std.proofs.lemmas.Iterator.Adapters.{position_from-zero}
+use Rattle.std.proofs.lemmas.List.{append-nil}
 use Rattle.sno_pattern.specs.Events.{CondList}
 use Rattle.sno_pattern.specs.declared.events.What.TheVariants.{Part}
 use Rattle.sno_trace.specs.declared.events.Trial.{Trial}
+use Rattle.sno_trace.specs.declared.events.Landmark.TheVariants.{Enter, Leave}
 use Rattle.sno_trace.specs.declared.events.Noted.{Noted}
-use Rattle.sno_trace.specs.declared.events.Noted.TheVariants.{Try, Set, End, Halt, Stop}
-use Rattle.sno_trace.specs.Noted.{cut, put_before, spread, go_on, assign_later, assign_now, upto}
+use Rattle.sno_trace.specs.declared.events.Noted.TheVariants.{Try, Set, Mark, End, Halt, Stop}
+use Rattle.sno_trace.specs.Noted.{cut, put_before, spread, go_on, assign_later, assign_now, marked, leave_each, leave_last, within_definition, upto}
 use Rattle.sno_trace.specs.Steps.{is_last, trials_of}
 
 -- if nothing ends the first list, each list is cut on its own
@@ -15,6 +17,7 @@ pub cut_unended : (l m : List Noted) → list_any is_last l ≡ false → cut (l
 cut_unended [] m h = refl
 cut_unended (Try x ∷ l) m h = ap (λ r. Try x ∷ r) (cut_unended l m h)
 cut_unended (Set t ∷ l) m h = ap (λ r. Set t ∷ r) (cut_unended l m h)
+cut_unended (Mark d ∷ l) m h = ap (λ r. Mark d ∷ r) (cut_unended l m h)
 cut_unended (End e a ∷ l) m h = ap (λ r. End e a ∷ r) (cut_unended l m h)
 cut_unended (Halt ∷ l) m h = cc
 cut_unended (Stop ∷ l) m h = cc
@@ -24,6 +27,7 @@ pub cut_ended : (l m : List Noted) → list_any is_last l ≡ true → cut (l ++
 cut_ended [] m h = cc
 cut_ended (Try x ∷ l) m h = ap (λ r. Try x ∷ r) (cut_ended l m h)
 cut_ended (Set t ∷ l) m h = ap (λ r. Set t ∷ r) (cut_ended l m h)
+cut_ended (Mark d ∷ l) m h = ap (λ r. Mark d ∷ r) (cut_ended l m h)
 cut_ended (End e a ∷ l) m h = ap (λ r. End e a ∷ r) (cut_ended l m h)
 cut_ended (Halt ∷ l) m h = refl
 cut_ended (Stop ∷ l) m h = refl
@@ -33,6 +37,7 @@ pub last_before : (a : CondList) (l : List Noted) → list_any is_last (put_befo
 last_before a [] = refl
 last_before a (Try x ∷ l) = last_before a l
 last_before a (Set t ∷ l) = last_before a l
+last_before a (Mark d ∷ l) = last_before a l
 last_before a (End e b ∷ l) = last_before a l
 last_before a (Halt ∷ l) = refl
 last_before a (Stop ∷ l) = refl
@@ -41,6 +46,7 @@ pub trials_before : (a : CondList) (l : List Noted) → trials_of (put_before a 
 trials_before a [] = refl
 trials_before a (Try x ∷ l) = ap suc (trials_before a l)
 trials_before a (Set t ∷ l) = trials_before a l
+trials_before a (Mark d ∷ l) = trials_before a l
 trials_before a (End e b ∷ l) = trials_before a l
 trials_before a (Halt ∷ l) = trials_before a l
 trials_before a (Stop ∷ l) = trials_before a l
@@ -56,6 +62,10 @@ found_from i (Set t ∷ l) p h =
     let r = found_from (i + 1) l p h in
     let e : suc p - i ≡ suc (suc p - (i + 1)) = omega (arith, r.0) in
     (omega (arith, r.0), ap (λ k. take k (Set t ∷ l)) e ∙ ap (λ m. Set t ∷ m) r.1)
+found_from i (Mark d ∷ l) p h =
+    let r = found_from (i + 1) l p h in
+    let e : suc p - i ≡ suc (suc p - (i + 1)) = omega (arith, r.0) in
+    (omega (arith, r.0), ap (λ k. take k (Mark d ∷ l)) e ∙ ap (λ m. Mark d ∷ m) r.1)
 found_from i (End x a ∷ l) p h =
     let r = found_from (i + 1) l p h in
     let e : suc p - i ≡ suc (suc p - (i + 1)) = omega (arith, r.0) in
@@ -77,6 +87,7 @@ none_from : (i : ℕ) (l : List Noted) → position_from is_last i l ≡ None �
 none_from i [] h = refl
 none_from i (Try x ∷ l) h = ap (λ m. Try x ∷ m) (none_from (i + 1) l h)
 none_from i (Set t ∷ l) h = ap (λ m. Set t ∷ m) (none_from (i + 1) l h)
+none_from i (Mark d ∷ l) h = ap (λ m. Mark d ∷ m) (none_from (i + 1) l h)
 none_from i (End x a ∷ l) h = ap (λ m. End x a ∷ m) (none_from (i + 1) l h)
 none_from i (Halt ∷ l) h = cc
 none_from i (Stop ∷ l) h = cc
@@ -89,6 +100,7 @@ pub cut_all : (l : List Noted) → list_any is_last l ≡ false → cut l ≡ l
 cut_all [] h = refl
 cut_all (Try x ∷ l) h = ap (λ r. Try x ∷ r) (cut_all l h)
 cut_all (Set t ∷ l) h = ap (λ r. Set t ∷ r) (cut_all l h)
+cut_all (Mark d ∷ l) h = ap (λ r. Mark d ∷ r) (cut_all l h)
 cut_all (End e a ∷ l) h = ap (λ r. End e a ∷ r) (cut_all l h)
 cut_all (Halt ∷ l) h = cc
 cut_all (Stop ∷ l) h = cc
@@ -99,6 +111,7 @@ upto_cut n [] = refl
 upto_cut zero (Try x ∷ l) = refl
 upto_cut (suc n) (Try x ∷ l) = ap (λ r. Try x ∷ r) (upto_cut n l)
 upto_cut n (Set t ∷ l) = ap (λ r. Set t ∷ r) (upto_cut n l)
+upto_cut n (Mark d ∷ l) = ap (λ r. Mark d ∷ r) (upto_cut n l)
 upto_cut n (End e a ∷ l) = ap (λ r. End e a ∷ r) (upto_cut n l)
 upto_cut n (Halt ∷ l) = refl
 upto_cut n (Stop ∷ l) = refl
@@ -108,6 +121,7 @@ upto_before n a [] = refl
 upto_before zero a (Try x ∷ l) = refl
 upto_before (suc n) a (Try x ∷ l) = ap (λ r. Try x ∷ r) (upto_before n a l)
 upto_before n a (Set t ∷ l) = ap (λ r. Set t ∷ r) (upto_before n a l)
+upto_before n a (Mark d ∷ l) = ap (λ r. Mark d ∷ r) (upto_before n a l)
 upto_before n a (End e b ∷ l) = ap (λ r. End e (a ++ b) ∷ r) (upto_before n a l)
 upto_before n a (Halt ∷ l) = ap (λ r. Halt ∷ r) (upto_before n a l)
 upto_before n a (Stop ∷ l) = ap (λ r. Stop ∷ r) (upto_before n a l)
@@ -117,6 +131,7 @@ upto_later n v c [] = refl
 upto_later zero v c (Try x ∷ l) = refl
 upto_later (suc n) v c (Try x ∷ l) = ap (λ r. Try x ∷ r) (upto_later n v c l)
 upto_later n v c (Set t ∷ l) = ap (λ r. Set t ∷ r) (upto_later n v c l)
+upto_later n v c (Mark d ∷ l) = ap (λ r. Mark d ∷ r) (upto_later n v c l)
 upto_later n v c (End e b ∷ l) = ap (λ r. End e (b ++ (v, c, e) ∷ []) ∷ r) (upto_later n v c l)
 upto_later n v c (Halt ∷ l) = ap (λ r. Halt ∷ r) (upto_later n v c l)
 upto_later n v c (Stop ∷ l) = ap (λ r. Stop ∷ r) (upto_later n v c l)
@@ -126,9 +141,34 @@ upto_now n v c [] = refl
 upto_now zero v c (Try x ∷ l) = refl
 upto_now (suc n) v c (Try x ∷ l) = ap (λ r. Try x ∷ r) (upto_now n v c l)
 upto_now n v c (Set t ∷ l) = ap (λ r. Set t ∷ r) (upto_now n v c l)
+upto_now n v c (Mark d ∷ l) = ap (λ r. Mark d ∷ r) (upto_now n v c l)
 upto_now n v c (End e b ∷ l) = ap (λ r. Set (record { name = v; what = Part c e }) ∷ End e b ∷ r) (upto_now n v c l)
 upto_now n v c (Halt ∷ l) = ap (λ r. Halt ∷ r) (upto_now n v c l)
 upto_now n v c (Stop ∷ l) = ap (λ r. Stop ∷ r) (upto_now n v c l)
+
+pub upto_leave : (n k i c : ℕ) (l : List Noted) → upto n (leave_each k i c l) ≡ leave_each k i c (upto n l)
+upto_leave n k i c [] = refl
+upto_leave zero k i c (Try x ∷ l) = refl
+upto_leave (suc n) k i c (Try x ∷ l) = ap (λ r. Try x ∷ r) (upto_leave n k i c l)
+upto_leave n k i c (Set t ∷ l) = ap (λ r. Set t ∷ r) (upto_leave n k i c l)
+upto_leave n k i c (Mark d ∷ l) = ap (λ r. Mark d ∷ r) (upto_leave n k i c l)
+upto_leave n k i c (End e b ∷ l) = ap (λ r. marked k (Leave i e) c ∷ End e b ∷ r) (upto_leave n k i c l)
+upto_leave n k i c (Halt ∷ l) = ap (λ r. Halt ∷ r) (upto_leave n k i c l)
+upto_leave n k i c (Stop ∷ l) = ap (λ r. Stop ∷ r) (upto_leave n k i c l)
+
+-- what a definition does that fails at last, unless something ends it
+upto_left : (n k i c : ℕ) (l : List Noted) → upto n (leave_each k i c l ++ leave_last k i c l) ≡ leave_each k i c (upto n l) ++ leave_last k i c (upto n l)
+upto_left n k i c [] = refl
+upto_left zero k i c (Try x ∷ l) = refl
+upto_left (suc n) k i c (Try x ∷ l) = ap (λ r. Try x ∷ r) (upto_left n k i c l)
+upto_left n k i c (Set t ∷ l) = ap (λ r. Set t ∷ r) (upto_left n k i c l)
+upto_left n k i c (Mark d ∷ l) = ap (λ r. Mark d ∷ r) (upto_left n k i c l)
+upto_left n k i c (End e b ∷ l) = ap (λ r. marked k (Leave i e) c ∷ End e b ∷ r) (upto_left n k i c l)
+upto_left n k i c (Halt ∷ l) = ap (λ r. Halt ∷ upto n r) (append-nil (leave_each k i c l)) ∙ ap (λ r. Halt ∷ r) (upto_leave n k i c l) ∙ sym (ap (λ r. Halt ∷ r) (append-nil (leave_each k i c (upto n l))))
+upto_left n k i c (Stop ∷ l) = ap (λ r. Stop ∷ upto n r) (append-nil (leave_each k i c l)) ∙ ap (λ r. Stop ∷ r) (upto_leave n k i c l) ∙ sym (ap (λ r. Stop ∷ r) (append-nil (leave_each k i c (upto n l))))
+
+pub upto_within : (n k i c : ℕ) (l : List Noted) → upto n (within_definition k i c l) ≡ within_definition k i c (upto n l)
+upto_within n k i c l = ap (λ r. marked k (Enter i) c ∷ r) (upto_left n k i c l)
 
 -- no more trials than the limit
 pub few_trials : (n : ℕ) (l : List Noted) → trials_of (upto n l) ≤ n
@@ -136,6 +176,7 @@ few_trials n [] = omega arith
 few_trials zero (Try x ∷ l) = omega arith
 few_trials (suc n) (Try x ∷ l) = omega (arith, few_trials n l)
 few_trials n (Set t ∷ l) = few_trials n l
+few_trials n (Mark d ∷ l) = few_trials n l
 few_trials n (End e b ∷ l) = few_trials n l
 few_trials n (Halt ∷ l) = few_trials n l
 few_trials n (Stop ∷ l) = few_trials n l
@@ -148,6 +189,7 @@ upto_append (suc n) (Try x ∷ l) m h =
     let e : n - trials_of (upto n l) ≡ suc n - suc (trials_of (upto n l)) = omega arith in
     ap (λ r. Try x ∷ r) (upto_append n l m h ∙ ap (λ k. upto n l ++ upto k m) e)
 upto_append n (Set t ∷ l) m h = ap (λ r. Set t ∷ r) (upto_append n l m h)
+upto_append n (Mark d ∷ l) m h = ap (λ r. Mark d ∷ r) (upto_append n l m h)
 upto_append n (End e a ∷ l) m h = ap (λ r. End e a ∷ r) (upto_append n l m h)
 upto_append n (Halt ∷ l) m h = cc
 upto_append n (Stop ∷ l) m h = cc
@@ -158,6 +200,7 @@ upto_ended n [] m h = cc
 upto_ended zero (Try x ∷ l) m h = refl
 upto_ended (suc n) (Try x ∷ l) m h = ap (λ r. Try x ∷ r) (upto_ended n l m h)
 upto_ended n (Set t ∷ l) m h = ap (λ r. Set t ∷ r) (upto_ended n l m h)
+upto_ended n (Mark d ∷ l) m h = ap (λ r. Mark d ∷ r) (upto_ended n l m h)
 upto_ended n (End e a ∷ l) m h = ap (λ r. End e a ∷ r) (upto_ended n l m h)
 upto_ended n (Halt ∷ l) m h = refl
 upto_ended n (Stop ∷ l) m h = refl

@@ -1,18 +1,19 @@
 -- What patterns do, from what their parts do, within a limit of trials.
-use Rattle.std.proofs.Common.{◌≡◌, ℕ, zero, suc, ◌-◌, ◌<◌, ◌≤◌, true, false, cond, List, [], ◌++◌, length, Some, None, slice_get, ap, sym, subst, ◌∙◌, arith}
+use Rattle.std.proofs.Common.{◌≡◌, ℕ, zero, suc, ◌-◌, ◌<◌, ◌≤◌, true, false, cond, List, [], ◌∷◌, ◌++◌, length, Some, None, slice_get, ap, sym, subst, ◌∙◌, arith}
 use Rattle.std.proofs.Math.Numerals.{sub-one}
 use Rattle.std.proofs.lemmas.Bool.{lt-ltb, le-ltb}
 use Rattle.std.specs.List.{list_any}
-use Rattle.sno_pattern.specs.Tree.{Tree, Seq, Alt, Cond, Imm}
+use Rattle.sno_pattern.specs.Tree.{Tree, Seq, Alt, Cond, Imm, Ref}
 use Rattle.sno_pattern.specs.Results.{results}
 use Rattle.sno_pattern.specs.Laws.{AllEnds, Within}
 use Rattle.sno_pattern.proofs.EachEnd.{AllEnds-map}
 use Rattle.sno_pattern.proofs.Within.{within}
+use Rattle.sno_trace.specs.declared.events.Landmark.TheVariants.{NullRound}
 use Rattle.sno_trace.specs.declared.events.Noted.{Noted}
-use Rattle.sno_trace.specs.Noted.{cut, go_on, upto, erase, assign_later, assign_now, noted, noted_of, noted_rounds, noted_definition, noted_body}
+use Rattle.sno_trace.specs.Noted.{cut, go_on, upto, erase, assign_later, assign_now, marked, within_definition, noted, noted_of, noted_rounds, noted_definition, noted_body}
 use Rattle.sno_trace.specs.Steps.{is_last, trials_of}
 use Rattle.sno_trace.proofs.Erasing.{notes_off}
-use Rattle.sno_trace.proofs.NotedLaws.{upto_cut, upto_append, upto_ended, upto_later, upto_now}
+use Rattle.sno_trace.proofs.NotedLaws.{upto_cut, upto_append, upto_ended, upto_later, upto_now, upto_within}
 use Rattle.sno_trace.proofs.Limit.{enough}
 use Rattle.sno_trace.proofs.Going.{next_round, AllEnds-upto}
 
@@ -72,6 +73,12 @@ imm_does t bodies k n c whole child p v l m z is same_child same does_l does_z =
     does_z ∙ ap (assign_now v c) (same ∙ does_l ∙ ap (λ x. upto n (noted t bodies k x c)) same_child)
     ∙ sym (upto_now n v c (noted t bodies k child c)) ∙ sym (ap (λ x. upto n (noted t bodies k x c)) is)
 
+-- a reference
+pub ref_does : (t : List ℕ) (bodies : List Tree) (k n c : ℕ) (whole : Tree) (i : ℕ) (l m z : List Noted) → whole ≡ Ref i → m ≡ l → l ≡ upto n (noted_definition t bodies k i c) → z ≡ within_definition k i c m → z ≡ upto n (noted t bodies k whole c)
+unfolding noted_of
+ref_does t bodies k n c whole i l m z is same does_l does_z =
+    does_z ∙ ap (within_definition k i c) (same ∙ does_l) ∙ sym (upto_within n k i c (noted_definition t bodies k i c)) ∙ sym (ap (λ x. upto n (noted t bodies k x c)) is)
+
 -- the depth is used up
 pub named_no_more : (t : List ℕ) (bodies : List Tree) (k n i c : ℕ) (l : List Noted) → l ≡ [] → k ≡ 0 → l ≡ upto n (noted_definition t bodies k i c)
 unfolding noted_definition
@@ -91,9 +98,9 @@ named_does t bodies (suc k) n i c p l h is does =
     does ∙ ap (λ j. upto n (noted t bodies j p c)) (sub-one (suc k)) ∙ ap (λ b. upto n (noted_body (noted_of t (noted_definition t bodies k) k) b c)) is
 
 -- a round that took a character is followed by more
-pub round_taken : (limit : ℕ) (once : ℕ → List Noted) (n c e : ℕ) (l m : List Noted) → c < e → l ≡ m → m ≡ upto limit (noted_rounds once (n - 1) e) → l ≡ upto limit (next_round once n c e)
-round_taken limit once n c e l m h same is = same ∙ is ∙ sym (ap (λ b. upto limit (cond b (noted_rounds once (n - 1) e) [])) (lt-ltb c e h))
+pub round_taken : (limit k : ℕ) (once : ℕ → List Noted) (n c e : ℕ) (l m : List Noted) → c < e → l ≡ m → m ≡ upto limit (noted_rounds k once (n - 1) e) → l ≡ upto limit (next_round k once n c e)
+round_taken limit k once n c e l m h same is = same ∙ is ∙ sym (ap (λ b. upto limit (cond b (noted_rounds k once (n - 1) e) (marked k NullRound e ∷ []))) (lt-ltb c e h))
 
 -- one that took no character is dropped
-pub round_dropped : (once : ℕ → List Noted) (n c e : ℕ) → e ≤ c → next_round once n c e ≡ []
-round_dropped once n c e h = ap (λ b. cond b (noted_rounds once (n - 1) e) []) (le-ltb c e h)
+pub round_dropped : (k : ℕ) (once : ℕ → List Noted) (n c e : ℕ) → e ≤ c → next_round k once n c e ≡ marked k NullRound e ∷ []
+round_dropped k once n c e h = ap (λ b. cond b (noted_rounds k once (n - 1) e) (marked k NullRound e ∷ [])) (le-ltb c e h)

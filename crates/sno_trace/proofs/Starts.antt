@@ -1,15 +1,16 @@
 -- The starts of a match, one after the other, within a limit of trials.
-use Rattle.std.proofs.Common.{◌≡◌, ℕ, zero, suc, ◌+◌, ◌-◌, ◌≤◌, ◌<◌, Bool, true, false, List, [], ◌∷◌, ◌++◌, length, map, ap, sym, ◌∙◌, arith, refl, append_assoc}
+use Rattle.std.proofs.Common.{◌≡◌, ℕ, zero, suc, ◌+◌, ◌-◌, ◌≤◌, ◌<◌, Bool, true, false, List, [], ◌∷◌, ◌++◌, cond, length, map, take, Some, None, ap, sym, ◌∙◌, arith, refl, append_assoc}
 use Rattle.std.proofs.lemmas.List.{append-nil}
-use Rattle.std.specs.List.{flat_map, range_with_len, list_any}
+use Rattle.std.proofs.lemmas.Iterator.Adapters.{position_from-zero}
+use Rattle.std.specs.List.{flat_map, range_with_len, list_any, position, position_from}
 use Rattle.sno_pattern.specs.Tree.{Tree}
 use Rattle.sno_pattern.specs.Results.{enough_depth}
 use Rattle.sno_pattern.specs.Outcome.{starts, starts_from}
 use Rattle.sno_trace.specs.declared.events.Noted.{Noted}
-use Rattle.sno_trace.specs.declared.events.Noted.TheVariants.{Try, Set, End, Halt, Stop}
+use Rattle.sno_trace.specs.declared.events.Noted.TheVariants.{Try, Set, Mark, End, Halt, Stop}
 use Rattle.sno_trace.specs.Noted.{noted, upto}
 use Rattle.sno_trace.specs.Steps.{is_ending, trials_of}
-use Rattle.sno_trace.specs.Promise.{Shown, IsShown, IsShownFrom, is_stop, until_ended, first_shown, shown_from, noted_search}
+use Rattle.sno_trace.specs.Promise.{Shown, IsShown, IsShownFrom, is_stop, until_ended, first_shown, shown_from, noted_search, is_past, shown_up_to}
 use Rattle.sno_trace.proofs.Ranges.{up_to, up_to_more}
 
 -- a start whose events end nothing is shown whole
@@ -17,6 +18,7 @@ until_all : (s : ℕ) (l : List Noted) → list_any is_ending l ≡ false → un
 until_all s [] h = refl
 until_all s (Try x ∷ l) h = ap (λ r. (s, Try x) ∷ r) (until_all s l h)
 until_all s (Set a ∷ l) h = ap (λ r. (s, Set a) ∷ r) (until_all s l h)
+until_all s (Mark d ∷ l) h = ap (λ r. (s, Mark d) ∷ r) (until_all s l h)
 until_all s (End e a ∷ l) h = cc
 until_all s (Halt ∷ l) h = cc
 until_all s (Stop ∷ l) h = cc
@@ -30,6 +32,7 @@ open_start (suc n) s (Try x ∷ l) m h =
     let e : n - trials_of (upto n l) ≡ suc n - suc (trials_of (upto n l)) = omega arith in
     ap (λ r. (s, Try x) ∷ r) (open_start n s l m h ∙ ap (λ k. map (λ x. (s, x)) (upto n l) ++ first_shown k (until_ended m)) e)
 open_start n s (Set a ∷ l) m h = ap (λ r. (s, Set a) ∷ r) (open_start n s l m h)
+open_start n s (Mark d ∷ l) m h = ap (λ r. (s, Mark d) ∷ r) (open_start n s l m h)
 open_start n s (End e a ∷ l) m h = cc
 open_start n s (Halt ∷ l) m h = cc
 open_start n s (Stop ∷ l) m h = cc
@@ -41,6 +44,7 @@ ended_start n s [] m h = cc
 ended_start zero s (Try x ∷ l) m h = refl
 ended_start (suc n) s (Try x ∷ l) m h = ap (λ r. (s, Try x) ∷ r) (ended_start n s l m h)
 ended_start n s (Set a ∷ l) m h = ap (λ r. (s, Set a) ∷ r) (ended_start n s l m h)
+ended_start n s (Mark d ∷ l) m h = ap (λ r. (s, Mark d) ∷ r) (ended_start n s l m h)
 ended_start n s (End e a ∷ l) m h = refl
 ended_start n s (Halt ∷ l) m h = refl
 ended_start n s (Stop ∷ l) m h = refl
@@ -115,6 +119,7 @@ settled zero n ((s, Try x) ∷ l) h none = cc
 settled (suc m) zero ((s, Try x) ∷ l) h none = absurd (omega (arith, h))
 settled (suc m) (suc n) ((s, Try x) ∷ l) h none = ap (λ r. (s, Try x) ∷ r) (settled m n l (omega (arith, h)) none)
 settled m n ((s, Set a) ∷ l) h none = ap (λ r. (s, Set a) ∷ r) (settled m n l h none)
+settled m n ((s, Mark d) ∷ l) h none = ap (λ r. (s, Mark d) ∷ r) (settled m n l h none)
 settled m n ((s, End e a) ∷ l) h none = refl
 settled m n ((s, Halt) ∷ l) h none = refl
 settled m n ((s, Stop) ∷ l) h none = cc
@@ -125,3 +130,36 @@ pub settled_search : (t : List ℕ) (bodies : List Tree) (p : Tree) (anchored : 
 settled_search t bodies p anchored c m n shown same h none are is =
     let all : List Shown = flat_map (shown_from t bodies (enough_depth t bodies) p) (starts_from t anchored c) in
     is ∙ settled m n all h (ap (list_any is_stop) (sym (are ∙ is)) ∙ sym none)
+
+-- If a later start is found, what is shown is cut before it ..
+past_one : (n i : ℕ) (x : Shown) (l : List Shown) (p : ℕ) (b : Bool) → cond b (Some i) (position_from (is_past n) (i + 1) l) ≡ Some p
+    → (position_from (is_past n) (i + 1) l ≡ Some p → (i + 1 ≤ p) × (take (p - (i + 1)) l ≡ shown_up_to n l))
+    → (i ≤ p) × (take (p - i) (x ∷ l) ≡ cond b [] (x ∷ shown_up_to n l))
+past_one n i x l p true h later =
+    let same : i ≡ p = cc in
+    let e : p - i ≡ 0 = omega arith in
+    (omega arith, ap (λ k. take k (x ∷ l)) e)
+past_one n i x l p false h later =
+    let r = later h in
+    let e : p - i ≡ suc (p - (i + 1)) = omega (arith, r.0) in
+    (omega (arith, r.0), ap (λ k. take k (x ∷ l)) e ∙ ap (λ m. x ∷ m) r.1)
+
+past_from : (n i : ℕ) (l : List Shown) (p : ℕ) → position_from (is_past n) i l ≡ Some p → (i ≤ p) × (take (p - i) l ≡ shown_up_to n l)
+past_from n i [] p h = cc
+past_from n i (x ∷ l) p h = past_one n i x l p (is_past n x) h (past_from n (i + 1) l p)
+
+pub past_found : (n : ℕ) (l : List Shown) (p : ℕ) → position (is_past n) l ≡ Some p → take p l ≡ shown_up_to n l
+past_found n l p h = let e : p ≡ p - 0 = omega arith in ap (λ k. take k l) e ∙ (past_from n 0 l p (sym (position_from-zero (is_past n) l) ∙ h)).1
+
+-- .. and if none is found, it stays.
+none_past_one : (n i : ℕ) (x : Shown) (l : List Shown) (b : Bool) → cond b (Some i) (position_from (is_past n) (i + 1) l) ≡ None
+    → (position_from (is_past n) (i + 1) l ≡ None → l ≡ shown_up_to n l) → x ∷ l ≡ cond b [] (x ∷ shown_up_to n l)
+none_past_one n i x l true h later = cc
+none_past_one n i x l false h later = ap (λ m. x ∷ m) (later h)
+
+none_past_from : (n i : ℕ) (l : List Shown) → position_from (is_past n) i l ≡ None → l ≡ shown_up_to n l
+none_past_from n i [] h = refl
+none_past_from n i (x ∷ l) h = none_past_one n i x l (is_past n x) h (none_past_from n (i + 1) l)
+
+pub none_past : (n : ℕ) (l : List Shown) → position (is_past n) l ≡ None → l ≡ shown_up_to n l
+none_past n l h = none_past_from n 0 l (sym (position_from-zero (is_past n) l) ∙ h)

@@ -7,7 +7,7 @@ use Rattle.sno_pattern.specs.Outcome.{Tried, starts, starts_from, tried_from, cu
 use Rattle.sno_pattern.specs.declared.events.Assign.{Assign}
 use Rattle.sno_pattern.specs.declared.events.Event.TheVariants as event
 use Rattle.sno_trace.specs.declared.events.Noted.{Noted}
-use Rattle.sno_trace.specs.declared.events.Noted.TheVariants.{Try, Set, End, Halt, Stop}
+use Rattle.sno_trace.specs.declared.events.Noted.TheVariants.{Try, Set, Mark, End, Halt, Stop}
 use Rattle.sno_trace.specs.Noted.{erase, noted}
 use Rattle.sno_trace.specs.Promise.{Shown, until_ended, first_shown, shown_from, off, until_end, before_stop, IsShownFrom, IsWholeSearch, IsFrontFrom, ShownIsTheMatch, ShownIsAFront, ShownIsFull}
 use Rattle.sno_trace.proofs.Erasing.{notes_off}
@@ -16,6 +16,7 @@ off-append : (l m : List Shown) → off (l ++ m) ≡ off l ++ off m
 off-append [] m = refl
 off-append ((s, Try x) ∷ l) m = ap (λ r. (s, event.Try) ∷ r) (off-append l m)
 off-append ((s, Set a) ∷ l) m = ap (λ r. (s, event.Set a) ∷ r) (off-append l m)
+off-append ((s, Mark d) ∷ l) m = off-append l m
 off-append ((s, End e a) ∷ l) m = ap (λ r. (s, event.End e a) ∷ r) (off-append l m)
 off-append ((s, Halt) ∷ l) m = ap (λ r. (s, event.Halt) ∷ r) (off-append l m)
 off-append ((s, Stop) ∷ l) m = ap (λ r. (s, event.Halt) ∷ r) (off-append l m)
@@ -24,6 +25,7 @@ off-map : (s : ℕ) (l : List Noted) → off (map (λ x. (s, x)) l) ≡ map (λ 
 off-map s [] = refl
 off-map s (Try x ∷ l) = ap (λ r. (s, event.Try) ∷ r) (off-map s l)
 off-map s (Set a ∷ l) = ap (λ r. (s, event.Set a) ∷ r) (off-map s l)
+off-map s (Mark d ∷ l) = off-map s l
 off-map s (End e a ∷ l) = ap (λ r. (s, event.End e a) ∷ r) (off-map s l)
 off-map s (Halt ∷ l) = ap (λ r. (s, event.Halt) ∷ r) (off-map s l)
 off-map s (Stop ∷ l) = ap (λ r. (s, event.Halt) ∷ r) (off-map s l)
@@ -32,6 +34,7 @@ off-until : (l : List Shown) → off (until_ended l) ≡ until_end (off l)
 off-until [] = refl
 off-until ((s, Try x) ∷ l) = ap (λ r. (s, event.Try) ∷ r) (off-until l)
 off-until ((s, Set a) ∷ l) = ap (λ r. (s, event.Set a) ∷ r) (off-until l)
+off-until ((s, Mark d) ∷ l) = off-until l
 off-until ((s, End e a) ∷ l) = refl
 off-until ((s, Halt) ∷ l) = refl
 off-until ((s, Stop) ∷ l) = refl
@@ -62,6 +65,7 @@ all_first [] n h = refl
 all_first ((s, Try x) ∷ l) zero h = absurd (omega arith)
 all_first ((s, Try x) ∷ l) (suc n) h = ap (λ r. (s, Try x) ∷ r) (all_first l n (omega arith))
 all_first ((s, Set a) ∷ l) n h = ap (λ r. (s, Set a) ∷ r) (all_first l n h)
+all_first ((s, Mark d) ∷ l) n h = ap (λ r. (s, Mark d) ∷ r) (all_first l n h)
 all_first ((s, End e a) ∷ l) n h = refl
 all_first ((s, Halt) ∷ l) n h = refl
 all_first ((s, Stop) ∷ l) n h = refl
@@ -72,6 +76,7 @@ front_off [] n = ([], refl)
 front_off ((s, Try x) ∷ l) zero = (off ((s, Try x) ∷ l), refl)
 front_off ((s, Try x) ∷ l) (suc n) = let r = front_off l n in (r.0, ap (λ m. (s, event.Try) ∷ m) r.1)
 front_off ((s, Set a) ∷ l) n = let r = front_off l n in (r.0, ap (λ m. (s, event.Set a) ∷ m) r.1)
+front_off ((s, Mark d) ∷ l) n = front_off l n
 front_off ((s, End e a) ∷ l) n = let r = front_off l n in (r.0, ap (λ m. (s, event.End e a) ∷ m) r.1)
 front_off ((s, Halt) ∷ l) n = let r = front_off l n in (r.0, ap (λ m. (s, event.Halt) ∷ m) r.1)
 front_off ((s, Stop) ∷ l) n = (off ((s, Stop) ∷ l), refl)
@@ -82,6 +87,7 @@ full [] n h = absurd (omega arith)
 full ((s, Try x) ∷ l) zero h = refl
 full ((s, Try x) ∷ l) (suc n) h = ap suc (full l n (omega (arith, h)))
 full ((s, Set a) ∷ l) n h = full l n h
+full ((s, Mark d) ∷ l) n h = full l n h
 full ((s, End e a) ∷ l) n h = absurd (omega (arith, h))
 full ((s, Halt) ∷ l) n h = absurd (omega (arith, h))
 full ((s, Stop) ∷ l) n h = absurd (omega (arith, h))

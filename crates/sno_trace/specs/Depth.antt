@@ -6,7 +6,7 @@ use Rattle.sno_pattern.specs.Tree.{Tree}
 use Rattle.sno_pattern.specs.Results.{enough_depth}
 use Rattle.sno_pattern.specs.Outcome.{starts, starts_from}
 use Rattle.sno_trace.specs.declared.events.Noted.{Noted}
-use Rattle.sno_trace.specs.declared.events.Noted.TheVariants.{Try, Set, End, Halt, Stop}
+use Rattle.sno_trace.specs.declared.events.Noted.TheVariants.{Try, Set, Mark, End, Halt, Stop}
 use Rattle.sno_trace.specs.Noted.{noted}
 
 -- the list has an End at e
@@ -14,6 +14,7 @@ abbrev pub EndsAt : List Noted → ℕ → Type 0
 EndsAt [] e = ⊥
 EndsAt (Try x ∷ l) e = EndsAt l e
 EndsAt (Set a ∷ l) e = EndsAt l e
+EndsAt (Mark d ∷ l) e = EndsAt l e
 EndsAt (End f a ∷ l) e = (f ≡ e) ⊎ EndsAt l e
 EndsAt (Halt ∷ l) e = EndsAt l e
 EndsAt (Stop ∷ l) e = EndsAt l e

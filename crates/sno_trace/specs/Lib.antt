@@ -3,3 +3,4 @@ pub mod Steps
 pub mod Depth
 pub mod Promise
 pub mod Limits
+pub mod Examples

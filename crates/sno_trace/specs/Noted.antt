@@ -1,5 +1,5 @@
--- The events of a match with notes: of each trial the leaf, the cursor at which it was tried, and where it ended. Without the
--- notes they are the lists of `Results.antt`, word for word.
+-- The events of a match with notes: of each trial the leaf, the cursor at which it was tried, and where it ended; and marks of where
+-- definitions are entered and left, and of rounds that are dropped. Without them they are the lists of `Results.antt`, word for word.
 use Rattle.std.specs.Prelude.{ℕ, zero, suc, ◌+◌, ◌-◌, Bool, true, false, List, [], ◌∷◌, ◌++◌, length, slice_get, nat_lt, Option, Some, None, if◌then◌else◌}
 use Rattle.sno_pattern.specs.Tree as tree
 use Rattle.sno_pattern.specs.Tree.{Tree}
@@ -8,14 +8,19 @@ use Rattle.sno_primitives.specs.Leaves.{leaf_ends}
 use Rattle.sno_pattern.specs.declared.events.What.TheVariants.{Part, Cursor}
 use Rattle.sno_pattern.specs.declared.events.Event.{Event}
 use Rattle.sno_pattern.specs.declared.events.Event.TheVariants as event
+use Rattle.sno_trace.specs.declared.events.Landmark.{Landmark}
+use Rattle.sno_trace.specs.declared.events.Landmark.TheVariants.{Enter, Leave, Fail, NullRound}
 use Rattle.sno_trace.specs.declared.events.Noted.{Noted}
-use Rattle.sno_trace.specs.declared.events.Noted.TheVariants.{Try, Set, End, Halt, Stop}
+use Rattle.sno_trace.specs.declared.events.Noted.TheVariants.{Try, Set, Mark, End, Halt, Stop}
+use Rattle.std.specs.List.{list_any}
+use Rattle.sno_trace.specs.Steps.{is_last}
 
--- the notes taken off; Stop is in no list of `noted`, and ends a list as Halt does
+-- the notes and marks taken off; Stop is in no list of `noted`, and ends a list as Halt does
 abbrev pub erase : List Noted → List Event
 erase [] = []
 erase (Try x ∷ l) = event.Try ∷ erase l
 erase (Set a ∷ l) = event.Set a ∷ erase l
+erase (Mark d ∷ l) = erase l
 erase (End e a ∷ l) = event.End e a ∷ erase l
 erase (Halt ∷ l) = event.Halt ∷ erase l
 erase (Stop ∷ l) = event.Halt ∷ erase l
@@ -25,6 +30,7 @@ abbrev pub cut : List Noted → List Noted
 cut [] = []
 cut (Try x ∷ l) = Try x ∷ cut l
 cut (Set a ∷ l) = Set a ∷ cut l
+cut (Mark d ∷ l) = Mark d ∷ cut l
 cut (End e a ∷ l) = End e a ∷ cut l
 cut (Halt ∷ l) = Halt ∷ []
 cut (Stop ∷ l) = Stop ∷ []
@@ -34,6 +40,7 @@ abbrev pub put_before : CondList → List Noted → List Noted
 put_before a [] = []
 put_before a (Try x ∷ l) = Try x ∷ put_before a l
 put_before a (Set x ∷ l) = Set x ∷ put_before a l
+put_before a (Mark d ∷ l) = Mark d ∷ put_before a l
 put_before a (End e b ∷ l) = End e (a ++ b) ∷ put_before a l
 put_before a (Halt ∷ l) = Halt ∷ put_before a l
 put_before a (Stop ∷ l) = Stop ∷ put_before a l
@@ -43,6 +50,7 @@ abbrev pub spread : List Noted → (ℕ → List Noted) → List Noted
 spread [] f = []
 spread (Try x ∷ l) f = Try x ∷ spread l f
 spread (Set x ∷ l) f = Set x ∷ spread l f
+spread (Mark d ∷ l) f = Mark d ∷ spread l f
 spread (End e a ∷ l) f = put_before a (f e) ++ spread l f
 spread (Halt ∷ l) f = Halt ∷ spread l f
 spread (Stop ∷ l) f = Stop ∷ spread l f
@@ -56,6 +64,7 @@ abbrev pub assign_later : List ℕ → ℕ → List Noted → List Noted
 assign_later v c [] = []
 assign_later v c (Try x ∷ l) = Try x ∷ assign_later v c l
 assign_later v c (Set x ∷ l) = Set x ∷ assign_later v c l
+assign_later v c (Mark d ∷ l) = Mark d ∷ assign_later v c l
 assign_later v c (End e a ∷ l) = End e (a ++ (v, c, e) ∷ []) ∷ assign_later v c l
 assign_later v c (Halt ∷ l) = Halt ∷ assign_later v c l
 assign_later v c (Stop ∷ l) = Stop ∷ assign_later v c l
@@ -65,6 +74,7 @@ abbrev pub assign_now : List ℕ → ℕ → List Noted → List Noted
 assign_now v c [] = []
 assign_now v c (Try x ∷ l) = Try x ∷ assign_now v c l
 assign_now v c (Set x ∷ l) = Set x ∷ assign_now v c l
+assign_now v c (Mark d ∷ l) = Mark d ∷ assign_now v c l
 assign_now v c (End e a ∷ l) = Set (record { name = v; what = Part c e }) ∷ End e a ∷ assign_now v c l
 assign_now v c (Halt ∷ l) = Halt ∷ assign_now v c l
 assign_now v c (Stop ∷ l) = Stop ∷ assign_now v c l
@@ -83,18 +93,40 @@ abbrev pub noted_ends : ℕ → Tree → ℕ → List ℕ → List Noted
 noted_ends k p c [] = tried k p c None false ∷ []
 noted_ends k p c (e ∷ es) = noted_tries k false p c (e ∷ es)
 
--- at most n rounds of ARBNO
-abbrev pub noted_rounds : (ℕ → List Noted) → ℕ → ℕ → List Noted
-noted_rounds once zero c = []
-noted_rounds once (suc n) c = End c [] ∷ go_on (once c) (λ e. if nat_lt c e then noted_rounds once n e else [])
+-- a mark at the cursor c; k more references may be nested
+abbrev pub marked : ℕ → Landmark → ℕ → Noted
+marked k what c = Mark (record { what = what; cursor = c; below = k })
+
+-- before each End the definition i is left, which was entered at c
+abbrev pub leave_each : ℕ → ℕ → ℕ → List Noted → List Noted
+leave_each k i c [] = []
+leave_each k i c (Try x ∷ l) = Try x ∷ leave_each k i c l
+leave_each k i c (Set x ∷ l) = Set x ∷ leave_each k i c l
+leave_each k i c (Mark x ∷ l) = Mark x ∷ leave_each k i c l
+leave_each k i c (End e a ∷ l) = marked k (Leave i e) c ∷ End e a ∷ leave_each k i c l
+leave_each k i c (Halt ∷ l) = Halt ∷ leave_each k i c l
+leave_each k i c (Stop ∷ l) = Stop ∷ leave_each k i c l
+
+-- after its last End it fails, unless the whole match does
+abbrev pub leave_last : ℕ → ℕ → ℕ → List Noted → List Noted
+leave_last k i c l = if list_any is_last l then [] else marked k (Fail i) c ∷ []
+
+-- what the definition i does from c, with marks where it is entered and left
+abbrev pub within_definition : ℕ → ℕ → ℕ → List Noted → List Noted
+within_definition k i c l = marked k (Enter i) c ∷ (leave_each k i c l ++ leave_last k i c l)
+
+-- at most n rounds of ARBNO; one that takes no character is dropped
+abbrev pub noted_rounds : ℕ → (ℕ → List Noted) → ℕ → ℕ → List Noted
+noted_rounds k once zero c = []
+noted_rounds k once (suc n) c = End c [] ∷ go_on (once c) (λ e. if nat_lt c e then noted_rounds k once n e else marked k NullRound e ∷ [])
 
 -- `named i c` is what the definition with number i does from cursor c
 unfoldable pub noted_of : List ℕ → (ℕ → ℕ → List Noted) → ℕ → Tree → ℕ → List Noted
-noted_of t named k (tree.Arbno p) c = noted_rounds (noted_of t named k p) (length t - c + 1) c
+noted_of t named k (tree.Arbno p) c = noted_rounds k (noted_of t named k p) (length t - c + 1) c
 noted_of t named k tree.Fence c = tried k tree.Fence c (Some c) false ∷ End c [] ∷ Halt ∷ []
 noted_of t named k tree.Abort c = tried k tree.Abort c None false ∷ Halt ∷ []
 noted_of t named k (tree.At v) c = tried k (tree.At v) c (Some c) false ∷ Set (record { name = v; what = Cursor c }) ∷ End c [] ∷ []
-noted_of t named k (tree.Ref i) c = named i c
+noted_of t named k (tree.Ref i) c = within_definition k i c (named i c)
 noted_of t named k (tree.Seq p q) c = go_on (noted_of t named k p c) (noted_of t named k q)
 noted_of t named k (tree.Alt p q) c = cut (noted_of t named k p c ++ noted_of t named k q c)
 noted_of t named k (tree.Cond p v) c = assign_later v c (noted_of t named k p c)
@@ -121,6 +153,7 @@ upto n [] = []
 upto zero (Try x ∷ l) = Stop ∷ []
 upto (suc n) (Try x ∷ l) = Try x ∷ upto n l
 upto n (Set x ∷ l) = Set x ∷ upto n l
+upto n (Mark d ∷ l) = Mark d ∷ upto n l
 upto n (End e a ∷ l) = End e a ∷ upto n l
 upto n (Halt ∷ l) = Halt ∷ upto n l
 upto n (Stop ∷ l) = Stop ∷ upto n l

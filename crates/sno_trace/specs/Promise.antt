@@ -1,5 +1,5 @@
 -- What is promised of a trace.
-use Rattle.std.specs.Prelude.{◌≡◌, ◌≤◌, ◌<◌, ℕ, zero, suc, Bool, true, false, List, [], ◌∷◌, ◌++◌, map, Option, Some, None}
+use Rattle.std.specs.Prelude.{◌≡◌, ◌≤◌, ◌<◌, ℕ, zero, suc, Bool, true, false, List, [], ◌∷◌, ◌++◌, map, nat_lt, Option, Some, None, if◌then◌else◌}
 use Rattle.std.specs.List.{flat_map}
 use Rattle.sno_pattern.specs.Tree as tree
 use Rattle.sno_pattern.specs.Tree.{Tree}
@@ -9,7 +9,7 @@ use Rattle.sno_pattern.specs.declared.events.Event.TheVariants as event
 use Rattle.sno_primitives.specs.Leaves.{leaf_ends}
 use Rattle.sno_trace.specs.declared.events.Trial.{Trial}
 use Rattle.sno_trace.specs.declared.events.Noted.{Noted}
-use Rattle.sno_trace.specs.declared.events.Noted.TheVariants.{Try, Set, End, Halt, Stop}
+use Rattle.sno_trace.specs.declared.events.Noted.TheVariants.{Try, Set, Mark, End, Halt, Stop}
 use Rattle.sno_trace.specs.Noted.{erase, noted}
 
 -- With its notes taken off, what a pattern does from a cursor is the definition's list of events.
@@ -38,6 +38,7 @@ abbrev pub AllTrials : (Trial → Type 0) → List Noted → Type 0
 AllTrials P [] = Unit {0}
 AllTrials P (Try x ∷ l) = P x × AllTrials P l
 AllTrials P (Set a ∷ l) = AllTrials P l
+AllTrials P (Mark d ∷ l) = AllTrials P l
 AllTrials P (End e a ∷ l) = AllTrials P l
 AllTrials P (Halt ∷ l) = AllTrials P l
 AllTrials P (Stop ∷ l) = AllTrials P l
@@ -55,6 +56,7 @@ abbrev pub until_ended : List Shown → List Shown
 until_ended [] = []
 until_ended ((s, Try x) ∷ l) = (s, Try x) ∷ until_ended l
 until_ended ((s, Set a) ∷ l) = (s, Set a) ∷ until_ended l
+until_ended ((s, Mark d) ∷ l) = (s, Mark d) ∷ until_ended l
 until_ended ((s, End e a) ∷ l) = (s, End e a) ∷ []
 until_ended ((s, Halt) ∷ l) = (s, Halt) ∷ []
 until_ended ((s, Stop) ∷ l) = (s, Stop) ∷ []
@@ -65,6 +67,7 @@ first_shown n [] = []
 first_shown zero ((s, Try x) ∷ l) = (s, Stop) ∷ []
 first_shown (suc n) ((s, Try x) ∷ l) = (s, Try x) ∷ first_shown n l
 first_shown n ((s, Set a) ∷ l) = (s, Set a) ∷ first_shown n l
+first_shown n ((s, Mark d) ∷ l) = (s, Mark d) ∷ first_shown n l
 first_shown n ((s, End e a) ∷ l) = (s, End e a) ∷ first_shown n l
 first_shown n ((s, Halt) ∷ l) = (s, Halt) ∷ first_shown n l
 first_shown n ((s, Stop) ∷ l) = (s, Stop) ∷ first_shown n l
@@ -87,6 +90,7 @@ is_stop (s, Stop) = true
 is_stop (s, Halt) = false
 is_stop (s, Try x) = false
 is_stop (s, Set a) = false
+is_stop (s, Mark d) = false
 is_stop (s, End e a) = false
 
 -- the notes taken off; Stop ends the list as Halt does
@@ -94,6 +98,7 @@ abbrev pub off : List Shown → List Tried
 off [] = []
 off ((s, Try x) ∷ l) = (s, event.Try) ∷ off l
 off ((s, Set a) ∷ l) = (s, event.Set a) ∷ off l
+off ((s, Mark d) ∷ l) = off l
 off ((s, End e a) ∷ l) = (s, event.End e a) ∷ off l
 off ((s, Halt) ∷ l) = (s, event.Halt) ∷ off l
 off ((s, Stop) ∷ l) = (s, event.Halt) ∷ off l
@@ -126,6 +131,7 @@ abbrev pub before_stop : List Shown → List Shown
 before_stop [] = []
 before_stop ((s, Try x) ∷ l) = (s, Try x) ∷ before_stop l
 before_stop ((s, Set a) ∷ l) = (s, Set a) ∷ before_stop l
+before_stop ((s, Mark d) ∷ l) = (s, Mark d) ∷ before_stop l
 before_stop ((s, End e a) ∷ l) = (s, End e a) ∷ before_stop l
 before_stop ((s, Halt) ∷ l) = (s, Halt) ∷ before_stop l
 before_stop ((s, Stop) ∷ l) = []
@@ -166,3 +172,12 @@ IsWholeSearch t bodies p anchored c shown =
 -- What is shown before a Stop is, with its notes taken off, a front of that list.
 abbrev pub IsFrontFrom : List ℕ → List Tree → Tree → Bool → ℕ → List Shown → Type 0
 IsFrontFrom t bodies p anchored c shown = (rest : List Tried) × (off (before_stop shown) ++ rest ≡ search_events t bodies p anchored c)
+
+-- of a later start than n
+abbrev pub is_past : ℕ → Shown → Bool
+is_past n (s, x) = nat_lt n s
+
+-- of what is shown, in the order of its starts, that of the starts up to n
+abbrev pub shown_up_to : ℕ → List Shown → List Shown
+shown_up_to n [] = []
+shown_up_to n (x ∷ l) = if is_past n x then [] else x ∷ shown_up_to n l

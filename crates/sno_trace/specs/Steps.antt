@@ -2,7 +2,7 @@
 use Rattle.std.specs.Prelude.{ℕ, suc, Bool, true, false, List, [], ◌∷◌}
 use Rattle.sno_pattern.specs.Tree.{Tree, Arbno, Ref, Seq, Alt, Cond, Imm}
 use Rattle.sno_trace.specs.declared.events.Noted.{Noted}
-use Rattle.sno_trace.specs.declared.events.Noted.TheVariants.{Try, Set, End, Halt, Stop}
+use Rattle.sno_trace.specs.declared.events.Noted.TheVariants.{Try, Set, Mark, End, Halt, Stop}
 
 -- nothing comes after it: the whole match fails, or no more is shown
 abbrev pub is_last : Noted → Bool
@@ -10,6 +10,7 @@ is_last Halt = true
 is_last Stop = true
 is_last (Try x) = false
 is_last (Set a) = false
+is_last (Mark d) = false
 is_last (End e a) = false
 
 -- a pattern that has no part and refers to none
@@ -27,6 +28,7 @@ abbrev pub trials_of : List Noted → ℕ
 trials_of [] = 0
 trials_of (Try x ∷ l) = suc (trials_of l)
 trials_of (Set a ∷ l) = trials_of l
+trials_of (Mark d ∷ l) = trials_of l
 trials_of (End e a ∷ l) = trials_of l
 trials_of (Halt ∷ l) = trials_of l
 trials_of (Stop ∷ l) = trials_of l
@@ -38,3 +40,4 @@ is_ending Halt = true
 is_ending Stop = true
 is_ending (Try x) = false
 is_ending (Set a) = false
+is_ending (Mark d) = false

@@ -13,6 +13,7 @@ use sno_primitives::{first_balanced, leaf_end};
 use std::alloc::{AllocError, Global};
 
 // What a pattern without parts does from a cursor, within a limit of trials. `below` more references may be nested.
+#[inline(never)]
 #[tactic(auto, unfolding(crate::specs::Noted::noted_of))]
 pub fn leaf<'a>(
     alloc: Global,
@@ -32,6 +33,7 @@ pub fn leaf<'a>(
     }
     match pattern {
         Pattern::Lit(_)
+        | Pattern::Bytes(_)
         | Pattern::Len(_)
         | Pattern::Pos(_)
         | Pattern::Rpos(_)

@@ -1,10 +1,11 @@
 //! Lists of noted events.
 ghost use Rattle.std.specs.Prelude.{◌≡◌, ◌≤◌, ◌++◌, ◌∷◌, IfOk, OnOk, [], position, length};
 ghost use Rattle.std.specs.List.{list_any};
-ghost use Rattle.sno_trace.specs.Noted.{cut, put_before, assign_later, assign_now};
+ghost use Rattle.sno_trace.specs.Noted.{cut, put_before, assign_later, assign_now, marked, leave_each, leave_last, within_definition};
 ghost use Rattle.sno_trace.specs.Steps.{is_last, trials_of};
+ghost use Rattle.sno_trace.specs.declared.events.Landmark.TheVariants.{NullRound};
 
-use crate::events::Noted;
+use crate::events::{Landmark, Marked, Noted, Trial};
 use sno_pattern::{Assign, Conds, Name, What};
 use std::alloc::{AllocError, Global};
 
@@ -16,6 +17,7 @@ pub fn end_at<'a>(alloc: Global, end: usize) -> Noted<'a>
 }
 
 // Adds an End without assignments.
+#[inline(never)]
 pub fn push_end<'a>(
     alloc: Global,
     events: &mut Vec<Noted<'a>>,
@@ -24,6 +26,66 @@ pub fn push_end<'a>(
     ensures { OnOk result (events.new.items ≡ events.old.items ++ Noted.End end [] ∷ []) }
 {
     events.push(end_at(alloc, end))?;
+    Ok(())
+}
+
+// The calls that add one event aren't inlined: what a failed push returns would take room on the stack of each call of a walk.
+
+// Adds a trial.
+#[inline(never)]
+pub fn push_try<'a>(events: &mut Vec<Noted<'a>>, trial: &Trial<'a>) -> Result<(), AllocError>
+    ensures { OnOk result (events.new.items ≡ events.old.items ++ Noted.Try trial.now ∷ []) }
+{
+    events.push(Noted::Try(trial.copied()))?;
+    Ok(())
+}
+
+// Adds an assignment.
+#[inline(never)]
+pub fn push_set<'a>(events: &mut Vec<Noted<'a>>, assign: &Assign) -> Result<(), AllocError>
+    ensures { OnOk result (events.new.items ≡ events.old.items ++ Noted.Set assign.now ∷ []) }
+{
+    events.push(Noted::Set(*assign))?;
+    Ok(())
+}
+
+// Adds a mark.
+#[inline(never)]
+pub fn push_mark<'a>(events: &mut Vec<Noted<'a>>, mark: &Marked) -> Result<(), AllocError>
+    ensures { OnOk result (events.new.items ≡ events.old.items ++ Noted.Mark mark.now ∷ []) }
+{
+    events.push(Noted::Mark(*mark))?;
+    Ok(())
+}
+
+// Adds the mark of a null round. `below` more references may be nested.
+#[inline(never)]
+pub fn push_null_round<'a>(
+    events: &mut Vec<Noted<'a>>,
+    below: u128,
+    cursor: usize,
+) -> Result<(), AllocError>
+    ensures { OnOk result (events.new.items ≡ events.old.items ++ marked below NullRound cursor ∷ []) }
+{
+    events.push(mark_at(below, Landmark::NullRound, cursor))?;
+    Ok(())
+}
+
+// Adds a Halt.
+#[inline(never)]
+pub fn push_halt<'a>(events: &mut Vec<Noted<'a>>) -> Result<(), AllocError>
+    ensures { OnOk result (events.new.items ≡ events.old.items ++ Noted.Halt ∷ []) }
+{
+    events.push(Noted::Halt)?;
+    Ok(())
+}
+
+// Adds a Stop.
+#[inline(never)]
+pub fn push_stop<'a>(events: &mut Vec<Noted<'a>>) -> Result<(), AllocError>
+    ensures { OnOk result (events.new.items ≡ events.old.items ++ Noted.Stop ∷ []) }
+{
+    events.push(Noted::Stop)?;
     Ok(())
 }
 
@@ -57,7 +119,7 @@ pub fn count_trials(events: &[Noted<'_>]) -> usize
     for event in events {
         match event {
             Noted::Try(_) => count += 1,
-            Noted::Set(_) | Noted::End(_, _) | Noted::Halt | Noted::Stop => {}
+            Noted::Set(_) | Noted::Mark(_) | Noted::End(_, _) | Noted::Halt | Noted::Stop => {}
         }
     }
     count
@@ -103,14 +165,21 @@ fn with_part(
     Ok(Conds::of(list))
 }
 
-pub fn copied(alloc: Global, conds: &Conds) -> Result<Conds, AllocError>
-    ensures { IfOk result (λ v. v ≡ conds.now) }
+// The event, of an End with these assignments before its own.
+fn put_before<'a>(alloc: Global, conds: &Conds, event: &Noted<'a>) -> Result<Noted<'a>, AllocError>
+    ensures { IfOk result (λ e. e ∷ [] ≡ put_before conds.now (event.now ∷ [])) }
 {
-    let list = Vec::from_slice(alloc, conds.as_slice())?;
-    Ok(Conds::of(list))
+    match event {
+        Noted::End(end, more) => Ok(Noted::End(*end, joined(alloc, conds, more)?)),
+        Noted::Try(_) | Noted::Set(_) | Noted::Mark(_) | Noted::Halt | Noted::Stop => event.copied(
+            alloc,
+        ),
+    }
 }
 
 // Adds what follows an End with these assignments, up to the first Halt or Stop, and returns whether there is one.
+#[inline(never)]
+#[tactic(auto, using(crate::proofs::Copies::cut_first, crate::proofs::Copies::cut_last))]
 pub fn add_after<'a>(
     alloc: Global,
     conds: &Conds,
@@ -121,24 +190,34 @@ pub fn add_after<'a>(
     ensures ended { IfOk result (λ b. b ≡ list_any is_last later.now) }
 {
     for event in later {
-        match event {
-            Noted::Try(trial) => all.push(Noted::Try(trial.copied()))?,
-            Noted::Set(assign) => all.push(Noted::Set(*assign))?,
-            Noted::End(end, more) => all.push(Noted::End(*end, joined(alloc, conds, more)?))?,
-            Noted::Halt => {
-                all.push(Noted::Halt)?;
-                return Ok(true);
-            }
-            Noted::Stop => {
-                all.push(Noted::Stop)?;
-                return Ok(true);
-            }
+        all.push(put_before(alloc, conds, event)?)?;
+        if is_last(event) {
+            return Ok(true);
         }
     }
     Ok(false)
 }
 
+// The event, of an End with the part from `start` to it assigned to the name if the whole match succeeds.
+fn assigned_later<'a>(
+    alloc: Global,
+    name: Name,
+    start: usize,
+    event: &Noted<'a>,
+) -> Result<Noted<'a>, AllocError>
+    ensures { IfOk result (λ e. e ∷ [] ≡ assign_later name start (event.now ∷ [])) }
+{
+    match event {
+        Noted::End(end, conds) => Ok(Noted::End(*end, with_part(alloc, conds, name, start, *end)?)),
+        Noted::Try(_) | Noted::Set(_) | Noted::Mark(_) | Noted::Halt | Noted::Stop => event.copied(
+            alloc,
+        ),
+    }
+}
+
 // The part from `start` to each End assigned to the name if the whole match succeeds.
+#[inline(never)]
+#[tactic(auto, using(crate::proofs::Copies::later_first))]
 pub fn assign_later<'a>(
     alloc: Global,
     name: Name,
@@ -149,21 +228,35 @@ pub fn assign_later<'a>(
 {
     let mut all = Vec::new(alloc);
     for event in events {
-        match event {
-            Noted::Try(trial) => all.push(Noted::Try(trial.copied()))?,
-            Noted::Set(assign) => all.push(Noted::Set(*assign))?,
-            Noted::End(end, conds) => all.push(Noted::End(
-                *end,
-                with_part(alloc, conds, name, start, *end)?,
-            ))?,
-            Noted::Halt => all.push(Noted::Halt)?,
-            Noted::Stop => all.push(Noted::Stop)?,
-        }
+        all.push(assigned_later(alloc, name, start, event)?)?;
     }
     Ok(all)
 }
 
+// Adds the assignment that comes before the event, if it is an End.
+fn push_assigned<'a>(
+    events: &mut Vec<Noted<'a>>,
+    name: Name,
+    start: usize,
+    event: &Noted<'a>,
+) -> Result<(), AllocError>
+    ensures { OnOk result (events.new.items ++ event.now ∷ [] ≡ events.old.items ++ assign_now name start (event.now ∷ [])) }
+{
+    match event {
+        Noted::End(end, _) => push_set(
+            events,
+            &Assign {
+                name,
+                what: What::Part(start, *end),
+            },
+        ),
+        Noted::Try(_) | Noted::Set(_) | Noted::Mark(_) | Noted::Halt | Noted::Stop => Ok(()),
+    }
+}
+
 // The part from `start` to each End assigned to the name at once.
+#[inline(never)]
+#[tactic(auto, using(crate::proofs::Copies::now_first))]
 pub fn assign_now<'a>(
     alloc: Global,
     name: Name,
@@ -174,19 +267,92 @@ pub fn assign_now<'a>(
 {
     let mut all = Vec::new(alloc);
     for event in events {
-        match event {
-            Noted::Try(trial) => all.push(Noted::Try(trial.copied()))?,
-            Noted::Set(assign) => all.push(Noted::Set(*assign))?,
-            Noted::End(end, conds) => {
-                all.push(Noted::Set(Assign {
-                    name,
-                    what: What::Part(start, *end),
-                }))?;
-                all.push(Noted::End(*end, copied(alloc, conds)?))?;
-            }
-            Noted::Halt => all.push(Noted::Halt)?,
-            Noted::Stop => all.push(Noted::Stop)?,
-        }
+        push_assigned(&mut all, name, start, event)?;
+        all.push(event.copied(alloc)?)?;
     }
+    Ok(all)
+}
+
+// A mark. `below` more references may be nested.
+pub fn mark_at<'a>(below: u128, what: Landmark, cursor: usize) -> Noted<'a>
+    ensures { result ≡ marked below what cursor }
+{
+    Noted::Mark(Marked {
+        what,
+        cursor,
+        below,
+    })
+}
+
+// Adds that the definition with this number is left, if the event is an End.
+fn push_leave<'a>(
+    events: &mut Vec<Noted<'a>>,
+    below: u128,
+    number: usize,
+    start: usize,
+    event: &Noted<'a>,
+) -> Result<(), AllocError>
+    ensures { OnOk result (events.new.items ++ event.now ∷ [] ≡ events.old.items ++ leave_each below number start (event.now ∷ [])) }
+{
+    match event {
+        Noted::End(end, _) => {
+            events.push(mark_at(below, Landmark::Leave(number, *end), start))?;
+            Ok(())
+        }
+        Noted::Try(_) | Noted::Set(_) | Noted::Mark(_) | Noted::Halt | Noted::Stop => Ok(()),
+    }
+}
+
+// Before each End the definition with this number is left, which was entered at `start`.
+#[tactic(auto, using(crate::proofs::Copies::leave_first))]
+fn leave_each<'a>(
+    alloc: Global,
+    below: u128,
+    number: usize,
+    start: usize,
+    events: &[Noted<'a>],
+) -> Result<Vec<Noted<'a>>, AllocError>
+    ensures { IfOk result (λ v. v.items ≡ leave_each below number start events.now) }
+{
+    let mut all = Vec::new(alloc);
+    for event in events {
+        push_leave(&mut all, below, number, start, event)?;
+        all.push(event.copied(alloc)?)?;
+    }
+    Ok(all)
+}
+
+// Adds that the definition fails, unless something ends its events.
+fn push_last<'a>(
+    below: u128,
+    number: usize,
+    start: usize,
+    events: &[Noted<'a>],
+    all: &mut Vec<Noted<'a>>,
+) -> Result<(), AllocError>
+    ensures { OnOk result (all.new.items ≡ all.old.items ++ leave_last below number start events.now) }
+{
+    if !has_last(events) {
+        all.push(mark_at(below, Landmark::Fail(number), start))?;
+    }
+    Ok(())
+}
+
+// The events of the definition with this number from `start` on, with marks of where it is entered and left.
+#[inline(never)]
+pub fn within_definition<'a>(
+    alloc: Global,
+    below: u128,
+    number: usize,
+    start: usize,
+    events: &[Noted<'a>],
+) -> Result<Vec<Noted<'a>>, AllocError>
+    ensures { IfOk result (λ v. v.items ≡ within_definition below number start events.now) }
+{
+    let mut all = Vec::new(alloc);
+    all.push(mark_at(below, Landmark::Enter(number), start))?;
+    let mut left = leave_each(alloc, below, number, start, events)?;
+    all.append(&mut left)?;
+    push_last(below, number, start, events, &mut all)?;
     Ok(all)
 }

@@ -12,12 +12,20 @@ ghost use Rattle.sno_trace.specs.declared.faults.TraceFault.TheVariants.{TooDeep
 
 use crate::events::Noted;
 use crate::faults::{MAX_DEPTH, TraceFault};
-use crate::lists::{copied, count_trials};
+use crate::lists::count_trials;
 use crate::walking::walk;
 use sno_pattern::{Pattern, Rules, Text};
 use std::alloc::{AllocError, Global};
 
+// Whether the match ends with this event, or what is shown of it.
+fn is_ending(event: &Noted<'_>) -> bool
+    ensures { result ≡ is_ending event.now }
+{
+    matches!(event, Noted::End(_, _) | Noted::Halt | Noted::Stop)
+}
+
 // Adds the events of one start up to the one that ends the match, and returns whether there is one.
+#[tactic(auto, using(crate::proofs::Copies::started, crate::proofs::Copies::start_ended))]
 fn add_start<'a>(
     alloc: Global,
     start: usize,
@@ -28,21 +36,9 @@ fn add_start<'a>(
     ensures ended { IfOk result (λ b. b ≡ list_any is_ending events.now) }
 {
     for event in events {
-        match event {
-            Noted::Try(trial) => all.push((start, Noted::Try(trial.copied())))?,
-            Noted::Set(assign) => all.push((start, Noted::Set(*assign)))?,
-            Noted::End(end, conds) => {
-                all.push((start, Noted::End(*end, copied(alloc, conds)?)))?;
-                return Ok(true);
-            }
-            Noted::Halt => {
-                all.push((start, Noted::Halt))?;
-                return Ok(true);
-            }
-            Noted::Stop => {
-                all.push((start, Noted::Stop))?;
-                return Ok(true);
-            }
+        all.push((start, event.copied(alloc)?))?;
+        if is_ending(event) {
+            return Ok(true);
         }
     }
     Ok(false)

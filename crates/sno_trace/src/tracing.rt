@@ -1,9 +1,9 @@
 //! The trace of a match.
-ghost use Rattle.std.specs.Prelude.{◌≡◌, ◌<◌, ◌≤◌, length, IfOk, IfErr};
+ghost use Rattle.std.specs.Prelude.{◌≡◌, ◌<◌, ◌≤◌, length, position, IfOk, IfErr};
 ghost use Rattle.std.specs.List.{list_any};
 ghost use Rattle.sno_pattern.specs.Tree.{tree_of};
 ghost use Rattle.sno_pattern.specs.Outcome.{trials, trials_from, trials_in};
-ghost use Rattle.sno_trace.specs.Promise.{IsShown, IsShownFrom, IsWholeMatch, IsWholeSearch, IsFront, IsFrontFrom, is_stop, off, before_stop};
+ghost use Rattle.sno_trace.specs.Promise.{IsShown, IsShownFrom, IsWholeMatch, IsWholeSearch, IsFront, IsFrontFrom, is_stop, off, before_stop, is_past, shown_up_to};
 ghost use Rattle.sno_trace.specs.Depth.{IsDeeper, IsDeeperFrom};
 ghost use Rattle.sno_trace.specs.declared.faults.TraceFault.TheVariants.{TooDeep};
 
@@ -23,6 +23,31 @@ pub struct MatchTrace<'a> {
     /// Each event with the cursor from which the match was tried. The last one is the End or the Halt that ended the match, or a
     /// Stop if a limit was reached. If there is none of these, the match failed at each start.
     pub events: Vec<(usize, Noted<'a>)>,
+}
+
+impl<'a> MatchTrace<'a> {
+    /// What is shown of the starts up to a cursor. Without a Stop it is the trace of a search that has no later start.
+    pub fn up_to(mut self, last: usize) -> MatchTrace<'a>
+        ensures { result.events.items ≡ shown_up_to last self.entry.events.items }
+    {
+        if let Some(place) = first_past(last, &self.events) {
+            self.events.truncate(place);
+        }
+        self
+    }
+}
+
+fn is_past(last: usize, shown: &(usize, Noted<'_>)) -> bool
+    ensures { result ≡ is_past last shown.now }
+{
+    last < shown.0
+}
+
+// The first event of a later start.
+fn first_past(last: usize, events: &[(usize, Noted<'_>)]) -> Option<usize>
+    ensures { result ≡ position (is_past last) events.now }
+{
+    events.iter().position(|shown| is_past(last, shown))
 }
 
 fn is_stop(shown: &(usize, Noted<'_>)) -> bool

@@ -9,12 +9,15 @@ ghost use Rattle.sno_trace.specs.declared.faults.TraceFault.TheVariants.{TooDeep
 use crate::events::Noted;
 use crate::faults::{TraceFault, deeper};
 use crate::leaves::leaf;
-use crate::lists::{add_after, assign_later, assign_now, count_trials, cut, has_last, push_end};
+use crate::lists::{
+    add_after, assign_later, assign_now, count_trials, cut, has_last, push_end, push_halt,
+    push_mark, push_null_round, push_set, push_stop, push_try, within_definition,
+};
 use sno_pattern::{Pattern, Rules, Text};
 use std::alloc::Global;
 
 // What the pattern does from a cursor, at most `depth` references deep, up to `limit` trials. It is refused if it is nested deeper
-// than `room`.
+// than `room`. What it calls isn't inlined, so that a call takes little of the stack.
 #[cycle(walk)]
 #[tactic(auto, unfolding(crate::specs::Noted::noted_of))]
 pub fn walk<'a>(
@@ -63,7 +66,8 @@ pub fn walk<'a>(
             Ok(events)
         }
         Pattern::Ref(number) => {
-            let events = named(alloc, text, rules, depth, inside, limit, *number, c)?;
+            let inner = named(alloc, text, rules, depth, inside, limit, *number, c)?;
+            let events = within_definition(alloc, depth, *number, c, &inner)?;
             Ok(events)
         }
         _ => {
@@ -75,6 +79,7 @@ pub fn walk<'a>(
 
 // What the definition with this number does from a cursor; nothing if the depth is used up.
 #[cycle(walk)]
+#[inline(never)]
 fn named<'a>(
     alloc: Global,
     text: &Text,
@@ -103,6 +108,7 @@ fn named<'a>(
 
 // What the pattern does after each End of `first`, up to the first Halt or Stop.
 #[cycle(walk)]
+#[inline(never)]
 fn follow<'a>(
     alloc: Global,
     text: &Text,
@@ -123,13 +129,14 @@ fn follow<'a>(
         match event {
             Noted::Try(trial) => {
                 if left == 0 {
-                    all.push(Noted::Stop)?;
+                    push_stop(&mut all)?;
                     return Ok(all);
                 }
-                all.push(Noted::Try(trial.copied()))?;
+                push_try(&mut all, trial)?;
                 left -= 1;
             }
-            Noted::Set(assign) => all.push(Noted::Set(*assign))?,
+            Noted::Set(assign) => push_set(&mut all, assign)?,
+            Noted::Mark(mark) => push_mark(&mut all, mark)?,
             Noted::End(end, conds) => {
                 let later = walk(alloc, text, rules, depth, room, left, pattern, *end)?;
                 if add_after(alloc, conds, &later, &mut all)? {
@@ -138,11 +145,11 @@ fn follow<'a>(
                 left -= count_trials(&later);
             }
             Noted::Halt => {
-                all.push(Noted::Halt)?;
+                push_halt(&mut all)?;
                 return Ok(all);
             }
             Noted::Stop => {
-                all.push(Noted::Stop)?;
+                push_stop(&mut all)?;
                 return Ok(all);
             }
         }
@@ -151,8 +158,9 @@ fn follow<'a>(
 }
 
 // What at most `count` rounds of the pattern do. First comes no round; then each round that took a character, with all that
-// follows it before the next alternative of the round.
+// follows it before the next alternative of the round. A round that took none is marked as dropped.
 #[cycle(walk)]
+#[inline(never)]
 fn repeat<'a>(
     alloc: Global,
     text: &Text,
@@ -165,7 +173,7 @@ fn repeat<'a>(
     c: usize,
 ) -> Result<Vec<Noted<'a>>, TraceFault>
     requires { c ≤ length text.now }
-    ensures done { IfOk result (λ v. v.items ≡ upto limit (noted_rounds (noted text.now rules.now.bodies depth (tree_of part.now)) count c)) }
+    ensures done { IfOk result (λ v. v.items ≡ upto limit (noted_rounds depth (noted text.now rules.now.bodies depth (tree_of part.now)) count c)) }
     ensures deep { IfErr result (λ e. e ≡ TooDeep → Nests text.now rules.now.bodies room depth (Arbno (tree_of part.now)) c) }
 {
     let mut all = Vec::new(alloc);
@@ -180,13 +188,14 @@ fn repeat<'a>(
         match event {
             Noted::Try(trial) => {
                 if left == 0 {
-                    all.push(Noted::Stop)?;
+                    push_stop(&mut all)?;
                     return Ok(all);
                 }
-                all.push(Noted::Try(trial.copied()))?;
+                push_try(&mut all, trial)?;
                 left -= 1;
             }
-            Noted::Set(assign) => all.push(Noted::Set(*assign))?,
+            Noted::Set(assign) => push_set(&mut all, assign)?,
+            Noted::Mark(mark) => push_mark(&mut all, mark)?,
             Noted::End(end, conds) => {
                 if c < *end {
                     let later = repeat(
@@ -204,14 +213,16 @@ fn repeat<'a>(
                         return Ok(all);
                     }
                     left -= count_trials(&later);
+                } else {
+                    push_null_round(&mut all, depth, *end)?;
                 }
             }
             Noted::Halt => {
-                all.push(Noted::Halt)?;
+                push_halt(&mut all)?;
                 return Ok(all);
             }
             Noted::Stop => {
-                all.push(Noted::Stop)?;
+                push_stop(&mut all)?;
                 return Ok(all);
             }
         }

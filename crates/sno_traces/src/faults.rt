@@ -13,6 +13,9 @@ pub enum NoTrace {
     /// The statement can't have that many matches; this is the most.
     #[error("error: '--match' is too high: it is at most {0} for this statement")]
     NoMatch(u32),
+    /// The cursors that are asked for begin past the end of the text, which is this cursor.
+    #[error("error: '--from' is past the end of the text, which is cursor {0}")]
+    NoCursor(usize),
     /// Calls would nest too deep.
     #[error("too deep: with fewer --lines less is nested")]
     TooDeep,

@@ -1,24 +1,46 @@
 //! The lines of a trace: of a match, of a round, or of a search of a pass.
-ghost use Rattle.std.specs.Prelude.{◌≤◌, length};
+ghost use Rattle.std.specs.Prelude.{◌≡◌, ◌≤◌, length};
+ghost use Rattle.std.specs.Arc.{arc_value};
 
 use crate::rounds::round_after;
 use crate::searches::seek_match;
-use sno_machine::{MatchFault, compile};
+use sno_machine::{MatchFault, SearchOutcome, Searched, compile};
 use sno_pattern::Text;
 use sno_statement::Statement;
-use sno_trace::{MatchTrace, Noted, TraceFault, lines_of, trace_from};
+use sno_trace::{MatchTrace, Noted, TraceFault, lines_of, pattern_text, trace_from};
 use std::alloc::{AllocError, Global};
 use std::sync::Arc;
 
 /// What is shown.
 #[derive(Drop)]
 pub struct TraceLines {
+    /// The pattern of the statement, as it is written.
+    pub pattern: Vec<u8>,
     /// The text in which the match is sought.
     pub text: Arc<Text>,
     /// The lines of its trace.
     pub lines: Vec<u8>,
     /// Whether the match that was asked for is there.
     pub matched: bool,
+}
+
+/// The cursors at which a search may find a match.
+#[derive(Clone, Copy, Debug, PartialEq, Eq)]
+pub(crate) struct Starts {
+    /// The first one.
+    pub(crate) from: usize,
+    /// The last one that is shown.
+    pub(crate) to: usize,
+}
+
+/// Every cursor of a text from this one on.
+fn starts_from(text: &Text, from: usize) -> Starts
+    ensures { result.from ≡ from }
+{
+    Starts {
+        from,
+        to: text.bytes().len(),
+    }
 }
 
 /// The lines of one search, and whether it found a match; `None` if they were cut off.
@@ -37,16 +59,16 @@ fn outcome_in(trace: &MatchTrace<'_>, is_refused: bool) -> Option<bool> {
     }
 }
 
-/// The lines of a search from a cursor on that may take `limit` trials, at most `most` of them.
+/// The lines of a search that may take `limit` trials, at most `most` of them.
 fn search_lines(
     alloc: Global,
     statement: &Statement,
     text: &Text,
-    from: usize,
+    starts: Starts,
     limit: u32,
     most: u32,
 ) -> Result<SearchLines, TraceFault>
-    requires { from ≤ length text.now }
+    requires { starts.from ≤ length text.now }
 {
     let is_refused = limit <= most;
     let trials = if is_refused { limit } else { most };
@@ -56,9 +78,10 @@ fn search_lines(
         statement.pattern(),
         text,
         statement.anchored(),
-        from,
+        starts.from,
         trials as usize,
-    )?;
+    )?
+    .up_to(starts.to);
     let lines = lines_of(
         alloc,
         statement.rules(),
@@ -73,14 +96,78 @@ fn search_lines(
     })
 }
 
-/// Whether the match of a statement that is performed once succeeds. One that takes too many trials doesn't.
-fn succeeds(alloc: Global, statement: &Statement, text: &Text) -> Result<bool, AllocError> {
+/// Whether the search finds a match. One that takes more trials than the statement may doesn't.
+fn succeeds(
+    alloc: Global,
+    statement: &Statement,
+    text: &Text,
+    starts: Starts,
+) -> Result<bool, AllocError>
+    requires { starts.from ≤ length text.now }
+{
     let code = compile(alloc, statement.rules(), statement.pattern())?;
-    match code.first(alloc, text, statement.anchored(), statement.limit()) {
-        Ok(found) => Ok(found.end.is_some()),
+    let mut searched = Searched::new(alloc, text);
+    let limit = statement.limit();
+    match code.first_from(
+        alloc,
+        &mut searched,
+        statement.anchored(),
+        starts.from,
+        limit,
+    ) {
+        Ok(SearchOutcome { found, .. }) => match &found.end {
+            Some(hit) => Ok(hit.start <= starts.to),
+            None => Ok(false),
+        },
         Err(MatchFault::TooManyTrials) => Ok(false),
         Err(MatchFault::Memory) => Err(AllocError),
     }
+}
+
+/// The match of a search that the whole limit of the statement is for.
+fn first_lines(
+    alloc: Global,
+    statement: &Statement,
+    text: Arc<Text>,
+    starts: Starts,
+    most: u32,
+) -> Result<TraceLines, TraceFault>
+    requires { starts.from ≤ length (arc_value text) }
+{
+    let found = search_lines(alloc, statement, &text, starts, statement.limit(), most)?;
+    let matched = match found.matched {
+        Some(matched) => matched,
+        None => succeeds(alloc, statement, &text, starts)?,
+    };
+    Ok(TraceLines {
+        pattern: pattern_text(alloc, statement.rules(), statement.pattern())?,
+        text,
+        lines: found.lines,
+        matched,
+    })
+}
+
+/// The match of a statement at one of these cursors, after a line that names them.
+pub(crate) fn lines_between(
+    alloc: Global,
+    statement: &Statement,
+    text: Arc<Text>,
+    starts: Starts,
+    most: u32,
+) -> Result<TraceLines, TraceFault>
+    requires { starts.from ≤ length (arc_value text) }
+{
+    let Starts { from, to } = starts;
+    let head = format!(in alloc; "search from cursor {from} to {to}\n")?;
+    let mut lines = Vec::from_slice(alloc, head.as_bytes())?;
+    let shown = first_lines(alloc, statement, text, starts, most)?;
+    lines.extend_from_slice(&shown.lines)?;
+    Ok(TraceLines {
+        pattern: shown.pattern,
+        text: shown.text,
+        lines,
+        matched: shown.matched,
+    })
 }
 
 /// The match of a statement that is performed once.
@@ -90,16 +177,9 @@ pub(crate) fn match_lines(
     text: Arc<Text>,
     most: u32,
 ) -> Result<TraceLines, TraceFault> {
-    let found = search_lines(alloc, statement, &text, 0, statement.limit(), most)?;
-    let matched = match found.matched {
-        Some(matched) => matched,
-        None => succeeds(alloc, statement, &text)?,
-    };
-    Ok(TraceLines {
-        text,
-        lines: found.lines,
-        matched,
-    })
+    let starts = starts_from(&text, 0);
+    let shown = first_lines(alloc, statement, text, starts, most)?;
+    Ok(shown)
 }
 
 /// Adds the line of how many matches there are, if there are fewer than were asked for, and returns whether there are as many.
@@ -144,6 +224,7 @@ pub(crate) fn round_lines(
     let matches = matches_with(matches, shown.matched);
     let matched = put_matches(alloc, &mut lines, earlier, matches)?;
     Ok(TraceLines {
+        pattern: shown.pattern,
         text: shown.text,
         lines,
         matched,
@@ -164,11 +245,13 @@ pub(crate) fn pass_lines(
     let number = search.matches.saturating_add(1);
     let head = format!(in alloc; "search for match {number} from cursor {from}\n")?;
     let mut lines = Vec::from_slice(alloc, head.as_bytes())?;
-    let shown = search_lines(alloc, statement, &text, from, search.left, most)?;
+    let starts = starts_from(&text, from);
+    let shown = search_lines(alloc, statement, &text, starts, search.left, most)?;
     lines.extend_from_slice(&shown.lines)?;
     let matches = matches_with(search.matches, found.counts);
     let matched = put_matches(alloc, &mut lines, earlier, matches)?;
     Ok(TraceLines {
+        pattern: pattern_text(alloc, statement.rules(), statement.pattern())?,
         text,
         lines,
         matched,

@@ -1,7 +1,7 @@
 //! The trace of one statement, on the text that others leave.
 
 use crate::NoTrace;
-use crate::trace_lines::{TraceLines, match_lines, pass_lines, round_lines};
+use crate::trace_lines::{Starts, TraceLines, lines_between, match_lines, pass_lines, round_lines};
 use sno_book::{Book, CommitFault, SnapshotFault, fresh_is_related, propose};
 use sno_document::Document;
 use sno_pattern::Text;
@@ -9,11 +9,22 @@ use sno_statement::{Statement, StatementFault, perform_shared};
 use std::alloc::{AllocError, Global};
 use std::sync::Arc;
 
+/// The cursors at which a match may begin, if not at each.
+#[derive(Clone, Copy, Debug, PartialEq, Eq)]
+pub struct Between {
+    /// The first one. The end of the text is the last cursor that it may be.
+    pub from: u32,
+    /// The last one; the end of the text if it is beyond it.
+    pub to: u32,
+}
+
 /// Which match of a statement is shown, and how much of it.
 #[derive(Clone, Copy, Debug, PartialEq, Eq)]
 pub struct Wanted {
     /// The number of the match, from 1.
     pub number: u32,
+    /// If there are cursors, the first match at one of them is shown instead, as if the statement was performed once.
+    pub between: Option<Between>,
     /// How many lines are shown at most.
     pub lines: u32,
 }
@@ -35,6 +46,28 @@ fn check_number(statement: &Statement, number: u32) -> Result<(), NoTrace> {
     Ok(())
 }
 
+/// The lines of the first match at these cursors.
+///
+/// Refused with `NoCursor`; `TooDeep`; `Memory`.
+fn lines_at(
+    alloc: Global,
+    statement: &Statement,
+    text: Arc<Text>,
+    between: Between,
+    most: u32,
+) -> Result<TraceLines, NoTrace> {
+    let length = text.bytes().len();
+    let from = between.from as usize;
+    if from > length {
+        return Err(NoTrace::NoCursor(length));
+    }
+    let starts = Starts {
+        from,
+        to: length.min(between.to as usize),
+    };
+    Ok(lines_between(alloc, statement, text, starts, most)?)
+}
+
 /// The lines of the match that is wanted, on this text.
 fn lines_on(
     alloc: Global,
@@ -44,6 +77,9 @@ fn lines_on(
 ) -> Result<TraceLines, NoTrace> {
     let earlier = wanted.number.saturating_sub(1);
     let most = wanted.lines;
+    if let Some(between) = wanted.between {
+        return lines_at(alloc, &statement, text, between, most);
+    }
     if statement.is_for_all() {
         return Ok(pass_lines(alloc, &statement, text, earlier, most)?);
     }
@@ -125,7 +161,8 @@ pub fn take_statement(
 /// Shows a match of the document's statement with this number, from 1, on the text as the statements before it leave it. `None` if
 /// that text isn't there.
 ///
-/// Refused with `NoStatement`; `NoMatch` if the statement can't have such a match, whatever its text; `TooDeep`; `Memory`.
+/// Refused with `NoStatement`; `NoMatch` if the statement can't have such a match, whatever its text; `NoCursor` if the cursors begin
+/// past the end of the text; `TooDeep`; `Memory`.
 pub fn trace_of_document(
     alloc: Global,
     document: Document,
@@ -152,7 +189,8 @@ pub fn trace_of_document(
 
 /// Shows a match of a statement on this text as the earlier statements leave it.
 ///
-/// Refused with `NoMatch` if the statement can't have such a match, whatever its text; `TooDeep`; `Memory`.
+/// Refused with `NoMatch` if the statement can't have such a match, whatever its text; `NoCursor` if the cursors begin past the end of
+/// the text; `TooDeep`; `Memory`.
 pub fn trace_on_text(
     alloc: Global,
     earlier: &[Arc<Statement>],

@@ -11,7 +11,7 @@ use crate::jobs::{
 use sno_book::{
     Book, BookFault, CommitFault, Proposal, Snapshot, StatementFault, Text, TextName, propose,
 };
-use sno_statement::{ByteText, Statement, perform, rewrite};
+use sno_statement::{ByteText, FileStatement, Statement, perform, rewrite};
 use std::alloc::Global;
 use std::process::Abort;
 use std::sync::Arc;
@@ -93,7 +93,12 @@ fn a_statement_for_all_matches_is_performed(rt: HostRuntime) -> Result<(), Fail>
     tell_twice(&rt, || perform_all_once(&rt, alloc, &statement, &text))
 }
 
-fn rewrite_once(rt: &impl Abort, alloc: Global, statement: &Statement, text: &ByteText) -> CallEnd {
+fn rewrite_once(
+    rt: &impl Abort,
+    alloc: Global,
+    statement: &FileStatement,
+    text: &ByteText,
+) -> CallEnd {
     match rewrite(alloc, statement, text, 1_000) {
         Ok(rewritten) => {
             check_eq(rt, &rewritten.matches, &2);
@@ -111,7 +116,7 @@ fn rewrite_once(rt: &impl Abort, alloc: Global, statement: &Statement, text: &By
 #[test]
 fn a_text_is_rewritten(rt: HostRuntime) -> Result<(), Fail> {
     let alloc = rt.alloc();
-    let statement = exchange_all(&rt, alloc)?;
+    let statement = FileStatement::of(alloc, exchange_all(&rt, alloc)?)?;
     let text = ByteText::new(Vec::from_slice(alloc, b"k=v;m=n;")?)?;
     tell_twice(&rt, || rewrite_once(&rt, alloc, &statement, &text))
 }
@@ -119,7 +124,7 @@ fn a_text_is_rewritten(rt: HostRuntime) -> Result<(), Fail> {
 fn rewrite_twice(
     rt: &impl Abort,
     alloc: Global,
-    statement: &Statement,
+    statement: &FileStatement,
     text: &ByteText,
 ) -> CallEnd {
     match rewrite(alloc, statement, text, 1_000) {
@@ -139,7 +144,7 @@ fn rewrite_twice(
 #[test]
 fn a_text_is_rewritten_in_rounds(rt: HostRuntime) -> Result<(), Fail> {
     let alloc = rt.alloc();
-    let statement = exchange_twice(&rt, alloc)?;
+    let statement = FileStatement::of(alloc, exchange_twice(&rt, alloc)?)?;
     let text = ByteText::new(Vec::from_slice(alloc, BEFORE)?)?;
     tell_twice(&rt, || rewrite_twice(&rt, alloc, &statement, &text))
 }

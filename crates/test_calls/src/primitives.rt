@@ -47,6 +47,7 @@ fn is_single(pattern: &Pattern) -> bool
 {
     match pattern {
         Pattern::Lit(_)
+        | Pattern::Bytes(_)
         | Pattern::Len(_)
         | Pattern::Pos(_)
         | Pattern::Rpos(_)

@@ -1,8 +1,8 @@
 //! What a statement is given, and what it makes of the bytes of a file.
-use crate::written::{check_eq, no_rules, pattern_of};
+use crate::written::{check_eq, no_rules, pattern_of, rule_pattern_of};
 use sno_pattern::TextName;
-use sno_read::read_object;
-use sno_statement::{ByteText, Statement, StatementFault, rewrite};
+use sno_read::{read_object, read_rule_object};
+use sno_statement::{ByteText, FileStatement, Statement, StatementFault, rewrite};
 use std::alloc::Global;
 use std::process::Abort;
 use std::sync::Arc;
@@ -50,7 +50,7 @@ fn a_statement_for_all_matches_is_not_repeated(rt: HostRuntime) -> Result<(), Fa
 // without a match. Or why it is refused.
 fn left_of(
     alloc: Global,
-    statement: &Statement,
+    statement: &FileStatement,
     bytes: &[u8],
     trials: u32,
 ) -> Result<Result<(u64, Vec<u8>), StatementFault>, Fail> {
@@ -95,7 +95,7 @@ fn doubling(alloc: Global) -> Result<Statement, Fail> {
 #[test]
 fn any_bytes_of_a_file_are_rewritten(rt: HostRuntime) -> Result<(), Fail> {
     let alloc = rt.alloc();
-    let once = doubling(alloc)?;
+    let once = FileStatement::of(alloc, doubling(alloc)?)?;
     let bytes = [195, 169, 0];
     check_left(
         &rt,
@@ -116,7 +116,7 @@ fn any_bytes_of_a_file_are_rewritten(rt: HostRuntime) -> Result<(), Fail> {
 #[test]
 fn a_file_is_rewritten_in_rounds(rt: HostRuntime) -> Result<(), Fail> {
     let alloc = rt.alloc();
-    let often = repeated(alloc, 2)?;
+    let often = FileStatement::of(alloc, repeated(alloc, 2)?)?;
     check_left(&rt, &left_of(alloc, &often, b"aaa", 1_000)?, 2, b"bba");
     check_left(&rt, &left_of(alloc, &often, b"ca", 1_000)?, 1, b"cb");
     check_left(&rt, &left_of(alloc, &often, b"c", 1_000)?, 0, b"");
@@ -126,7 +126,7 @@ fn a_file_is_rewritten_in_rounds(rt: HostRuntime) -> Result<(), Fail> {
 #[test]
 fn the_limit_for_a_file_is_the_one_that_is_given(rt: HostRuntime) -> Result<(), Fail> {
     let alloc = rt.alloc();
-    let once = repeated(alloc, 1)?;
+    let once = FileStatement::of(alloc, repeated(alloc, 1)?)?;
     check_eq(
         &rt,
         &left_of(alloc, &once, b"cca", 2)?.err(),
@@ -134,5 +134,40 @@ fn the_limit_for_a_file_is_the_one_that_is_given(rt: HostRuntime) -> Result<(), 
     );
     let limited = once.limited(2);
     check_left(&rt, &left_of(alloc, &limited, b"cca", 3)?, 1, b"ccb");
+    Ok(())
+}
+
+// A literal of é in a pattern and in an object, read as those of a rule.
+#[test]
+fn literals_of_rules_have_any_bytes(rt: HostRuntime) -> Result<(), Fail> {
+    let alloc = rt.alloc();
+    let rules = Arc::new(alloc, no_rules(alloc)?)?;
+    let text = TextName::new(alloc, b"T".as_slice())?;
+    let pattern = rule_pattern_of(alloc, &rules, &[39, 195, 169, 39])?;
+    let object = read_rule_object(alloc, rules.names(), &[39, 195, 168, 39])?;
+    let search = Statement::new(1, rules, pattern, None, text, false);
+    let statement = FileStatement::new(search, Some(object)).for_all();
+    check_left(
+        &rt,
+        &left_of(alloc, &statement, &[195, 169, 120, 195, 169], 1_000)?,
+        2,
+        &[195, 168, 120, 195, 168],
+    );
+    // It is none for texts.
+    assert!(rt; statement.for_texts(alloc)?.is_none());
+    Ok(())
+}
+
+#[test]
+fn a_statement_for_files_may_be_one_for_texts(rt: HostRuntime) -> Result<(), Fail> {
+    let alloc = rt.alloc();
+    let often = FileStatement::of(alloc, repeated(alloc, 7)?)?;
+    check_eq(&rt, &often.repeat(), &Some(7));
+    assert!(rt; often.object().is_some());
+    let Some(again) = often.for_texts(alloc)? else {
+        return Err("the object is ASCII".into());
+    };
+    check_eq(&rt, &again.repeat(), &Some(7));
+    assert!(rt; again.object().is_some());
     Ok(())
 }

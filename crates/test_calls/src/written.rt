@@ -3,7 +3,7 @@ ghost use Rattle.std.specs.Prelude.{IfOk, IsTrue, length};
 ghost use Rattle.sno_pattern.specs.Tree.{refs_below, tree_of};
 
 use sno_pattern::{Name, Names, Pattern, Rules, Text};
-use sno_read::read_pattern;
+use sno_read::{read_pattern, read_rule_pattern};
 use std::alloc::Global;
 use std::fmt;
 use std::process::Abort;
@@ -51,14 +51,29 @@ pub(crate) fn no_rules(alloc: Global) -> Result<Rules, Fail> {
     admit(alloc, Names::new(alloc, &[])?, Vec::new(alloc))
 }
 
-/// The pattern, which the definitions cover.
-pub(crate) fn pattern_of(alloc: Global, rules: &Rules, pattern: &str) -> Result<Pattern, Fail>
+/// The pattern, if the definitions cover it.
+fn covered(rules: &Rules, pattern: Pattern) -> Result<Pattern, Fail>
     ensures { IfOk result (λ p. IsTrue (refs_below (length rules.now.bodies) (tree_of p))) }
 {
-    let pattern = read_pattern(alloc, rules.names(), rules.len(), pattern.as_bytes())?;
     if rules.covers(&pattern) {
         Ok(pattern)
     } else {
         Err("the definitions don't cover the pattern".into())
     }
+}
+
+/// The pattern, which the definitions cover.
+pub(crate) fn pattern_of(alloc: Global, rules: &Rules, pattern: &str) -> Result<Pattern, Fail>
+    ensures { IfOk result (λ p. IsTrue (refs_below (length rules.now.bodies) (tree_of p))) }
+{
+    let pattern = read_pattern(alloc, rules.names(), rules.len(), pattern.as_bytes())?;
+    covered(rules, pattern)
+}
+
+/// The pattern of a rule, which the definitions cover.
+pub(crate) fn rule_pattern_of(alloc: Global, rules: &Rules, pattern: &[u8]) -> Result<Pattern, Fail>
+    ensures { IfOk result (λ p. IsTrue (refs_below (length rules.now.bodies) (tree_of p))) }
+{
+    let pattern = read_rule_pattern(alloc, rules.names(), rules.len(), pattern)?;
+    covered(rules, pattern)
 }

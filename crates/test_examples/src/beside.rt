@@ -2,8 +2,8 @@
 use sno_machine::{Code, Found, MatchFault, compile};
 use sno_pattern::{ByteText, MAX_TEXT, Name, Text};
 use sno_statement::{
-    BindingsRef, DatumRef, Match, MatchRef, Outcome, Pass, Statement, StatementFault, perform,
-    rewrite,
+    BindingsRef, DatumRef, FileStatement, Match, MatchRef, Outcome, Pass, Statement,
+    StatementFault, perform, rewrite,
 };
 use std::alloc::Global;
 use std::sync::Arc;
@@ -200,17 +200,24 @@ fn is_same_text(bytes: Option<&Arc<ByteText>>, text: Option<&Arc<Text>>) -> bool
 
 /// Compares what rewriting a text's bytes leaves with the statement's outcome: the number of matches and the new text, or the
 /// refusal. A new text that is too long for a text is none for bytes.
-fn check_rewriting(alloc: Global, statement: &Statement, text: &Text) -> Result<(), Fail> {
-    let performed = perform(alloc, statement, text);
+pub(crate) fn check_rewriting(
+    alloc: Global,
+    statement: Statement,
+    text: &Text,
+) -> Result<(), Fail> {
+    let performed = perform(alloc, &statement, text);
+    let limit = statement.limit();
+    let is_repeated = statement.repeat().is_some();
     let bytes = ByteText::new(Vec::from_slice(alloc, text.bytes())?)?;
-    let rewritten = rewrite(alloc, statement, &bytes, statement.limit());
+    let for_files = FileStatement::of(alloc, statement)?;
+    let rewritten = rewrite(alloc, &for_files, &bytes, limit);
     let is_same = match (&performed, &rewritten) {
         (Ok(outcome), Ok(rewritten)) => {
             rewritten.matches == count_in(outcome)
                 && is_same_text(rewritten.after.as_ref(), outcome.after())
         }
         (Err(StatementFault::TextTooLong), Ok(rewritten)) => match &rewritten.after {
-            Some(after) => after.bytes().len() > MAX_TEXT || statement.repeat().is_some(),
+            Some(after) => after.bytes().len() > MAX_TEXT || is_repeated,
             None => false,
         },
         (Err(fault), Err(other)) => fault == other,
@@ -289,7 +296,6 @@ pub(crate) fn check_beside(
     expected: Option<u32>,
 ) -> Result<(), Fail> {
     let trials = trials_beside(alloc, statement, text)?;
-    check_rewriting(alloc, statement, text)?;
     if statement.is_for_all() {
         check_pass(alloc, statement, text)?;
         check_each_match(alloc, statement, text)?;

@@ -1,5 +1,5 @@
 //! What is compared for each kind of example.
-use crate::beside::check_beside;
+use crate::beside::{check_beside, check_rewriting};
 use crate::example::{Quoted, cut, definitions, row};
 use crate::row::{
     Definition, Heading, Refused, Row, admit, limited, names_of, performance_line, refusal_line,
@@ -123,11 +123,28 @@ fn check_admitted(alloc: Global, rules: Rules, row: &Row<'_>) -> Result<(), Fail
     }
 }
 
+/// Checks that the row's statement leaves of the text, as a file, what it leaves of it as a text. It is left out as the plain
+/// evaluator is.
+fn check_as_file(alloc: Global, written: &[Definition<'_>], row: &Row<'_>) -> Result<(), Fail> {
+    if row.times != 1 || row.outcome == "too many trials" {
+        return Ok(());
+    }
+    let Ok(rules) = admit(alloc, written)? else {
+        return Ok(());
+    };
+    let Ok(statement) = row_statement(alloc, rules, row)? else {
+        return Ok(());
+    };
+    let text = text_of(alloc, row.text, row.times)?;
+    check_rewriting(alloc, statement, &text)
+}
+
 fn check_row(alloc: Global, written: &[Definition<'_>], row: &Row<'_>) -> Result<(), Fail> {
     match admit(alloc, written)? {
-        Ok(rules) => check_admitted(alloc, rules, row),
-        Err(refused) => check_refused(alloc, &refused, row),
+        Ok(rules) => check_admitted(alloc, rules, row)?,
+        Err(refused) => check_refused(alloc, &refused, row)?,
     }
+    check_as_file(alloc, written, row)
 }
 
 /// Checks the example with these definitions, from the piece after them on.

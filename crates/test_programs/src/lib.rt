@@ -10,6 +10,8 @@ mod edits;
 mod findings;
 mod memory;
 #[cfg(test)]
+mod seekers;
+#[cfg(test)]
 mod served;
 
 pub use memory::Memory;

@@ -1,14 +1,20 @@
-"""The service as far as it can be tried without aiohttp: its lines, its journal, and what it says without it."""
+"""The service as far as it can be tried without aiohttp: its lines, its journal, its restarts, and what it says without it."""
 
+import asyncio
 import json
 import subprocess
 import sys
 import unittest
+from collections.abc import Callable
 from pathlib import Path
+from unittest import mock
 
+from sno_rewrite.service._desk import SharedDesk, StartFault, State
 from sno_rewrite.service._journal import Journal
 from sno_rewrite.service._lines import MOST_ENTRIES, entry_of, identity_of, index_in, members_of, numbered
 from sno_rewrite.service._lines import outcome_of, refused, restored
+from sno_rewrite.service._metrics import Metrics
+from sno_rewrite.service._options import options_of
 
 SOURCES = Path(__file__).resolve().parents[1] / "src"
 
@@ -77,7 +83,7 @@ class Lines(unittest.TestCase):
 class Journals(unittest.TestCase):
     def test_entries_come_in_order_from_any_index(self) -> None:
         journal = Journal(most=1_000, most_bytes=1_000_000)
-        journal.begin(7)
+        journal.begin(7, 3)
         for number in range(7, 107):
             journal.add(b"%d" % number)
         for first in range(7, 107):
@@ -98,6 +104,121 @@ class Journals(unittest.TestCase):
         for _ in range(3):
             journal.add(b"1" * 200_000)
         self.assertEqual([journal.message(first)[1] for first in range(3)], [1, 2, 3])
+
+
+class Run:
+    """A run of `sno serve`, as its pipe. It ends at once with its last reply, or before the start is over if it has none. Its
+    store has been compacted if its first entry has another index than 0."""
+
+    def __init__(
+        self,
+        entries: int,
+        replies: int | None,
+        first: int,
+        take: Callable[[list[bytes]], None],
+        ended: Callable[[int], None],
+    ) -> None:
+        self.entries, self.left, self.first = entries, replies, first
+        self.take, self.ended, self.has_ended = take, ended, False
+
+    async def start(self, command: list[str]) -> None:
+        if self.left == 0:
+            self.kill()
+
+    def put(self, line: bytes) -> None:
+        asyncio.get_running_loop().call_soon(self.reply, json.loads(line))
+
+    def reply(self, line: dict[str, int]) -> None:
+        if self.has_ended:
+            return
+        entries = [{"entry": index} for index in range(line["since"], min(self.entries, line["since"] + line["limit"]))]
+        gone = {"first": self.first, "id": line["id"], "reason": "compacted"}
+        reply = gone if line["since"] < self.first else {"entries": entries, "id": line["id"]}
+        self.take([json.dumps(reply, separators=(",", ":")).encode()])
+        if self.left is not None:
+            self.left -= 1
+            if self.left == 0:
+                self.kill()
+
+    def kill(self) -> None:
+        if not self.has_ended:
+            self.has_ended = True
+            self.ended(-9)
+
+
+class Runs:
+    """Runs one after the other, each with its entries, how many replies it writes, and the index of its first entry."""
+
+    def __init__(self, *runs: tuple[int, int | None, int] | tuple[int, int | None]) -> None:
+        self.left = [run if len(run) == 3 else (*run, 0) for run in runs]
+
+    def __call__(self, take: Callable[[list[bytes]], None], ended: Callable[[int], None]) -> Run:
+        self.last = Run(*self.left.pop(0), take, ended)
+        return self.last
+
+
+class Restarts(unittest.IsolatedAsyncioTestCase):
+    """A program may end at any moment: whoever waits gets an error, and the next one is started and caught up with."""
+
+    async def started(self, *runs: tuple[int, int | None, int] | tuple[int, int | None]) -> tuple[SharedDesk, Runs]:
+        pipes = Runs(*runs)
+        patched = mock.patch("sno_rewrite.service._desk.Pipe", pipes)
+        patched.start()
+        self.addCleanup(patched.stop)
+        desk = SharedDesk(options_of(["document.json", "--store", "file.store", "--patience", "0.1"]), Metrics())
+        async with asyncio.timeout(5):
+            await desk.start()
+        return desk, pipes
+
+    async def has_all(self, desk: SharedDesk, entries: int) -> None:
+        """The desk serves again, knows all entries, and shows them in order."""
+        found: list[int] = []
+        async with asyncio.timeout(5):
+            while desk.state is not State.SERVING:
+                await asyncio.sleep(0.01)
+            while lines := await desk.page(len(found)):
+                found += [json.loads(line)["watched"]["entry"] for line in lines]
+        self.assertEqual((found, desk.journal.next), (list(range(entries)), entries))
+
+    async def test_pages_are_refused_until_the_next_run(self) -> None:
+        desk, pipes = await self.started((250, None), (270, None))
+        await self.has_all(desk, 250)
+        pipes.last.kill()
+        while desk.state is not State.SERVING:
+            async with asyncio.timeout(5):
+                with self.assertRaises(ConnectionError):
+                    await desk.page(0)
+            await asyncio.sleep(0)
+        await self.has_all(desk, 270)
+
+    async def test_a_run_may_end_with_any_reply(self) -> None:
+        for replies in range(5):
+            desk, pipes = await self.started((250, None), (450, replies), (450, None))
+            pipes.last.kill()
+            await self.has_all(desk, 450)
+            self.assertEqual(pipes.left, [])
+
+    async def test_the_first_run_may_end_with_any_reply(self) -> None:
+        for replies in range(7):
+            with self.assertRaises(StartFault):
+                await self.started((7, replies))
+
+    async def test_a_store_may_begin_with_a_later_entry(self) -> None:
+        for entries in (100, 101, 107, 108, 250):
+            desk, _ = await self.started((entries, None, 100))
+            self.assertEqual((desk.journal.oldest, desk.journal.next), (100, entries))
+            lines = await desk.page(100)
+            self.assertEqual(len(lines), min(100, entries - 100))
+            with self.assertRaises(ConnectionError):
+                await desk.page(99)
+
+    async def test_entries_may_be_compacted_between_runs(self) -> None:
+        desk, pipes = await self.started((250, None), (300, None, 270))
+        pipes.last.kill()
+        async with asyncio.timeout(5):
+            while desk.state is not State.SERVING:
+                await asyncio.sleep(0.01)
+        self.assertEqual((desk.journal.oldest, desk.journal.first, desk.journal.next), (270, 270, 300))
 
 
 class WithoutAiohttp(unittest.TestCase):

@@ -1,4 +1,5 @@
-//! Nomyake for Rust: performs the statements of a document in order and lists what they did.
+//! Nomyake for Rust: performs the statements of a document in order and lists what they did; and reads a [`Pattern`] once,
+//! seeks it in any number of texts, and replaces its matches.
 //!
 //! ```
 //! use sno_rewrite::{rewrite, Options};
@@ -15,8 +16,12 @@
 //! `build.rs` links the static library `libsno_rewrite.a`, which it takes from the folder in the environment variable
 //! `SNO_REWRITE_LIB_DIR`, or else from `embed/out` of the repository, or else from the folder that pkg-config names.
 //!
-//! Several threads may call [`rewrite`] at once, each with a stack of 2 MiB or more, as [`std::thread::spawn`] gives
-//! it.
+//! Several threads may call at once, each with patterns and texts of its own, and with a stack of 2 MiB or more, as
+//! [`std::thread::spawn`] gives it.
+
+mod patterns;
+
+pub use patterns::{Assignment, Match, Matches, Pattern, Replaced, Text, Value};
 
 use std::fmt;
 
@@ -94,7 +99,7 @@ impl fmt::Display for Listing {
     }
 }
 
-/// Why there is no listing.
+/// Why there is no listing, no pattern, or nothing that was sought.
 #[derive(Clone, Debug, PartialEq, Eq)]
 #[non_exhaustive]
 pub enum Error {
@@ -104,6 +109,14 @@ pub enum Error {
     BadLimit(u32),
     /// The call ran out of memory.
     NoMemory,
+    /// The rule or a definition can't be read. These lines say what is wrong, where, and what to write instead.
+    Fault(String),
+    /// The search takes more trials than this limit.
+    TooManyTrials(u32),
+    /// A text would have more than 16,777,216 bytes.
+    TooLong,
+    /// The cursor lies past the end of the text.
+    PastEnd,
     /// The library returned a status that it shouldn't have returned.
     Unexpected(u8),
 }
@@ -115,6 +128,10 @@ impl Error {
             Error::NoDocument(_) => NO_DOCUMENT,
             Error::BadLimit(_) => BAD_LIMIT,
             Error::NoMemory => NO_MEMORY,
+            Error::Fault(_) => patterns::FAULT,
+            Error::TooManyTrials(_) => patterns::TOO_MANY_TRIALS,
+            Error::TooLong => patterns::TOO_LONG,
+            Error::PastEnd => patterns::PAST_END,
             Error::Unexpected(status) => *status,
         }
     }
@@ -130,6 +147,10 @@ impl fmt::Display for Error {
                 "the limit of trials isn't from 1 to 1000000000: {trials}"
             ),
             Error::NoMemory => formatter.write_str("out of memory"),
+            Error::Fault(lines) => formatter.write_str(lines.trim_end()),
+            Error::TooManyTrials(trials) => write!(formatter, "more than {trials} trials"),
+            Error::TooLong => formatter.write_str("a text of more than 16777216 bytes"),
+            Error::PastEnd => formatter.write_str("a cursor past the end of the text"),
             Error::Unexpected(status) => write!(formatter, "unexpected status {status}"),
         }
     }
@@ -202,5 +223,7 @@ pub fn rewrite_with_room(
     }
 }
 
+#[cfg(test)]
+mod pattern_tests;
 #[cfg(test)]
 mod tests;

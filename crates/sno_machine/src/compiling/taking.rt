@@ -12,6 +12,7 @@ pub fn takes(pattern: &Pattern) -> bool
 {
     match pattern {
         Pattern::Lit(text) => !text.bytes().is_empty(),
+        Pattern::Bytes(text) => !text.bytes().is_empty(),
         Pattern::Len(count) => *count != 0,
         Pattern::AnyOf(_) | Pattern::NoneOf(_) | Pattern::Span(_) => true,
         Pattern::Bal | Pattern::Fail | Pattern::Abort => true,

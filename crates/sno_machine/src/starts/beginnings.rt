@@ -1,6 +1,6 @@
 //! What a match can begin with.
 ghost use Rattle.std.specs.Prelude.{◌≡◌, ◌+◌, ◌≤◌, length, IfOk, MatchOption};
-ghost use Rattle.std.specs.Option.{option_copied};
+ghost use Rattle.std.specs.Option.{option_map};
 ghost use Rattle.sno_pattern.specs.Tree.{tree_of};
 ghost use Rattle.sno_pattern.specs.Beginnings.{first_literal};
 ghost use Rattle.sno_machine.specs.Beginnings.{AreBeginnings, AreHeadsOf, NoneBegin, cost};
@@ -9,7 +9,7 @@ use crate::starts::head_tables::HeadTable;
 use crate::starts::heads::{Head, heads_of};
 use crate::starts::needles::{Needle, together};
 use memchr::memmem::Finder;
-use sno_pattern::{Pattern, Rules, Text, a_missing_literal_costs_one_trial};
+use sno_pattern::{Pattern, Rules, a_missing_literal_costs_one_trial};
 use std::alloc::{AllocError, Global};
 
 /// What a match can begin with.
@@ -38,7 +38,7 @@ impl<'a> Beginnings<'a> {
         // for the proof
         a_missing_literal_costs_one_trial();
         if let Some(literal) = first_literal(pattern) {
-            return Ok(Beginnings::Literal(Finder::new(literal.bytes())));
+            return Ok(Beginnings::Literal(Finder::new(literal)));
         }
         match heads_of(alloc, rules.bodies(), rules.len(), pattern)? {
             None => Ok(Beginnings::Any),
@@ -106,11 +106,12 @@ impl<'a> Beginnings<'a> {
 }
 
 // The literal that is the first part of the pattern, if it is a literal.
-fn first_literal(pattern: &Pattern) -> Option<&Text>
-    ensures { option_copied result ≡ first_literal (tree_of pattern.now) }
+fn first_literal(pattern: &Pattern) -> Option<&[u8]>
+    ensures { option_map (λ s. s.now) result ≡ first_literal (tree_of pattern.now) }
 {
     match pattern {
-        Pattern::Lit(literal) => Some(literal),
+        Pattern::Lit(literal) => Some(literal.bytes()),
+        Pattern::Bytes(literal) => Some(literal.bytes()),
         Pattern::Seq(first, _) => first_literal(first),
         Pattern::Cond(part, _) | Pattern::Imm(part, _) => first_literal(part),
         _ => None,

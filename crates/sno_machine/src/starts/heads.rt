@@ -66,6 +66,10 @@ impl<'a> Collector<'a> {
                 None => Ok(false),
                 Some(first) => self.put(Head::Byte(*first)),
             },
+            Pattern::Bytes(literal) => match literal.bytes().first() {
+                None => Ok(false),
+                Some(first) => self.put(Head::Byte(*first)),
+            },
             Pattern::AnyOf(class) | Pattern::Span(class) => self.put(Head::OneOf(class)),
             Pattern::NoneOf(class) => self.put(Head::NoneOf(class)),
             Pattern::Alt(first, second) if self.room > 0 => {

@@ -25,6 +25,12 @@ UNKNOWN, NOT_PERFORMED = "outcome unknown", "not performed"
 # How long is waited before the next try of a connection.
 _FIRST_DELAY, _LAST_DELAY = 0.05, 2.0
 
+# What a connection that is lost, or can't be made, raises: some versions of aiohttp raise the system's own exceptions.
+_LOST = aiohttp.ClientConnectionError, aiohttp.WSServerHandshakeError, ConnectionError, TimeoutError
+
+# The status of a refusal that may be another at the next try; each other below 500 stays what it is, as that of a wrong token.
+_TOO_MANY = 429
+
 _dumps = json.JSONEncoder(separators=(",", ":")).encode
 
 
@@ -129,15 +135,17 @@ class Client:
         return _result(reply)
 
     async def watch(self, index: int) -> AsyncIterator[Reply]:
-        """Each entry from this index on, in order, none left out and none twice. A lost connection is made again."""
+        """Each entry from this index on, in order, none left out and none twice. A lost connection is made again. DeskError is
+        raised if the service refuses the connection, as for a wrong token."""
         delay = _FIRST_DELAY
         while True:
             try:
                 async for entry in self._watch_once(index):
                     index, delay = entry["entry"] + 1, _FIRST_DELAY
                     yield entry
-            except (aiohttp.ClientConnectionError, aiohttp.WSServerHandshakeError):
-                pass
+            except _LOST as fault:
+                if isinstance(fault, aiohttp.WSServerHandshakeError) and fault.status < 500 and fault.status != _TOO_MANY:
+                    raise DeskError(f"{fault.status} {fault.message}") from None
             await asyncio.sleep(delay)
             delay = min(2 * delay, _LAST_DELAY)
 
@@ -179,6 +187,8 @@ class Client:
             session = await self._get_session()
             for task in self._tasks:
                 task.cancel()
+            # Calls over the connection before this one may still wait.
+            self._lost()
             self._socket = await session.ws_connect(f"{self._url}/ws", max_msg_size=0, heartbeat=20.0)
             self._lines = []
             jobs = self._send_lines(self._socket), self._take_replies(self._socket)
@@ -188,7 +198,7 @@ class Client:
         if self._socket is None or self._socket.closed:
             try:
                 await self._open()
-            except aiohttp.ClientError as fault:
+            except (aiohttp.ClientError, *_LOST) as fault:
                 raise NotPerformed(f"{NOT_PERFORMED}: {fault}") from None
         self._number += 1
         number = self._number

@@ -8,7 +8,7 @@ use Rattle.sno_document.proofs.definitions.bodies.Given as goal
 
 abbrev pub invariant-loop-place : goal.invariant-loop-place
 invariant-loop-place l = record {
-  rest : bodies_from l.names l.place (trees l.bodies.items) (map pair_seen (drop l.place l.rows)) ≡ bodies_from l.names 0 [] (map pair_seen l.rows);
+  rest : bodies_from l.wide l.names l.place (trees l.bodies.items) (map pair_seen (drop l.place l.rows)) ≡ bodies_from l.wide l.names 0 [] (map pair_seen l.rows);
   covered : IsTrue (list_all (refs_below (length l.names)) (trees l.bodies.items));
   count : length l.bodies.items ≡ l.place;
 }

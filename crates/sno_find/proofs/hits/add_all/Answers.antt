@@ -21,7 +21,7 @@ loop-pass-preserved c =
     let hit : Hit = record { statement = c.number.result; found = c.in-Some.found } in
     record {
       found = ap (λ (z : List Hit). hits_seen z ++ map (hit_of number) left) c.in_ok-push.ensures.items
-          ∙ next_added number c.loop-pass.hits.items hit m (matches_left c.loop-pass.pass) left next (ap (λ (n : ℕ). hit_of n m) c.number.ensures)
+          ∙ next_added number c.loop-pass.hits.items hit m (matches_left c.loop-pass.pass) left next (ap (λ (n : ℕ). hit_of n m) (c.number.ensures ∙ ap (λ (z : Statement). z.number) c.search.ensures))
           ∙ before.found;
       trials = c.in_ok-found.ensures.trials ∙ before.trials;
       statement = c.in_ok-found.ensures.same.0 ∙ before.statement;

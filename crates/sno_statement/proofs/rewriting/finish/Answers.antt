@@ -12,12 +12,12 @@ pub returns-in-None : goal.returns-in-None
 returns-in-None c =
     let t = c.args.subject.now in
     let bound = bindings_of t c.args.found.now in
-    (bound, ap (finish_within MAX_BYTES (Some c.args.parts.now) t bound) c.in-None.is)
+    (bound, ap (finish_within MAX_BYTES (Some c.args.object.now) t bound) c.in-None.is)
 
 pub returns-in_ok-after-in-Some : goal.returns-in_ok-after-in-Some
 returns-in_ok-after-in-Some c =
     let t = c.args.subject.now in
-    let parts = c.args.parts.now in
+    let parts = c.args.object.now in
     let hit = c.in-Some.hit in
     let after = c.in_ok-after-in-Some.after in
     let made =

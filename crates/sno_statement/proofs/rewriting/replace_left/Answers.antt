@@ -18,7 +18,7 @@ overflow_add-matches c =
 pub loop-text-preserved : goal.loop-text-preserved
 loop-text-preserved c =
     let t = c.args.subject.now in
-    let parts = c.args.parts.now in
+    let parts = c.args.object.now in
     let before = c.loop-text.invariant in
     let found : Match = match_by t c.in-Some.sets c.in-Some.hit in
     let kept = c.give_back.ensures in
@@ -47,7 +47,7 @@ returns-clause-counted c =
 pub returns-clause-replaced : goal.returns-clause-replaced
 returns-clause-replaced c =
     let t = c.args.subject.now in
-    let parts = c.args.parts.now in
+    let parts = c.args.object.now in
     let all = replaced parts t 0 (matches_left c.args.pass.now) in
     let nothing : matches_left c.loop-text.pass ≡ [] = rw c.in_default.is at c.in_ok-sets.ensures.next in
     let so_far : MatchOption c.loop-text.text (MAX_BYTES < length all) (λ v. v.items ++ drop c.loop-text.cursor t ≡ all) =

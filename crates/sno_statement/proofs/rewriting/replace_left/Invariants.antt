@@ -6,8 +6,8 @@ use Rattle.sno_statement.proofs.rewriting.replace_left.Given as goal
 
 abbrev pub invariant-loop-text : goal.invariant-loop-text
 invariant-loop-text l = record {
-  written : MatchOption l.text (MAX_BYTES < length (replaced l.parts l.subject 0 (matches_left l.fn.pass)))
-      (λ v. v.items ++ replaced l.parts l.subject l.cursor (matches_left l.pass) ≡ replaced l.parts l.subject 0 (matches_left l.fn.pass));
+  written : MatchOption l.text (MAX_BYTES < length (replaced l.object l.subject 0 (matches_left l.fn.pass)))
+      (λ v. v.items ++ replaced l.object l.subject l.cursor (matches_left l.pass) ≡ replaced l.object l.subject 0 (matches_left l.fn.pass));
   short : IfSome l.text (λ v. length v.items ≤ MAX_BYTES);
   counted : l.matches + length (matches_left l.pass) ≡ length (matches_left l.fn.pass);
   trials : trials_together l.pass ≡ trials_together l.fn.pass;

@@ -1,7 +1,6 @@
 -- The matches of the pass decide.
 use Rattle.std.proofs.Common.{◌≡◌, ◌≤◌, ◌<◌, ◌+◌, ℕ, List, length, Some, ap, sym, subst, ◌∙◌, arith}
 use Rattle.std.proofs.lemmas.Result.{err_from_is_err_and}
-use Rattle.sno_read.specs.declared.objects.Part.{Part}
 use Rattle.sno_pattern.specs.declared.byte_texts.TheConstants.{MAX_BYTES}
 use Rattle.sno_statement.specs.Statement.{with_limit}
 use Rattle.sno_statement.specs.Passes.{Pass, matches_left, replaced, trials_together}
@@ -44,10 +43,9 @@ pub returns-clause-rewritten : goal.returns-clause-rewritten
 returns-clause-rewritten c =
     let s = with_limit c.args.statement.now c.args.trials in
     let t = c.args.subject.now in
-    let parts = c.parts.result.now in
+    let parts = c.in-Some.object.now in
     let text = c.in_ok-matches-in-Some.text in
-    let there : Some c.in-Some.object.now ≡ s.object = c.in-Some.ensures in
-    let some : s.object ≡ Some parts = sym there ∙ ap (λ (z : List Part). Some z) (sym c.parts.ensures) in
+    let some : s.object ≡ Some parts = sym c.in-Some.ensures in
     let few = within_begun s t (subst (λ (z : Pass). trials_together z ≤ z.statement.limit) c.in_bytes-pass.ensures c.in_ok-matches-in-Some.ensures.within) in
     let counted = c.in_ok-matches-in-Some.ensures.counted ∙ ap (λ (z : Pass). length (matches_left z)) c.in_bytes-pass.ensures in
     let here = subst (λ (z : List ℕ). IsReplaced (replaced parts z 0 (matches_left c.in_bytes-pass.result)) text) c.bytes-bytes.ensures.value c.in_ok-matches-in-Some.ensures.replaced in

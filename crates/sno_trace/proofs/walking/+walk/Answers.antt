@@ -3,16 +3,16 @@ use Rattle.std.proofs.Common.{◌+◌, ◌-◌, [], ◌∷◌, ◌++◌, length,
 use Rattle.std.specs.List.{list_any}
 use Rattle.sno_pattern.specs.Tree.{tree_of}
 use Rattle.sno_pattern.specs.Laws.{Within}
-use Rattle.sno_trace.specs.declared.events.Noted.TheVariants.{Try, Set, End}
+use Rattle.sno_trace.specs.declared.events.Noted.TheVariants.{Try, Set, Mark, End}
 use Rattle.sno_trace.specs.Noted.{go_on, noted, noted_rounds, upto}
 use Rattle.sno_trace.specs.Steps.{is_last, trials_of}
 use Rattle.sno_trace.proofs.NotedLaws.{few_trials}
-use Rattle.sno_trace.proofs.Parts.{inside, both_sides, one_side, seq_does, cond_does, imm_does, named_no_more, named_missing, named_does, round_taken, round_dropped}
-use Rattle.sno_trace.proofs.Going.{left_at, go_on_tried, go_on_set, go_on_end, go_on_last, go_on_none, AllEnds-tail, AllEnds-head, next_round, rounds_begun}
+use Rattle.sno_trace.proofs.Parts.{inside, both_sides, one_side, seq_does, cond_does, imm_does, ref_does, named_no_more, named_missing, named_does, round_taken, round_dropped}
+use Rattle.sno_trace.proofs.Going.{left_at, go_on_tried, go_on_set, go_on_mark, go_on_marked, go_on_end, go_on_last, AllEnds-tail, AllEnds-head, next_round, rounds_begun}
 use Rattle.sno_trace.proofs.Nesting.{passed_on, nests_none, in_first, in_second, in_either, in_other, in_part, in_assigned, in_named, in_body, in_round, in_later_round, found_end}
 use Rattle.sno_trace.proofs.Work.{nodes, work_round, work_body, falls, nodes_of_seq, nodes_of_alt, nodes_of_arbno, nodes_of_cond, nodes_of_imm, some_nodes}
 use Rattle.sno_trace.proofs.walking.+walk.Goals as goal
-use Rattle.sno_trace.proofs.walking.+walk.Goals.{walk-then-not-has_last+in_ok-others-in-Alt+in_ok-append-in-Alt, walk-else-not-has_last, follow-in-Try+else-left-eq0+in_ok-push-in-Try-2, follow-in-Set+in_ok-push-in-Set, follow-in-End+in_ok-later-in-End+in_ok-add_after-in-End+else-branch, repeat-in-Try+else-left-eq0+in_ok-push-in-Try-2, repeat-in-Set+in_ok-push-in-Set, repeat-in-End+then-c-end+in_ok-later-in-End+in_ok-add_after-in-End+else-branch, repeat-in-End+else-c-end}
+use Rattle.sno_trace.proofs.walking.+walk.Goals.{walk-then-not-has_last+in_ok-others-in-Alt+in_ok-append-in-Alt, walk-else-not-has_last, follow-in-Try+else-left-eq0+in_ok-push_try-in-Try, follow-in-Set+in_ok-push_set-in-Set, follow-in-Mark+in_ok-push_mark-in-Mark, follow-in-End+in_ok-later-in-End+in_ok-add_after-in-End+else-branch, repeat-in-Try+else-left-eq0+in_ok-push_try-in-Try, repeat-in-Set+in_ok-push_set-in-Set, repeat-in-Mark+in_ok-push_mark-in-Mark, repeat-in-End+then-c-end+in_ok-later-in-End+in_ok-add_after-in-End+else-branch, repeat-in-End+else-c-end+in_ok-push_null_round-in-End}
 
 pub follow-walk-requires : goal.follow-walk-requires
 follow-walk-requires t c = (
@@ -32,15 +32,20 @@ follow-overflow_sub-left-in-End t c =
 pub follow-loop-event-preserved : goal.follow-loop-event-preserved
 follow-loop-event-preserved t c =
     elim c.match-event.branch [
-      | follow-in-Try+else-left-eq0+in_ok-push-in-Try-2 w ↦ record {
+      | follow-in-Try+else-left-eq0+in_ok-push_try-in-Try w ↦ record {
         added = go_on_tried (noted c.args.text.now c.args.rules.now.bodies c.args.depth (tree_of c.args.pattern.now)) _ c.loop-event.left _ _ _ _ _ _ (left_at c.args.first.now c.loop-event.event-index _ (Try w.in-Try.trial) c.loop-event-test.true c.event-item.is w.in-Try.is) (omega (arith, w.if-left-eq0.false)) w.left-is
-            (ap (λ v. v.items) w.all-is ∙ w.in_ok-push-in-Try-2.ensures.items ∙ ap (λ x. c.loop-event.all.items ++ Try x ∷ []) w.copied.ensures) c.loop-event.invariant.added;
+            (ap (λ v. v.items) w.all-is ∙ w.in_ok-push_try-in-Try.ensures) c.loop-event.invariant.added;
         inside = AllEnds-tail (Within c.args.text.now 0) _ _ _ (left_at c.args.first.now c.loop-event.event-index _ (Try w.in-Try.trial) c.loop-event-test.true c.event-item.is w.in-Try.is) c.loop-event.invariant.inside;
       }
-      | follow-in-Set+in_ok-push-in-Set w ↦ record {
+      | follow-in-Set+in_ok-push_set-in-Set w ↦ record {
         added = ap (λ j. c.match-event.all.items ++ upto j (go_on (drop (c.loop-event.event-index + 1) c.args.first.now) (noted c.args.text.now c.args.rules.now.bodies c.args.depth (tree_of c.args.pattern.now)))) w.left-is
-            ∙ go_on_set (noted c.args.text.now c.args.rules.now.bodies c.args.depth (tree_of c.args.pattern.now)) _ c.loop-event.left _ _ _ _ _ (left_at c.args.first.now c.loop-event.event-index _ (Set w.in-Set.assign) c.loop-event-test.true c.event-item.is w.in-Set.is) (ap (λ v. v.items) w.all-is ∙ w.in_ok-push-in-Set.ensures.items) c.loop-event.invariant.added;
+            ∙ go_on_set (noted c.args.text.now c.args.rules.now.bodies c.args.depth (tree_of c.args.pattern.now)) _ c.loop-event.left _ _ _ _ _ (left_at c.args.first.now c.loop-event.event-index _ (Set w.in-Set.assign) c.loop-event-test.true c.event-item.is w.in-Set.is) (ap (λ v. v.items) w.all-is ∙ w.in_ok-push_set-in-Set.ensures) c.loop-event.invariant.added;
         inside = AllEnds-tail (Within c.args.text.now 0) _ _ _ (left_at c.args.first.now c.loop-event.event-index _ (Set w.in-Set.assign) c.loop-event-test.true c.event-item.is w.in-Set.is) c.loop-event.invariant.inside;
+      }
+      | follow-in-Mark+in_ok-push_mark-in-Mark w ↦ record {
+        added = ap (λ j. c.match-event.all.items ++ upto j (go_on (drop (c.loop-event.event-index + 1) c.args.first.now) (noted c.args.text.now c.args.rules.now.bodies c.args.depth (tree_of c.args.pattern.now)))) w.left-is
+            ∙ go_on_mark (noted c.args.text.now c.args.rules.now.bodies c.args.depth (tree_of c.args.pattern.now)) _ c.loop-event.left _ _ _ _ _ (left_at c.args.first.now c.loop-event.event-index _ (Mark w.in-Mark.mark) c.loop-event-test.true c.event-item.is w.in-Mark.is) (ap (λ v. v.items) w.all-is ∙ w.in_ok-push_mark-in-Mark.ensures) c.loop-event.invariant.added;
+        inside = AllEnds-tail (Within c.args.text.now 0) _ _ _ (left_at c.args.first.now c.loop-event.event-index _ (Mark w.in-Mark.mark) c.loop-event-test.true c.event-item.is w.in-Mark.is) c.loop-event.invariant.inside;
       }
       | follow-in-End+in_ok-later-in-End+in_ok-add_after-in-End+else-branch w ↦ record {
         added = go_on_end (noted c.args.text.now c.args.rules.now.bodies c.args.depth (tree_of c.args.pattern.now)) _ c.loop-event.left _ _ _ _ _ _ _ _ (left_at c.args.first.now c.loop-event.event-index _ (End w.in-End.end w.in-End.conds) c.loop-event-test.true c.event-item.is w.in-End.is) (w.deref.ensures.value ∙ w.in_ok-later-in-End.ensures.done)
@@ -82,7 +87,7 @@ repeat-walk-requires t c = (
 pub repeat-loop-event-init : goal.repeat-loop-event-init
 repeat-loop-event-init t c =
     record {
-      added = rounds_begun c.args.limit (noted c.args.text.now c.args.rules.now.bodies c.args.depth (tree_of c.args.part.now)) c.args.count c.args.c _ _ (omega arith)
+      added = rounds_begun c.args.limit c.args.depth (noted c.args.text.now c.args.rules.now.bodies c.args.depth (tree_of c.args.part.now)) c.args.count c.args.c _ _ (omega arith)
           (c.in_ok-push_end.ensures ∙ ap (λ l. l ++ End c.args.c [] ∷ []) c.new-all.ensures.items) (c.as_slice-event-items.ensures.value ∙ c.in_ok-once.ensures.done);
       inside = inside c.args.text.now c.args.rules.now.bodies c.args.depth c.args.limit (tree_of c.args.part.now) c.args.c _ _ c.requires c.as_slice-event-items.ensures.value c.in_ok-once.ensures.done;
     }
@@ -95,37 +100,41 @@ repeat-repeat-requires t c = (
 
 pub repeat-returns-then-branch-clause-done : goal.repeat-returns-then-branch-clause-done
 repeat-returns-then-branch-clause-done t c =
-    go_on_last (next_round (noted c.args.text.now c.args.rules.now.bodies c.args.depth (tree_of c.args.part.now)) c.args.count c.args.c) _ c.loop-event.left _ _ _ _ _ _ _ (left_at c.as_slice-event-items.result.now c.loop-event.event-index _ (End c.in-End.end c.in-End.conds) c.loop-event-test.true c.event-item.is c.in-End.is) (round_taken c.loop-event.left (noted c.args.text.now c.args.rules.now.bodies c.args.depth (tree_of c.args.part.now)) c.args.count c.args.c c.in-End.end _ _ c.if-c-end.true c.deref.ensures.value c.in_ok-later-in-End.ensures.done)
+    go_on_last (next_round c.args.depth (noted c.args.text.now c.args.rules.now.bodies c.args.depth (tree_of c.args.part.now)) c.args.count c.args.c) _ c.loop-event.left _ _ _ _ _ _ _ (left_at c.as_slice-event-items.result.now c.loop-event.event-index _ (End c.in-End.end c.in-End.conds) c.loop-event-test.true c.event-item.is c.in-End.is) (round_taken c.loop-event.left c.args.depth (noted c.args.text.now c.args.rules.now.bodies c.args.depth (tree_of c.args.part.now)) c.args.count c.args.c c.in-End.end _ _ c.if-c-end.true c.deref.ensures.value c.in_ok-later-in-End.ensures.done)
     (sym c.if-branch.true ∙ c.in_ok-add_after-in-End.ensures.ended) c.in_ok-add_after-in-End.ensures.added c.loop-event.invariant.added
 
 pub repeat-overflow_sub-left-then-c-end : goal.repeat-overflow_sub-left-then-c-end
 repeat-overflow_sub-left-then-c-end t c =
-    omega (arith, few_trials c.loop-event.left (noted_rounds (noted c.args.text.now c.args.rules.now.bodies c.args.depth (tree_of c.args.part.now)) (c.args.count - 1) c.in-End.end), c.count_trials-left.ensures.value, ap trials_of (c.deref-then-c-end.ensures.value ∙ c.in_ok-later-in-End.ensures.done))
+    omega (arith, few_trials c.loop-event.left (noted_rounds c.args.depth (noted c.args.text.now c.args.rules.now.bodies c.args.depth (tree_of c.args.part.now)) (c.args.count - 1) c.in-End.end), c.count_trials-left.ensures.value, ap trials_of (c.deref-then-c-end.ensures.value ∙ c.in_ok-later-in-End.ensures.done))
 
 pub repeat-loop-event-preserved : goal.repeat-loop-event-preserved
 repeat-loop-event-preserved t c =
     elim c.match-event.branch [
-      | repeat-in-Try+else-left-eq0+in_ok-push-in-Try-2 w ↦ record {
-        added = go_on_tried (next_round (noted c.args.text.now c.args.rules.now.bodies c.args.depth (tree_of c.args.part.now)) c.args.count c.args.c) _ c.loop-event.left _ _ _ _ _ _ (left_at c.as_slice-event-items.result.now c.loop-event.event-index _ (Try w.in-Try.trial) c.loop-event-test.true c.event-item.is w.in-Try.is) (omega (arith, w.if-left-eq0.false)) w.left-is
-            (ap (λ v. v.items) w.all-is ∙ w.in_ok-push-in-Try-2.ensures.items ∙ ap (λ x. c.loop-event.all.items ++ Try x ∷ []) w.copied.ensures) c.loop-event.invariant.added;
+      | repeat-in-Try+else-left-eq0+in_ok-push_try-in-Try w ↦ record {
+        added = go_on_tried (next_round c.args.depth (noted c.args.text.now c.args.rules.now.bodies c.args.depth (tree_of c.args.part.now)) c.args.count c.args.c) _ c.loop-event.left _ _ _ _ _ _ (left_at c.as_slice-event-items.result.now c.loop-event.event-index _ (Try w.in-Try.trial) c.loop-event-test.true c.event-item.is w.in-Try.is) (omega (arith, w.if-left-eq0.false)) w.left-is
+            (ap (λ v. v.items) w.all-is ∙ w.in_ok-push_try-in-Try.ensures) c.loop-event.invariant.added;
         inside = AllEnds-tail (Within c.args.text.now 0) _ _ _ (left_at c.as_slice-event-items.result.now c.loop-event.event-index _ (Try w.in-Try.trial) c.loop-event-test.true c.event-item.is w.in-Try.is) c.loop-event.invariant.inside;
       }
-      | repeat-in-Set+in_ok-push-in-Set w ↦ record {
-        added = ap (λ j. c.match-event.all.items ++ upto j (go_on (drop (c.loop-event.event-index + 1) c.as_slice-event-items.result.now) (next_round (noted c.args.text.now c.args.rules.now.bodies c.args.depth (tree_of c.args.part.now)) c.args.count c.args.c))) w.left-is
-            ∙ go_on_set (next_round (noted c.args.text.now c.args.rules.now.bodies c.args.depth (tree_of c.args.part.now)) c.args.count c.args.c) _ c.loop-event.left _ _ _ _ _ (left_at c.as_slice-event-items.result.now c.loop-event.event-index _ (Set w.in-Set.assign) c.loop-event-test.true c.event-item.is w.in-Set.is) (ap (λ v. v.items) w.all-is ∙ w.in_ok-push-in-Set.ensures.items) c.loop-event.invariant.added;
+      | repeat-in-Set+in_ok-push_set-in-Set w ↦ record {
+        added = ap (λ j. c.match-event.all.items ++ upto j (go_on (drop (c.loop-event.event-index + 1) c.as_slice-event-items.result.now) (next_round c.args.depth (noted c.args.text.now c.args.rules.now.bodies c.args.depth (tree_of c.args.part.now)) c.args.count c.args.c))) w.left-is
+            ∙ go_on_set (next_round c.args.depth (noted c.args.text.now c.args.rules.now.bodies c.args.depth (tree_of c.args.part.now)) c.args.count c.args.c) _ c.loop-event.left _ _ _ _ _ (left_at c.as_slice-event-items.result.now c.loop-event.event-index _ (Set w.in-Set.assign) c.loop-event-test.true c.event-item.is w.in-Set.is) (ap (λ v. v.items) w.all-is ∙ w.in_ok-push_set-in-Set.ensures) c.loop-event.invariant.added;
         inside = AllEnds-tail (Within c.args.text.now 0) _ _ _ (left_at c.as_slice-event-items.result.now c.loop-event.event-index _ (Set w.in-Set.assign) c.loop-event-test.true c.event-item.is w.in-Set.is) c.loop-event.invariant.inside;
       }
+      | repeat-in-Mark+in_ok-push_mark-in-Mark w ↦ record {
+        added = ap (λ j. c.match-event.all.items ++ upto j (go_on (drop (c.loop-event.event-index + 1) c.as_slice-event-items.result.now) (next_round c.args.depth (noted c.args.text.now c.args.rules.now.bodies c.args.depth (tree_of c.args.part.now)) c.args.count c.args.c))) w.left-is
+            ∙ go_on_mark (next_round c.args.depth (noted c.args.text.now c.args.rules.now.bodies c.args.depth (tree_of c.args.part.now)) c.args.count c.args.c) _ c.loop-event.left _ _ _ _ _ (left_at c.as_slice-event-items.result.now c.loop-event.event-index _ (Mark w.in-Mark.mark) c.loop-event-test.true c.event-item.is w.in-Mark.is) (ap (λ v. v.items) w.all-is ∙ w.in_ok-push_mark-in-Mark.ensures) c.loop-event.invariant.added;
+        inside = AllEnds-tail (Within c.args.text.now 0) _ _ _ (left_at c.as_slice-event-items.result.now c.loop-event.event-index _ (Mark w.in-Mark.mark) c.loop-event-test.true c.event-item.is w.in-Mark.is) c.loop-event.invariant.inside;
+      }
       | repeat-in-End+then-c-end+in_ok-later-in-End+in_ok-add_after-in-End+else-branch w ↦ record {
-        added = go_on_end (next_round (noted c.args.text.now c.args.rules.now.bodies c.args.depth (tree_of c.args.part.now)) c.args.count c.args.c) _ c.loop-event.left _ _ _ _ _ _ _ _ (left_at c.as_slice-event-items.result.now c.loop-event.event-index _ (End w.in-End.end w.in-End.conds) c.loop-event-test.true c.event-item.is w.in-End.is) (round_taken c.loop-event.left (noted c.args.text.now c.args.rules.now.bodies c.args.depth (tree_of c.args.part.now)) c.args.count c.args.c w.in-End.end _ _ w.if-c-end.true w.deref.ensures.value w.in_ok-later-in-End.ensures.done)
+        added = go_on_end (next_round c.args.depth (noted c.args.text.now c.args.rules.now.bodies c.args.depth (tree_of c.args.part.now)) c.args.count c.args.c) _ c.loop-event.left _ _ _ _ _ _ _ _ (left_at c.as_slice-event-items.result.now c.loop-event.event-index _ (End w.in-End.end w.in-End.conds) c.loop-event-test.true c.event-item.is w.in-End.is) (round_taken c.loop-event.left c.args.depth (noted c.args.text.now c.args.rules.now.bodies c.args.depth (tree_of c.args.part.now)) c.args.count c.args.c w.in-End.end _ _ w.if-c-end.true w.deref.ensures.value w.in_ok-later-in-End.ensures.done)
             (sym w.if-branch.false ∙ w.in_ok-add_after-in-End.ensures.ended)
             (w.left-is ∙ ap (λ j. c.loop-event.left - j) (w.count_trials-left.ensures.value ∙ ap trials_of (w.deref-then-c-end.ensures.value ∙ sym w.deref.ensures.value)))
             (ap (λ v. v.items) w.all-is ∙ w.in_ok-add_after-in-End.ensures.added) c.loop-event.invariant.added;
         inside = AllEnds-tail (Within c.args.text.now 0) _ _ _ (left_at c.as_slice-event-items.result.now c.loop-event.event-index _ (End w.in-End.end w.in-End.conds) c.loop-event-test.true c.event-item.is w.in-End.is) c.loop-event.invariant.inside;
       }
-      | repeat-in-End+else-c-end w ↦ record {
-        added = ap (λ v. v.items ++ upto c.match-event.left (go_on (drop (c.loop-event.event-index + 1) c.as_slice-event-items.result.now) (next_round (noted c.args.text.now c.args.rules.now.bodies c.args.depth (tree_of c.args.part.now)) c.args.count c.args.c))) w.all-is
-            ∙ ap (λ j. c.loop-event.all.items ++ upto j (go_on (drop (c.loop-event.event-index + 1) c.as_slice-event-items.result.now) (next_round (noted c.args.text.now c.args.rules.now.bodies c.args.depth (tree_of c.args.part.now)) c.args.count c.args.c))) w.left-is
-            ∙ go_on_none (next_round (noted c.args.text.now c.args.rules.now.bodies c.args.depth (tree_of c.args.part.now)) c.args.count c.args.c) _ c.loop-event.left _ _ _ _ _ (left_at c.as_slice-event-items.result.now c.loop-event.event-index _ (End w.in-End.end w.in-End.conds) c.loop-event-test.true c.event-item.is w.in-End.is) (round_dropped (noted c.args.text.now c.args.rules.now.bodies c.args.depth (tree_of c.args.part.now)) c.args.count c.args.c w.in-End.end w.if-c-end.false) c.loop-event.invariant.added;
+      | repeat-in-End+else-c-end+in_ok-push_null_round-in-End w ↦ record {
+        added = ap (λ j. c.match-event.all.items ++ upto j (go_on (drop (c.loop-event.event-index + 1) c.as_slice-event-items.result.now) (next_round c.args.depth (noted c.args.text.now c.args.rules.now.bodies c.args.depth (tree_of c.args.part.now)) c.args.count c.args.c))) w.left-is
+            ∙ go_on_marked (next_round c.args.depth (noted c.args.text.now c.args.rules.now.bodies c.args.depth (tree_of c.args.part.now)) c.args.count c.args.c) _ c.loop-event.left _ _ _ _ _ _ _ (left_at c.as_slice-event-items.result.now c.loop-event.event-index _ (End w.in-End.end w.in-End.conds) c.loop-event-test.true c.event-item.is w.in-End.is) (round_dropped c.args.depth (noted c.args.text.now c.args.rules.now.bodies c.args.depth (tree_of c.args.part.now)) c.args.count c.args.c w.in-End.end w.if-c-end.false) (ap (λ v. v.items) w.all-is ∙ w.in_ok-push_null_round-in-End.ensures) c.loop-event.invariant.added;
         inside = AllEnds-tail (Within c.args.text.now 0) _ _ _ (left_at c.as_slice-event-items.result.now c.loop-event.event-index _ (End w.in-End.end w.in-End.conds) c.loop-event-test.true c.event-item.is w.in-End.is) c.loop-event.invariant.inside;
       }
     ]
@@ -172,6 +181,10 @@ pub walk-returns-in_ok-events-in-Imm-clause-done : goal.walk-returns-in_ok-event
 walk-returns-in_ok-events-in-Imm-clause-done t c =
     imm_does c.args.text.now c.args.rules.now.bodies c.args.depth c.args.limit c.args.c (tree_of c.args.pattern.now) (tree_of c.in-Imm.part.value) (tree_of c.deref-in-Imm.result.now) c.in-Imm.name _ _ _
     (ap tree_of c.in-Imm.is) (ap tree_of c.deref-in-Imm.ensures) c.deref-in-Imm-2.ensures.value c.in_ok-inner-in-Imm.ensures.done c.in_ok-events-in-Imm.ensures
+
+pub walk-returns-in_ok-events-in-Ref-clause-done : goal.walk-returns-in_ok-events-in-Ref-clause-done
+walk-returns-in_ok-events-in-Ref-clause-done t c =
+    ref_does c.args.text.now c.args.rules.now.bodies c.args.depth c.args.limit c.args.c (tree_of c.args.pattern.now) c.in-Ref.number _ _ _ (ap tree_of c.in-Ref.is) c.deref-in-Ref.ensures.value c.in_ok-inner-in-Ref.ensures.done c.in_ok-events-in-Ref.ensures
 
 pub walk-overflow_sub-rest : goal.walk-overflow_sub-rest
 walk-overflow_sub-rest t c =
@@ -244,6 +257,6 @@ pub walk-returns-in_err-inner-in-Imm-clause-deep : goal.walk-returns-in_err-inne
 walk-returns-in_err-inner-in-Imm-clause-deep t c =
     passed_on _ _ _ c.from_residual-in_err-inner-in-Imm.ensures.1 (λ is. in_assigned c.args.text.now c.args.rules.now.bodies c.args.room _ c.args.depth c.args.c _ _ _ _ (inr (ap tree_of c.in-Imm.is)) (ap tree_of c.deref-in-Imm.ensures) c.in_ok-inside.ensures.left (c.in_err-inner-in-Imm.ensures.deep is))
 
-pub walk-returns-in_err-events-in-Ref-clause-deep : goal.walk-returns-in_err-events-in-Ref-clause-deep
-walk-returns-in_err-events-in-Ref-clause-deep t c =
-    passed_on _ _ _ c.from_residual-in_err-events-in-Ref.ensures.1 (λ is. in_named c.args.text.now c.args.rules.now.bodies c.args.room _ c.args.depth c.args.c _ _ (ap tree_of c.in-Ref.is) c.in_ok-inside.ensures.left (c.in_err-events-in-Ref.ensures.deep is))
+pub walk-returns-in_err-inner-in-Ref-clause-deep : goal.walk-returns-in_err-inner-in-Ref-clause-deep
+walk-returns-in_err-inner-in-Ref-clause-deep t c =
+    passed_on _ _ _ c.from_residual-in_err-inner-in-Ref.ensures.1 (λ is. in_named c.args.text.now c.args.rules.now.bodies c.args.room _ c.args.depth c.args.c _ _ (ap tree_of c.in-Ref.is) c.in_ok-inside.ensures.left (c.in_err-inner-in-Ref.ensures.deep is))

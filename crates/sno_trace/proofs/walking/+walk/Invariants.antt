@@ -27,6 +27,6 @@ invariant-follow-loop-event l = record {
 
 abbrev pub invariant-repeat-loop-event : goal.invariant-repeat-loop-event
 invariant-repeat-loop-event l = record {
-  added : l.all.items ++ upto l.left (go_on (drop l.event-index l.event-items) (next_round (noted l.text l.rules.bodies l.depth (tree_of l.part)) l.count l.c)) ≡ upto l.limit (noted_rounds (noted l.text l.rules.bodies l.depth (tree_of l.part)) l.count l.c);
+  added : l.all.items ++ upto l.left (go_on (drop l.event-index l.event-items) (next_round l.depth (noted l.text l.rules.bodies l.depth (tree_of l.part)) l.count l.c)) ≡ upto l.limit (noted_rounds l.depth (noted l.text l.rules.bodies l.depth (tree_of l.part)) l.count l.c);
   inside : AllEnds (Within l.text 0) (erase (drop l.event-index l.event-items));
 }

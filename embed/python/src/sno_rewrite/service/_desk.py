@@ -95,6 +95,7 @@ class SharedDesk:
         self._options, self._metrics = options, metrics
         self._pending: deque[_Line] = deque()
         self._number = 0
+        # The program that runs, or None from its end on: a line to one that has ended would never have its reply.
         self._pipe: Pipe | None = None
         self._status: int | None = None
         self._gone = asyncio.Event()
@@ -140,7 +141,9 @@ class SharedDesk:
         return b'{"service":"%b","next":%d}' % (word.encode(), self.journal.next)
 
     async def page(self, index: int) -> list[bytes]:
-        """Entries from this index on, as lines for those who watch. Without a desk ConnectionError is raised."""
+        """Entries from this index on, as lines for those who watch. ConnectionError is raised unless the desk serves."""
+        if self.state is not State.SERVING:
+            raise ConnectionError(NOT_PERFORMED)
         return [b'{"watched":' + _compact(entry) + b"}" for entry in await self._entries(index, _PAGE)]
 
     # Start, restart, end
@@ -159,20 +162,23 @@ class SharedDesk:
         self.state = State.ENDING
         if self._restarting:
             self._restarting.cancel()
-        if not self._pipe:
-            return 4
-        self._pipe.end()
+        if self._pipe:
+            await self._end_of(self._pipe)
+        self.state = State.ENDED
+        # A program that a signal has ended has a status below 0.
+        return self._status if self._status is not None and self._status >= 0 else 4
+
+    async def _end_of(self, pipe: Pipe) -> None:
+        """Waits for the end of the program, and kills it if that takes too long."""
+        pipe.end()
         try:
             async with asyncio.timeout(self._options.patience):
                 await self._gone.wait()
         except TimeoutError:
-            self._pipe.kill()
+            pipe.kill()
             with suppress(TimeoutError):
                 async with asyncio.timeout(self._options.patience):
                     await self._gone.wait()
-        self.state = State.ENDED
-        # A program that a signal has ended has a status below 0.
-        return self._status if self._status is not None and self._status >= 0 else 4
 
     def _command(self) -> list[str]:
         options = self._options
@@ -187,12 +193,15 @@ class SharedDesk:
             await pipe.start(self._command())
         except OSError as fault:
             raise StartFault(None, f"{self._options.program}: {fault.strerror}") from None
-        self._pipe = pipe
+        self._pipe = None if self._gone.is_set() else pipe
         try:
             await catch_up()
         except ConnectionError:
             pipe.kill()
             await self._gone.wait()
+            return False
+        if self._gone.is_set():
+            # It has ended after its last reply, before this went on.
             return False
         if self.state is State.STARTING:
             self.state = State.SERVING
@@ -211,36 +220,49 @@ class SharedDesk:
 
     async def _find_length(self) -> None:
         """Finds how many entries there are, in as many steps as the number has digits in base two, twice."""
-        high = 1
-        while await self._entries(high - 1, 1):
-            high *= 2
-        low = high // 2
+        first, step = await self._first(), 1
+        while await self._entries(first + step - 1, 1):
+            step *= 2
+        low, high = first + step // 2, first + step
         while low < high:
             middle = (low + high) // 2
             if await self._entries(middle, 1):
                 low = middle + 1
             else:
                 high = middle
-        self.journal.begin(low)
+        self.journal.begin(low, first)
 
     async def _find_further(self) -> None:
-        """Reads the entries that were accepted and whose replies were lost, so that those who watch get them."""
+        """Reads the entries that were accepted and whose replies were lost, so that those who watch get them. Those that were
+        compacted meanwhile are left out: who watches from before is cut off."""
+        first = await self._first()
+        if first > self.journal.next:
+            self.journal.begin(first, first)
         while entries := await self._entries(self.journal.next, _PAGE):
             for entry in entries:
                 self.journal.add(_compact(entry))
 
+    async def _first(self) -> int:
+        """The index of the first entry that the store has."""
+        first: int = (await self._excerpt(0, 1)).get("first", 0)
+        return first
+
     async def _entries(self, index: int, limit: int) -> list[dict[str, Any]]:
-        if self.state in (State.ENDING, State.ENDED):
+        members = await self._excerpt(index, limit)
+        if "entries" not in members:
+            raise ConnectionError(members.get("error", members.get("reason")))
+        entries: list[dict[str, Any]] = members["entries"]
+        return entries
+
+    async def _excerpt(self, index: int, limit: int) -> dict[str, Any]:
+        if self._pipe is None or self.state in (State.ENDING, State.ENDED):
             raise ConnectionError(NOT_PERFORMED)
         call, number = Call(1), self._next_number()
         line = _Line(number, call, None, asyncio.get_running_loop().time())
         self._send(line, written({"since": index, "limit": limit}, number))
         (reply,) = await call.replies()
-        members = json.loads(reply)
-        if "entries" not in members:
-            raise ConnectionError(members.get("error"))
-        entries: list[dict[str, Any]] = members["entries"]
-        return entries
+        members: dict[str, Any] = json.loads(reply)
+        return members
 
     # What the pipe calls
 
@@ -285,12 +307,12 @@ class SharedDesk:
             self._break()
 
     def _break(self) -> None:
-        assert self._pipe
-        self._pipe.kill()
+        if self._pipe:
+            self._pipe.kill()
 
     def _ended(self, status: int | None) -> None:
         """The program has ended, and no further reply comes."""
-        self._status = status
+        self._status, self._pipe = status, None
         pending, self._pending = self._pending, deque()
         was_serving = self.state is State.SERVING
         if was_serving:

@@ -50,6 +50,7 @@ _STATUSES: dict[str, type[web.HTTPException]] = {
     "no text": web.HTTPNotFound,
     "no version": web.HTTPNotFound,
     "changed": web.HTTPConflict,
+    "compacted": web.HTTPGone,
     "text too long": web.HTTPRequestEntityTooLarge,
     "too many trials": web.HTTPUnprocessableEntity,
     "full": web.HTTPInsufficientStorage,

@@ -7,9 +7,11 @@ _MESSAGE = 262_144
 
 
 class Journal:
-    """The last entries of the journal, in order. `next` is the index that the next entry will have."""
+    """The last entries of the journal, in order. `next` is the index that the next entry will have, and `oldest` that of the
+    first one that the store has."""
 
     def __init__(self, most: int, most_bytes: int) -> None:
+        self.oldest = 0
         self.first = 0
         self.next = 0
         self._most, self._most_bytes = most, most_bytes
@@ -17,9 +19,13 @@ class Journal:
         self._bytes = 0
         self._messages: dict[int, tuple[bytes, int]] = {}
 
-    def begin(self, index: int) -> None:
-        """Begins with the entry of this index."""
+    def begin(self, index: int, oldest: int) -> None:
+        """Begins with the entry of this index, while the store has those from another one on."""
+        self.oldest = oldest
         self.first = self.next = index
+        self._lines.clear()
+        self._messages.clear()
+        self._bytes = 0
 
     def add(self, entry: bytes) -> None:
         """Adds the next entry."""

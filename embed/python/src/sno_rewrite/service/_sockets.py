@@ -139,6 +139,8 @@ class Socket:
             return _with_identity(b'{"watching":null}', identity)
         if type(index) is not int or not 0 <= index <= self._desk.journal.next:
             return refused("bad index", identity, next=self._desk.journal.next)
+        if index < self._desk.journal.oldest:
+            return refused("compacted", identity, first=self._desk.journal.oldest)
         self._next, self._is_live = index, False
         return _with_identity(b'{"watching":%d}' % index, identity)
 
@@ -191,6 +193,8 @@ class Socket:
     async def _entries(self, index: int) -> bytes | None:
         """A message with entries from this index on."""
         journal = self._desk.journal
+        if index < journal.oldest:
+            raise TimeoutError
         if index >= journal.first:
             message, self._next = journal.message(index)
             self._is_live = self._is_live or self._next == journal.next

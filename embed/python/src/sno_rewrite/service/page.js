@@ -448,7 +448,8 @@ function stepsOf(lines) {
     if (begun) start = Number(begun[1]);
     const done = /^matched ([0-9]+) ([0-9]+)$/.exec(line);
     if (done) return [Number(done[1]), Number(done[2])];
-    const tried = /^ *(?:try|back to) .* ([0-9]+) (?:-> ([0-9]+)|fails)$/.exec(line);
+    const tried =
+      /^ *(?:try|back to|leave) .* ([0-9]+) (?:-> ([0-9]+)|fails)$/.exec(line) ?? /^ *(?:enter .*|null round) ([0-9]+)$/.exec(line);
     return tried ? [Math.min(start, Number(tried[1])), Number(tried[2] ?? tried[1])] : [start, start];
   });
 }

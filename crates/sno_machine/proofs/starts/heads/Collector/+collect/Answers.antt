@@ -27,6 +27,11 @@ returns-in-Some-clause-collected t c = where_put _ c.put.ensures.added (λ added
     part_collected (trees c.args.self.now.known.now) c.args.depth (tree_of c.args.pattern.now) _ _ _ (sym (ap tree_of c.in-Lit.is) ∙ c.first_part.ensures)
     (literal_collected (trees c.args.self.now.known.now) c.args.depth c.in-Lit.literal c.in-Some.first.now _ _ added (c.in-Some.ensures.value ∙ ap (λ z. slice_get z 0) c.bytes.ensures.value)))
 
+pub returns-in-Some-first-clause-collected : goal.returns-in-Some-first-clause-collected
+returns-in-Some-first-clause-collected t c = where_put _ c.put-in-Some-first.ensures.added (λ added.
+    part_collected (trees c.args.self.now.known.now) c.args.depth (tree_of c.args.pattern.now) _ _ _ (sym (ap tree_of c.in-Bytes.is) ∙ c.first_part.ensures)
+    (literal_collected (trees c.args.self.now.known.now) c.args.depth c.in-Bytes.literal c.in-Some-first.first.now _ _ added (c.in-Some-first.ensures.value ∙ ap (λ z. slice_get z 0) c.bytes-in-Bytes.ensures.value)))
+
 pub returns-in-AnyOf-clause-collected : goal.returns-in-AnyOf-clause-collected
 returns-in-AnyOf-clause-collected t c = where_put _ c.put-in-AnyOf.ensures.added (λ added. elim c.in-AnyOf.is [
   | inl is ↦ part_collected (trees c.args.self.now.known.now) c.args.depth (tree_of c.args.pattern.now) _ _ _ (sym (ap tree_of is) ∙ c.first_part.ensures)

@@ -1,0 +1,105 @@
+//! Texts that a statement leaves.
+ghost use Rattle.std.specs.Prelude.{◌≡◌, ◌<◌, ◌≤◌, ◌↔◌, ◌⊎◌, ◌++◌, length, drop, None, Some, Ok, Err};
+ghost use Rattle.sno_pattern.specs.declared.byte_texts.TheConstants.{MAX_BYTES};
+ghost use Rattle.sno_statement.specs.Perform.{perform_within};
+ghost use Rattle.sno_statement.specs.Rewriting.{rewriting};
+ghost use Rattle.sno_statement.specs.Statement.{IsLimit, with_limit};
+ghost use Rattle.sno_statement.specs.declared.outcomes.StatementFault.TheVariants.{TextTooLong, TooManyTrials};
+ghost use Rattle.sno_c.specs.Kept.{held_in};
+ghost use Rattle.sno_c.specs.Patterns.{both_in};
+ghost use Rattle.sno_c.specs.Replacements.{IsReplaced, IsReplacementCall, IsWritten, nothing_replaced, rewritten_by};
+
+use crate::assignments::seeker_of;
+use crate::buffers::copy_to;
+use crate::held::Held;
+use crate::searches::text_of;
+use crate::statuses::{
+    BAD_LIMIT, CLOSED, DONE, NO_MEMORY, NOTHING, TOO_LONG, TOO_MANY_TRIALS, TOO_SHORT,
+};
+use sno_pattern::ByteText;
+use sno_seek::Seeker;
+use sno_statement::{MAX_TRIALS, StatementFault};
+use std::alloc::Global;
+
+/// What was replaced.
+#[repr(C)]
+#[derive(Clone, Copy, Debug, PartialEq, Eq)]
+pub struct Replaced {
+    /// How many bytes the new text has.
+    pub length: usize,
+    /// How many matches there were.
+    pub matches: u64,
+}
+
+impl Replaced {
+    /// What is reported of nothing.
+    pub(crate) fn none() -> Replaced
+        ensures { result ≡ nothing_replaced }
+    {
+        Replaced {
+            length: 0,
+            matches: 0,
+        }
+    }
+}
+
+/// Puts the new text in the buffer if there is room for it.
+fn write(text: &[u8], buffer: &mut [u8]) -> u8
+    ensures { IsWritten text.now buffer.old buffer.new result }
+{
+    if text.len() > buffer.len() {
+        return TOO_SHORT;
+    }
+    copy_to(buffer, text);
+    DONE
+}
+
+/// Puts what the statement of the pattern makes of the text in the buffer, if there is room for it.
+fn replace(
+    alloc: Global,
+    seeker: &Seeker,
+    text: &ByteText,
+    trials: u32,
+    buffer: &mut [u8],
+    done: &mut Replaced,
+) -> u8
+    ensures { IsReplaced trials text.now seeker.now buffer.old buffer.new done.new result }
+{
+    *done = Replaced::none();
+    if trials == 0 || trials > MAX_TRIALS {
+        return BAD_LIMIT;
+    }
+    match seeker.replaced(alloc, text, trials) {
+        Ok(rewritten) => {
+            done.matches = rewritten.matches;
+            match &rewritten.after {
+                None => NOTHING,
+                Some(after) => {
+                    done.length = after.bytes().len();
+                    write(after.bytes(), buffer)
+                }
+            }
+        }
+        Err(StatementFault::TooManyTrials) => TOO_MANY_TRIALS,
+        Err(StatementFault::TextTooLong) => TOO_LONG,
+        Err(StatementFault::Memory) => NO_MEMORY,
+    }
+}
+
+/// Puts what the pattern that is held makes of the text that is held in the buffer. Refused if they are something else.
+pub(crate) fn replace_held(
+    alloc: Global,
+    pattern: &Option<Box<Held>>,
+    text: &Option<Box<Held>>,
+    trials: u32,
+    buffer: &mut [u8],
+    done: &mut Replaced,
+) -> u8
+    ensures { IsReplacementCall trials (held_in pattern.now) (held_in text.now) buffer.old buffer.new done.new result }
+{
+    *done = Replaced::none();
+    let (Some(seeker), Some(text)) = (seeker_of(pattern), text_of(text)) else {
+        return CLOSED;
+    };
+    replace(alloc, seeker, text, trials, buffer, done)
+}

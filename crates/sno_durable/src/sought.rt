@@ -1,0 +1,116 @@
+//! What a line asks of a desk whose numbers begin at 0, and its reply as the client is shown it.
+ghost use Rattle.std.specs.Prelude.{◌≡◌, ◌≤◌, ◌⊎◌, ◌+◌, IfOk};
+ghost use Rattle.std.specs.Option.{option_map};
+ghost use Rattle.serde_json.specs.View.{view};
+ghost use Rattle.sno_desk.specs.declared.desk.TheConstants.{MAX_TRIES};
+ghost use Rattle.sno_durable.specs.Past.{version_of};
+ghost use Rattle.sno_durable.specs.Sought.{IsRepliedOn, asked_here, gone_reply, name_asked};
+
+use crate::past::{Past, lower, with_further};
+use serde_json::{Map, Value, put};
+use sno_desk::{Desk, Naming, Seat};
+use sno_listing::{Refusal, text_name_value};
+use sno_pattern::TextName;
+use sno_serve::{Answered, Asked, Excerpt, Line, answer};
+use std::alloc::{AllocError, Global};
+use std::sync::Wait;
+
+/// What a client is shown.
+#[derive(Drop)]
+pub(crate) struct Shown {
+    /// The reply.
+    pub(crate) reply: Value,
+    /// What the listing has of it, if it is a refused statement.
+    pub(crate) refused: Option<Refusal>,
+}
+
+/// What is asked of the desk, about a text that had this version before; nothing if it is for entries from before its first one.
+fn asked_here(entries: u64, before: u64, asked: Asked) -> Option<Asked>
+    ensures { result ≡ asked_here entries before asked }
+{
+    match asked {
+        Asked::PerformAt(statement, version) => {
+            Some(Asked::PerformAt(statement, lower(before, version)))
+        }
+        Asked::ReadAt(name, version) => Some(Asked::ReadAt(name, lower(before, version))),
+        Asked::Since(excerpt) => {
+            let Excerpt { from, limit, name } = excerpt;
+            if from < entries {
+                return None;
+            }
+            let from = from - entries;
+            Some(Asked::Since(Excerpt { from, limit, name }))
+        }
+        other => Some(other),
+    }
+}
+
+/// The name of the text that a line is about, if it is about one.
+fn name_asked(asked: &Asked) -> Option<&TextName>
+    ensures { option_map (λ n. n.now) result ≡ name_asked asked.now }
+{
+    match asked {
+        Asked::Perform(statement) => Some(statement.text()),
+        Asked::PerformAt(statement, _) => Some(statement.text()),
+        Asked::Check(statement) => Some(statement.text()),
+        Asked::Read(name) => Some(name),
+        Asked::ReadAt(name, _) => Some(name),
+        Asked::Texts | Asked::Since(_) | Asked::Fault(_) => None,
+    }
+}
+
+/// The version that the text which a line is about had before.
+fn version_asked(alloc: Global, past: &Past, asked: &Asked) -> Result<u64, AllocError>
+    ensures { IfOk result (λ v. v ≡ version_of (view past.now.versions) (name_asked asked.now)) }
+{
+    let Some(name) = name_asked(asked) else {
+        return Ok(0);
+    };
+    let name = text_name_value(alloc, name)?;
+    Ok(past.version_of(Some(&name)))
+}
+
+/// The reply to a line that asks for entries from before the first one that is left.
+fn gone_reply(alloc: Global, id: Option<Value>, entries: u64) -> Result<Value, AllocError>
+    ensures { IfOk result (λ v. view v ≡ gone_reply (option_map view id) entries) }
+{
+    let reason = Value::try_from_str(alloc, "compacted")?;
+    let mut members = Map::new(alloc);
+    put(&mut members, alloc, "reason", reason)?;
+    put(&mut members, alloc, "first", Value::from(entries))?;
+    let reply = Value::Object(members);
+    match id {
+        None => Ok(reply),
+        Some(id) => with_further(alloc, reply, "id", id),
+    }
+}
+
+/// Does what a line asks for at a seat, as [`sno_serve::answer`] does, with numbers that go on from what came before: indices of
+/// entries and versions of texts. `tries` is from 1 to 1,000.
+pub(crate) fn reply_here<L: Naming, R: Wait>(
+    rt: &R,
+    alloc: Global,
+    desk: &Desk<L>,
+    seat: &mut Seat<L>,
+    past: &Past,
+    line: Line,
+    tries: u32,
+) -> Result<Shown, AllocError>
+    requires { (1 ≤ tries) × (tries ≤ MAX_TRIES) }
+    ensures replied { IfOk result (λ a. IsRepliedOn past.now.entries (view past.now.versions) tries L.opening seat.old.viewer.seen seat.new.viewer.seen (option_map view line.id) line.asked (view a.reply) a.refused) }
+    ensures counted { IfOk result (λ a. (seat.new.accepted ≡ seat.old.accepted) ⊎ (seat.new.accepted ≡ seat.old.accepted + 1)) }
+{
+    let Line { id, asked, ignored } = line;
+    let version = version_asked(alloc, past, &asked)?;
+    let Some(asked) = asked_here(past.entries, version, asked) else {
+        let reply = gone_reply(alloc, id, past.entries)?;
+        return Ok(Shown {
+            reply,
+            refused: None,
+        });
+    };
+    let here = Line { id, asked, ignored };
+    let Answered { reply, refused } = answer(rt, alloc, desk, seat, here, tries)?;
+    let reply = past.shown(alloc, reply, version)?;
+    Ok(Shown { reply, refused })
+}

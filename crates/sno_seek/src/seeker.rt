@@ -1,0 +1,153 @@
+//! A statement that is sought in texts, one search after the other.
+ghost use Rattle.std.specs.Prelude.{◌≡◌, ◌<◌, ◌≤◌, ◌+◌, ◌^◌, length, slice_get, None, Some, IfOk, IfErr, is_some};
+ghost use Rattle.std.specs.Option.{option_map};
+ghost use Rattle.sno_pattern.specs.declared.byte_texts.TheConstants.{MAX_BYTES};
+ghost use Rattle.sno_machine.specs.declared.faults.MatchFault.TheVariants.{TooManyTrials};
+ghost use Rattle.sno_statement.specs.Passes.{search, search_trials};
+ghost use Rattle.sno_statement.specs.Perform.{perform_within};
+ghost use Rattle.sno_statement.specs.Rewriting.{GivesRewritten, rewriting};
+ghost use Rattle.sno_statement.specs.Statement.{with_limit};
+ghost use Rattle.sno_seek.specs.Assignments.{assignments_of, conditional, found_assignments};
+
+use sno_machine::{MatchFault, SearchOutcome, Searched, compile};
+use sno_pattern::{Assign, ByteText, Found, Hit, What};
+use sno_statement::{FileStatement, Rewritten, StatementFault, rewrite};
+use std::alloc::Global;
+
+/// A statement that is sought in texts, with what its last search found.
+#[derive(Drop)]
+pub struct Seeker {
+    /// The statement. Its object is used by [`Seeker::replaced`] alone.
+    pub statement: FileStatement,
+    /// What the last search found; `None` if there was none yet, or if the last one was refused.
+    pub found: Option<Found>,
+}
+
+/// The assignment at a place of a match: first those that were done at once, then the conditional ones.
+fn assignment_in(found: &Found, place: usize) -> Option<Assign>
+    ensures { result ≡ slice_get (assignments_of found.now) place }
+{
+    let sets = found.sets.as_slice();
+    if place < sets.len() {
+        return sets.get(place).copied();
+    }
+    let hit = found.end.as_ref()?;
+    let (name, from, to) = hit.conds.as_slice().get(place - sets.len())?;
+    Some(Assign {
+        name: *name,
+        what: What::Part(*from, *to),
+    })
+}
+
+/// How many conditional assignments a match did.
+fn conditional_count(end: Option<&Hit>) -> usize
+    ensures count { result ≡ length (conditional (option_map (λ h. h.now) end.entry)) }
+    ensures small { result < 2 ^ 63 }
+{
+    match end {
+        None => 0,
+        Some(hit) => hit.conds.as_slice().len(),
+    }
+}
+
+/// How many assignments a search did.
+fn assignment_count(found: &Found) -> usize
+    ensures { result ≡ length (assignments_of found.now) }
+{
+    found.sets.as_slice().len() + conditional_count(found.end.as_ref())
+}
+
+/// What a search for the statement's pattern finds, from a cursor of the text on.
+fn search_in(
+    alloc: Global,
+    statement: &FileStatement,
+    text: &ByteText,
+    from: usize,
+    trials: u32,
+) -> Result<Found, MatchFault>
+    requires { from ≤ length text.now }
+    ensures found { IfOk result (λ found. found ≡ search statement.now text.now from) }
+    ensures within { IfOk result (λ _. search_trials statement.now text.now from ≤ trials) }
+    ensures refused { IfErr result (λ e. e ≡ TooManyTrials → trials < search_trials statement.now text.now from) }
+{
+    let sought = statement.search();
+    let code = compile(alloc, sought.rules(), sought.pattern())?;
+    let mut searched = Searched::of_bytes(alloc, text);
+    let search = code.first_from(alloc, &mut searched, sought.anchored(), from, trials)?;
+    let SearchOutcome { found, .. } = search;
+    Ok(found)
+}
+
+impl Seeker {
+    /// A statement that was not sought yet. It takes no memory.
+    pub fn new(statement: FileStatement) -> Seeker
+        ensures { result ≡ record { statement = statement; found = None } }
+    {
+        Seeker {
+            statement,
+            found: None,
+        }
+    }
+
+    /// Seeks the pattern from a cursor of the text on, and keeps what is found. Returns whether there is a match. The object and
+    /// the rounds of the statement are not looked at. The pattern is compiled anew, which takes about as long as a short match.
+    ///
+    /// Refused:
+    /// - `TooManyTrials` exactly if the search takes more than `trials` trials, unless memory runs out first;
+    /// - `Memory` if out of memory, or if the search would have to keep more than `sno_machine::MAX_KEPT` entries in its history.
+    ///
+    /// After a refusal nothing is found.
+    pub fn next(
+        &mut self,
+        alloc: Global,
+        text: &ByteText,
+        from: usize,
+        trials: u32,
+    ) -> Result<bool, MatchFault>
+        requires { from ≤ length text.now }
+        ensures found { IfOk result (λ matched. (self.new.found ≡ Some (search self.old.statement text.now from)) × (matched ≡ is_some (search self.old.statement text.now from).end)) }
+        ensures within { IfOk result (λ _. search_trials self.old.statement text.now from ≤ trials) }
+        ensures refused { IfErr result (λ e. e ≡ TooManyTrials → trials < search_trials self.old.statement text.now from) }
+        ensures nothing { IfErr result (λ _. self.new.found ≡ None) }
+        ensures statement { self.new.statement ≡ self.old.statement }
+    {
+        self.found = None;
+        let found = search_in(alloc, &self.statement, text, from, trials)?;
+        let matched = found.end.is_some();
+        self.found = Some(found);
+        Ok(matched)
+    }
+
+    /// The assignment of the last search at a place, counted from 0: first those that were done at once, in their order and also if
+    /// the match then backed up, and after them the conditional ones of the match, in the order in which their parts ended. The
+    /// value of a variable is that of its last assignment. `None` past the last assignment, or if nothing was found.
+    pub fn assignment(&self, place: usize) -> Option<Assign>
+        ensures { result ≡ slice_get (found_assignments self.now.found) place }
+    {
+        let found = self.found.as_ref()?;
+        assignment_in(found, place)
+    }
+
+    /// How many assignments the last search did; 0 if nothing was found.
+    pub fn assignments(&self) -> usize
+        ensures { result ≡ length (found_assignments self.now.found) }
+    {
+        match &self.found {
+            None => 0,
+            Some(found) => assignment_count(found),
+        }
+    }
+
+    /// What the statement makes of the text, as [`rewrite`] does.
+    pub fn replaced(
+        &self,
+        alloc: Global,
+        text: &ByteText,
+        trials: u32,
+    ) -> Result<Rewritten, StatementFault>
+        ensures rewritten { GivesRewritten result (rewriting (perform_within MAX_BYTES (with_limit self.now.statement trials) text.now)) }
+        ensures few { IfOk result (λ r. r.matches < 2 ^ 32) }
+    {
+        rewrite(alloc, &self.statement, text, trials)
+    }
+}
