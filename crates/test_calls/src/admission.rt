@@ -1,5 +1,5 @@
 //! Names and definitions made by hand.
-use crate::written::{check_eq, name_of, rules_of};
+use crate::written::{check_eq, name_of, one_name, rules_of};
 use sno_pattern::{Name, Names, NamesFault, Pattern, Rules, RulesFault};
 use std::alloc::Global;
 use std::test::Fail;
@@ -22,21 +22,31 @@ fn a_name_has_at_most_64_characters(rt: HostRuntime) -> Result<(), Fail> {
     Ok(())
 }
 
-// How many names there are where these are so many: A0, A1 and so on.
-fn numbered_names(alloc: Global, count: usize) -> Result<Result<usize, NamesFault>, Fail> {
+fn numbered_name(alloc: Global, number: usize) -> Result<Name, Fail> {
+    let letters = format!(in alloc; "A{number}")?;
+    name_of(letters.as_str())
+}
+
+// So many names: A0, A1 and so on.
+fn numbered_names(alloc: Global, count: usize) -> Result<Vec<Name>, Fail> {
     let mut names = Vec::new(alloc);
     for number in 0..count {
-        let letters = format!(in alloc; "A{number}")?;
-        names.push(name_of(letters.as_str())?)?;
+        names.push(numbered_name(alloc, number)?)?;
     }
-    Ok(Names::new(alloc, names.as_slice()).map(|names| names.len()))
+    Ok(names)
+}
+
+// How many names there are where these are so many.
+fn count_of(alloc: Global, names: &[Name]) -> Result<usize, NamesFault> {
+    Ok(Names::new(alloc, names)?.len())
 }
 
 #[test]
 fn there_are_at_most_64_definitions(rt: HostRuntime) -> Result<(), Fail> {
+    let names = numbered_names(rt.alloc(), 65)?;
     let counts = [
-        numbered_names(rt.alloc(), 64)?,
-        numbered_names(rt.alloc(), 65)?,
+        count_of(rt.alloc(), &names[..64]),
+        count_of(rt.alloc(), &names),
     ];
     let expected = [Ok(64), Err(NamesFault::TooMany)];
     check_eq(&rt, &counts.as_slice(), &expected.as_slice());
@@ -56,11 +66,15 @@ fn rules_cover_references_to_their_definitions(rt: HostRuntime) -> Result<(), Fa
     Ok(())
 }
 
-// The only definition, P, is a reference to the definition of this number.
-fn fault_of(alloc: Global, number: usize) -> Result<Option<RulesFault>, Fail> {
-    let names = Names::new(alloc, &[name_of("P")?])?;
+// The only definition is a reference to the definition of this number.
+fn reference(alloc: Global, number: usize) -> Result<Vec<Pattern>, Fail> {
     let mut bodies = Vec::new(alloc);
     bodies.push(Pattern::Ref(number))?;
+    Ok(bodies)
+}
+
+// Why the definitions are refused.
+fn fault_of(alloc: Global, names: Names, bodies: Vec<Pattern>) -> Result<Option<RulesFault>, Fail> {
     if names.len() == bodies.len() {
         Ok(Rules::admit(alloc, names, bodies).err())
     } else {
@@ -70,6 +84,8 @@ fn fault_of(alloc: Global, number: usize) -> Result<Option<RulesFault>, Fail> {
 
 #[test]
 fn a_reference_to_no_definition_is_refused(rt: HostRuntime) -> Result<(), Fail> {
-    check_eq(&rt, &fault_of(rt.alloc(), 3)?, &Some(RulesFault::BadRef(0)));
+    let bodies = reference(rt.alloc(), 3)?;
+    let fault = fault_of(rt.alloc(), one_name(rt.alloc(), "P")?, bodies)?;
+    check_eq(&rt, &fault, &Some(RulesFault::BadRef(0)));
     Ok(())
 }

@@ -18,8 +18,9 @@ fn found(
 
 // The same on a text as it is written, without definitions.
 fn found_on(alloc: Global, pattern: &str, text: &str, anchored: bool) -> Result<Found, Fail> {
+    let rules = no_rules(alloc)?;
     let text = text_of(alloc, text)?;
-    found(alloc, &no_rules(alloc)?, pattern, &text, anchored)
+    found(alloc, &rules, pattern, &text, anchored)
 }
 
 // The conditional assignments of the match, if there is one.

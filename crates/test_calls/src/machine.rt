@@ -3,6 +3,7 @@ use crate::written::{check_eq, no_rules, pattern_of, rules_of, text_of};
 use sno_machine::{Code, Found, MatchFault, What, Workspace, compile};
 use sno_pattern::{Rules, Text};
 use std::alloc::Global;
+use std::process::Abort;
 use std::test::Fail;
 
 // More trials than the matches here take.
@@ -11,18 +12,22 @@ const LIMIT: u32 = 1_000_000;
 // Where a match begins and ends.
 type Extent = (usize, usize);
 
-// Where the first match on the text begins and ends, if there is one, or why none is found within this limit.
+// Where the match begins and ends, if there is one.
+fn extent_of(found: &Found) -> Option<Extent> {
+    match &found.end {
+        None => None,
+        Some(hit) => Some((hit.start, hit.end)),
+    }
+}
+
+// The same of the first match on the text, or why none is found within this limit.
 fn extent(
     alloc: Global,
     code: &Code,
     text: &Text,
     limit: u32,
 ) -> Result<Option<Extent>, MatchFault> {
-    let found = code.first(alloc, text, false, limit)?;
-    match &found.end {
-        None => Ok(None),
-        Some(hit) => Ok(Some((hit.start, hit.end))),
-    }
+    Ok(extent_of(&code.first(alloc, text, false, limit)?))
 }
 
 // The same for each of the texts.
@@ -42,8 +47,7 @@ fn extents(
     texts: &[Text],
 ) -> Result<Vec<Option<Extent>>, Fail> {
     let pattern = pattern_of(alloc, rules, pattern)?;
-    let code = compile(alloc, rules, &pattern)?;
-    each_extent(alloc, &code, texts)
+    each_extent(alloc, &compile(alloc, rules, &pattern)?, texts)
 }
 
 fn texts_of(alloc: Global, written: &[&str]) -> Result<Vec<Text>, Fail> {
@@ -56,35 +60,47 @@ fn texts_of(alloc: Global, written: &[&str]) -> Result<Vec<Text>, Fail> {
 
 #[test]
 fn one_code_matches_many_texts(rt: HostRuntime) -> Result<(), Fail> {
+    let rules = no_rules(rt.alloc())?;
     let texts = texts_of(rt.alloc(), &["xa", "c", "b"])?;
-    let found = extents(rt.alloc(), &no_rules(rt.alloc())?, "'a' | 'b'", &texts)?;
+    let found = extents(rt.alloc(), &rules, "'a' | 'b'", &texts)?;
     let expected = [Some((1, 2)), None, Some((0, 1))];
     check_eq(&rt, &found.as_slice(), &expected.as_slice());
     Ok(())
 }
 
-// Where the first match on each of the texts begins and ends, by one workspace.
-fn extents_in_one_workspace(
+// Where the first match on the text begins and ends, by this workspace.
+fn extent_in<'a>(
     alloc: Global,
-    code: &Code,
+    code: &Code<'a>,
+    workspace: &mut Workspace<'a>,
+    text: &Text,
+) -> Result<Option<Extent>, MatchFault> {
+    let found = code.first_in(alloc, workspace, text, false, LIMIT)?;
+    let extent = extent_of(&found);
+    workspace.give_back(found);
+    Ok(extent)
+}
+
+// The same for each of the texts.
+fn extents_in<'a>(
+    alloc: Global,
+    code: &Code<'a>,
+    workspace: &mut Workspace<'a>,
     texts: &[Text],
 ) -> Result<Vec<Option<Extent>>, Fail> {
-    let mut workspace = Workspace::new(alloc);
     let mut extents = Vec::new(alloc);
     for text in texts {
-        let found = code.first_in(alloc, &mut workspace, text, false, LIMIT)?;
-        extents.push(found.end.as_ref().map(|hit| (hit.start, hit.end)))?;
-        workspace.give_back(found);
+        extents.push(extent_in(alloc, code, workspace, text)?)?;
     }
     Ok(extents)
 }
 
-// The same of a pattern without definitions.
+// The same of a pattern without definitions, by one workspace.
 fn extents_of(alloc: Global, pattern: &str, texts: &[Text]) -> Result<Vec<Option<Extent>>, Fail> {
     let rules = no_rules(alloc)?;
     let pattern = pattern_of(alloc, &rules, pattern)?;
     let code = compile(alloc, &rules, &pattern)?;
-    extents_in_one_workspace(alloc, &code, texts)
+    extents_in(alloc, &code, &mut Workspace::new(alloc), texts)
 }
 
 // The first match leaves `'b'` at cursor 1 as a choice. The second one must not take it up.
@@ -105,12 +121,18 @@ fn nested(alloc: Global, depth: usize) -> Result<Text, Fail> {
     Ok(Text::new(text)?)
 }
 
+// Where the first match of `*P RPOS(0)` on the text begins and ends.
+fn nested_extent(alloc: Global, text: &Text) -> Result<Option<Extent>, Fail> {
+    let rules = rules_of(alloc, "P", "'(' *P ')' | 'x'")?;
+    let pattern = pattern_of(alloc, &rules, "*P RPOS(0)")?;
+    let code = compile(alloc, &rules, &pattern)?;
+    Ok(extent(alloc, &code, text, LIMIT)?)
+}
+
 #[test]
 fn references_nest_as_deep_as_the_longest_text(rt: HostRuntime) -> Result<(), Fail> {
-    let rules = rules_of(rt.alloc(), "P", "'(' *P ')' | 'x'")?;
-    let texts = [nested(rt.alloc(), 32_767)?];
-    let found = extents(rt.alloc(), &rules, "*P RPOS(0)", texts.as_slice())?;
-    check_eq(&rt, &found.as_slice(), &[Some((0, 65_535))].as_slice());
+    let found = nested_extent(rt.alloc(), &nested(rt.alloc(), 32_767)?)?;
+    check_eq(&rt, &found, &Some((0, 65_535)));
     Ok(())
 }
 
@@ -121,48 +143,67 @@ fn ended_by_b(alloc: Global) -> Result<Text, Fail> {
     Ok(Text::new(text)?)
 }
 
-// The first match on the text, within each of two limits.
+// The first match on the text, within this limit and within one trial less.
+fn limited_by(
+    alloc: Global,
+    code: &Code,
+    text: &Text,
+    limit: u32,
+) -> [Result<Option<Extent>, MatchFault>; 2] {
+    [
+        extent(alloc, code, text, limit),
+        extent(alloc, code, text, limit.saturating_sub(1)),
+    ]
+}
+
 fn limited(
     alloc: Global,
     pattern: &str,
     text: &Text,
-    limits: (u32, u32),
+    limit: u32,
 ) -> Result<[Result<Option<Extent>, MatchFault>; 2], Fail> {
     let rules = no_rules(alloc)?;
     let pattern = pattern_of(alloc, &rules, pattern)?;
     let code = compile(alloc, &rules, &pattern)?;
-    Ok([
-        extent(alloc, &code, text, limits.0),
-        extent(alloc, &code, text, limits.1),
-    ])
+    Ok(limited_by(alloc, &code, text, limit))
+}
+
+// The same on a text as it is written.
+fn limited_on(
+    alloc: Global,
+    pattern: &str,
+    text: &str,
+    limit: u32,
+) -> Result<[Result<Option<Extent>, MatchFault>; 2], Fail> {
+    limited(alloc, pattern, &text_of(alloc, text)?, limit)
+}
+
+// Checks that the match takes so many trials, and where it begins and ends: one trial less refuses it.
+fn check_limit(rt: &impl Abort, found: &[Result<Option<Extent>, MatchFault>; 2], expected: Extent) {
+    check_eq(rt, &found[0], &Ok(Some(expected)));
+    check_eq(rt, &found[1], &Err(MatchFault::TooManyTrials));
 }
 
 #[test]
 fn each_start_that_is_passed_over_costs_a_trial(rt: HostRuntime) -> Result<(), Fail> {
-    let text = ended_by_b(rt.alloc())?;
-    let found = limited(rt.alloc(), "'b'", &text, (65_536, 65_535))?;
-    let expected = [Ok(Some((65_535, 65_536))), Err(MatchFault::TooManyTrials)];
-    check_eq(&rt, &found.as_slice(), &expected.as_slice());
+    let found = limited(rt.alloc(), "'b'", &ended_by_b(rt.alloc())?, 65_536)?;
+    check_limit(&rt, &found, (65_535, 65_536));
     Ok(())
 }
 
 // Each of the three rounds takes three trials, one of them for `RPOS(0)` before it. The last trial is for `RPOS(0)` after them.
 #[test]
 fn each_round_that_is_passed_costs_its_trials(rt: HostRuntime) -> Result<(), Fail> {
-    let text = text_of(rt.alloc(), "ab,a,b,")?;
-    let found = limited(rt.alloc(), "ARBNO(SPAN('ab') ',') RPOS(0)", &text, (10, 9))?;
-    let expected = [Ok(Some((0, 7))), Err(MatchFault::TooManyTrials)];
-    check_eq(&rt, &found.as_slice(), &expected.as_slice());
+    let found = limited_on(rt.alloc(), "ARBNO(SPAN('ab') ',') RPOS(0)", "ab,a,b,", 10)?;
+    check_limit(&rt, &found, (0, 7));
     Ok(())
 }
 
 // The second round finds no `,`. The starts take 6, 6, 2, 3 and 1 trials.
 #[test]
 fn a_round_without_an_end_costs_its_trials(rt: HostRuntime) -> Result<(), Fail> {
-    let text = text_of(rt.alloc(), "ab,a")?;
-    let found = limited(rt.alloc(), "ARBNO(SPAN('ab') ',') RPOS(0)", &text, (18, 17))?;
-    let expected = [Ok(Some((4, 4))), Err(MatchFault::TooManyTrials)];
-    check_eq(&rt, &found.as_slice(), &expected.as_slice());
+    let found = limited_on(rt.alloc(), "ARBNO(SPAN('ab') ',') RPOS(0)", "ab,a", 18)?;
+    check_limit(&rt, &found, (4, 4));
     Ok(())
 }
 
@@ -175,19 +216,20 @@ fn parts_of(alloc: Global, found: &Found) -> Result<Vec<What>, Fail> {
     Ok(parts)
 }
 
+fn assigned_by(alloc: Global, code: &Code, text: &Text) -> Result<Vec<What>, Fail> {
+    parts_of(alloc, &code.first(alloc, text, true, LIMIT)?)
+}
+
 // The same where `*S 'c'` is anchored on the text.
 fn assigned(alloc: Global, rules: &Rules, text: &Text) -> Result<Vec<What>, Fail> {
     let pattern = pattern_of(alloc, rules, "*S 'c'")?;
-    let code = compile(alloc, rules, &pattern)?;
-    let found = code.first(alloc, text, true, LIMIT)?;
-    parts_of(alloc, &found)
+    assigned_by(alloc, &compile(alloc, rules, &pattern)?, text)
 }
 
 #[test]
 fn assignments_that_are_backed_over_stay(rt: HostRuntime) -> Result<(), Fail> {
     let rules = rules_of(rt.alloc(), "S", "LEN(1) $ C *S | ''")?;
-    let text = text_of(rt.alloc(), "abc")?;
-    let found = assigned(rt.alloc(), &rules, &text)?;
+    let found = assigned(rt.alloc(), &rules, &text_of(rt.alloc(), "abc")?)?;
     let parts = [What::Part(0, 1), What::Part(1, 2), What::Part(2, 3)];
     check_eq(&rt, &found.as_slice(), &parts.as_slice());
     Ok(())

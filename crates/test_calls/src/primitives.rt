@@ -10,6 +10,7 @@ use sno_primitives::{
     rpos_end, rtab_end, span_end, tab_end,
 };
 use std::alloc::Global;
+use std::process::Abort;
 use std::test::Fail;
 
 // A pattern, a text, a cursor, and where the pattern ends from there.
@@ -62,13 +63,18 @@ fn is_single(pattern: &Pattern) -> bool
     }
 }
 
-fn end_of(alloc: Global, pattern: &str, text: &str, cursor: usize) -> Result<Option<usize>, Fail> {
-    let pattern = pattern_of(alloc, &no_rules(alloc)?, pattern)?;
-    if cursor <= text.len() && is_single(&pattern) {
-        Ok(leaf_end(text.as_bytes(), &pattern, cursor))
+fn end_in(pattern: &Pattern, text: &str, cursor: usize) -> Result<Option<usize>, Fail> {
+    if cursor <= text.len() && is_single(pattern) {
+        Ok(leaf_end(text.as_bytes(), pattern, cursor))
     } else {
         Err("a cursor within the text and a primitive with one end are wanted".into())
     }
+}
+
+fn end_of(alloc: Global, pattern: &str, text: &str, cursor: usize) -> Result<Option<usize>, Fail> {
+    let rules = no_rules(alloc)?;
+    let pattern = pattern_of(alloc, &rules, pattern)?;
+    end_in(&pattern, text, cursor)
 }
 
 #[test]
@@ -124,11 +130,15 @@ fn ends_of(set: &Class) -> [Option<usize>; 4] {
 }
 
 // the members come back as they stood
+fn check_set(rt: &impl Abort, set: &Class) {
+    check_eq(rt, &set.members(), &b"bab".as_slice());
+    let expected = [Some(2), Some(1), Some(4), Some(1)];
+    check_eq(rt, &ends_of(set).as_slice(), &expected.as_slice());
+}
+
 #[test]
 fn sets_have_one_end(rt: HostRuntime) -> Result<(), Fail> {
-    let set = Class::new(Vec::from_slice(rt.alloc(), b"bab")?).ok_or("no set")?;
-    check_eq(&rt, &set.members(), &b"bab".as_slice());
-    let expected = [Some(2), Some(1), Some(4), Some(1)];
-    check_eq(&rt, &ends_of(&set).as_slice(), &expected.as_slice());
+    let members = Vec::from_slice(rt.alloc(), b"bab")?;
+    check_set(&rt, &Class::new(members).ok_or("no set")?);
     Ok(())
 }

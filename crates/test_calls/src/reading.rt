@@ -1,8 +1,9 @@
 //! Limits of patterns and objects as they are written, from both sides, and the parts of an object.
 use crate::written::{check_eq, name_of};
 use sno_pattern::{Names, Pattern};
-use sno_read::{Part, ReadFault, read_object, read_pattern};
+use sno_read::{Object, Part, ReadFault, read_object, read_pattern};
 use std::alloc::Global;
+use std::process::Abort;
 use std::test::Fail;
 
 /// A pattern as it is written: the first piece, the second and the last of them so many times, with the third between those two.
@@ -48,9 +49,13 @@ fn depth_read(alloc: Global, names: &Names, text: &[u8]) -> Result<usize, ReadFa
     Ok(depth_of(&read_pattern(alloc, names, 0, text)?))
 }
 
+fn depth_without_names(alloc: Global, text: &[u8]) -> Result<Result<usize, ReadFault>, Fail> {
+    Ok(depth_read(alloc, &Names::new(alloc, &[])?, text))
+}
+
 // That depth, or why the text isn't read.
 fn line_of(alloc: Global, text: &[u8]) -> Result<String, Fail> {
-    match depth_read(alloc, &Names::new(alloc, &[])?, text) {
+    match depth_without_names(alloc, text)? {
         Ok(depth) => Ok(format!(in alloc; "depth {depth}")?),
         Err(fault) => Ok(fault.to_string(alloc)?),
     }
@@ -79,11 +84,24 @@ static LIMITS: [(Written, &str); 19] = [
     (Written("'a'\n'b'", "", "", "", 0), "unexpected at 3"),
 ];
 
+fn line_written(alloc: Global, written: Written) -> Result<String, Fail> {
+    line_of(alloc, &text_of(alloc, written)?)
+}
+
+fn check_limit(
+    rt: &impl Abort,
+    alloc: Global,
+    written: Written,
+    expected: &'static str,
+) -> Result<(), Fail> {
+    check_eq(rt, &line_written(alloc, written)?.as_str(), &expected);
+    Ok(())
+}
+
 #[test]
 fn limits(rt: HostRuntime) -> Result<(), Fail> {
     for (written, expected) in &LIMITS {
-        let text = text_of(rt.alloc(), *written)?;
-        check_eq(&rt, &line_of(rt.alloc(), &text)?.as_str(), expected);
+        check_limit(&rt, rt.alloc(), *written, expected)?;
     }
     Ok(())
 }
@@ -96,6 +114,13 @@ fn names_of(alloc: Global, names: &[&str]) -> Result<Names, Fail> {
     Ok(Names::new(alloc, read.as_slice())?)
 }
 
+fn refers_to(pattern: &Pattern, number: usize) -> bool {
+    match pattern {
+        Pattern::Ref(found) => *found == number,
+        _ => false,
+    }
+}
+
 // Whether the text is read as a reference to this definition.
 fn is_reference(
     alloc: Global,
@@ -103,32 +128,35 @@ fn is_reference(
     text: &[u8],
     number: usize,
 ) -> Result<bool, ReadFault> {
-    Ok(read_pattern(alloc, names, 1, text)? == Pattern::Ref(number))
+    Ok(refers_to(&read_pattern(alloc, names, 1, text)?, number))
+}
+
+// Whether the text, which is the only name, is read as a reference to its definition.
+fn is_own_reference(alloc: Global, text: &[u8]) -> Result<Result<bool, ReadFault>, Fail> {
+    let name = str::from_utf8(text)?;
+    Ok(is_reference(alloc, &names_of(alloc, &[name])?, text, 0))
 }
 
 // The longest name is that of a definition.
 #[test]
 fn longest_name(rt: HostRuntime) -> Result<(), Fail> {
     let longest = text_of(rt.alloc(), Written("", "a", "", "", 64))?;
-    let names = names_of(rt.alloc(), &[str::from_utf8(&longest)?])?;
-    check_eq(
-        &rt,
-        &is_reference(rt.alloc(), &names, &longest, 0),
-        &Ok(true),
-    );
+    check_eq(&rt, &is_own_reference(rt.alloc(), &longest)?, &Ok(true));
     Ok(())
+}
+
+fn references(alloc: Global, names: &Names) -> [Result<bool, ReadFault>; 3] {
+    [
+        is_reference(alloc, names, b"P", 0),
+        is_reference(alloc, names, b"*Q", 1),
+        is_reference(alloc, names, b"Q", 1),
+    ]
 }
 
 // P may be named as it is by what comes after its definition, and Q after a star alone.
 #[test]
 fn names_of_definitions(rt: HostRuntime) -> Result<(), Fail> {
-    let alloc = rt.alloc();
-    let names = names_of(alloc, &["P", "Q"])?;
-    let read = [
-        is_reference(alloc, &names, b"P", 0),
-        is_reference(alloc, &names, b"*Q", 1),
-        is_reference(alloc, &names, b"Q", 1),
-    ];
+    let read = references(rt.alloc(), &names_of(rt.alloc(), &["P", "Q"])?);
     let expected = [Ok(true), Ok(true), Err(ReadFault::UnknownName(0))];
     check_eq(&rt, &read.as_slice(), &expected.as_slice());
     Ok(())
@@ -160,15 +188,28 @@ fn part_line(alloc: Global, part: &Part) -> Result<String, Fail> {
     }
 }
 
-#[test]
-fn parts_of_an_object(rt: HostRuntime) -> Result<(), Fail> {
-    let alloc = rt.alloc();
-    let object = read_object(alloc, &names_of(alloc, &["P"])?, b" V '=' K ")?;
+fn tell_part(alloc: Global, part: &Part, line: &mut String) -> Result<(), Fail> {
+    line.push_str(part_line(alloc, part)?.as_str())?;
+    Ok(line.push_str(";")?)
+}
+
+fn object_line(alloc: Global, object: &Object) -> Result<String, Fail> {
     let mut line = String::new(alloc);
     for part in object.parts() {
-        line.push_str(part_line(alloc, part)?.as_str())?;
-        line.push_str(";")?;
+        tell_part(alloc, part, &mut line)?;
     }
+    Ok(line)
+}
+
+// The parts of the object that is written, where P is a definition.
+fn object_line_of(alloc: Global, written: &[u8]) -> Result<String, Fail> {
+    let object = read_object(alloc, &names_of(alloc, &["P"])?, written)?;
+    object_line(alloc, &object)
+}
+
+#[test]
+fn parts_of_an_object(rt: HostRuntime) -> Result<(), Fail> {
+    let line = object_line_of(rt.alloc(), b" V '=' K ")?;
     check_eq(&rt, &line.as_str(), &"V;'=';K;");
     Ok(())
 }

@@ -1,173 +1,211 @@
 //! What a statement is given, and what it makes of the bytes of a file.
+ghost use Rattle.std.specs.Prelude.{IfOk, IsSome};
+
+use crate::byte_texts::bytes_of;
 use crate::written::{check_eq, no_rules, pattern_of, rule_pattern_of};
 use sno_pattern::TextName;
 use sno_read::{read_object, read_rule_object};
-use sno_statement::{ByteText, FileStatement, Statement, StatementFault, rewrite};
+use sno_statement::{FileStatement, Rewritten, Statement, StatementFault, rewrite};
 use std::alloc::Global;
 use std::process::Abort;
-use std::sync::Arc;
 use std::test::Fail;
+
+// The statement that replaces what the pattern matches by the object.
+fn replacing(alloc: Global, pattern: &str, object: &str) -> Result<Statement, Fail>
+    ensures { IfOk result (λ s. IsSome s.object) }
+{
+    let text = TextName::new(alloc, b"T".as_slice())?;
+    let rules = no_rules(alloc)?;
+    let object = read_object(alloc, rules.names(), object.as_bytes())?;
+    let pattern = pattern_of(alloc, &rules, pattern)?;
+    Ok(Statement::new(
+        1,
+        rules,
+        Box::into_inner(pattern),
+        Some(object),
+        text,
+        false,
+    ))
+}
 
 // The statement that replaces an `a` by a `b` at most so often, 1 to 1,000 times.
 fn repeated(alloc: Global, rounds: u32) -> Result<Statement, Fail> {
     if rounds < 1 || 1_000 < rounds {
         return Err("1 to 1000 rounds are wanted".into());
     }
-    let rules = Arc::new(alloc, no_rules(alloc)?)?;
-    let text = TextName::new(alloc, b"T".as_slice())?;
-    let object = read_object(alloc, rules.names(), b"'b'")?;
-    let pattern = pattern_of(alloc, &rules, "'a'")?;
-    let statement = Statement::new(1, rules, pattern, Some(object), text, false);
-    Ok(statement.repeated(rounds))
+    Ok(replacing(alloc, "'a'", "'b'")?.repeated(rounds))
+}
+
+fn bounds(statement: &Statement) -> (u32, Option<u32>) {
+    (statement.limit(), statement.repeat())
+}
+
+fn check_bounds(rt: &impl Abort, often: Statement) {
+    check_eq(rt, &bounds(&often), &(1_000_000, Some(7)));
+    check_eq(rt, &bounds(&often.limited(7)), &(7, Some(7)));
 }
 
 #[test]
 fn a_statement_has_the_limit_and_the_rounds_that_it_is_given(rt: HostRuntime) -> Result<(), Fail> {
-    let often = repeated(rt.alloc(), 7)?;
-    check_eq(&rt, &(often.limit(), often.repeat()), &(1_000_000, Some(7)));
-    let limited = often.limited(7);
-    check_eq(&rt, &(limited.limit(), limited.repeat()), &(7, Some(7)));
+    check_bounds(&rt, repeated(rt.alloc(), 7)?);
     Ok(())
+}
+
+fn ways(statement: &Statement) -> (bool, Option<u32>) {
+    (statement.is_for_all(), statement.repeat())
+}
+
+fn check_ways(rt: &impl Abort, often: Statement) {
+    check_eq(rt, &often.is_for_all(), &false);
+    let all = often.for_all();
+    check_eq(rt, &ways(&all), &(true, None));
+    assert!(rt; all.object().is_some());
+    check_eq(rt, &ways(&all.repeated(3)), &(false, Some(3)));
 }
 
 #[test]
 fn a_statement_for_all_matches_is_not_repeated(rt: HostRuntime) -> Result<(), Fail> {
-    let often = repeated(rt.alloc(), 7)?;
-    check_eq(&rt, &often.is_for_all(), &false);
-    let all = often.for_all();
-    check_eq(&rt, &(all.is_for_all(), all.repeat()), &(true, None));
-    assert!(rt; all.object().is_some());
-    let again = all.repeated(3);
-    check_eq(
-        &rt,
-        &(again.is_for_all(), again.repeat()),
-        &(false, Some(3)),
-    );
+    check_ways(&rt, repeated(rt.alloc(), 7)?);
     Ok(())
 }
 
-// What a statement leaves of these bytes with this limit: how many matches there were, and the new text, or the null string
-// without a match. Or why it is refused.
-fn left_of(
+// Compares how many matches there were, and the new text, or the null string if there is none.
+fn check_left(rt: &impl Abort, rewritten: &Rewritten, matches: u64, wanted: &[u8]) {
+    check_eq(rt, &rewritten.matches, &matches);
+    match &rewritten.after {
+        None => assert!(rt; wanted.is_empty()),
+        Some(after) => assert!(rt; after.bytes() == wanted),
+    }
+}
+
+// Compares what a statement makes of these bytes with this limit.
+fn check_rewritten(
+    rt: &impl Abort,
     alloc: Global,
     statement: &FileStatement,
     bytes: &[u8],
     trials: u32,
-) -> Result<Result<(u64, Vec<u8>), StatementFault>, Fail> {
-    let text = ByteText::new(Vec::from_slice(alloc, bytes)?)?;
-    match rewrite(alloc, statement, &text, trials) {
-        Ok(rewritten) => {
-            let after = match &rewritten.after {
-                None => Vec::new(alloc),
-                Some(after) => Vec::from_slice(alloc, after.bytes())?,
-            };
-            Ok(Ok((rewritten.matches, after)))
-        }
-        Err(fault) => Ok(Err(fault)),
-    }
-}
-
-// Compares what a statement leaves of these bytes.
-fn check_left(
-    rt: &impl Abort,
-    left: &Result<(u64, Vec<u8>), StatementFault>,
-    matches: u64,
-    wanted: &[u8],
-) {
-    match left {
-        Ok((count, after)) => {
-            check_eq(rt, count, &matches);
-            assert!(rt; after.as_slice() == wanted);
-        }
-        Err(_) => assert!(rt; false, "refused"),
-    }
+    left: (u64, &[u8]),
+) -> Result<(), Fail> {
+    let text = bytes_of(alloc, bytes)?;
+    let rewritten = rewrite(alloc, statement, &text, trials)?;
+    check_left(rt, &rewritten, left.0, left.1);
+    Ok(())
 }
 
 // The statement that doubles one byte, whichever it is.
-fn doubling(alloc: Global) -> Result<Statement, Fail> {
-    let rules = Arc::new(alloc, no_rules(alloc)?)?;
-    let text = TextName::new(alloc, b"T".as_slice())?;
-    let object = read_object(alloc, rules.names(), b"B B")?;
-    let pattern = pattern_of(alloc, &rules, "LEN(1) . B")?;
-    Ok(Statement::new(1, rules, pattern, Some(object), text, false))
+fn doubling(alloc: Global) -> Result<FileStatement, Fail> {
+    Ok(FileStatement::of(alloc, replacing(alloc, "LEN(1) . B", "B B")?)?)
+}
+
+fn check_doubled(
+    rt: &impl Abort,
+    alloc: Global,
+    statement: &FileStatement,
+    left: (u64, &[u8]),
+) -> Result<(), Fail> {
+    check_rewritten(rt, alloc, statement, &[195, 169, 0], 1_000, left)
 }
 
 #[test]
 fn any_bytes_of_a_file_are_rewritten(rt: HostRuntime) -> Result<(), Fail> {
     let alloc = rt.alloc();
-    let once = FileStatement::of(alloc, doubling(alloc)?)?;
-    let bytes = [195, 169, 0];
-    check_left(
-        &rt,
-        &left_of(alloc, &once, &bytes, 1_000)?,
-        1,
-        &[195, 195, 169, 0],
-    );
+    let once = doubling(alloc)?;
+    check_doubled(&rt, alloc, &once, (1, &[195, 195, 169, 0]))?;
     let all = once.for_all();
-    check_left(
-        &rt,
-        &left_of(alloc, &all, &bytes, 1_000)?,
-        3,
-        &[195, 195, 169, 169, 0, 0],
-    );
-    Ok(())
+    check_doubled(&rt, alloc, &all, (3, &[195, 195, 169, 169, 0, 0]))
+}
+
+// The statement that is repeated, for files.
+fn repeated_in_files(alloc: Global, rounds: u32) -> Result<FileStatement, Fail> {
+    Ok(FileStatement::of(alloc, repeated(alloc, rounds)?)?)
+}
+
+fn check_rounds(rt: &impl Abort, alloc: Global, often: &FileStatement) -> Result<(), Fail> {
+    check_rewritten(rt, alloc, often, b"aaa", 1_000, (2, b"bba"))?;
+    check_rewritten(rt, alloc, often, b"ca", 1_000, (1, b"cb"))?;
+    check_rewritten(rt, alloc, often, b"c", 1_000, (0, b""))
 }
 
 #[test]
 fn a_file_is_rewritten_in_rounds(rt: HostRuntime) -> Result<(), Fail> {
-    let alloc = rt.alloc();
-    let often = FileStatement::of(alloc, repeated(alloc, 2)?)?;
-    check_left(&rt, &left_of(alloc, &often, b"aaa", 1_000)?, 2, b"bba");
-    check_left(&rt, &left_of(alloc, &often, b"ca", 1_000)?, 1, b"cb");
-    check_left(&rt, &left_of(alloc, &often, b"c", 1_000)?, 0, b"");
+    let often = repeated_in_files(rt.alloc(), 2)?;
+    check_rounds(&rt, rt.alloc(), &often)
+}
+
+// Checks that this limit is too low for the bytes.
+fn check_refused(
+    rt: &impl Abort,
+    alloc: Global,
+    statement: &FileStatement,
+    bytes: &[u8],
+    trials: u32,
+) -> Result<(), Fail> {
+    let text = bytes_of(alloc, bytes)?;
+    let fault = rewrite(alloc, statement, &text, trials).err();
+    check_eq(rt, &fault, &Some(StatementFault::TooManyTrials));
     Ok(())
 }
 
 #[test]
 fn the_limit_for_a_file_is_the_one_that_is_given(rt: HostRuntime) -> Result<(), Fail> {
     let alloc = rt.alloc();
-    let once = FileStatement::of(alloc, repeated(alloc, 1)?)?;
-    check_eq(
-        &rt,
-        &left_of(alloc, &once, b"cca", 2)?.err(),
-        &Some(StatementFault::TooManyTrials),
-    );
+    let once = repeated_in_files(alloc, 1)?;
+    check_refused(&rt, alloc, &once, b"cca", 2)?;
     let limited = once.limited(2);
-    check_left(&rt, &left_of(alloc, &limited, b"cca", 3)?, 1, b"ccb");
-    Ok(())
+    check_rewritten(&rt, alloc, &limited, b"cca", 3, (1, b"ccb"))
 }
 
-// A literal of é in a pattern and in an object, read as those of a rule.
+// The statement that replaces each é by an è, with literals that are read as those of a rule.
+fn literals(alloc: Global) -> Result<FileStatement, Fail> {
+    let text = TextName::new(alloc, b"T".as_slice())?;
+    let rules = no_rules(alloc)?;
+    let object = read_rule_object(alloc, rules.names(), &[39, 195, 168, 39])?;
+    let pattern = rule_pattern_of(alloc, &rules, &[39, 195, 169, 39])?;
+    let search = Statement::new(1, rules, Box::into_inner(pattern), None, text, false);
+    Ok(FileStatement::new(search, Some(object)).for_all())
+}
+
+fn is_for_texts(alloc: Global, statement: FileStatement) -> Result<bool, Fail> {
+    Ok(statement.for_texts(alloc)?.is_some())
+}
+
 #[test]
 fn literals_of_rules_have_any_bytes(rt: HostRuntime) -> Result<(), Fail> {
     let alloc = rt.alloc();
-    let rules = Arc::new(alloc, no_rules(alloc)?)?;
-    let text = TextName::new(alloc, b"T".as_slice())?;
-    let pattern = rule_pattern_of(alloc, &rules, &[39, 195, 169, 39])?;
-    let object = read_rule_object(alloc, rules.names(), &[39, 195, 168, 39])?;
-    let search = Statement::new(1, rules, pattern, None, text, false);
-    let statement = FileStatement::new(search, Some(object)).for_all();
-    check_left(
+    let statement = literals(alloc)?;
+    let left: (u64, &[u8]) = (2, &[195, 168, 120, 195, 168]);
+    check_rewritten(
         &rt,
-        &left_of(alloc, &statement, &[195, 169, 120, 195, 169], 1_000)?,
-        2,
-        &[195, 168, 120, 195, 168],
-    );
+        alloc,
+        &statement,
+        &[195, 169, 120, 195, 169],
+        1_000,
+        left,
+    )?;
     // It is none for texts.
-    assert!(rt; statement.for_texts(alloc)?.is_none());
+    check_eq(&rt, &is_for_texts(alloc, statement)?, &false);
     Ok(())
+}
+
+fn check_in_files(rt: &impl Abort, often: &FileStatement) {
+    check_eq(rt, &often.repeat(), &Some(7));
+    assert!(rt; often.object().is_some());
+}
+
+fn check_in_texts(rt: &impl Abort, again: &Statement) {
+    check_eq(rt, &again.repeat(), &Some(7));
+    assert!(rt; again.object().is_some());
+}
+
+fn in_texts(alloc: Global, statement: FileStatement) -> Result<Statement, Fail> {
+    Ok(statement.for_texts(alloc)?.ok_or("the object is ASCII")?)
 }
 
 #[test]
 fn a_statement_for_files_may_be_one_for_texts(rt: HostRuntime) -> Result<(), Fail> {
-    let alloc = rt.alloc();
-    let often = FileStatement::of(alloc, repeated(alloc, 7)?)?;
-    check_eq(&rt, &often.repeat(), &Some(7));
-    assert!(rt; often.object().is_some());
-    let Some(again) = often.for_texts(alloc)? else {
-        return Err("the object is ASCII".into());
-    };
-    check_eq(&rt, &again.repeat(), &Some(7));
-    assert!(rt; again.object().is_some());
+    let often = repeated_in_files(rt.alloc(), 7)?;
+    check_in_files(&rt, &often);
+    check_in_texts(&rt, &in_texts(rt.alloc(), often)?);
     Ok(())
 }

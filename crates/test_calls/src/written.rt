@@ -1,4 +1,5 @@
-//! Definitions, patterns and texts of what is written.
+//! Definitions, patterns and texts of what is written. Definitions are shared and patterns are in boxes: each place at which a function can end
+//! while it holds one of them itself takes its proof seconds.
 ghost use Rattle.std.specs.Prelude.{IfOk, IsTrue, length};
 ghost use Rattle.sno_pattern.specs.Tree.{refs_below, tree_of};
 
@@ -7,6 +8,7 @@ use sno_read::{read_pattern, read_rule_pattern};
 use std::alloc::Global;
 use std::fmt;
 use std::process::Abort;
+use std::sync::Arc;
 use std::test::Fail;
 
 /// Stops the test where the value is another than the expected one.
@@ -31,49 +33,57 @@ fn bodies_of(alloc: Global, names: &Names, body: &str) -> Result<Vec<Pattern>, F
 }
 
 /// The definitions, which are as many as the names.
-pub(crate) fn admit(alloc: Global, names: Names, bodies: Vec<Pattern>) -> Result<Rules, Fail> {
+fn admit(alloc: Global, names: Names, bodies: Vec<Pattern>) -> Result<Arc<Rules>, Fail> {
     if names.len() == bodies.len() {
-        Ok(Rules::admit(alloc, names, bodies)?)
+        Ok(Arc::new(alloc, Rules::admit(alloc, names, bodies)?)?)
     } else {
         Err("as many names as definitions are wanted".into())
     }
 }
 
+/// The only name.
+pub(crate) fn one_name(alloc: Global, name: &str) -> Result<Names, Fail> {
+    Ok(Names::new(alloc, &[name_of(name)?])?)
+}
+
 /// The only definition: its name and its pattern.
-pub(crate) fn rules_of(alloc: Global, name: &str, body: &str) -> Result<Rules, Fail> {
-    let names = Names::new(alloc, &[name_of(name)?])?;
-    let bodies = bodies_of(alloc, &names, body)?;
-    admit(alloc, names, bodies)
+pub(crate) fn rules_of(alloc: Global, name: &str, body: &str) -> Result<Arc<Rules>, Fail> {
+    let bodies = bodies_of(alloc, &one_name(alloc, name)?, body)?;
+    admit(alloc, one_name(alloc, name)?, bodies)
 }
 
 /// No definition.
-pub(crate) fn no_rules(alloc: Global) -> Result<Rules, Fail> {
+pub(crate) fn no_rules(alloc: Global) -> Result<Arc<Rules>, Fail> {
     admit(alloc, Names::new(alloc, &[])?, Vec::new(alloc))
 }
 
 /// The pattern, if the definitions cover it.
-fn covered(rules: &Rules, pattern: Pattern) -> Result<Pattern, Fail>
-    ensures { IfOk result (λ p. IsTrue (refs_below (length rules.now.bodies) (tree_of p))) }
+fn covered(alloc: Global, rules: &Rules, pattern: Pattern) -> Result<Box<Pattern>, Fail>
+    ensures { IfOk result (λ p. IsTrue (refs_below (length rules.now.bodies) (tree_of p.value))) }
 {
     if rules.covers(&pattern) {
-        Ok(pattern)
+        Ok(Box::new(alloc, pattern)?)
     } else {
         Err("the definitions don't cover the pattern".into())
     }
 }
 
 /// The pattern, which the definitions cover.
-pub(crate) fn pattern_of(alloc: Global, rules: &Rules, pattern: &str) -> Result<Pattern, Fail>
-    ensures { IfOk result (λ p. IsTrue (refs_below (length rules.now.bodies) (tree_of p))) }
+pub(crate) fn pattern_of(alloc: Global, rules: &Rules, pattern: &str) -> Result<Box<Pattern>, Fail>
+    ensures { IfOk result (λ p. IsTrue (refs_below (length rules.now.bodies) (tree_of p.value))) }
 {
     let pattern = read_pattern(alloc, rules.names(), rules.len(), pattern.as_bytes())?;
-    covered(rules, pattern)
+    covered(alloc, rules, pattern)
 }
 
 /// The pattern of a rule, which the definitions cover.
-pub(crate) fn rule_pattern_of(alloc: Global, rules: &Rules, pattern: &[u8]) -> Result<Pattern, Fail>
-    ensures { IfOk result (λ p. IsTrue (refs_below (length rules.now.bodies) (tree_of p))) }
+pub(crate) fn rule_pattern_of(
+    alloc: Global,
+    rules: &Rules,
+    pattern: &[u8],
+) -> Result<Box<Pattern>, Fail>
+    ensures { IfOk result (λ p. IsTrue (refs_below (length rules.now.bodies) (tree_of p.value))) }
 {
     let pattern = read_rule_pattern(alloc, rules.names(), rules.len(), pattern)?;
-    covered(rules, pattern)
+    covered(alloc, rules, pattern)
 }
