@@ -2,8 +2,8 @@
 use sno_machine::{Code, Found, MatchFault, compile};
 use sno_pattern::{ByteText, MAX_TEXT, Name, Text};
 use sno_statement::{
-    BindingsRef, DatumRef, FileStatement, Match, MatchRef, Outcome, Pass, Statement,
-    StatementFault, perform, rewrite,
+    BindingsRef, DatumRef, FileStatement, Match, MatchRef, Matches, Outcome, Pass, Rewritten,
+    Statement, StatementFault, perform, rewrite,
 };
 use std::alloc::Global;
 use std::sync::Arc;
@@ -67,10 +67,10 @@ fn check_matcher(
     code: &Code,
     text: &Text,
     anchored: bool,
-    plain: (u32, Found),
+    trials: u32,
+    plain: &Found,
 ) -> Result<u32, Fail> {
-    let (trials, plain) = plain;
-    if !is_found(alloc, code, text, anchored, trials, &plain)? {
+    if !is_found(alloc, code, text, anchored, trials, plain)? {
         return Err("the matcher doesn't find what the plain evaluator does".into());
     }
     if trials == 0 || is_refused(code, alloc, text, anchored, trials - 1) {
@@ -87,16 +87,25 @@ fn check_beside_plain(
     text: &Text,
     anchored: bool,
 ) -> Result<u32, Fail> {
-    let plain = plain(alloc, statement, text, anchored)?;
-    check_matcher(alloc, code, text, anchored, plain)
+    let (trials, found) = plain(alloc, statement, text, anchored)?;
+    check_matcher(alloc, code, text, anchored, trials, &found)
+}
+
+fn check_both_beside_plain(
+    alloc: Global,
+    code: &Code,
+    statement: &Statement,
+    text: &Text,
+) -> Result<u32, Fail> {
+    let anchored = statement.anchored();
+    check_beside_plain(alloc, code, statement, text, !anchored)?;
+    check_beside_plain(alloc, code, statement, text, anchored)
 }
 
 /// Compares the matcher with the evaluator, anchored and not. Returns the trials of the statement's match.
 fn trials_beside(alloc: Global, statement: &Statement, text: &Text) -> Result<u32, Fail> {
     let code = compile(alloc, statement.rules(), statement.pattern())?;
-    let anchored = statement.anchored();
-    check_beside_plain(alloc, &code, statement, text, !anchored)?;
-    check_beside_plain(alloc, &code, statement, text, anchored)
+    check_both_beside_plain(alloc, &code, statement, text)
 }
 
 /// Whether a match counts, and where the search after it begins, as the rule of a pass has it.
@@ -118,13 +127,29 @@ fn passed(
     (before != Some(end), next)
 }
 
+/// A search of the evaluator from a cursor on: how many trials it takes, and the cursors of its match, if there is one. Past the end
+/// of the text there is none.
+fn plain_search(
+    alloc: Global,
+    statement: &Statement,
+    text: &Text,
+    from: usize,
+) -> Result<(u64, Option<(usize, usize)>), Fail> {
+    if from > text.bytes().len() {
+        return Ok((0, None));
+    }
+    let (rules, pattern, anchored) = (statement.rules(), statement.pattern(), statement.anchored());
+    let spent = sno_eval::trials_from(alloc, rules, pattern, text, anchored, from)?;
+    let found = sno_eval::first_from(alloc, rules, pattern, text, anchored, from)?;
+    Ok((spent, extent(&found)))
+}
+
 /// The cursors of all matches, by searches of the evaluator, and how many trials they take together.
 fn plain_pass(
     alloc: Global,
     statement: &Statement,
     text: &Text,
 ) -> Result<(Vec<(usize, usize)>, u64), Fail> {
-    let (rules, pattern, anchored) = (statement.rules(), statement.pattern(), statement.anchored());
     let length = text.bytes().len();
     let mut matches = Vec::new(alloc);
     let mut trials = 0u64;
@@ -134,16 +159,12 @@ fn plain_pass(
         let Some(from) = next else {
             break;
         };
-        if from > length {
-            break;
-        }
-        let spent = sno_eval::trials_from(alloc, rules, pattern, text, anchored, from)?;
+        let (spent, found) = plain_search(alloc, statement, text, from)?;
         trials = trials.saturating_add(spent);
-        let found = sno_eval::first_from(alloc, rules, pattern, text, anchored, from)?;
-        let Some((start, end)) = extent(&found) else {
+        let Some((start, end)) = found else {
             break;
         };
-        let (counts, after) = passed(anchored, length, before, start, end);
+        let (counts, after) = passed(statement.anchored(), length, before, start, end);
         if counts {
             matches.push((start, end))?;
         }
@@ -153,30 +174,53 @@ fn plain_pass(
     Ok((matches, trials))
 }
 
+/// Whether the matches have these cursors.
+fn have_cursors(matches: &Matches, wanted: &[(usize, usize)]) -> bool {
+    for (place, cursors) in wanted.iter().enumerate() {
+        let Some(one) = matches.get(place) else {
+            return false;
+        };
+        if (one.start, one.end) != *cursors {
+            return false;
+        }
+    }
+    matches.len() == wanted.len()
+}
+
+/// Whether the outcome has the matches with these cursors, of which there may be none.
+fn has_matches(outcome: &Outcome, wanted: &[(usize, usize)]) -> bool {
+    match outcome {
+        Outcome::All { matches, .. } => have_cursors(matches, wanted),
+        Outcome::Failed { .. } => wanted.is_empty(),
+        Outcome::Matched { .. } | Outcome::Repeated { .. } => false,
+    }
+}
+
+/// Whether the statement was performed with these matches; or refused, if it has to be.
+fn is_wanted(
+    performed: &Result<Outcome, StatementFault>,
+    wanted: &[(usize, usize)],
+    is_refused: bool,
+) -> bool {
+    match performed {
+        Ok(outcome) => !is_refused && has_matches(outcome, wanted),
+        Err(StatementFault::TextTooLong) => !is_refused,
+        Err(StatementFault::TooManyTrials) => is_refused,
+        Err(StatementFault::Memory) => false,
+    }
+}
+
 /// Compares a statement for all matches with searches of the evaluator: the cursors of its matches, and whether their trials
 /// together are within its limit.
 fn check_pass(alloc: Global, statement: &Statement, text: &Text) -> Result<(), Fail> {
     let (wanted, trials) = plain_pass(alloc, statement, text)?;
     let is_refused = trials > u64::from(statement.limit());
-    match perform(alloc, statement, text) {
-        Ok(Outcome::All { matches, .. }) if !is_refused => {
-            let mut cursors = Vec::new(alloc);
-            for place in 0..matches.len() {
-                let Some(one) = matches.get(place) else {
-                    continue;
-                };
-                cursors.push((one.start, one.end))?;
-            }
-            if cursors.as_slice() == wanted.as_slice() {
-                return Ok(());
-            }
-        }
-        Ok(Outcome::Failed { .. }) if !is_refused && wanted.is_empty() => return Ok(()),
-        Err(StatementFault::TextTooLong) if !is_refused => return Ok(()),
-        Err(StatementFault::TooManyTrials) if is_refused => return Ok(()),
-        _ => {}
+    let performed = perform(alloc, statement, text);
+    if is_wanted(&performed, wanted.as_slice(), is_refused) {
+        Ok(())
+    } else {
+        Err("the pass doesn't find what searches of the plain evaluator do".into())
     }
-    Err("the pass doesn't find what searches of the plain evaluator do".into())
 }
 
 /// How many matches an outcome has.
@@ -198,20 +242,14 @@ fn is_same_text(bytes: Option<&Arc<ByteText>>, text: Option<&Arc<Text>>) -> bool
     }
 }
 
-/// Compares what rewriting a text's bytes leaves with the statement's outcome: the number of matches and the new text, or the
-/// refusal. A new text that is too long for a text is none for bytes.
-pub(crate) fn check_rewriting(
-    alloc: Global,
-    statement: Statement,
-    text: &Text,
-) -> Result<(), Fail> {
-    let performed = perform(alloc, &statement, text);
-    let limit = statement.limit();
-    let is_repeated = statement.repeat().is_some();
-    let bytes = ByteText::new(Vec::from_slice(alloc, text.bytes())?)?;
-    let for_files = FileStatement::of(alloc, statement)?;
-    let rewritten = rewrite(alloc, &for_files, &bytes, limit);
-    let is_same = match (&performed, &rewritten) {
+/// Whether rewriting leaves what performing does: the number of matches and the new text, or the refusal. A new text that is too
+/// long for a text is none for bytes.
+fn leaves_the_same(
+    performed: &Result<Outcome, StatementFault>,
+    rewritten: &Result<Rewritten, StatementFault>,
+    is_repeated: bool,
+) -> bool {
+    match (performed, rewritten) {
         (Ok(outcome), Ok(rewritten)) => {
             rewritten.matches == count_in(outcome)
                 && is_same_text(rewritten.after.as_ref(), outcome.after())
@@ -222,11 +260,35 @@ pub(crate) fn check_rewriting(
         },
         (Err(fault), Err(other)) => fault == other,
         _ => false,
-    };
-    if is_same {
-        return Ok(());
     }
-    Err("rewriting the text leaves something else than performing the statement".into())
+}
+
+/// Compares what rewriting the bytes leaves with what performing the statement does.
+fn check_bytes(
+    alloc: Global,
+    statement: Box<Statement>,
+    bytes: &ByteText,
+    performed: &Result<Outcome, StatementFault>,
+) -> Result<(), Fail> {
+    let (limit, is_repeated) = (statement.limit(), statement.repeat().is_some());
+    let for_files = FileStatement::of(alloc, Box::into_inner(statement))?;
+    let rewritten = rewrite(alloc, &for_files, bytes, limit);
+    if leaves_the_same(performed, &rewritten, is_repeated) {
+        Ok(())
+    } else {
+        Err("rewriting the text leaves something else than performing the statement".into())
+    }
+}
+
+/// The same for the bytes of a text.
+pub(crate) fn check_rewriting(
+    alloc: Global,
+    statement: Box<Statement>,
+    text: &Text,
+) -> Result<(), Fail> {
+    let bytes = ByteText::new(Vec::from_slice(alloc, text.bytes())?)?;
+    let performed = perform(alloc, &statement, text);
+    check_bytes(alloc, statement, &bytes, &performed)
 }
 
 /// Whether a value that is lent is the other one.
@@ -266,24 +328,41 @@ fn is_same_match(one: &Match, other: &MatchRef<'_>) -> bool {
         && are_same_bindings(&one.bindings.lend(), &other.bindings)
 }
 
-/// Compares the matches that a pass gives one after the other with those of the outcome.
-fn check_each_match(alloc: Global, statement: &Statement, text: &Text) -> Result<(), Fail> {
-    let Ok(Outcome::All { matches, .. }) = perform(alloc, statement, text) else {
-        return Ok(());
-    };
-    let code = compile(alloc, statement.rules(), statement.pattern())?;
-    let mut pass = Pass::new(alloc, statement, &code, text);
-    for place in 0..matches.len() {
-        let (Ok(Some(next)), Some(kept)) = (pass.next(alloc), matches.get(place)) else {
-            return Err("the pass has fewer matches than the outcome".into());
-        };
-        if !is_same_match(&next, &kept) {
+/// Whether the next match of a pass is the one at a place of the matches, or there is none at either.
+fn is_next(next: &Result<Option<Match>, StatementFault>, matches: &Matches, place: usize) -> bool {
+    match (next, matches.get(place)) {
+        (Ok(Some(next)), Some(kept)) => is_same_match(next, &kept),
+        (Ok(None), None) => true,
+        _ => false,
+    }
+}
+
+/// Compares the matches that the pass gives one after the other with these, and that there is none after them.
+fn check_matches(alloc: Global, pass: Pass<'_, '_, '_>, matches: &Matches) -> Result<(), Fail> {
+    let mut pass = pass;
+    for place in 0..matches.len().saturating_add(1) {
+        if !is_next(&pass.next(alloc), matches, place) {
             return Err("a match of the pass is another than that of the outcome".into());
         }
     }
-    match pass.next(alloc) {
-        Ok(None) if matches.get(matches.len()).is_none() => Ok(()),
-        _ => Err("the pass has more matches than the outcome".into()),
+    Ok(())
+}
+
+fn check_each_of(
+    alloc: Global,
+    statement: &Statement,
+    text: &Text,
+    matches: &Matches,
+) -> Result<(), Fail> {
+    let code = compile(alloc, statement.rules(), statement.pattern())?;
+    check_matches(alloc, Pass::new(alloc, statement, &code, text), matches)
+}
+
+/// Compares the matches that a pass gives one after the other with those of the outcome.
+fn check_each_match(alloc: Global, statement: &Statement, text: &Text) -> Result<(), Fail> {
+    match &perform(alloc, statement, text) {
+        Ok(Outcome::All { matches, .. }) => check_each_of(alloc, statement, text, matches),
+        _ => Ok(()),
     }
 }
 

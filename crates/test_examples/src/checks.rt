@@ -7,10 +7,11 @@ use crate::row::{
 };
 use crate::steps::check_equal;
 use crate::trees::tree;
-use sno_pattern::{Rules, Text, TextName};
+use sno_pattern::{Names, Rules, Text, TextName};
 use sno_read::read_pattern;
 use sno_statement::Statement;
 use std::alloc::Global;
+use std::sync::Arc;
 use std::test::Fail;
 
 /// Checks that the definitions are admitted, or refused as the line says.
@@ -25,6 +26,12 @@ fn check_definitions(
     }
 }
 
+/// The tree of the pattern that is written.
+fn tree_line(alloc: Global, names: &Names, pattern: &str) -> Result<String, Fail> {
+    let pattern = read_pattern(alloc, names, names.len(), pattern.as_bytes())?;
+    tree(alloc, names, &pattern)
+}
+
 /// Checks that the pattern is read as this tree.
 fn check_tree(
     alloc: Global,
@@ -33,8 +40,7 @@ fn check_tree(
     expected: &str,
 ) -> Result<(), Fail> {
     let names = names_of(alloc, written)?;
-    let pattern = read_pattern(alloc, &names, names.len(), pattern.as_bytes())?;
-    check_equal(tree(alloc, &names, &pattern)?.as_str(), expected)
+    check_equal(tree_line(alloc, &names, pattern)?.as_str(), expected)
 }
 
 /// Checks that the outcome of the statement on the text is this line.
@@ -51,12 +57,12 @@ fn check_performance(
 /// Checks that the outcome of the statement within this limit is the line. Returns the statement.
 fn check_limited(
     alloc: Global,
-    statement: Statement,
+    statement: Box<Statement>,
     text: &Text,
     limit: u32,
     expected: &str,
-) -> Result<Statement, Fail> {
-    let limited = limited(statement, limit)?;
+) -> Result<Box<Statement>, Fail> {
+    let limited = limited(alloc, statement, limit)?;
     check_performance(alloc, &limited, text, expected)?;
     Ok(limited)
 }
@@ -65,7 +71,7 @@ fn check_limited(
 /// limit of no trials is not tried: no statement has it.
 fn check_trials(
     alloc: Global,
-    statement: Statement,
+    statement: Box<Statement>,
     text: &Text,
     trials: u32,
     expected: &str,
@@ -79,11 +85,27 @@ fn check_trials(
 
 /// Checks that the outcome of the statement on the text is what the row says. The plain evaluator is left out if the
 /// text is written more than once, or the match takes too many trials: it would take too long.
-fn check_on(alloc: Global, statement: Statement, text: &Text, row: &Row<'_>) -> Result<(), Fail> {
-    check_performance(alloc, &statement, text, row.outcome)?;
+fn check_unlimited(
+    alloc: Global,
+    statement: &Statement,
+    text: &Text,
+    row: &Row<'_>,
+) -> Result<(), Fail> {
+    check_performance(alloc, statement, text, row.outcome)?;
     if row.times == 1 && row.outcome != "too many trials" {
-        check_beside(alloc, &statement, text, row.trials)?;
+        check_beside(alloc, statement, text, row.trials)?;
     }
+    Ok(())
+}
+
+/// Checks that too, and how many trials it takes if the row says so.
+fn check_on(
+    alloc: Global,
+    statement: Box<Statement>,
+    text: &Text,
+    row: &Row<'_>,
+) -> Result<(), Fail> {
+    check_unlimited(alloc, &statement, text, row)?;
     match row.trials {
         None => Ok(()),
         Some(trials) => check_trials(alloc, statement, text, trials, row.outcome),
@@ -91,7 +113,7 @@ fn check_on(alloc: Global, statement: Statement, text: &Text, row: &Row<'_>) -> 
 }
 
 /// Checks the outcome on the text that the row has.
-fn check_statement(alloc: Global, statement: Statement, row: &Row<'_>) -> Result<(), Fail> {
+fn check_statement(alloc: Global, statement: Box<Statement>, row: &Row<'_>) -> Result<(), Fail> {
     let text = text_of(alloc, row.text, row.times)?;
     check_on(alloc, statement, &text, row)
 }
@@ -99,9 +121,9 @@ fn check_statement(alloc: Global, statement: Statement, row: &Row<'_>) -> Result
 /// The statement of the row, or why it could not be made.
 fn row_statement(
     alloc: Global,
-    rules: Rules,
+    rules: Arc<Rules>,
     row: &Row<'_>,
-) -> Result<Result<Statement, Refused>, Fail> {
+) -> Result<Result<Box<Statement>, Refused>, Fail> {
     let heading = Heading {
         number: 1,
         text: TextName::new(alloc, b"T".as_slice())?,
@@ -116,10 +138,26 @@ fn check_refused(alloc: Global, refused: &Refused, row: &Row<'_>) -> Result<(), 
 }
 
 /// Checks that with these definitions the outcome of the row's statement is what the row says.
-fn check_admitted(alloc: Global, rules: Rules, row: &Row<'_>) -> Result<(), Fail> {
+fn check_admitted(alloc: Global, rules: Arc<Rules>, row: &Row<'_>) -> Result<(), Fail> {
     match row_statement(alloc, rules, row)? {
         Ok(statement) => check_statement(alloc, statement, row),
         Err(refused) => check_refused(alloc, &refused, row),
+    }
+}
+
+fn check_statement_rewritten(
+    alloc: Global,
+    statement: Box<Statement>,
+    row: &Row<'_>,
+) -> Result<(), Fail> {
+    let text = text_of(alloc, row.text, row.times)?;
+    check_rewriting(alloc, statement, &text)
+}
+
+fn check_rewritten(alloc: Global, rules: Arc<Rules>, row: &Row<'_>) -> Result<(), Fail> {
+    match row_statement(alloc, rules, row)? {
+        Ok(statement) => check_statement_rewritten(alloc, statement, row),
+        Err(_) => Ok(()),
     }
 }
 
@@ -129,21 +167,21 @@ fn check_as_file(alloc: Global, written: &[Definition<'_>], row: &Row<'_>) -> Re
     if row.times != 1 || row.outcome == "too many trials" {
         return Ok(());
     }
-    let Ok(rules) = admit(alloc, written)? else {
-        return Ok(());
-    };
-    let Ok(statement) = row_statement(alloc, rules, row)? else {
-        return Ok(());
-    };
-    let text = text_of(alloc, row.text, row.times)?;
-    check_rewriting(alloc, statement, &text)
+    match admit(alloc, written)? {
+        Ok(rules) => check_rewritten(alloc, rules, row),
+        Err(_) => Ok(()),
+    }
+}
+
+fn check_as_text(alloc: Global, written: &[Definition<'_>], row: &Row<'_>) -> Result<(), Fail> {
+    match admit(alloc, written)? {
+        Ok(rules) => check_admitted(alloc, rules, row),
+        Err(refused) => check_refused(alloc, &refused, row),
+    }
 }
 
 fn check_row(alloc: Global, written: &[Definition<'_>], row: &Row<'_>) -> Result<(), Fail> {
-    match admit(alloc, written)? {
-        Ok(rules) => check_admitted(alloc, rules, row)?,
-        Err(refused) => check_refused(alloc, &refused, row)?,
-    }
+    check_as_text(alloc, written, row)?;
     check_as_file(alloc, written, row)
 }
 

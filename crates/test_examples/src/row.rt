@@ -1,7 +1,10 @@
 //! How a statement is made of its parts as they are written and performed, and how its outcome is written.
+//!
+//! Definitions are shared, and patterns and statements are in boxes: each place at which a function can end while it holds one of them itself
+//! takes its proof seconds.
 use sno_pattern::{Name, Names, Pattern, Rules, RulesFault, Text, TextName};
 use sno_read::{Object, ReadFault, read_object, read_pattern};
-use sno_statement::{BindingsRef, DatumRef, Outcome, Statement, perform};
+use sno_statement::{BindingsRef, DatumRef, MatchRef, Matches, Outcome, Statement, perform};
 use std::alloc::Global;
 use std::sync::Arc;
 use std::test::Fail;
@@ -79,7 +82,7 @@ impl<'l> Task<'l> {
     // The statement with the limit or the number of rounds that the task names, or for all matches.
     fn bound(self, statement: Statement) -> Result<Statement, Fail> {
         match self {
-            Task::MatchWithin(_, limit) => limited(statement, limit),
+            Task::MatchWithin(_, limit) => within(statement, limit),
             Task::Repeat(_, _, rounds) => repeated(statement, rounds),
             Task::MatchAll(_) | Task::ReplaceAll(_, _) => Ok(statement.for_all()),
             Task::Match(_) | Task::MatchAnchored(_) | Task::Replace(_, _) => Ok(statement),
@@ -106,28 +109,37 @@ fn bodies_of(
     alloc: Global,
     names: &Names,
     written: &[Definition<'_>],
-) -> Result<Result<Vec<Pattern>, ReadFault>, Fail> {
+) -> Result<Vec<Pattern>, ReadFault> {
     let mut bodies = Vec::new(alloc);
     for (earlier, definition) in written.iter().enumerate() {
-        match read_pattern(alloc, names, earlier, definition.1.as_bytes()) {
-            Ok(body) => bodies.push(body)?,
-            Err(fault) => return Ok(Err(fault)),
-        }
+        let body = read_pattern(alloc, names, earlier, definition.1.as_bytes())?;
+        bodies.push(body).map_err(|_| ReadFault::Memory)?;
     }
-    Ok(Ok(bodies))
+    Ok(bodies)
 }
 
 fn admit_bodies(
     alloc: Global,
     names: Names,
     bodies: Vec<Pattern>,
-) -> Result<Result<Rules, Refused>, Fail> {
+) -> Result<Result<Arc<Rules>, Refused>, Fail> {
     if names.len() != bodies.len() {
         return Err("as many names as patterns are wanted".into());
     }
     match Rules::admit(alloc, names, bodies) {
-        Ok(rules) => Ok(Ok(rules)),
+        Ok(rules) => Ok(Ok(Arc::new(alloc, rules)?)),
         Err(fault) => Ok(Err(Refused::Rules(fault))),
+    }
+}
+
+fn admit_names(
+    alloc: Global,
+    names: Names,
+    written: &[Definition<'_>],
+) -> Result<Result<Arc<Rules>, Refused>, Fail> {
+    match bodies_of(alloc, &names, written) {
+        Ok(bodies) => admit_bodies(alloc, names, bodies),
+        Err(fault) => Ok(Err(Refused::Read(fault))),
     }
 }
 
@@ -135,12 +147,8 @@ fn admit_bodies(
 pub(crate) fn admit(
     alloc: Global,
     written: &[Definition<'_>],
-) -> Result<Result<Rules, Refused>, Fail> {
-    let names = names_of(alloc, written)?;
-    match bodies_of(alloc, &names, written)? {
-        Ok(bodies) => admit_bodies(alloc, names, bodies),
-        Err(fault) => Ok(Err(Refused::Read(fault))),
-    }
+) -> Result<Result<Arc<Rules>, Refused>, Fail> {
+    admit_names(alloc, names_of(alloc, written)?, written)
 }
 
 /// What a statement has apart from its definitions and its parts: its number, the name of its text, and the task.
@@ -154,44 +162,65 @@ pub(crate) struct Heading<'l> {
 /// The statement that does the task, if its pattern and its object are read.
 pub(crate) fn statement(
     alloc: Global,
-    rules: Rules,
+    rules: Arc<Rules>,
     heading: Heading<'_>,
-) -> Result<Result<Statement, Refused>, Fail> {
+) -> Result<Result<Box<Statement>, Refused>, Fail> {
     match parts(alloc, &rules, heading.task) {
         Err(fault) => Ok(Err(Refused::Read(fault))),
-        Ok((pattern, object)) => Ok(Ok(whole(Arc::new(alloc, rules)?, pattern, object, heading)?)),
+        Ok((pattern, object)) => Ok(Ok(boxed(alloc, rules, pattern, object, heading)?)),
     }
+}
+
+fn boxed(
+    alloc: Global,
+    rules: Arc<Rules>,
+    pattern: Box<Pattern>,
+    object: Option<Object>,
+    heading: Heading<'_>,
+) -> Result<Box<Statement>, Fail> {
+    Ok(Box::new(alloc, whole(rules, pattern, object, heading)?)?)
 }
 
 /// The statement of these parts.
 fn whole(
     rules: Arc<Rules>,
-    pattern: Pattern,
+    pattern: Box<Pattern>,
     object: Option<Object>,
     heading: Heading<'_>,
 ) -> Result<Statement, Fail> {
     if rules.covers(&pattern) {
         let Heading { number, text, task } = heading;
-        let anchored = task.is_anchored();
+        let (pattern, anchored) = (Box::into_inner(pattern), task.is_anchored());
         task.bound(Statement::new(number, rules, pattern, object, text, anchored))
     } else {
         Err("the definitions don't cover the pattern".into())
     }
 }
 
+fn read_boxed(alloc: Global, rules: &Rules, pattern: &str) -> Result<Box<Pattern>, ReadFault> {
+    let pattern = read_pattern(alloc, rules.names(), rules.len(), pattern.as_bytes())?;
+    Box::new(alloc, pattern).map_err(|_| ReadFault::Memory)
+}
+
+fn object_of(
+    alloc: Global,
+    rules: &Rules,
+    object: Option<&str>,
+) -> Result<Option<Object>, ReadFault> {
+    match object {
+        None => Ok(None),
+        Some(object) => Ok(Some(read_object(alloc, rules.names(), object.as_bytes())?)),
+    }
+}
+
+/// The pattern and the object of the task. If neither is read, the fault is that of the pattern.
 fn parts(
     alloc: Global,
     rules: &Rules,
     task: Task<'_>,
-) -> Result<(Pattern, Option<Object>), ReadFault> {
-    let pattern = read_pattern(alloc, rules.names(), rules.len(), task.pattern().as_bytes())?;
-    match task.object() {
-        None => Ok((pattern, None)),
-        Some(object) => {
-            let object = read_object(alloc, rules.names(), object.as_bytes())?;
-            Ok((pattern, Some(object)))
-        }
-    }
+) -> Result<(Box<Pattern>, Option<Object>), ReadFault> {
+    let pattern = read_boxed(alloc, rules, task.pattern())?;
+    Ok((pattern, object_of(alloc, rules, task.object())?))
 }
 
 /// The statement in at most this many rounds, 1 to 1,000. It must have an object.
@@ -204,7 +233,15 @@ fn repeated(statement: Statement, rounds: u32) -> Result<Statement, Fail> {
 }
 
 /// The statement with this limit, which must be 1 to 1,000,000,000.
-pub(crate) fn limited(statement: Statement, limit: u32) -> Result<Statement, Fail> {
+pub(crate) fn limited(
+    alloc: Global,
+    statement: Box<Statement>,
+    limit: u32,
+) -> Result<Box<Statement>, Fail> {
+    Ok(Box::new(alloc, within(Box::into_inner(statement), limit)?)?)
+}
+
+fn within(statement: Statement, limit: u32) -> Result<Statement, Fail> {
     if 1 <= limit && limit <= 1_000_000_000 {
         Ok(statement.limited(limit))
     } else {
@@ -257,23 +294,28 @@ pub(crate) fn performance_line(
     }
 }
 
+/// Writes the cursors of a match, and its bindings.
+fn tell_match(alloc: Global, one: &MatchRef<'_>, line: &mut String) -> Result<(), Fail> {
+    line.push_str(format!(in alloc; " {}..{}", one.start, one.end)?.as_str())?;
+    tell_bindings(alloc, &one.bindings, line)
+}
+
+fn tell_matches(alloc: Global, matches: &Matches, line: &mut String) -> Result<(), Fail> {
+    for place in 0..matches.len() {
+        if let Some(one) = matches.get(place) {
+            tell_match(alloc, &one, line)?;
+        }
+    }
+    Ok(())
+}
+
 /// Writes the bindings, those of each match in its place.
 fn tell_bound(alloc: Global, outcome: &Outcome, line: &mut String) -> Result<(), Fail> {
     match outcome {
         Outcome::Failed { bindings }
         | Outcome::Matched { bindings, .. }
         | Outcome::Repeated { bindings, .. } => tell_bindings(alloc, &bindings.lend(), line),
-        Outcome::All { matches, .. } => {
-            for place in 0..matches.len() {
-                let Some(one) = matches.get(place) else {
-                    continue;
-                };
-                let cursors = format!(in alloc; " {}..{}", one.start, one.end)?;
-                line.push_str(cursors.as_str())?;
-                tell_bindings(alloc, &one.bindings, line)?;
-            }
-            Ok(())
-        }
+        Outcome::All { matches, .. } => tell_matches(alloc, matches, line),
     }
 }
 
@@ -333,12 +375,15 @@ pub(crate) fn tell_text(alloc: Global, text: &Text, line: &mut String) -> Result
     tell_characters(alloc, text.bytes(), line)
 }
 
-fn tell_characters(alloc: Global, characters: &[u8], line: &mut String) -> Result<(), Fail> {
-    let characters = str::from_utf8(characters)?;
-    let told = if characters.len() > 64 {
-        format!(in alloc; "{} characters", characters.len())?
+fn characters_line(alloc: Global, characters: &str) -> Result<String, Fail> {
+    if characters.len() > 64 {
+        Ok(format!(in alloc; "{} characters", characters.len())?)
     } else {
-        format!(in alloc; "|{characters}|")?
-    };
+        Ok(format!(in alloc; "|{characters}|")?)
+    }
+}
+
+fn tell_characters(alloc: Global, characters: &[u8], line: &mut String) -> Result<(), Fail> {
+    let told = characters_line(alloc, str::from_utf8(characters)?)?;
     Ok(line.push_str(told.as_str())?)
 }

@@ -72,15 +72,19 @@ fn book_of(alloc: Global, texts: &[NamedText<'_>], room: u32) -> Result<Book, Fa
     }
 }
 
-fn job_statement(alloc: Global, job: &Job<'_>) -> Result<Arc<Statement>, Fail> {
-    let rules = admit(alloc, &[])??;
-    let heading = Heading {
+fn heading<'l>(alloc: Global, job: &Job<'l>) -> Result<Heading<'l>, Fail> {
+    Ok(Heading {
         number: job.number,
         text: text_name(alloc, job.row.text)?,
         task: job.row.task,
-    };
+    })
+}
+
+fn job_statement(alloc: Global, job: &Job<'_>) -> Result<Arc<Statement>, Fail> {
+    let rules = admit(alloc, &[])??;
+    let heading = heading(alloc, job)?;
     let statement = statement(alloc, rules, heading)??;
-    Ok(Arc::new(alloc, statement)?)
+    Ok(Arc::new(alloc, Box::into_inner(statement))?)
 }
 
 /// Why a statement isn't proposed.
