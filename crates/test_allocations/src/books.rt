@@ -3,10 +3,10 @@ ghost use Rattle.std.specs.Prelude.{IfErr};
 ghost use Rattle.sno_book.specs.Books.{view_of};
 ghost use Rattle.sno_book.specs.Views.{IsPrefix};
 
-use crate::call_ends::{CallEnd, check_bytes, check_eq, tell, tell_ready, tell_twice};
+use crate::call_ends::{CallEnd, check_bytes, check_eq, tell, tell_both, tell_ready, tell_twice};
 use crate::jobs::{
-    book, check_book, check_exchange, check_exchange_all, exchange, exchange_all, exchange_twice,
-    proposed, row,
+    book, check_book, check_exchange, check_performed, exchange, exchange_all, exchange_twice,
+    proposed, rows,
 };
 use sno_book::{
     Book, BookFault, CommitFault, Proposal, Snapshot, StatementFault, Text, TextName, propose,
@@ -34,27 +34,28 @@ fn open(rt: &impl Abort, alloc: Global, texts: Vec<(TextName, Text)>) -> CallEnd
     }
 }
 
-/// One text with its name.
-fn texts(alloc: Global) -> Result<Vec<(TextName, Text)>, Fail> {
-    let mut texts = Vec::with_capacity(alloc, 1)?;
-    texts.push(row(alloc, "T", "k=v")?)?;
-    Ok(texts)
+fn open_twice(
+    rt: &impl Abort,
+    alloc: Global,
+    first: Vec<(TextName, Text)>,
+    second: Vec<(TextName, Text)>,
+) -> (CallEnd, CallEnd) {
+    (open(rt, alloc, first), open(rt, alloc, second))
 }
 
 #[test]
 fn a_book(rt: HostRuntime) -> Result<(), Fail> {
     let alloc = rt.alloc();
-    let first = texts(alloc)?;
-    let second = texts(alloc)?;
+    let first = rows(alloc, &[("T", "k=v")])?;
+    let second = rows(alloc, &[("T", "k=v")])?;
     tell_ready(&rt)?;
-    tell(&rt, open(&rt, alloc, first))?;
-    tell(&rt, open(&rt, alloc, second))
+    tell_both(&rt, open_twice(&rt, alloc, first, second))
 }
 
 fn perform_once(rt: &impl Abort, alloc: Global, statement: &Statement, text: &Text) -> CallEnd {
     match perform(alloc, statement, text) {
         Ok(outcome) => {
-            check_exchange(rt, &outcome);
+            check_performed(rt, statement, &outcome);
             CallEnd::Given
         }
         Err(fault) => {
@@ -62,48 +63,43 @@ fn perform_once(rt: &impl Abort, alloc: Global, statement: &Statement, text: &Te
             CallEnd::Refused
         }
     }
+}
+
+fn perform_twice(
+    rt: &(impl Abort + Print),
+    alloc: Global,
+    statement: &Statement,
+    characters: &[u8],
+) -> Result<(), Fail> {
+    let text = Text::new(Vec::from_slice(alloc, characters)?)?;
+    tell_twice(rt, || perform_once(rt, alloc, statement, &text))
 }
 
 #[test]
 fn a_statement_is_performed(rt: HostRuntime) -> Result<(), Fail> {
-    let alloc = rt.alloc();
-    let statement = exchange(&rt, alloc)?;
-    let text = Text::new(Vec::from_slice(alloc, BEFORE)?)?;
-    tell_twice(&rt, || perform_once(&rt, alloc, &statement, &text))
-}
-
-fn perform_all_once(rt: &impl Abort, alloc: Global, statement: &Statement, text: &Text) -> CallEnd {
-    match perform(alloc, statement, text) {
-        Ok(outcome) => {
-            check_exchange_all(rt, &outcome);
-            CallEnd::Given
-        }
-        Err(fault) => {
-            check_eq(rt, &fault, &StatementFault::Memory);
-            CallEnd::Refused
-        }
-    }
+    let statement = exchange(&rt, rt.alloc())?;
+    perform_twice(&rt, rt.alloc(), &statement, BEFORE)
 }
 
 #[test]
 fn a_statement_for_all_matches_is_performed(rt: HostRuntime) -> Result<(), Fail> {
-    let alloc = rt.alloc();
-    let statement = exchange_all(&rt, alloc)?;
-    let text = Text::new(Vec::from_slice(alloc, b"k=v;m=n;")?)?;
-    tell_twice(&rt, || perform_all_once(&rt, alloc, &statement, &text))
+    let statement = exchange_all(&rt, rt.alloc())?;
+    perform_twice(&rt, rt.alloc(), &statement, b"k=v;m=n;")
 }
 
+/// Two matches, which leave this text.
 fn rewrite_once(
     rt: &impl Abort,
     alloc: Global,
     statement: &FileStatement,
     text: &ByteText,
+    left: &[u8],
 ) -> CallEnd {
     match rewrite(alloc, statement, text, 1_000) {
         Ok(rewritten) => {
             check_eq(rt, &rewritten.matches, &2);
             let after = rewritten.after.as_ref().expect(rt, "there is a new text");
-            check_bytes(rt, after.bytes(), b"v=k;n=m;".as_slice());
+            check_bytes(rt, after.bytes(), left);
             CallEnd::Given
         }
         Err(fault) => {
@@ -111,42 +107,31 @@ fn rewrite_once(
             CallEnd::Refused
         }
     }
+}
+
+fn rewrite_twice(
+    rt: &(impl Abort + Print),
+    alloc: Global,
+    statement: &FileStatement,
+    bytes: &[u8],
+    left: &[u8],
+) -> Result<(), Fail> {
+    let text = ByteText::new(Vec::from_slice(alloc, bytes)?)?;
+    tell_twice(rt, || rewrite_once(rt, alloc, statement, &text, left))
 }
 
 #[test]
 fn a_text_is_rewritten(rt: HostRuntime) -> Result<(), Fail> {
     let alloc = rt.alloc();
     let statement = FileStatement::of(alloc, exchange_all(&rt, alloc)?)?;
-    let text = ByteText::new(Vec::from_slice(alloc, b"k=v;m=n;")?)?;
-    tell_twice(&rt, || rewrite_once(&rt, alloc, &statement, &text))
-}
-
-fn rewrite_twice(
-    rt: &impl Abort,
-    alloc: Global,
-    statement: &FileStatement,
-    text: &ByteText,
-) -> CallEnd {
-    match rewrite(alloc, statement, text, 1_000) {
-        Ok(rewritten) => {
-            check_eq(rt, &rewritten.matches, &2);
-            let after = rewritten.after.as_ref().expect(rt, "there is a new text");
-            check_bytes(rt, after.bytes(), BEFORE);
-            CallEnd::Given
-        }
-        Err(fault) => {
-            check_eq(rt, &fault, &StatementFault::Memory);
-            CallEnd::Refused
-        }
-    }
+    rewrite_twice(&rt, alloc, &statement, b"k=v;m=n;", b"v=k;n=m;")
 }
 
 #[test]
 fn a_text_is_rewritten_in_rounds(rt: HostRuntime) -> Result<(), Fail> {
     let alloc = rt.alloc();
     let statement = FileStatement::of(alloc, exchange_twice(&rt, alloc)?)?;
-    let text = ByteText::new(Vec::from_slice(alloc, BEFORE)?)?;
-    tell_twice(&rt, || rewrite_twice(&rt, alloc, &statement, &text))
+    rewrite_twice(&rt, alloc, &statement, BEFORE, BEFORE)
 }
 
 /// A share of a statement, and one of its text.
@@ -234,9 +219,7 @@ fn prepare_twice(rt: &impl Abort, mut book: Book, proposal: Proposal) -> (CallEn
 fn a_commit_is_prepared(rt: HostRuntime) -> Result<(), Fail> {
     let (book, proposal) = proposed(&rt, rt.alloc())?;
     tell_ready(&rt)?;
-    let (first, second) = prepare_twice(&rt, book, proposal);
-    tell(&rt, first)?;
-    tell(&rt, second)
+    tell_both(&rt, prepare_twice(&rt, book, proposal))
 }
 
 /// Commits the proposal; where memory is refused the book is as it was, and the proposal comes back.

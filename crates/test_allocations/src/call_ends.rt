@@ -43,6 +43,12 @@ pub(crate) fn tell(rt: &impl Print, end: CallEnd) -> Result<(), Fail> {
     Ok(())
 }
 
+/// Tells what a call came to each of two times.
+pub(crate) fn tell_both(rt: &impl Print, ends: (CallEnd, CallEnd)) -> Result<(), Fail> {
+    tell(rt, ends.0)?;
+    tell(rt, ends.1)
+}
+
 /// Tells that all is made that the call needs, and what it comes to each of two times.
 pub(crate) fn tell_twice<F: Fn() -> CallEnd>(rt: &impl Print, call: F) -> Result<(), Fail>
     requires { F.IsAlwaysCallable call }

@@ -1,12 +1,12 @@
 //! Books and statements for the tests.
-ghost use Rattle.std.specs.Prelude.{◌≡◌, [], IfOk};
+ghost use Rattle.std.specs.Prelude.{◌≡◌, [], IfOk, IsSome};
 ghost use Rattle.sno_book.specs.Books.{view_of};
 ghost use Rattle.sno_book.specs.Views.{IsPrefix};
 
 use crate::call_ends::{check_bytes, check_eq};
 use sno_book::{Book, Proposal, Text, TextName, propose};
 use sno_pattern::{Names, Pattern, Rules};
-use sno_read::{Object, read_object, read_pattern};
+use sno_read::{read_object, read_pattern};
 use sno_statement::{Datum, Outcome, Statement};
 use std::alloc::Global;
 use std::process::Abort;
@@ -14,7 +14,7 @@ use std::sync::Arc;
 use std::test::Fail;
 
 /// A text with its name.
-pub(crate) fn row(alloc: Global, name: &str, text: &str) -> Result<(TextName, Text), Fail> {
+fn row(alloc: Global, name: &str, text: &str) -> Result<(TextName, Text), Fail> {
     let characters = Vec::from_slice(alloc, text.as_bytes())?;
     Ok((
         TextName::new(alloc, name.as_bytes())?,
@@ -22,30 +22,31 @@ pub(crate) fn row(alloc: Global, name: &str, text: &str) -> Result<(TextName, Te
     ))
 }
 
-/// A book of these texts, each with its name.
-pub(crate) fn book(alloc: Global, texts: &[(&str, &str)]) -> Result<Book, Fail>
-    ensures { IfOk result (λ b. b.journal ≡ []) }
-{
+/// Texts, each with its name.
+pub(crate) fn rows(alloc: Global, texts: &[(&str, &str)]) -> Result<Vec<(TextName, Text)>, Fail> {
     let mut rows = Vec::new(alloc);
     for (name, text) in texts {
         rows.push(row(alloc, name, text)?)?;
     }
-    let book = Book::new(alloc, rows, 1_000_000)?;
+    Ok(rows)
+}
+
+/// A book of these texts, each with its name.
+pub(crate) fn book(alloc: Global, texts: &[(&str, &str)]) -> Result<Book, Fail>
+    ensures { IfOk result (λ b. b.journal ≡ []) }
+{
+    let book = Book::new(alloc, rows(alloc, texts)?, 1_000_000)?;
     Ok(book)
 }
 
-/// The pattern and the object, as they are written.
-fn parts(
+/// The pattern as it is written, in a box: each place at which a function can end while it holds a pattern takes its proof seconds.
+pub(crate) fn pattern(
     alloc: Global,
     rules: &Rules,
-    pattern: &str,
-    object: &str,
-) -> Result<(Pattern, Object), Fail> {
-    let pattern = read_pattern(alloc, rules.names(), 0, pattern.as_bytes())?;
-    Ok((
-        pattern,
-        read_object(alloc, rules.names(), object.as_bytes())?,
-    ))
+    earlier: usize,
+    pattern: &[u8],
+) -> Result<Box<Pattern>, Fail> {
+    Ok(Box::new(alloc, read_pattern(alloc, rules.names(), earlier, pattern)?)?)
 }
 
 /// No definitions.
@@ -55,6 +56,31 @@ pub(crate) fn rules(alloc: Global) -> Result<Arc<Rules>, Fail> {
 }
 
 /// A statement that replaces what the pattern matches in the text by the object.
+fn replacing(
+    rt: &impl Abort,
+    alloc: Global,
+    text: &str,
+    written: &str,
+    object: &str,
+) -> Result<Statement, Fail>
+    ensures { IfOk result (λ s. IsSome s.object) }
+{
+    let text = TextName::new(alloc, text.as_bytes())?;
+    let rules = rules(alloc)?;
+    let object = read_object(alloc, rules.names(), object.as_bytes())?;
+    let pattern = pattern(alloc, &rules, 0, written.as_bytes())?;
+    assert!(rt; rules.covers(&pattern));
+    Ok(Statement::new(
+        1,
+        rules,
+        Box::into_inner(pattern),
+        Some(object),
+        text,
+        false,
+    ))
+}
+
+/// That statement, to be shared.
 pub(crate) fn statement(
     rt: &impl Abort,
     alloc: Global,
@@ -62,42 +88,26 @@ pub(crate) fn statement(
     pattern: &str,
     object: &str,
 ) -> Result<Arc<Statement>, Fail> {
-    let text = TextName::new(alloc, text.as_bytes())?;
-    let rules = rules(alloc)?;
-    let (pattern, object) = parts(alloc, &rules, pattern, object)?;
-    assert!(rt; rules.covers(&pattern));
-    let statement = Statement::new(1, rules, pattern, Some(object), text, false);
-    Ok(Arc::new(alloc, statement)?)
+    Ok(Arc::new(alloc, replacing(rt, alloc, text, pattern, object)?)?)
 }
 
 /// Each key and its value change places, for all matches.
 pub(crate) fn exchange_all(rt: &impl Abort, alloc: Global) -> Result<Statement, Fail> {
-    let rules = rules(alloc)?;
-    let (pattern, object) = parts(
-        alloc,
-        &rules,
-        "BREAK('=') . K '=' BREAK(';') . V ';'",
-        "V '=' K ';'",
-    )?;
-    assert!(rt; rules.covers(&pattern));
-    let text = TextName::new(alloc, b"T")?;
-    let statement = Statement::new(1, rules, pattern, Some(object), text, false);
-    Ok(statement.for_all())
+    let pattern = "BREAK('=') . K '=' BREAK(';') . V ';'";
+    Ok(replacing(rt, alloc, "T", pattern, "V '=' K ';'")?.for_all())
 }
+
+/// A key and its value, as they stand.
+const PAIR: &str = "BREAK('=') . K '=' REM . V";
 
 /// A key and its value change places, twice.
 pub(crate) fn exchange_twice(rt: &impl Abort, alloc: Global) -> Result<Statement, Fail> {
-    let rules = rules(alloc)?;
-    let (pattern, object) = parts(alloc, &rules, "BREAK('=') . K '=' REM . V", "V '=' K")?;
-    assert!(rt; rules.covers(&pattern));
-    let text = TextName::new(alloc, b"T")?;
-    let statement = Statement::new(1, rules, pattern, Some(object), text, false);
-    Ok(statement.repeated(2))
+    Ok(replacing(rt, alloc, "T", PAIR, "V '=' K")?.repeated(2))
 }
 
 /// A key and its value change places.
 pub(crate) fn exchange(rt: &impl Abort, alloc: Global) -> Result<Arc<Statement>, Fail> {
-    statement(rt, alloc, "T", "BREAK('=') . K '=' REM . V", "V '=' K")
+    statement(rt, alloc, "T", PAIR, "V '=' K")
 }
 
 /// The statement on its text as it stands.
@@ -126,6 +136,15 @@ fn check_string(rt: &impl Abort, datum: Option<&Datum>, wanted: &[u8]) {
     }
 }
 
+/// That this is what the statement, `exchange` or `exchange_all`, does to its text.
+pub(crate) fn check_performed(rt: &impl Abort, statement: &Statement, outcome: &Outcome) {
+    if statement.is_for_all() {
+        check_exchange_all(rt, outcome);
+    } else {
+        check_exchange(rt, outcome);
+    }
+}
+
 /// That this is what `exchange` does to `k=v`.
 pub(crate) fn check_exchange(rt: &impl Abort, outcome: &Outcome) {
     match outcome {
@@ -148,7 +167,7 @@ pub(crate) fn check_exchange(rt: &impl Abort, outcome: &Outcome) {
 }
 
 /// That this is what `exchange_all` does to `k=v;m=n;`.
-pub(crate) fn check_exchange_all(rt: &impl Abort, outcome: &Outcome) {
+fn check_exchange_all(rt: &impl Abort, outcome: &Outcome) {
     match outcome {
         Outcome::All { matches, after } => {
             check_eq(rt, &matches.len(), &2);

@@ -1,12 +1,14 @@
 //! Names, definitions, patterns, objects, and what is compiled of them.
 ghost use Rattle.std.specs.Prelude.{IsTrue, length};
 
-use crate::call_ends::{CallEnd, check_bytes, check_eq, tell, tell_ready, tell_twice};
+use crate::call_ends::{CallEnd, check_bytes, check_eq, tell_both, tell_ready, tell_twice};
+use crate::jobs::pattern;
 use sno_machine::{Code, MatchFault, compile};
 use sno_pattern::{Name, NameFault, Names, NamesFault, Pattern, Rules, RulesFault, Text, TextName};
 use sno_read::{Part, ReadFault, read_object, read_pattern};
 use std::alloc::Global;
 use std::process::Abort;
+use std::sync::Arc;
 use std::test::Fail;
 
 /// A name of this kind, which it has to be.
@@ -52,28 +54,53 @@ fn names_of_definitions(rt: HostRuntime) -> Result<(), Fail> {
     tell_twice(&rt, || make_names(&rt, rt.alloc(), &names))
 }
 
-/// Definitions by their names and patterns, each of which may name all of them.
-fn definitions(
+/// Definitions: their names and their patterns, each of which may name all of them.
+#[derive(Drop)]
+struct Definitions {
+    names: Names,
+    bodies: Vec<Pattern>,
+}
+
+fn names_of(
     rt: &impl Abort,
     alloc: Global,
     written: &[(&'static str, &'static str)],
-) -> Result<(Names, Vec<Pattern>), Fail> {
+) -> Result<Names, Fail> {
     let mut list = Vec::new(alloc);
     for (definition, _) in written {
         list.push(name(rt, definition.as_bytes()))?;
     }
-    let names = Names::new(alloc, list.as_slice())?;
+    Ok(Names::new(alloc, list.as_slice())?)
+}
+
+fn bodies_of(
+    alloc: Global,
+    names: &Names,
+    written: &[(&'static str, &'static str)],
+) -> Result<Vec<Pattern>, Fail> {
     let mut bodies = Vec::new(alloc);
     for (_, pattern) in written {
-        bodies.push(read_pattern(alloc, &names, names.len(), pattern.as_bytes())?)?;
+        bodies.push(read_pattern(alloc, names, names.len(), pattern.as_bytes())?)?;
     }
-    Ok((names, bodies))
+    Ok(bodies)
+}
+
+/// The definitions as they are written, in a box, as a pattern is.
+fn definitions(
+    rt: &impl Abort,
+    alloc: Global,
+    written: &[(&'static str, &'static str)],
+) -> Result<Box<Definitions>, Fail> {
+    let names = names_of(rt, alloc, written)?;
+    let bodies = bodies_of(alloc, &names, written)?;
+    Ok(Box::new(alloc, Definitions { names, bodies })?)
 }
 
 /// A row of digits, and two of them with a point between.
 static NUMBERS: [(&str, &str); 2] = [("D", "SPAN('0123456789')"), ("N", "D '.' D")];
 
-fn admit(rt: &impl Abort, alloc: Global, names: Names, bodies: Vec<Pattern>) -> CallEnd {
+fn admit(rt: &impl Abort, alloc: Global, definitions: Definitions) -> CallEnd {
+    let Definitions { names, bodies } = definitions;
     assert!(rt; names.len() == bodies.len());
     match Rules::admit(alloc, names, bodies) {
         Ok(rules) => {
@@ -87,14 +114,25 @@ fn admit(rt: &impl Abort, alloc: Global, names: Names, bodies: Vec<Pattern>) -> 
     }
 }
 
+fn admit_both(
+    rt: &impl Abort,
+    alloc: Global,
+    first: Box<Definitions>,
+    second: Box<Definitions>,
+) -> (CallEnd, CallEnd) {
+    (
+        admit(rt, alloc, Box::into_inner(first)),
+        admit(rt, alloc, Box::into_inner(second)),
+    )
+}
+
 #[test]
 fn definitions_are_admitted(rt: HostRuntime) -> Result<(), Fail> {
     let alloc = rt.alloc();
-    let (names, bodies) = definitions(&rt, alloc, NUMBERS.as_slice())?;
-    let (same_names, same_bodies) = definitions(&rt, alloc, NUMBERS.as_slice())?;
+    let first = definitions(&rt, alloc, NUMBERS.as_slice())?;
+    let second = definitions(&rt, alloc, NUMBERS.as_slice())?;
     tell_ready(&rt)?;
-    tell(&rt, admit(&rt, alloc, names, bodies))?;
-    tell(&rt, admit(&rt, alloc, same_names, same_bodies))
+    tell_both(&rt, admit_both(&rt, alloc, first, second))
 }
 
 fn read_assigned(rt: &impl Abort, alloc: Global, names: &Names, expected: &Pattern) -> CallEnd {
@@ -111,19 +149,26 @@ fn read_assigned(rt: &impl Abort, alloc: Global, names: &Names, expected: &Patte
 }
 
 /// Seven characters, assigned to `A`, and at once to `B`.
-fn assigned(rt: &impl Abort, alloc: Global) -> Result<Pattern, Fail> {
+fn assigned(rt: &impl Abort, alloc: Global) -> Result<Box<Pattern>, Fail> {
     let part = Box::new(alloc, Pattern::Len(7))?;
-    let part = Pattern::Cond(part, name(rt, b"A".as_slice()));
-    let part = Box::new(alloc, part)?;
-    Ok(Pattern::Imm(part, name(rt, b"B".as_slice())))
+    let part = Box::new(alloc, Pattern::Cond(part, name(rt, b"A".as_slice())))?;
+    Ok(Box::new(alloc, Pattern::Imm(part, name(rt, b"B".as_slice())))?)
+}
+
+fn read_twice(
+    rt: &(impl Abort + Print),
+    alloc: Global,
+    names: &Names,
+    expected: &Pattern,
+) -> Result<(), Fail> {
+    tell_twice(rt, || read_assigned(rt, alloc, names, expected))
 }
 
 #[test]
 fn a_pattern_is_read(rt: HostRuntime) -> Result<(), Fail> {
-    let alloc = rt.alloc();
-    let names = Names::new(alloc, &[])?;
-    let expected = assigned(&rt, alloc)?;
-    tell_twice(&rt, || read_assigned(&rt, alloc, &names, &expected))
+    let expected = assigned(&rt, rt.alloc())?;
+    let names = Names::new(rt.alloc(), &[])?;
+    read_twice(&rt, rt.alloc(), &names, &expected)
 }
 
 fn read_three_parts(rt: &impl Abort, alloc: Global, names: &Names, expected: &[Part]) -> CallEnd {
@@ -149,15 +194,20 @@ fn three_parts(rt: &impl Abort, alloc: Global) -> Result<Vec<Part>, Fail> {
     Ok(parts)
 }
 
+fn read_parts_twice(
+    rt: &(impl Abort + Print),
+    alloc: Global,
+    names: &Names,
+    expected: &[Part],
+) -> Result<(), Fail> {
+    tell_twice(rt, || read_three_parts(rt, alloc, names, expected))
+}
+
 #[test]
 fn an_object_is_read(rt: HostRuntime) -> Result<(), Fail> {
-    let alloc = rt.alloc();
-    let names = Names::new(alloc, &[])?;
-    let expected = three_parts(&rt, alloc)?;
-    tell_twice(
-        &rt,
-        || read_three_parts(&rt, alloc, &names, expected.as_slice()),
-    )
+    let expected = three_parts(&rt, rt.alloc())?;
+    let names = Names::new(rt.alloc(), &[])?;
+    read_parts_twice(&rt, rt.alloc(), &names, expected.as_slice())
 }
 
 /// As many `a` as there are, or fewer.
@@ -165,10 +215,11 @@ static ROW: [(&str, &str); 1] = [("S", "'a' *S | ''")];
 
 const TWO_ROWS: &[u8] = b"*S . A 'a' *S . B 'b'";
 
-fn admitted_row(rt: &impl Abort, alloc: Global) -> Result<Rules, Fail> {
-    let (names, bodies) = definitions(rt, alloc, ROW.as_slice())?;
+fn admitted_row(rt: &impl Abort, alloc: Global) -> Result<Arc<Rules>, Fail> {
+    let row = definitions(rt, alloc, ROW.as_slice())?;
+    let Definitions { names, bodies } = Box::into_inner(row);
     assert!(rt; names.len() == bodies.len());
-    Ok(Rules::admit(alloc, names, bodies)?)
+    Ok(Arc::new(alloc, Rules::admit(alloc, names, bodies)?)?)
 }
 
 fn compile_once(rt: &impl Abort, alloc: Global, rules: &Rules, pattern: &Pattern) -> CallEnd {
@@ -182,13 +233,13 @@ fn compile_once(rt: &impl Abort, alloc: Global, rules: &Rules, pattern: &Pattern
 /// A pattern with the definitions that it names.
 #[derive(Drop)]
 struct Search {
-    rules: Rules,
-    pattern: Pattern,
+    rules: Arc<Rules>,
+    pattern: Box<Pattern>,
 }
 
 fn two_rows(rt: &impl Abort, alloc: Global) -> Result<Search, Fail> {
     let rules = admitted_row(rt, alloc)?;
-    let pattern = read_pattern(alloc, rules.names(), 1, TWO_ROWS)?;
+    let pattern = pattern(alloc, &rules, 1, TWO_ROWS)?;
     Ok(Search { rules, pattern })
 }
 
