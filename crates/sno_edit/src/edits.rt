@@ -9,7 +9,7 @@ ghost use Rattle.sno_edit.specs.Rules.{rules_seen};
 use crate::utf8::first_non_utf8;
 use crate::{EditRules, FileFault, Position};
 use sno_pattern::ByteText;
-use sno_statement::{FileStatement, Rewritten, Statement, StatementFault, rewrite};
+use sno_statement::{FileStatement, FileStatementFault, Rewritten, Statement, rewrite};
 use std::alloc::{AllocError, Global};
 use std::sync::Arc;
 
@@ -30,7 +30,7 @@ pub struct RefusedStatement {
     /// The number of the statement, from 1.
     pub statement: u32,
     /// Why it was refused.
-    pub fault: StatementFault,
+    pub fault: FileStatementFault,
 }
 
 /// A statement that was refused since its text was UTF-8 and the text that it would leave is not.

@@ -55,6 +55,6 @@ pub use rules::EditRules;
 pub use scripts::{DiffLine, Mark, script_of};
 pub use sno_document::{DocumentFault, StatementRow};
 pub use sno_pattern::ByteText;
-pub use sno_statement::{MAX_TRIALS, Statement, StatementFault};
+pub use sno_statement::{FileStatementFault, MAX_TRIALS, Statement};
 pub use tallies::{Purpose, Tally};
 pub use trials::Trials;
