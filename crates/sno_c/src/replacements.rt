@@ -14,7 +14,8 @@ use crate::buffers::copy_to;
 use crate::held::Held;
 use crate::searches::text_of;
 use crate::statuses::{
-    BAD_LIMIT, CLOSED, DONE, HISTORY_TOO_LONG, NO_MEMORY, NOTHING, TOO_LONG, TOO_MANY_TRIALS, TOO_SHORT,
+    BAD_LIMIT, CLOSED, DONE, HISTORY_TOO_LONG, NO_MEMORY, NOTHING, TOO_LONG, TOO_MANY_TRIALS,
+    TOO_SHORT,
 };
 use sno_pattern::ByteText;
 use sno_seek::Seeker;
