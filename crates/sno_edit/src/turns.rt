@@ -23,7 +23,7 @@ pub struct Turn {
 /// Performs a statement on a text of the file with this path, if it is for that file, as [`crate::plan_file`] performs each of the
 /// rules in turn. It may take the trials that the rules allow.
 ///
-/// Refused with `Refused` or `Cut` if the statement is refused on the text, exactly then; with `Memory`.
+/// Refused with `Refused` or `Cut` if the statement is refused on the text, exactly then but for too long a history; with `Memory`.
 pub fn turn_of(
     alloc: Global,
     rules: &EditRules,
