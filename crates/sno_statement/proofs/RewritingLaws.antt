@@ -5,7 +5,6 @@ use Rattle.std.proofs.Math.Dec.{eqb-suc-zero}
 use Rattle.sno_pattern.specs.declared.byte_texts.TheConstants.{MAX_BYTES}
 use Rattle.sno_read.specs.declared.objects.Part.{Part}
 use Rattle.sno_statement.specs.declared.match_lists.Match.{Match}
-use Rattle.sno_statement.specs.declared.outcomes.StatementFault.{StatementFault}
 use Rattle.sno_statement.specs.declared.outcomes.StatementFault.TheVariants as fault
 use Rattle.sno_statement.specs.declared.file_faults.FileStatementFault.{FileStatementFault}
 use Rattle.sno_statement.specs.declared.file_faults.FileStatementFault.TheVariants as file
