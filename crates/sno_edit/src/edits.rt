@@ -21,7 +21,7 @@ pub(crate) struct EditedText {
     /// How many matches the statements had. A repeated statement has one for each round that matched.
     pub(crate) matches: u64,
     /// Whether the text is UTF-8, if that was found out.
-    utf8: Option<bool>,
+    pub(crate) utf8: Option<bool>,
 }
 
 /// A statement that was refused, with the reason.
@@ -104,7 +104,7 @@ fn left_by(
 }
 
 /// Performs a statement of these rules on a text, if it is for the file with this path.
-fn turn(
+pub(crate) fn turn(
     alloc: Global,
     rules: &EditRules,
     statement: &FileStatement,
