@@ -25,7 +25,7 @@ pub struct Finding<'t> {
 }
 
 /// Hits as findings, with the position of each start. They are in order, so the text is gone through once.
-fn findings_of<'t>(
+pub(crate) fn findings_of<'t>(
     alloc: Global,
     text: &ByteText,
     hits: Vec<Hit<'t>>,
