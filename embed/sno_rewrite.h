@@ -87,13 +87,14 @@ static inline uint8_t sno_rewrite(const uint8_t *document, size_t document_lengt
 
 /* What these functions return. SNO_BAD_LIMIT, SNO_NO_MEMORY, SNO_TOO_SHORT and SNO_NULL are returned, too. */
 enum sno_pattern_status {
-    SNO_DONE = 0,            /* It is done; of a search, there is a match. */
-    SNO_NOTHING = 1,         /* There is no match, no assignment at this place, or no new text. */
-    SNO_FAULT = 2,           /* The rule or a definition can't be read. */
-    SNO_CLOSED = 7,          /* A handle is closed, or holds something else. Nothing was done. */
-    SNO_TOO_MANY_TRIALS = 8, /* The search takes more trials than the limit. */
-    SNO_TOO_LONG = 9,        /* A text would have more than SNO_LONGEST_TEXT bytes. */
-    SNO_PAST_END = 10        /* The cursor lies past the end of the text. */
+    SNO_DONE = 0,             /* It is done; of a search, there is a match. */
+    SNO_NOTHING = 1,          /* There is no match, no assignment at this place, or no new text. */
+    SNO_FAULT = 2,            /* The rule or a definition can't be read. */
+    SNO_CLOSED = 7,           /* A handle is closed, or holds something else. Nothing was done. */
+    SNO_TOO_MANY_TRIALS = 8,  /* The search takes more trials than the limit. */
+    SNO_TOO_LONG = 9,         /* A text would have more than SNO_LONGEST_TEXT bytes. */
+    SNO_PAST_END = 10,        /* The cursor lies past the end of the text. */
+    SNO_HISTORY_TOO_LONG = 11 /* The search would have to keep more than 4,194,304 places to back up to. */
 };
 
 /* A longer text is refused. */
@@ -185,9 +186,8 @@ static inline uint8_t sno_text_open(const uint8_t *bytes, size_t length, sno_tex
  * - SNO_DONE: `*match` has the match. A search from its `next` goes on after it, as `sno edit` does: the next match
  *   that counts is the next one that isn't the null string at the end of this one.
  * - SNO_NOTHING: there is no match. `*match` has how many assignments the search did nonetheless.
- * - SNO_CLOSED, SNO_BAD_LIMIT, SNO_PAST_END, SNO_TOO_MANY_TRIALS, the first that applies, or SNO_NO_MEMORY, which may
- *   come instead of all but the first three: `*match` is all 0. SNO_NO_MEMORY is also returned if the search would have
- *   to keep more than 4,194,304 places at which to go on.
+ * - SNO_CLOSED, SNO_BAD_LIMIT, SNO_PAST_END, SNO_TOO_MANY_TRIALS, the first that applies; or SNO_HISTORY_TOO_LONG or
+ *   SNO_NO_MEMORY, which may come instead of all but the first three: `*match` is all 0.
  *
  * The assignments stay with the pattern until its next search. */
 static inline uint8_t sno_pattern_next(sno_pattern *pattern, sno_text *text, size_t from, uint32_t trials,
@@ -218,7 +218,8 @@ static inline uint8_t sno_pattern_assignment(sno_pattern *pattern, size_t place,
  * - SNO_DONE: the buffer begins with the new text.
  * - SNO_NOTHING: there is no new text, since there was no match or the rule has no object; the length is 0.
  * - SNO_TOO_SHORT: the new text has `replaced->length` bytes, which is more than `room`.
- * - SNO_CLOSED, SNO_BAD_LIMIT, SNO_TOO_MANY_TRIALS, SNO_TOO_LONG, or SNO_NO_MEMORY: both numbers are 0.
+ * - SNO_CLOSED, SNO_BAD_LIMIT, SNO_TOO_MANY_TRIALS, SNO_TOO_LONG, SNO_HISTORY_TOO_LONG or SNO_NO_MEMORY: both
+ *   numbers are 0.
  *
  * Except for SNO_DONE the buffer is unchanged, and always after the new text. */
 static inline uint8_t sno_pattern_replace(sno_pattern *pattern, sno_text *text, uint32_t trials, uint8_t *buffer,

@@ -3,7 +3,7 @@
 use crate::faults::FAILED;
 use crate::stored::{Stores, opened, refuse};
 use sno_durable::{DurableFault, Kept};
-use sno_store::Lines;
+use sno_store::{File, Lines, Store};
 use sqlite_disk::Disk;
 use std::alloc::{AllocError, Global};
 use std::io;
@@ -37,11 +37,11 @@ fn put_beside<R: Files + Stores, E: Write>(
     path: &str,
     lines: &Lines,
     errors: &mut E,
-) -> Result<(), u8> {
+) -> Result<Store<File>, u8> {
     let _left = rt.remove_file(path);
     let (mut store, _none) = opened(rt, path, errors)?;
     match store.put(lines) {
-        Ok(()) => Ok(()),
+        Ok(()) => Ok(store),
         Err(fault) => Err(refuse(&DurableFault::from(fault), errors)),
     }
 }
@@ -53,28 +53,43 @@ fn take_place<R: Files>(rt: &R, paths: &Paths) -> io::Result<()> {
     rt.rename(&paths.new, &paths.store)
 }
 
-/// Replaces the store with this path by one that goes on from it. The old one stays, with `.1` after its path. If that fails, the line of the fault is written, the status comes back, and the store is as it was.
+/// Writes why a store isn't replaced, and returns the status.
+fn refuse_place<E: Write>(error: &io::Error, errors: &mut E) -> u8 {
+    let kind = error.kind();
+    let _printed = errors.writeln(format_args!("store: not replaced: {kind}"));
+    FAILED
+}
+
+/// Puts a new store of these lines in the place of the one with this path, and returns it. It is locked before it has the place.
+fn replace<R: Files + Stores, E: Write>(
+    rt: &R,
+    alloc: Global,
+    path: &str,
+    lines: &Lines,
+    errors: &mut E,
+) -> Result<Store<File>, u8> {
+    let Ok(paths) = paths_of(rt, alloc, path) else {
+        return Err(refuse(&DurableFault::Memory, errors));
+    };
+    let store = put_beside(rt, &paths.new, lines, errors)?;
+    match take_place(rt, &paths) {
+        Ok(()) => Ok(store),
+        Err(e) => Err(refuse_place(&e, errors)),
+    }
+}
+
+/// Replaces the store with this path by one that goes on from it, and returns that with its lines. The old one stays, with `.1` after its path. If that fails, the line of the fault is written, the status comes back, and the store is as it was.
 pub(crate) fn compact<R: Files + Stores, D: Disk, I: Read, W: Write, E: Write>(
     rt: &R,
     alloc: Global,
     path: &str,
     kept: &Kept<D, I, W>,
     errors: &mut E,
-) -> Result<(), u8> {
+) -> Result<(Store<File>, Lines), u8> {
     let lines = match kept.compacted(alloc) {
         Ok(lines) => lines,
         Err(fault) => return Err(refuse(&fault, errors)),
     };
-    let Ok(paths) = paths_of(rt, alloc, path) else {
-        return Err(refuse(&DurableFault::Memory, errors));
-    };
-    put_beside(rt, &paths.new, &lines, errors)?;
-    match take_place(rt, &paths) {
-        Ok(()) => Ok(()),
-        Err(e) => {
-            let kind = e.kind();
-            let _printed = errors.writeln(format_args!("store: not replaced: {kind}"));
-            Err(FAILED)
-        }
-    }
+    let store = replace(rt, alloc, path, &lines, errors)?;
+    Ok((store, lines))
 }

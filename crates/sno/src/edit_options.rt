@@ -26,7 +26,7 @@ const SYNC_HELP: &str =
 const BACKUP_HELP: &str = "Keeps each old file under its path with SUFFIX after it";
 
 const JSON_HELP: &str =
-    "Writes what became of each file as a JSON object: path, changed, matches or refused";
+    "Writes what became of each file as a JSON object: path, changed, matches or refused; and after it one for each match, as of sno find";
 
 const RULES_HELP: &str =
     "The file of a document whose statements need no text; - is standard input; with -e the first file";

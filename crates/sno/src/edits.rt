@@ -7,7 +7,9 @@ use crate::faults::{FAILED, INPUT, ProgramFault};
 use crate::filters::run_filter;
 use crate::found_files::found_files;
 use crate::given_lines::NoRules;
+use crate::match_rows::write_plan_rows;
 use crate::rounds_left::{report_stopped, report_stopped_in};
+use crate::row_edits::edit_with_rows;
 use crate::rule_lines::rules_of_lines;
 use crate::shared_edits::{Seen, edit_shared, see_shared};
 use crate::shared_files::SHARE;
@@ -57,7 +59,6 @@ fn report_ends<R: Files<File = File>, E: Write>(
     rt: &R,
     alloc: Global,
     rules: &EditRules,
-    form: Form,
     paths: &[&str],
     ends: &[Result<Done, FileFault>],
     tally: &mut Tally,
@@ -70,7 +71,7 @@ fn report_ends<R: Files<File = File>, E: Write>(
             Ok(done) => report_stopped_in(rt, alloc, rules, path, done, tally, errors),
             Err(fault) => report_fault(errors, path, *fault),
         }
-        put_end(alloc, form, path, end, lines)?;
+        put_end(alloc, Form::Paths, path, end, lines)?;
     }
     Ok(())
 }
@@ -97,7 +98,7 @@ fn edit_first<R: Files<File = File, Dir: Send> + Threads + Sync>(
     Ok(ends)
 }
 
-/// Edits the files, and then writes what is reported of each.
+/// Edits the files, and then writes the path of each that changed.
 fn write_files<R: Files<File = File, Dir: Send> + Threads + Sync, W: Write, E: Write>(
     rt: &R,
     alloc: Global,
@@ -105,7 +106,6 @@ fn write_files<R: Files<File = File, Dir: Send> + Threads + Sync, W: Write, E: W
     paths: &[&str],
     writing: Writing<'_>,
     threads: usize,
-    form: Form,
     output: &mut W,
     errors: &mut E,
 ) -> Result<Tally, ProgramFault>
@@ -123,7 +123,7 @@ fn write_files<R: Files<File = File, Dir: Send> + Threads + Sync, W: Write, E: W
         let ends = edit_first(rt, alloc, rules, rest, writing, threads)?;
         let (files, _later) = rest.split_at(ends.len().min(rest.len()));
         report_ends(
-            rt, alloc, rules, form, files, &ends, &mut tally, &mut lines, errors,
+            rt, alloc, rules, files, &ends, &mut tally, &mut lines, errors,
         )?;
         edited = edited.saturating_add(ends.len());
     }
@@ -174,47 +174,67 @@ fn put_refused(
     }
 }
 
-/// Adds what is shown of a file that is not written, and counts it.
-fn show_file<R: Files<File = File>, E: Write>(
+/// Counts a file that is planned, and writes what is shown of it: these bytes, and then its matches.
+fn show_plan<W: Write, E: Write>(
+    alloc: Global,
+    rules: &EditRules,
+    path: &str,
+    show: Show,
+    plan: &Plan,
+    shown: &[u8],
+    tally: &mut Tally,
+    output: &mut W,
+    errors: &mut E,
+) -> Result<(), ProgramFault> {
+    let done = done_of(plan);
+    tally.count(&Ok(done));
+    report_stopped(alloc, rules, path, path, &done, &plan.after, tally, errors);
+    write_all(output, shown)?;
+    write_plan_rows(alloc, rules, path, show, plan, output)
+}
+
+/// Writes what is shown of a file that is not written, and counts it.
+fn show_file<R: Files<File = File>, W: Write, E: Write>(
     rt: &R,
     alloc: Global,
     rules: &EditRules,
     path: &str,
     show: Show,
     tally: &mut Tally,
-    out: &mut Vec<u8>,
+    output: &mut W,
     errors: &mut E,
-) -> Result<(), AllocError> {
-    match put_file(rt, alloc, rules, path, show, out) {
-        Ok(Some(plan)) => {
-            let done = done_of(&plan);
-            tally.count(&Ok(done));
-            report_stopped(alloc, rules, path, path, &done, &plan.after, tally, errors);
-        }
+) -> Result<(), ProgramFault> {
+    let mut shown = Vec::new(alloc);
+    match put_file(rt, alloc, rules, path, show, &mut shown) {
+        Ok(Some(plan)) => show_plan(
+            alloc, rules, path, show, &plan, &shown, tally, output, errors,
+        ),
         Ok(None) => {
             tally.failed = true;
             let _printed = errors.writeln(format_args!(
                 "{path}: not in the current folder, so no diff of it is written"
             ));
+            Ok(())
         }
-        Err(fault) => show_fault(alloc, path, fault, show, tally, out, errors)?,
+        Err(fault) => show_fault(alloc, path, fault, show, tally, output, errors),
     }
-    Ok(())
 }
 
-/// Adds what is shown of a file that could not be taken, and counts it.
-fn show_fault<E: Write>(
+/// Writes what is shown of a file that could not be taken, and counts it.
+fn show_fault<W: Write, E: Write>(
     alloc: Global,
     path: &str,
     fault: FileFault,
     show: Show,
     tally: &mut Tally,
-    out: &mut Vec<u8>,
+    output: &mut W,
     errors: &mut E,
-) -> Result<(), AllocError> {
+) -> Result<(), ProgramFault> {
     tally.count(&Err(fault));
     report_fault(errors, path, fault);
-    put_refused(alloc, path, fault, show, out)
+    let mut shown = Vec::new(alloc);
+    put_refused(alloc, path, fault, show, &mut shown)?;
+    write_all(output, &shown)
 }
 
 /// Shows what would change in each of the files.
@@ -229,9 +249,7 @@ fn show_each<R: Files<File = File>, W: Write, E: Write>(
     errors: &mut E,
 ) -> Result<(), ProgramFault> {
     for path in paths {
-        let mut out = Vec::new(alloc);
-        show_file(rt, alloc, rules, path, show, tally, &mut out, errors)?;
-        write_all(output, &out)?;
+        show_file(rt, alloc, rules, path, show, tally, output, errors)?;
     }
     Ok(())
 }
@@ -249,16 +267,14 @@ fn show_seen<R: Files<File = File>, W: Write, E: Write>(
 ) -> Result<(), ProgramFault> {
     for place in places {
         let path = place.path;
-        let mut out = Vec::new(alloc);
         match &place.result {
             Some(Ok(Some(sight))) => {
                 tally.count(&Ok(sight.done));
                 write_all(output, &sight.bytes)?;
             }
-            Some(Err(fault)) => show_fault(alloc, path, *fault, show, tally, &mut out, errors)?,
-            _ => show_file(rt, alloc, rules, path, show, tally, &mut out, errors)?,
+            Some(Err(fault)) => show_fault(alloc, path, *fault, show, tally, output, errors)?,
+            _ => show_file(rt, alloc, rules, path, show, tally, output, errors)?,
         }
-        write_all(output, &out)?;
     }
     Ok(())
 }
@@ -389,10 +405,11 @@ fn edit<R: Files<File = File, Dir: Send> + Threads + Sync, W: Write, E: Write>(
         sync: options.sync,
         backup: options.backup,
     };
-    let form = form_of(options);
-    let tally = write_files(
-        rt, alloc, rules, paths, writing, threads, form, output, errors,
-    )?;
+    let tally = if options.json {
+        edit_with_rows(rt, alloc, rules, paths, writing, threads, output, errors)?
+    } else {
+        write_files(rt, alloc, rules, paths, writing, threads, output, errors)?
+    };
     report_tally(alloc, &tally, found.not_text, errors)?;
     Ok(tally)
 }

@@ -12,7 +12,7 @@ use crate::shared_finds::find_shared;
 use crate::streams::{read_up_to, write_all};
 use crate::thread_options::thread_count;
 use crate::variables::has_variable;
-use sno_edit::{EditRules, FileFault, Folder, ReadFault, RefusedStatement, StatementFault};
+use sno_edit::{EditRules, FileFault, FileStatementFault, Folder, ReadFault, RefusedStatement};
 use sno_files::{Paths, ReadOnly, Reason};
 use sno_find::{FindFault, Finding, SpanValue, find_in, put_count, put_json, put_line};
 use sno_pattern::{ByteText, MAX_BYTES, Name};
@@ -50,7 +50,11 @@ fn fault_of(fault: FindFault) -> FileFault {
         FindFault::Memory => FileFault::Memory,
         FindFault::TooManyTrials(statement) => FileFault::from(RefusedStatement {
             statement,
-            fault: StatementFault::TooManyTrials,
+            fault: FileStatementFault::TooManyTrials,
+        }),
+        FindFault::HistoryTooLong(statement) => FileFault::from(RefusedStatement {
+            statement,
+            fault: FileStatementFault::HistoryTooLong,
         }),
     }
 }

@@ -3,7 +3,7 @@
 use sno_edit::{EditRules, FileFault, RefusedStatement, Trials, is_for};
 use sno_machine::compile;
 use sno_pattern::ByteText;
-use sno_statement::{FileStatement, StatementFault, first_match};
+use sno_statement::{FileStatement, FileStatementFault, first_match};
 use std::alloc::Global;
 
 /// Whether the statement matches in the text.
@@ -12,7 +12,7 @@ pub(crate) fn matches(
     statement: &FileStatement,
     trials: Trials,
     text: &ByteText,
-) -> Result<bool, StatementFault> {
+) -> Result<bool, FileStatementFault> {
     let code = compile(
         alloc,
         statement.search().rules(),

@@ -14,6 +14,7 @@
 //! | `edit_options`, `edits` | `sno edit`: its arguments; files are edited by `sno_edit` |
 //! | `filters` | `sno edit` of standard input |
 //! | `edit_reports` | what is written of edited files |
+//! | `match_rows`, `row_edits` | what is written of the matches in edited files; `sno edit --json` of files that are written |
 //! | `find_options`, `finds` | `sno find`: its arguments; rules are sought in files by `sno_find` |
 //! | `thread_options`, `shared_files` | the option for threads; files that several threads share |
 //! | `shared_finds`, `shared_edits` | `sno find` and `sno edit` by several threads |
@@ -52,9 +53,11 @@ mod found_files;
 mod given_lines;
 mod line_checks;
 mod listing_files;
+mod match_rows;
 mod program;
 mod ready_files;
 mod rounds_left;
+mod row_edits;
 mod rule_lines;
 mod rule_options;
 mod serve_command;

@@ -3,8 +3,9 @@ ghost use Rattle.std.specs.Prelude.{◌<◌};
 
 use crate::edit_reports::{Show, done_of};
 use crate::edits::put_file;
+use crate::match_rows::write_plan_rows;
 use crate::rounds_left::may_stop;
-use crate::shared_files::{KEPT, places_of};
+use crate::shared_files::{KEPT, Kept, places_of};
 use sno_edit::{Done, EditRules, FileFault};
 use sno_files::{Place, Writing, edit_one, lacks_room, side_by_side};
 use std::alloc::{AllocError, Global};
@@ -81,7 +82,14 @@ fn see<R: Files<File = File>>(
     if bytes.len() > KEPT || may_stop(&done) {
         return Ok(None);
     }
-    Ok(Some(Sight { bytes, done }))
+    let mut kept = Kept { bytes };
+    match write_plan_rows(alloc, rules, path, show, &plan, &mut kept) {
+        Ok(()) => Ok(Some(Sight {
+            bytes: kept.bytes,
+            done,
+        })),
+        Err(_) => Ok(None),
+    }
 }
 
 /// Plans these files by this many threads: what is known of each, in the order of the paths.

@@ -3,12 +3,34 @@ ghost use Rattle.std.specs.Prelude.{◌≡◌, length, vec_len, IfOk};
 
 use sno_files::Place;
 use std::alloc::{AllocError, Global};
+use std::io;
+use std::io::{ErrorKind, Write};
 
 /// How many files a thread takes before what became of them is written.
 pub(crate) const SHARE: usize = 64;
 
 /// The most bytes that are kept of what is shown of a file, until what comes before it is written.
 pub(crate) const KEPT: usize = 1_048_576;
+
+/// Bytes that are kept until what comes before them is written. No more than [`KEPT`] are taken.
+#[derive(Drop)]
+pub(crate) struct Kept {
+    pub(crate) bytes: Vec<u8>,
+}
+
+impl Write for Kept {
+    fn write(&mut self, bytes: &[u8]) -> io::Result<usize> {
+        if bytes.len() > KEPT.saturating_sub(self.bytes.len()) {
+            return Err(io::Error::from(ErrorKind::FileTooLarge));
+        }
+        self.bytes.extend_from_slice(bytes)?;
+        Ok(bytes.len())
+    }
+
+    fn flush(&mut self) -> io::Result<()> {
+        Ok(())
+    }
+}
 
 /// A place for each of the paths.
 pub(crate) fn places_of<'p, X: Drop>(

@@ -4,14 +4,13 @@ ghost use Rattle.std.specs.Prelude.{◌<◌};
 use crate::faults::ProgramFault;
 use crate::find_options::Shown;
 use crate::finds::{NotFound, Sought, find_file, find_named, keep};
-use crate::shared_files::{KEPT, SHARE, places_of};
+use crate::shared_files::{Kept, SHARE, places_of};
 use crate::streams::write_all;
 use sno_edit::{EditRules, FileFault};
 use sno_files::{Place, side_by_side};
 use std::alloc::Global;
 use std::fs::File;
-use std::io;
-use std::io::{ErrorKind, Read, Write};
+use std::io::{Read, Write};
 use std::rt::Files;
 use std::thread::Threads;
 
@@ -25,26 +24,6 @@ struct Sight {
 /// What a thread knows of a file: what is shown of it. `None` if that is too long to be kept, or if the file is standard input; then
 /// it is sought again, when what comes before it is written.
 type Seen = Result<Option<Sight>, FileFault>;
-
-/// Bytes that are kept until what comes before them is written. No more than [`KEPT`] are taken.
-#[derive(Drop)]
-struct Kept {
-    bytes: Vec<u8>,
-}
-
-impl Write for Kept {
-    fn write(&mut self, bytes: &[u8]) -> io::Result<usize> {
-        if bytes.len() > KEPT.saturating_sub(self.bytes.len()) {
-            return Err(io::Error::from(ErrorKind::FileTooLarge));
-        }
-        self.bytes.extend_from_slice(bytes)?;
-        Ok(bytes.len())
-    }
-
-    fn flush(&mut self) -> io::Result<()> {
-        Ok(())
-    }
-}
 
 /// Seeks the rules in a file.
 fn see<R: Files<File = File>>(

@@ -157,8 +157,8 @@ fn serve_on<R: Files + Stores + Wait, I: Read + Drop, W: Write + Drop, E: Write>
         if !has_more(&kept) {
             return Ok(kept);
         }
-        compact(rt, alloc, options.store, &kept, errors)?;
-        kept = next_store(rt, alloc, options, kept, errors)?;
+        let (store, lines) = compact(rt, alloc, options.store, &kept, errors)?;
+        kept = next_store(rt, alloc, options, kept, store, lines, errors)?;
     }
     Ok(kept)
 }
@@ -172,15 +172,16 @@ fn has_more<D: Disk, I: Read, W: Write>(kept: &Kept<D, I, W>) -> bool {
 }
 
 /// Serves the client that is left over the store that goes on.
-fn next_store<R: Stores + Wait, I: Read + Drop, W: Write + Drop, E: Write>(
+fn next_store<R: Wait, I: Read + Drop, W: Write + Drop, E: Write>(
     rt: &R,
     alloc: Global,
     options: &StoreOptions<'_>,
     kept: Kept<File, I, W>,
+    store: Store<File>,
+    lines: Lines,
     errors: &mut E,
 ) -> Result<Kept<File, I, W>, u8> {
     let Kept { client, .. } = kept;
-    let (store, lines) = opened(rt, options.store, errors)?;
     let given = Given {
         document: None,
         trials: None,
@@ -269,8 +270,9 @@ fn show<R: Files + Stores, W: Write, E: Write>(
         return Ok(refuse(fault, errors));
     }
     if matches!(request.action, StoreAction::Compact) {
-        if let Err(status) = compact(rt, alloc, request.store, kept, errors) {
-            return Ok(status);
+        match compact(rt, alloc, request.store, kept, errors) {
+            Ok(_) => {}
+            Err(status) => return Ok(status),
         }
     }
     let shown = shown(alloc, request.action, kept)?;

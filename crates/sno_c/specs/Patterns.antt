@@ -58,7 +58,7 @@ pub record IsSearched (from trials : ℕ) (t : List ℕ) (p q : Seeker) (m : Fou
   pub past : status ≡ 10 ↔ (IsLimit trials × (length t < from))
   pub too_many : status ≡ 8 → trials < search_trials p.statement t from
   pub refused : 2 ≤ status → (q.found ≡ None) × (m ≡ no_match)
-  pub known : (status < 2) ⊎ (status ≡ 3) ⊎ (status ≡ 4) ⊎ (status ≡ 8) ⊎ (status ≡ 10)
+  pub known : (status < 2) ⊎ (status ≡ 3) ⊎ (status ≡ 4) ⊎ (status ≡ 8) ⊎ (status ≡ 10) ⊎ (status ≡ 11)
 
 -- What a call for a search returns. It is refused with 7, and nothing is changed, unless the handles hold a pattern and a text.
 pub record IsSearchCall (from trials : ℕ) (pattern text after : Option Held) (m : FoundMatch) (status : ℕ) : Type 0 where

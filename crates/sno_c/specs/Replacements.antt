@@ -36,8 +36,8 @@ pub record IsReplaced (limit : ℕ) (t : List ℕ) (p : Seeker) (before after : 
   pub too_many : status ≡ 8 → rewritten_by p limit t ≡ Err TooManyTrials
   pub too_long : status ≡ 9 → rewritten_by p limit t ≡ Err TextTooLong
   pub unchanged : status ≢ 0 → after ≡ before
-  pub refused : (status ≡ 3) ⊎ (status ≡ 4) ⊎ (status ≡ 8) ⊎ (status ≡ 9) → done ≡ nothing_replaced
-  pub known : (status ≡ 0) ⊎ (status ≡ 1) ⊎ (status ≡ 3) ⊎ (status ≡ 4) ⊎ (status ≡ 5) ⊎ (status ≡ 8) ⊎ (status ≡ 9)
+  pub refused : (status ≡ 3) ⊎ (status ≡ 4) ⊎ (status ≡ 8) ⊎ (status ≡ 9) ⊎ (status ≡ 11) → done ≡ nothing_replaced
+  pub known : (status ≡ 0) ⊎ (status ≡ 1) ⊎ (status ≡ 3) ⊎ (status ≡ 4) ⊎ (status ≡ 5) ⊎ (status ≡ 8) ⊎ (status ≡ 9) ⊎ (status ≡ 11)
 
 -- What a call that replaces returns. It is refused with 7 unless the handles hold a pattern and a text.
 pub record IsReplacementCall (limit : ℕ) (pattern text : Option Held) (before after : List ℕ) (done : Replaced) (status : ℕ) : Type 0 where

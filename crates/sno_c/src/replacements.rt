@@ -14,11 +14,12 @@ use crate::buffers::copy_to;
 use crate::held::Held;
 use crate::searches::text_of;
 use crate::statuses::{
-    BAD_LIMIT, CLOSED, DONE, NO_MEMORY, NOTHING, TOO_LONG, TOO_MANY_TRIALS, TOO_SHORT,
+    BAD_LIMIT, CLOSED, DONE, HISTORY_TOO_LONG, NO_MEMORY, NOTHING, TOO_LONG, TOO_MANY_TRIALS,
+    TOO_SHORT,
 };
 use sno_pattern::ByteText;
 use sno_seek::Seeker;
-use sno_statement::{MAX_TRIALS, StatementFault};
+use sno_statement::{FileStatementFault, MAX_TRIALS};
 use std::alloc::Global;
 
 /// What was replaced.
@@ -80,9 +81,10 @@ fn replace(
                 }
             }
         }
-        Err(StatementFault::TooManyTrials) => TOO_MANY_TRIALS,
-        Err(StatementFault::TextTooLong) => TOO_LONG,
-        Err(StatementFault::Memory) => NO_MEMORY,
+        Err(FileStatementFault::TooManyTrials) => TOO_MANY_TRIALS,
+        Err(FileStatementFault::TextTooLong) => TOO_LONG,
+        Err(FileStatementFault::HistoryTooLong) => HISTORY_TOO_LONG,
+        Err(FileStatementFault::Memory) => NO_MEMORY,
     }
 }
 

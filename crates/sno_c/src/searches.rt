@@ -8,11 +8,12 @@ ghost use Rattle.sno_c.specs.Kept.{held_in};
 ghost use Rattle.sno_c.specs.Patterns.{IsSearchCall, IsSearched, cursor_or_past, match_seen, no_match, text_in};
 
 use crate::held::Held;
-use crate::statuses::{BAD_LIMIT, CLOSED, DONE, NO_MEMORY, NOTHING, PAST_END, TOO_MANY_TRIALS};
-use sno_machine::MatchFault;
+use crate::statuses::{
+    BAD_LIMIT, CLOSED, DONE, HISTORY_TOO_LONG, NO_MEMORY, NOTHING, PAST_END, TOO_MANY_TRIALS,
+};
 use sno_pattern::{ByteText, Hit, searches_lie_within_the_text};
 use sno_seek::Seeker;
-use sno_statement::{MAX_TRIALS, next_cursor};
+use sno_statement::{FileStatementFault, MAX_TRIALS, next_cursor};
 use std::alloc::Global;
 
 /// What a search found.
@@ -116,8 +117,10 @@ pub(crate) fn search(
             *found = seen(seeker, text);
             if matched { DONE } else { NOTHING }
         }
-        Err(MatchFault::TooManyTrials) => TOO_MANY_TRIALS,
-        Err(MatchFault::Memory) => NO_MEMORY,
+        Err(FileStatementFault::TooManyTrials) => TOO_MANY_TRIALS,
+        Err(FileStatementFault::HistoryTooLong) => HISTORY_TOO_LONG,
+        Err(FileStatementFault::Memory) => NO_MEMORY,
+        Err(FileStatementFault::TextTooLong) => unreachable!(),
     }
 }
 

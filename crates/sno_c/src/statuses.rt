@@ -29,3 +29,6 @@ pub const TOO_LONG: u8 = 9;
 
 /// The cursor lies past the end of the text.
 pub const PAST_END: u8 = 10;
+
+/// A search would have to keep more than 4,194,304 entries in its history, which it may back up to.
+pub const HISTORY_TOO_LONG: u8 = 11;

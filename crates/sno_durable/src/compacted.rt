@@ -1,11 +1,10 @@
 //! The first line of a store that goes on from another one.
-ghost use Rattle.std.specs.Prelude.{◌≡◌, IfOk, OnOk, Some, length, map};
+ghost use Rattle.std.specs.Prelude.{◌≡◌, IfOk, OnOk, Some, length};
 ghost use Rattle.serde_json.specs.Data.{Data, no_members, object};
 ghost use Rattle.serde_json.specs.Read.{read};
 ghost use Rattle.serde_json.specs.View.{view, members_view};
 ghost use Rattle.sno_book.specs.Books.{view_of};
 ghost use Rattle.sno_book.specs.Views.{state_of};
-ghost use Rattle.sno_listing.specs.JsonListing.{text_data};
 ghost use Rattle.sno_durable.specs.Compacted.{document_after, versions_after, with_version};
 ghost use Rattle.sno_durable.specs.Past.{higher};
 
@@ -15,7 +14,7 @@ use crate::{DurableFault, Kept};
 use serde_json::{Category, Map, Value, put};
 use sno_book::Book;
 use sno_document::{DocumentFault, MAX_DOCUMENT};
-use sno_listing::{listing_of, text_members, text_name_value};
+use sno_listing::{listing_of, text_name_value, text_values};
 use sno_pattern::TextName;
 use sno_store::Lines;
 use sqlite_disk::Disk;
@@ -64,24 +63,6 @@ fn past_after(alloc: Global, past: &Past, book: &Book, statements: u32) -> Resul
         statements,
         versions: Value::Object(versions_after(alloc, past, book)?),
     })
-}
-
-/// The texts of a book, as a document has them.
-#[tactic(auto, using(sno_listing::proofs::ListingLemmas::row_there))]
-fn text_values(alloc: Global, book: &Book) -> Result<Vec<Value>, AllocError>
-    ensures { IfOk result (λ v. map view v.items ≡ map text_data (state_of (view_of book.now))) }
-{
-    let mut values = Vec::with_capacity(alloc, book.len())?;
-    for place in 0..book.len() {
-        match book.text(place) {
-            Some((name, text, version)) => {
-                let members = text_members(alloc, name, text, version)?;
-                values.push(Value::Object(members))?;
-            }
-            None => unreachable!(),
-        }
-    }
-    Ok(values)
 }
 
 /// The document as it is with the texts of the book, and without statements.

@@ -49,7 +49,7 @@ planned_append rules before (p ∷ ps) qs (Ok done ∷ es) fs ws vs (old, new, e
 cause_kept : (rules : FileRules) (path : List ℕ) (before after : Held) (e : FileFault) → ((bytes : List ℕ) → before path bytes → after path bytes)
     → HasCause rules path before e → HasCause rules path after e
 cause_kept rules path before after fault.TooLong go (bytes, held, long) = (bytes, go bytes held, long)
-cause_kept rules path before after (fault.Refused refused) go (text, held, is, bad) = (text, go text held, is, bad)
+cause_kept rules path before after (fault.Refused refused) go h = λ so. let (text, held, is, bad) = h so in (text, go text held, is, bad)
 cause_kept rules path before after (fault.Cut cut) go (text, held, is, bad, why) = (text, go text held, is, bad, why)
 cause_kept rules path before after (fault.Unwritten kind) go (old, e, (held, is, does), other) = (old, e, (go old held, is, does), other)
 cause_kept rules path before after (fault.Unread kind) go h = h

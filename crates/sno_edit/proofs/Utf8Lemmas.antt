@@ -8,7 +8,8 @@ use Rattle.sno_statement.specs.Statement.{Statement}
 use Rattle.sno_statement.specs.declared.outcomes.StatementFault.{StatementFault}
 use Rattle.sno_statement.specs.declared.outcomes.StatementFault.TheVariants as statement
 use Rattle.sno_edit.specs.Edits.{Edited, IsCut, edited, in_turn, is_for, left_by, rewriting_of, then_on, turn, unless_cut, with_text}
-use Rattle.sno_edit.specs.Faults.{of_refused}
+use Rattle.sno_statement.specs.FileFaults.{in_file}
+use Rattle.sno_edit.specs.Faults.{follows, of_refused}
 use Rattle.sno_edit.specs.Positions.{position_of}
 use Rattle.sno_edit.specs.Rules.{FileRules}
 use Rattle.sno_edit.specs.declared.edits.CutCharacter.{CutCharacter}
@@ -97,7 +98,7 @@ cut_is s true false place left cut h = (refl, refl, sym (ap (λ c. c.statement) 
   cut_same a b h = cc
 cut_is s false is place left cut h = cc
 
-no_fault_cuts : (number : ℕ) (fault : StatementFault) (cut : CutCharacter) → of_refused (record { statement = number; fault = fault }) ≡ Cut cut → ⊥
+no_fault_cuts : (number : ℕ) (fault : StatementFault) (cut : CutCharacter) → of_refused (record { statement = number; fault = in_file fault }) ≡ Cut cut → ⊥
 no_fault_cuts number statement.Memory cut h = cc
 no_fault_cuts number statement.TextTooLong cut h = cc
 no_fault_cuts number statement.TooManyTrials cut h = cc
@@ -210,7 +211,7 @@ unless_refusal : (s : Statement) (at : Option ℕ) (left : Edited) (e : FileFaul
 unless_refusal s None left e h = cc
 unless_refusal s (Some place) left e h = subst IsRefusal (err_is _ e h) tt
 
-fault_refusal : (number : ℕ) (f : StatementFault) → IsRefusal (of_refused (record { statement = number; fault = f }))
+fault_refusal : (number : ℕ) (f : StatementFault) → IsRefusal (of_refused (record { statement = number; fault = in_file f }))
 fault_refusal number statement.Memory = tt
 fault_refusal number statement.TextTooLong = tt
 fault_refusal number statement.TooManyTrials = tt
@@ -237,10 +238,10 @@ in_turn_refusal path trials (s ∷ statements) e f h =
 
 -- why the file is not edited
 pub refusal_cause : (rules : FileRules) (path : List ℕ) (before : Held) (old : List ℕ) (e : FileFault) → before path old → byte_text_of old ≡ Ok old
-    → (e ≢ fault.Memory → edited rules path old ≡ Err e) → HasCause rules path before e
-refusal_cause rules path before old fault.TooLong held text h = absurd (in_turn_refusal path rules.trials rules.statements _ _ (h (λ is. cc)))
-refusal_cause rules path before old (fault.Refused refused) held text h = (old, held, text, h (λ is. cc))
-refusal_cause rules path before old (fault.Cut cut) held text h = (old, held, text, h (λ is. cc), edited_cut rules path old cut (h (λ is. cc)))
+    → (follows e → edited rules path old ≡ Err e) → HasCause rules path before e
+refusal_cause rules path before old fault.TooLong held text h = absurd (in_turn_refusal path rules.trials rules.statements _ _ (h tt))
+refusal_cause rules path before old (fault.Refused refused) held text h = λ so. (old, held, text, h so)
+refusal_cause rules path before old (fault.Cut cut) held text h = (old, held, text, h tt, edited_cut rules path old cut (h tt))
 refusal_cause rules path before old (fault.Unread kind) held text h = tt
-refusal_cause rules path before old (fault.Unwritten kind) held text h = absurd (in_turn_refusal path rules.trials rules.statements _ _ (h (λ is. cc)))
+refusal_cause rules path before old (fault.Unwritten kind) held text h = absurd (in_turn_refusal path rules.trials rules.statements _ _ (h tt))
 refusal_cause rules path before old fault.Memory held text h = tt

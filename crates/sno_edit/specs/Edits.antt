@@ -1,15 +1,16 @@
 -- What rules do to the text of a file: each statement is performed on the text that those before it left.
-use Rattle.std.specs.Prelude.{◌≡◌, ◌≢◌, ◌+◌, ℕ, Bool, List, [], ◌∷◌, ◌++◌, ◌||◌, not, false, Option, Some, None, Result, Ok, Err, IfSome, IsUtf8, codes, length, unwrap_or, if◌then◌else◌}
+use Rattle.std.specs.Prelude.{◌≡◌, ◌+◌, ℕ, Bool, List, [], ◌∷◌, ◌++◌, ◌||◌, not, false, Option, Some, None, Result, Ok, Err, IfSome, IsUtf8, codes, length, unwrap_or, if◌then◌else◌}
 use Rattle.std.specs.Arc.{arc_value}
 use Rattle.std.specs.Str.{is_utf8}
 use Rattle.std.specs.Str.Lossy.{utf8_valid_len}
 use Rattle.sno_pattern.specs.Identifiers.{same}
 use Rattle.sno_pattern.specs.declared.byte_texts.TheConstants.{MAX_BYTES}
 use Rattle.sno_statement.specs.Statement.{Statement, with_limit}
+use Rattle.sno_statement.specs.FileFaults.{in_file}
 use Rattle.sno_statement.specs.Perform.{perform_within}
 use Rattle.sno_statement.specs.Rewriting.{Rewriting, rewriting}
 use Rattle.sno_statement.specs.declared.outcomes.StatementFault.{StatementFault}
-use Rattle.sno_edit.specs.Faults.{of_refused}
+use Rattle.sno_edit.specs.Faults.{follows, of_refused}
 use Rattle.sno_edit.specs.Positions.{position_of}
 use Rattle.sno_edit.specs.Rules.{FileRules}
 use Rattle.sno_edit.specs.Trials.{trials_for}
@@ -17,7 +18,7 @@ use Rattle.sno_edit.specs.Utf8.{cut_at}
 use Rattle.sno_edit.specs.declared.edits.CutCharacter.{CutCharacter}
 use Rattle.sno_edit.specs.declared.edits.EditedText.{EditedText}
 use Rattle.sno_edit.specs.declared.faults.FileFault.{FileFault}
-use Rattle.sno_edit.specs.declared.faults.FileFault.TheVariants.{Cut, Memory}
+use Rattle.sno_edit.specs.declared.faults.FileFault.TheVariants.{Cut}
 use Rattle.sno_edit.specs.declared.trials.Trials.{Trials}
 
 -- a text, with how many matches there were before
@@ -41,7 +42,7 @@ with_text s e matches text = unless_cut s (cut_at e.text text) (record { text = 
 -- what a statement leaves: its new text, or the old one if it has none; a refused statement leaves nothing
 abbrev pub left_by : Statement → Edited → Result Rewriting StatementFault → Result Edited FileFault
 left_by s e (Ok done) = with_text s e done.matches (unwrap_or done.after e.text)
-left_by s e (Err fault) = Err (of_refused (record { statement = s.number; fault = fault }))
+left_by s e (Err fault) = Err (of_refused (record { statement = s.number; fault = in_file fault }))
 
 -- what a statement makes of a text, with the trials for its length
 abbrev pub rewriting_of : Trials → Statement → List ℕ → Result Rewriting StatementFault
@@ -88,7 +89,7 @@ IsKnown e = IfSome e.utf8 (λ known. known ≡ is_utf8 (arc_value e.text))
 abbrev pub edited_seen : EditedText → Edited
 edited_seen e = record { text = arc_value e.text; matches = e.matches }
 
--- the result is the one wanted, or out of memory
+-- the result is the one wanted, out of memory, or refused for too long a history
 abbrev pub GivesEdited : Result EditedText FileFault → Result Edited FileFault → Type 0
 GivesEdited (Ok e) wanted = wanted ≡ Ok (edited_seen e)
-GivesEdited (Err fault) wanted = fault ≢ Memory → wanted ≡ Err fault
+GivesEdited (Err fault) wanted = follows fault → wanted ≡ Err fault

@@ -5,6 +5,7 @@ use Rattle.sno_pattern.specs.Identifiers.{same}
 use Rattle.sno_pattern.specs.Texts.{byte_text_of}
 use Rattle.sno_pattern.specs.declared.byte_texts.TheConstants.{MAX_BYTES}
 use Rattle.sno_edit.specs.Edits.{Edited, IsCut, edited}
+use Rattle.sno_edit.specs.Faults.{follows}
 use Rattle.sno_edit.specs.Held.{Held, Kept, OthersKept}
 use Rattle.sno_edit.specs.Rules.{FileRules}
 use Rattle.sno_edit.specs.declared.files.Done.{Done}
@@ -41,11 +42,11 @@ HasTextCause bytes (fault.Cut cut) = ⊥
 HasTextCause bytes (fault.Unread kind) = ⊥
 HasTextCause bytes (fault.Unwritten kind) = ⊥
 
--- why a file stays as it was
+-- why a file stays as it was; nothing is said of a refusal for too long a history
 abbrev pub HasCause : FileRules → List ℕ → Held → FileFault → Type 0
 HasCause rules path before fault.TooLong = (bytes : List ℕ) × before path bytes × (MAX_BYTES < length bytes)
 HasCause rules path before (fault.Refused refused) =
-    (text : List ℕ) × before path text × (byte_text_of text ≡ Ok text) × (edited rules path text ≡ Err (fault.Refused refused))
+    follows (fault.Refused refused) → (text : List ℕ) × before path text × (byte_text_of text ≡ Ok text) × (edited rules path text ≡ Err (fault.Refused refused))
 HasCause rules path before (fault.Cut cut) =
     (text : List ℕ) × before path text × (byte_text_of text ≡ Ok text) × (edited rules path text ≡ Err (fault.Cut cut)) × IsCut rules path text cut
 HasCause rules path before (fault.Unwritten kind) =

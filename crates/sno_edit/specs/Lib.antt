@@ -5,6 +5,7 @@ pub mod Utf8
 pub mod Positions
 pub mod Faults
 pub mod Edits
+pub mod Turns
 pub mod Held
 pub mod Scripts
 pub mod Hunks

@@ -9,7 +9,7 @@ ghost use Rattle.sno_edit.specs.Rules.{rules_seen};
 use crate::utf8::first_non_utf8;
 use crate::{EditRules, FileFault, Position};
 use sno_pattern::ByteText;
-use sno_statement::{FileStatement, Rewritten, Statement, StatementFault, rewrite};
+use sno_statement::{FileStatement, FileStatementFault, Rewritten, Statement, rewrite};
 use std::alloc::{AllocError, Global};
 use std::sync::Arc;
 
@@ -21,7 +21,7 @@ pub(crate) struct EditedText {
     /// How many matches the statements had. A repeated statement has one for each round that matched.
     pub(crate) matches: u64,
     /// Whether the text is UTF-8, if that was found out.
-    utf8: Option<bool>,
+    pub(crate) utf8: Option<bool>,
 }
 
 /// A statement that was refused, with the reason.
@@ -30,7 +30,7 @@ pub struct RefusedStatement {
     /// The number of the statement, from 1.
     pub statement: u32,
     /// Why it was refused.
-    pub fault: StatementFault,
+    pub fault: FileStatementFault,
 }
 
 /// A statement that was refused since its text was UTF-8 and the text that it would leave is not.
@@ -104,7 +104,7 @@ fn left_by(
 }
 
 /// Performs a statement of these rules on a text, if it is for the file with this path.
-fn turn(
+pub(crate) fn turn(
     alloc: Global,
     rules: &EditRules,
     statement: &FileStatement,

@@ -1,6 +1,6 @@
 //! Why a file stays as it was.
 use crate::{CutCharacter, Position, ReadFault, RefusedStatement, WriteFault};
-use sno_statement::StatementFault;
+use sno_statement::FileStatementFault;
 use std::alloc::{AllocError, AllocFailed};
 use std::fmt;
 use std::io::ErrorKind;
@@ -81,10 +81,10 @@ impl From<RefusedStatement> for FileFault {
 
     fn from(refused: RefusedStatement) -> FileFault {
         match refused.fault {
-            StatementFault::Memory => FileFault::Memory,
-            StatementFault::TextTooLong | StatementFault::TooManyTrials => {
-                FileFault::Refused(refused)
-            }
+            FileStatementFault::Memory => FileFault::Memory,
+            FileStatementFault::TextTooLong
+            | FileStatementFault::TooManyTrials
+            | FileStatementFault::HistoryTooLong => FileFault::Refused(refused),
         }
     }
 }

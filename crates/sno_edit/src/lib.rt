@@ -19,6 +19,7 @@
 //! | `line_rules` | rules and definitions in lines as rows |
 //! | `trials` | `Trials`: how many trials a statement may take on a text |
 //! | `edits` | the statements on one text |
+//! | `turns` | one of them on a text |
 //! | `utf8` | whether a text is UTF-8 |
 //! | `positions` | `Position`: the line and the column of a place |
 //! | `folders` | `Folder`, and why a file is not read or written |
@@ -42,6 +43,7 @@ mod rules;
 mod scripts;
 mod tallies;
 mod trials;
+mod turns;
 mod utf8;
 
 pub use edits::{CutCharacter, RefusedStatement, is_for};
@@ -55,6 +57,7 @@ pub use rules::EditRules;
 pub use scripts::{DiffLine, Mark, script_of};
 pub use sno_document::{DocumentFault, StatementRow};
 pub use sno_pattern::ByteText;
-pub use sno_statement::{MAX_TRIALS, Statement, StatementFault};
+pub use sno_statement::{FileStatementFault, MAX_TRIALS, Statement};
 pub use tallies::{Purpose, Tally};
 pub use trials::Trials;
+pub use turns::{Turn, turn_of};

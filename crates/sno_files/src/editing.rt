@@ -1,18 +1,56 @@
 //! Files, edited by rules.
+ghost use Rattle.sno_edit.specs.Files.{IsFileEnd};
+ghost use Rattle.sno_edit.specs.Rules.{rules_seen};
+ghost use Rattle.sno_files.specs.Editing.{IsEditedFile, any_bytes};
 
 use crate::held::HeldFiles;
 use crate::new_files::Writing;
-use crate::overtaken::{OVERTAKEN, is_left, is_overtaken};
-use sno_edit::{Done, EditRules, FileFault, edit_file, edit_files};
+use crate::overtaken::{is_left, is_overtaken};
+use sno_edit::{ByteText, Done, EditRules, FileFault, Folder, Plan, edit_files, plan_file};
 use std::alloc::{AllocError, Global};
 use std::fs::File;
 use std::rt::Files;
+use std::sync::Arc;
 
 /// The most files that are held together.
 const HELD: usize = 64;
 
 /// How many times a file is edited anew that another program changes meanwhile.
 const TRIES: u32 = 10;
+
+/// A file that was edited, with the text that it held.
+#[derive(Drop)]
+pub struct EditedFile {
+    /// What became of the file.
+    pub done: Done,
+    /// The text that it held before.
+    pub before: Arc<ByteText>,
+}
+
+/// Edits a file that is held.
+fn edit_in<R: Files<File = File>>(
+    alloc: Global,
+    held: &mut HeldFiles<'_, R>,
+    rules: &EditRules,
+    path: &str,
+) -> Result<EditedFile, FileFault>
+    ensures { IsEditedFile (rules_seen rules.now) path.now result }
+{
+    let plan = plan_file(alloc, held, rules, path)?;
+    let changed = plan.changes();
+    if changed {
+        held.replace(alloc, path, plan.after.bytes())?;
+    }
+    let Plan {
+        before,
+        matches,
+        ..
+    } = plan;
+    Ok(EditedFile {
+        done: Done { changed, matches },
+        before,
+    })
+}
 
 /// Edits a file once.
 fn edit_once<R: Files<File = File>>(
@@ -21,32 +59,52 @@ fn edit_once<R: Files<File = File>>(
     rules: &EditRules,
     writing: Writing<'_>,
     path: &str,
-) -> Result<Done, FileFault> {
+) -> Result<EditedFile, FileFault>
+    ensures { IsEditedFile (rules_seen rules.now) path.now result }
+{
     let mut held = HeldFiles::of(rt, alloc, writing, &[path], 1)?;
-    let end = edit_file(alloc, &mut held, rules, path);
+    let end = edit_in(alloc, &mut held, rules, path);
     end
 }
 
-/// Edits a file by the rules, and returns what became of it. It is held while it is edited: a run that would edit it waits. If
-/// another program changes it meanwhile, it is edited anew, up to ten times.
+/// Edits a file by the rules, and returns what became of it with the text that it held before. It is held while it is edited: a run
+/// that would edit it waits. If another program changes it meanwhile, it is edited anew, up to ten times.
 ///
 /// The refusals are those of `edit_file` of `sno_edit`, with `Unread` also if the path doesn't lead to a regular file, and
 /// `Unwritten` also if another program changed it each time; `Reason` says both in words. Then it stays as it was.
-pub fn edit_one<R: Files<File = File>>(
+pub fn edit_with_text<R: Files<File = File>>(
     rt: &R,
     alloc: Global,
     rules: &EditRules,
     writing: Writing<'_>,
     path: &str,
-) -> Result<Done, FileFault> {
-    let mut end = Err(FileFault::Unwritten(OVERTAKEN));
-    for _ in 0..TRIES {
+) -> Result<EditedFile, FileFault>
+    ensures { IsEditedFile (rules_seen rules.now) path.now result }
+{
+    let mut end = edit_once(rt, alloc, rules, writing, path);
+    for _ in 1..TRIES {
         if !is_overtaken(&end) {
             break;
         }
         end = edit_once(rt, alloc, rules, writing, path);
     }
     end
+}
+
+/// Edits a file by the rules, as [`edit_with_text`] does, and returns what became of it. The refusals are the same.
+pub fn edit_one<R: Files<File = File>>(
+    rt: &R,
+    alloc: Global,
+    rules: &EditRules,
+    writing: Writing<'_>,
+    path: &str,
+) -> Result<Done, FileFault>
+    ensures { IsFileEnd (rules_seen rules.now) path.now any_bytes any_bytes result }
+{
+    match edit_with_text(rt, alloc, rules, writing, path) {
+        Ok(edited) => Ok(edited.done),
+        Err(fault) => Err(fault),
+    }
 }
 
 /// Edits the first of these files together, and returns what became of each.

@@ -22,7 +22,7 @@
 //! | `new_files` | new files, and how they take their places |
 //! | `synced` | new files that have to be on the disk |
 //! | `overtaken` | files that are to be edited anew |
-//! | `editing` | `edit_one`, `edit_some`: files edited by rules |
+//! | `editing` | `edit_one`, `edit_with_text`, `edit_some`: files edited by rules |
 //! | `in_threads` | `side_by_side`: work on several files in threads |
 //! | `reasons` | `Reason`: why a file stays as it was, in words |
 #![tactic(auto)]
@@ -42,7 +42,7 @@ mod repeats;
 mod synced;
 mod trees;
 
-pub use editing::{edit_one, edit_some};
+pub use editing::{EditedFile, edit_one, edit_some, edit_with_text};
 pub use in_threads::{Place, side_by_side};
 pub use lists::{ListFault, paths_in};
 pub use new_files::Writing;

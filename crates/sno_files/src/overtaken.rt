@@ -21,7 +21,7 @@ fn failed_with(fault: FileFault) -> Option<ErrorKind> {
 }
 
 /// Whether another program changed the file while it was edited.
-pub(crate) fn is_overtaken(end: &Result<Done, FileFault>) -> bool {
+pub(crate) fn is_overtaken<X>(end: &Result<X, FileFault>) -> bool {
     match end {
         Ok(_) => false,
         Err(fault) => match failed_with(*fault) {
@@ -32,7 +32,7 @@ pub(crate) fn is_overtaken(end: &Result<Done, FileFault>) -> bool {
 }
 
 /// Whether there was no room for the new file.
-pub fn lacks_room(end: &Result<Done, FileFault>) -> bool {
+pub fn lacks_room<X>(end: &Result<X, FileFault>) -> bool {
     match end {
         Ok(_) => false,
         Err(fault) => match failed_with(*fault) {

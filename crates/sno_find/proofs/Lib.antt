@@ -6,3 +6,5 @@ pub mod Walk
 pub mod LastLine
 pub mod Variables
 pub mod Joined
+pub mod OneRising
+pub mod EditRows

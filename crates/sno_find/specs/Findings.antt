@@ -1,6 +1,7 @@
 -- What is found in the text of a file.
-use Rattle.std.specs.Prelude.{◌≡◌, ◌≤◌, ℕ, Bool, ◌&&◌, List, [], ◌∷◌, ◌++◌, length, map, nat_lt, Option, None, Some, if◌then◌else◌}
+use Rattle.std.specs.Prelude.{◌≡◌, ◌≤◌, ℕ, Bool, ◌&&◌, List, [], ◌∷◌, ◌++◌, length, map, nat_lt, slice_get, Option, None, Some, if◌then◌else◌}
 use Rattle.std.specs.List.Sorted.{IsPermutation, IsSortedByKey}
+use Rattle.std.specs.Option.{option_map}
 use Rattle.std.specs.Ordering.{nat_cmp, ordering_then}
 use Rattle.std.specs.declared.cmp.Ordering.{Ordering}
 use Rattle.sno_statement.specs.BytePasses.{byte_match, first_match, first_trials}
@@ -13,7 +14,7 @@ use Rattle.sno_edit.specs.Rules.{FileRules}
 use Rattle.sno_edit.specs.Trials.{trials_for}
 use Rattle.sno_edit.specs.declared.trials.Trials.{Trials}
 use Rattle.sno_find.specs.declared.faults.FindFault.{FindFault}
-use Rattle.sno_find.specs.declared.faults.FindFault.TheVariants.{Memory, TooManyTrials}
+use Rattle.sno_find.specs.declared.faults.FindFault.TheVariants.{HistoryTooLong, Memory, TooManyTrials}
 use Rattle.sno_find.specs.declared.findings.Finding.{Finding}
 use Rattle.sno_find.specs.declared.hits.Hit.{Hit as StoredHit}
 
@@ -82,9 +83,14 @@ pub record AreFound (rules : FileRules) (path text : List ℕ) (findings : List 
   pub ordered : IsSortedByKey place_of by_place hits
   pub found : findings ≡ map (finding_of text) hits
 
--- why nothing is found
+-- one of the statements has this number
+abbrev pub HasNumber : ℕ → List Statement → Type 0
+HasNumber number statements = (place : ℕ) × (option_map (λ s. s.number) (slice_get statements place) ≡ Some number)
+
+-- why nothing is found; of a history that would be too long, only whose it is
 abbrev pub HasCause : FileRules → List ℕ → List ℕ → FindFault → Type 0
 HasCause rules path text (TooManyTrials number) = first_refused rules.trials path text rules.statements ≡ Some number
+HasCause rules path text (HistoryTooLong number) = HasNumber number rules.statements
 HasCause rules path text Memory = Unit {0}
 
 -- hits as they are kept

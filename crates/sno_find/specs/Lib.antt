@@ -3,4 +3,5 @@ pub mod Hits
 pub mod Findings
 pub mod Lines
 pub mod Json
+pub mod EditRows
 pub mod Examples

@@ -25,7 +25,7 @@ pub struct Finding<'t> {
 }
 
 /// Hits as findings, with the position of each start. They are in order, so the text is gone through once.
-fn findings_of<'t>(
+pub(crate) fn findings_of<'t>(
     alloc: Global,
     text: &ByteText,
     hits: Vec<Hit<'t>>,
@@ -82,8 +82,8 @@ fn hits_in<'t>(
 /// Refused with
 ///
 /// - `TooManyTrials` as the first statement for the file that takes more trials than the rules allow on this text, exactly then;
-/// - `Memory` if out of memory, or if a search would have to keep more than `sno_machine::MAX_KEPT` entries in its history; and
-///   so instead of a refusal that would have come later.
+/// - `HistoryTooLong` only if a search of the statement with that number would have to keep more than `sno_machine::MAX_KEPT`
+///   entries in its history, and `Memory` if out of memory; each so instead of a refusal that would have come later.
 pub fn find_in<'t>(
     alloc: Global,
     rules: &EditRules,

@@ -5,7 +5,7 @@ ghost use Rattle.sno_statement.specs.BytePasses.{first_match, first_trials};
 ghost use Rattle.sno_statement.specs.Passes.{all_matches, all_trials};
 ghost use Rattle.sno_statement.specs.Perform.{IsCodeOf};
 ghost use Rattle.sno_statement.specs.Statement.{with_limit};
-ghost use Rattle.sno_statement.specs.declared.outcomes.StatementFault.TheVariants.{TextTooLong, TooManyTrials};
+ghost use Rattle.sno_statement.specs.declared.file_faults.FileStatementFault.TheVariants.{TextTooLong, TooManyTrials};
 ghost use Rattle.sno_edit.specs.Trials.{trials_for};
 ghost use Rattle.sno_find.specs.Findings.{by_place, hit_of, hits_of, hits_seen, is_refused, match_list, place_of, sought, sought_trials};
 ghost use Rattle.sno_find.specs.Hits.{IsRefusal};
@@ -15,7 +15,7 @@ use crate::faults::fault_of;
 use sno_edit::{Trials, is_for};
 use sno_machine::{Code, compile};
 use sno_pattern::ByteText;
-use sno_statement::{ByteMatch, BytePass, FileStatement, StatementFault, first_match};
+use sno_statement::{ByteMatch, BytePass, FileStatement, FileStatementFault, first_match};
 use std::alloc::{AllocError, Global};
 
 /// A match of a statement.
@@ -35,7 +35,7 @@ fn add_all<'t>(
     text: &'t ByteText,
     trials: u32,
     hits: &mut Vec<Hit<'t>>,
-) -> Result<(), StatementFault>
+) -> Result<(), FileStatementFault>
     requires { IsCodeOf code.now statement.now }
     ensures added { OnOk result (hits_seen hits.new.items ≡ hits_seen hits.old.items ++ map (hit_of statement.now.number) (all_matches (with_limit statement.now trials) text.now)) }
     ensures within { OnOk result (all_trials (with_limit statement.now trials) text.now ≤ trials) }
@@ -60,7 +60,7 @@ fn add_first<'t>(
     text: &'t ByteText,
     trials: u32,
     hits: &mut Vec<Hit<'t>>,
-) -> Result<(), StatementFault>
+) -> Result<(), FileStatementFault>
     requires { IsCodeOf code.now statement.now }
     ensures added { OnOk result (hits_seen hits.new.items ≡ hits_seen hits.old.items ++ map (hit_of statement.now.number) (match_list (first_match statement.now text.now))) }
     ensures within { OnOk result (first_trials statement.now text.now ≤ trials) }
@@ -83,7 +83,7 @@ fn add_sought<'t>(
     text: &'t ByteText,
     trials: u32,
     hits: &mut Vec<Hit<'t>>,
-) -> Result<(), StatementFault>
+) -> Result<(), FileStatementFault>
     ensures added { OnOk result (hits_seen hits.new.items ≡ hits_seen hits.old.items ++ map (hit_of statement.now.number) (sought (with_limit statement.now trials) text.now)) }
     ensures within { OnOk result (sought_trials (with_limit statement.now trials) text.now ≤ trials) }
     ensures refused { IfErr result (λ e. e ≡ TooManyTrials → trials < sought_trials (with_limit statement.now trials) text.now) }

@@ -65,7 +65,7 @@ fn put_key(name: &str, out: &mut Vec<u8>) -> Result<(), AllocError>
 }
 
 /// Appends a member that is a number, after another.
-fn put_number_member(
+pub(crate) fn put_number_member(
     alloc: Global,
     name: &str,
     number: usize,
@@ -146,7 +146,12 @@ fn between(bytes: &[u8], from: usize, to: usize) -> &[u8]
 
 /// Appends the first members: the path and the number of the statement.
 #[tactic(auto, unfolding(crate::specs::Json::head_json))]
-fn put_head(alloc: Global, path: &str, statement: u32, out: &mut Vec<u8>) -> Result<(), AllocError>
+pub(crate) fn put_head(
+    alloc: Global,
+    path: &str,
+    statement: u32,
+    out: &mut Vec<u8>,
+) -> Result<(), AllocError>
     ensures { OnOk result (out.new.items ≡ out.old.items ++ head_json path.now statement) }
 {
     put_text("{", out)?;

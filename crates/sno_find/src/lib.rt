@@ -10,7 +10,8 @@
 //!
 //! [`put_line`] writes a finding as `path:line:column:` with the whole line on which it starts, and [`put_count`] how many there
 //! are (`specs/Lines.antt`). [`put_json`] writes a finding as a JSON object, with the values of its variables, and
-//! [`put_string`] a string (`specs/Json.antt`).
+//! [`put_string`] a string (`specs/Json.antt`). [`write_edit_rows`] writes so what rules match that are performed in turn, each in the
+//! text that those before it left (`specs/EditRows.antt`).
 //!
 //! | File | What it does |
 //! |---|---|
@@ -19,11 +20,13 @@
 //! | `places` | the position of a place that comes after another |
 //! | `findings` | `Finding`, `find_in` |
 //! | `lines`, `json` | findings as lines, and as JSON |
+//! | `edit_rows` | what rules match that are performed in turn, as JSON |
 //!
 //! How long a search takes, and what memory it needs, is as for `sno_statement::BytePass`. The text is gone through once more, to
 //! count lines, however many findings there are; no clause says so.
 #![tactic(auto)]
 
+mod edit_rows;
 mod faults;
 mod findings;
 mod hits;
@@ -31,6 +34,7 @@ mod json;
 mod lines;
 mod places;
 
+pub use edit_rows::{RowsFault, write_edit_rows};
 pub use faults::FindFault;
 pub use findings::{Finding, find_in};
 pub use json::{put_json, put_string};

@@ -10,7 +10,7 @@ use Rattle.sno_book.specs.States.{VersionedText}
 use Rattle.sno_book.specs.Entries.{Entry}
 use Rattle.sno_listing.specs.History.{History}
 use Rattle.sno_listing.specs.declared.refusals.Reason.{Reason}
-use Rattle.sno_listing.specs.declared.refusals.Reason.TheVariants.{NoText, TextTooLong, TriesSpent, TooManyTrials}
+use Rattle.sno_listing.specs.declared.refusals.Reason.TheVariants.{NoText, TextTooLong, TriesSpent, TooManyTrials, Full}
 use Rattle.sno_listing.specs.declared.refusals.Refusal.{Refusal}
 
 -- a hexadecimal digit, in lower case
@@ -89,6 +89,7 @@ reason_words NoText = codes "no text"
 reason_words TextTooLong = codes "text too long"
 reason_words (TriesSpent seen now) = tries_words seen now
 reason_words TooManyTrials = codes "too many trials"
+reason_words Full = codes "full"
 
 -- a refused statement: its number and the reason
 unfoldable pub refused_line : Refusal → List ℕ

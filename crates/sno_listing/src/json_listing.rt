@@ -315,8 +315,9 @@ fn refusal_values(alloc: Global, refused: &[Refusal]) -> Result<Vec<Value>, Allo
     Ok(values)
 }
 
+/// Returns the objects that the JSON listing has for the texts of a book, in their order. Refused only if memory runs out.
 #[tactic(auto, using(crate::proofs::ListingLemmas::row_there))]
-fn text_values(alloc: Global, book: &Book) -> Result<Vec<Value>, AllocError>
+pub fn text_values(alloc: Global, book: &Book) -> Result<Vec<Value>, AllocError>
     ensures { IfOk result (λ v. map view v.items ≡ map text_data (state_of (view_of book.now))) }
 {
     let mut values = Vec::with_capacity(alloc, book.len())?;
@@ -332,8 +333,10 @@ fn text_values(alloc: Global, book: &Book) -> Result<Vec<Value>, AllocError>
     Ok(values)
 }
 
+/// Returns the JSON listing of a book's texts, of its journal, and of the refused statements. Refused only if memory runs
+/// out.
 #[tactic(auto, unfolding(crate::specs::JsonListing::json_listing_data))]
-fn listing_value(alloc: Global, book: &Book, refused: &[Refusal]) -> Result<Value, AllocError>
+pub fn listing_value(alloc: Global, book: &Book, refused: &[Refusal]) -> Result<Value, AllocError>
     ensures { IfOk result (λ v. view v ≡ json_listing_data (history_of (view_of book.now) refused.now)) }
 {
     let entries = Value::Array(entry_values(alloc, 0, book.journal())?);

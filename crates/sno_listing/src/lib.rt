@@ -1,8 +1,8 @@
 //! Listings of a book: its texts, its journal and the statements that were refused, in lines or as JSON.
 //!
 //! [`listing_of`] writes either, by `listing` of `specs/Listing.antt` and `json_listing` of `specs/JsonListing.antt`.
-//! Parts of the JSON: [`done_members`], [`text_members`], [`entry_values`], [`reason_value`],
-//! [`text_name_value`].
+//! The JSON as a value: [`listing_value`]. Parts of it: [`done_members`], [`entry_values`], [`text_members`],
+//! [`text_values`], [`reason_value`], [`text_name_value`].
 //!
 //! | File | What it does |
 //! |---|---|
@@ -17,6 +17,9 @@ mod listing;
 mod refusals;
 
 pub use forms::listing_of;
-pub use json_listing::{done_members, entry_values, reason_value, text_members, text_name_value};
+pub use json_listing::{
+    done_members, entry_values, listing_value, reason_value, text_members, text_name_value,
+    text_values,
+};
 pub use refusals::{Reason, Refusal};
 pub use sno_book::Book;

@@ -205,6 +205,7 @@ pub(crate) fn put_reason(out: &mut Vec<u8>, reason: Reason) -> Result<(), AllocE
         Reason::TextTooLong => put(out, b"text too long"),
         Reason::TriesSpent { seen, now } => put_tries(out, seen, now),
         Reason::TooManyTrials => put(out, b"too many trials"),
+        Reason::Full => put(out, b"full"),
     }
 }
 

@@ -16,6 +16,8 @@ pub enum Reason {
     },
     /// The match takes more trials than the statement's limit.
     TooManyTrials,
+    /// The journal has as many entries as there is room for. A run never meets this, only a service.
+    Full,
 }
 
 /// A statement that is refused.

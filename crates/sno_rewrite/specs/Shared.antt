@@ -16,7 +16,7 @@ use Rattle.sno_document.specs.declared.modes.Mode.{Mode}
 use Rattle.sno_listing.specs.History.{History}
 use Rattle.sno_listing.specs.Forms.{listing_by}
 use Rattle.sno_listing.specs.declared.refusals.Reason.{Reason}
-use Rattle.sno_listing.specs.declared.refusals.Reason.TheVariants.{NoText, TextTooLong, TriesSpent, TooManyTrials}
+use Rattle.sno_listing.specs.declared.refusals.Reason.TheVariants.{NoText, TextTooLong, TriesSpent, TooManyTrials, Full}
 use Rattle.sno_listing.specs.declared.refusals.Refusal.{Refusal}
 use Rattle.sno_rewrite.specs.Serial.{opening_in, serial}
 
@@ -60,13 +60,15 @@ IsNoTextIfMissing state s (Some NoText) = find s.text state ≡ None
 IsNoTextIfMissing state s (Some TextTooLong) = find s.text state ≢ None
 IsNoTextIfMissing state s (Some (TriesSpent seen now)) = find s.text state ≢ None
 IsNoTextIfMissing state s (Some TooManyTrials) = find s.text state ≢ None
+IsNoTextIfMissing state s (Some Full) = find s.text state ≢ None
 IsNoTextIfMissing state s None = find s.text state ≢ None
 
--- the other reasons have their causes in the journal
+-- the other reasons have their causes in the journal, which has room for all statements of a document
 abbrev pub HasCause : ℕ → View → Statement → Option Reason → Type 0
 HasCause tries v s (Some TextTooLong) = IsRefusedThen v s statement.TextTooLong
 HasCause tries v s (Some TooManyTrials) = IsRefusedThen v s statement.TooManyTrials
 HasCause tries v s (Some (TriesSpent seen now)) = IsOvertaken tries v s seen now
+HasCause tries v s (Some Full) = ⊥
 HasCause tries v s (Some NoText) = Unit {0}
 HasCause tries v s None = Unit {0}
 

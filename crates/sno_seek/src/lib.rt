@@ -19,6 +19,5 @@ mod seeker;
 
 pub use opening::{NoPattern, open};
 pub use seeker::Seeker;
-pub use sno_machine::MatchFault;
 pub use sno_pattern::{Assign, ByteText, Found, Hit, Name, What};
-pub use sno_statement::{FileStatement, Rewritten, StatementFault};
+pub use sno_statement::{FileStatement, FileStatementFault, Rewritten};

@@ -2,16 +2,16 @@
 ghost use Rattle.std.specs.Prelude.{◌≡◌, ◌<◌, ◌≤◌, ◌+◌, ◌^◌, length, slice_get, None, Some, IfOk, IfErr, is_some};
 ghost use Rattle.std.specs.Option.{option_map};
 ghost use Rattle.sno_pattern.specs.declared.byte_texts.TheConstants.{MAX_BYTES};
-ghost use Rattle.sno_machine.specs.declared.faults.MatchFault.TheVariants.{TooManyTrials};
+ghost use Rattle.sno_statement.specs.declared.file_faults.FileStatementFault.TheVariants.{TextTooLong, TooManyTrials};
 ghost use Rattle.sno_statement.specs.Passes.{search, search_trials};
 ghost use Rattle.sno_statement.specs.Perform.{perform_within};
 ghost use Rattle.sno_statement.specs.Rewriting.{GivesRewritten, rewriting};
 ghost use Rattle.sno_statement.specs.Statement.{with_limit};
 ghost use Rattle.sno_seek.specs.Assignments.{assignments_of, conditional, found_assignments};
 
-use sno_machine::{MatchFault, SearchOutcome, Searched, compile};
+use sno_machine::{SearchOutcome, Searched, compile};
 use sno_pattern::{Assign, ByteText, Found, Hit, What};
-use sno_statement::{FileStatement, Rewritten, StatementFault, rewrite};
+use sno_statement::{FileStatement, FileStatementFault, Rewritten, StatementFault, rewrite};
 use std::alloc::Global;
 
 /// A statement that is sought in texts, with what its last search found.
@@ -64,18 +64,26 @@ fn search_in(
     text: &ByteText,
     from: usize,
     trials: u32,
-) -> Result<Found, MatchFault>
+) -> Result<Found, FileStatementFault>
     requires { from ≤ length text.now }
     ensures found { IfOk result (λ found. found ≡ search statement.now text.now from) }
     ensures within { IfOk result (λ _. search_trials statement.now text.now from ≤ trials) }
     ensures refused { IfErr result (λ e. e ≡ TooManyTrials → trials < search_trials statement.now text.now from) }
+    ensures never { IfErr result (λ e. e ≡ TextTooLong → ⊥) }
 {
     let sought = statement.search();
     let code = compile(alloc, sought.rules(), sought.pattern())?;
     let mut searched = Searched::of_bytes(alloc, text);
-    let search = code.first_from(alloc, &mut searched, sought.anchored(), from, trials)?;
-    let SearchOutcome { found, .. } = search;
-    Ok(found)
+    match code.first_from(alloc, &mut searched, sought.anchored(), from, trials) {
+        Ok(search) => {
+            let SearchOutcome { found, .. } = search;
+            Ok(found)
+        }
+        Err(fault) => {
+            let fault = StatementFault::from(fault);
+            Err(FileStatementFault::of(fault, searched.is_full()))
+        }
+    }
 }
 
 impl Seeker {
@@ -93,8 +101,9 @@ impl Seeker {
     /// the rounds of the statement are not looked at. The pattern is compiled anew, which takes about as long as a short match.
     ///
     /// Refused:
-    /// - `TooManyTrials` exactly if the search takes more than `trials` trials, unless memory runs out first;
-    /// - `Memory` if out of memory, or if the search would have to keep more than `sno_machine::MAX_KEPT` entries in its history.
+    /// - `TooManyTrials` exactly if the search takes more than `trials` trials, unless one of the others comes first;
+    /// - `HistoryTooLong` only if the search would have to keep more than `sno_machine::MAX_KEPT` entries in its history;
+    /// - `Memory` if out of memory.
     ///
     /// After a refusal nothing is found.
     pub fn next(
@@ -103,11 +112,12 @@ impl Seeker {
         text: &ByteText,
         from: usize,
         trials: u32,
-    ) -> Result<bool, MatchFault>
+    ) -> Result<bool, FileStatementFault>
         requires { from ≤ length text.now }
         ensures found { IfOk result (λ matched. (self.new.found ≡ Some (search self.old.statement text.now from)) × (matched ≡ is_some (search self.old.statement text.now from).end)) }
         ensures within { IfOk result (λ _. search_trials self.old.statement text.now from ≤ trials) }
         ensures refused { IfErr result (λ e. e ≡ TooManyTrials → trials < search_trials self.old.statement text.now from) }
+        ensures never { IfErr result (λ e. e ≡ TextTooLong → ⊥) }
         ensures nothing { IfErr result (λ _. self.new.found ≡ None) }
         ensures statement { self.new.statement ≡ self.old.statement }
     {
@@ -144,7 +154,7 @@ impl Seeker {
         alloc: Global,
         text: &ByteText,
         trials: u32,
-    ) -> Result<Rewritten, StatementFault>
+    ) -> Result<Rewritten, FileStatementFault>
         ensures rewritten { GivesRewritten result (rewriting (perform_within MAX_BYTES (with_limit self.now.statement trials) text.now)) }
         ensures few { IfOk result (λ r. r.matches < 2 ^ 32) }
     {

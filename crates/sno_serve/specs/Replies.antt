@@ -53,7 +53,7 @@ submit_words submit.TooManyTrials = reason_words reason.TooManyTrials
 submit_words (submit.TriesSpent seen now) = reason_words (reason.TriesSpent seen now)
 submit_words submit.GateShut = codes "gate shut"
 submit_words submit.Stopped = codes "stopped"
-submit_words submit.Full = codes "full"
+submit_words submit.Full = reason_words reason.Full
 submit_words submit.Memory = codes "out of memory"
 
 -- the reply to a statement: its entry, as the listing has it, or the reason why it was refused
@@ -128,7 +128,7 @@ reason_in submit.TooManyTrials = Some reason.TooManyTrials
 reason_in (submit.TriesSpent seen now) = Some (reason.TriesSpent seen now)
 reason_in submit.GateShut = None
 reason_in submit.Stopped = None
-reason_in submit.Full = None
+reason_in submit.Full = Some reason.Full
 reason_in submit.Memory = None
 
 abbrev pub refusal_by : ℕ → Option Reason → Option Refusal

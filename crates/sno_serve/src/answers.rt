@@ -46,9 +46,8 @@ fn reason_in(fault: &SubmitFault) -> Option<Reason>
         SubmitFault::TextTooLong => Some(Reason::TextTooLong),
         SubmitFault::TooManyTrials => Some(Reason::TooManyTrials),
         SubmitFault::TriesSpent { seen, now } => Some(Reason::TriesSpent { seen, now }),
-        SubmitFault::GateShut | SubmitFault::Stopped | SubmitFault::Full | SubmitFault::Memory => {
-            None
-        }
+        SubmitFault::Full => Some(Reason::Full),
+        SubmitFault::GateShut | SubmitFault::Stopped | SubmitFault::Memory => None,
     }
 }
 

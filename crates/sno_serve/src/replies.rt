@@ -58,7 +58,7 @@ fn submit_words(alloc: Global, fault: &SubmitFault) -> Result<Value, AllocError>
         }
         SubmitFault::GateShut => Value::try_from_str(alloc, "gate shut"),
         SubmitFault::Stopped => Value::try_from_str(alloc, "stopped"),
-        SubmitFault::Full => Value::try_from_str(alloc, "full"),
+        SubmitFault::Full => reason_value(alloc, Reason::Full),
         SubmitFault::Memory => Value::try_from_str(alloc, "out of memory"),
     }
 }

@@ -5,8 +5,10 @@ use Rattle.std.proofs.Math.Dec.{eqb-suc-zero}
 use Rattle.sno_pattern.specs.declared.byte_texts.TheConstants.{MAX_BYTES}
 use Rattle.sno_read.specs.declared.objects.Part.{Part}
 use Rattle.sno_statement.specs.declared.match_lists.Match.{Match}
-use Rattle.sno_statement.specs.declared.outcomes.StatementFault.{StatementFault}
 use Rattle.sno_statement.specs.declared.outcomes.StatementFault.TheVariants as fault
+use Rattle.sno_statement.specs.declared.file_faults.FileStatementFault.{FileStatementFault}
+use Rattle.sno_statement.specs.declared.file_faults.FileStatementFault.TheVariants as file
+use Rattle.sno_statement.specs.FileFaults.{plain}
 use Rattle.sno_statement.specs.Statement.{Statement}
 use Rattle.sno_statement.specs.Passes.{all_matches, all_trials, begun, matches_left, replaced, trials_together}
 use Rattle.sno_statement.specs.Perform.{All, all_or_failed_within, finish_all_within, perform_all_within}
@@ -26,10 +28,11 @@ pub within_begun : (s : Statement) (t : List ℕ) → trials_together (begun s t
 within_begun s t few = omega (arith, few)
 
 -- a pass that is refused refuses the statement
-pub refused_rewriting : (s : Statement) (t : List ℕ) (e : StatementFault) → (e ≡ fault.TooManyTrials → s.limit < all_trials s t) → (e ≡ fault.TextTooLong → ⊥) → GivesRewritten (Err e) (rewriting (perform_all_within MAX_BYTES s t))
-refused_rewriting s t fault.TextTooLong over never = λ other. absurd (never refl)
-refused_rewriting s t fault.Memory over never = λ other. absurd (other refl)
-refused_rewriting s t fault.TooManyTrials over never = λ other. ap rewriting (refused_all MAX_BYTES s t (over refl))
+pub refused_rewriting : (s : Statement) (t : List ℕ) (e : FileStatementFault) → (plain e ≡ fault.TooManyTrials → s.limit < all_trials s t) → (plain e ≡ fault.TextTooLong → ⊥) → GivesRewritten (Err e) (rewriting (perform_all_within MAX_BYTES s t))
+refused_rewriting s t file.TextTooLong over never = λ other. absurd (never refl)
+refused_rewriting s t file.Memory over never = λ other. absurd (other refl)
+refused_rewriting s t file.HistoryTooLong over never = λ other. absurd (other refl)
+refused_rewriting s t file.TooManyTrials over never = λ other. ap rewriting (refused_all MAX_BYTES s t (over refl))
 
 -- without an object the matches are counted
 counted : (s : Statement) (t : List ℕ) (ms : List Match) → s.object ≡ None → rewriting (all_or_failed_within MAX_BYTES s t ms) ≡ Ok (record { matches = length ms; after = None })

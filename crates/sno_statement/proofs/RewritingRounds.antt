@@ -8,6 +8,7 @@ use Rattle.sno_pattern.specs.declared.found.Hit.{Hit}
 use Rattle.sno_read.specs.declared.objects.Part.{Part}
 use Rattle.sno_statement.specs.declared.outcomes.StatementFault.{StatementFault}
 use Rattle.sno_statement.specs.declared.outcomes.StatementFault.TheVariants as fault
+use Rattle.sno_statement.specs.declared.file_faults.FileStatementFault.{FileStatementFault}
 use Rattle.sno_statement.specs.Statement.{Statement}
 use Rattle.sno_statement.specs.Bindings.{Bindings, bind_conds, bind_sets, bindings_of, conds_of}
 use Rattle.sno_statement.specs.Perform.{Outcome, Matched, Failed, Repeated, All, finish_found_within, finish_within, follow, perform_once_within, perform_times_within, rounds_within}
@@ -74,7 +75,7 @@ module _ (s : Statement) (t : List ℕ) where
   round_more (suc left) n last some = let e : suc left - 1 ≡ left = omega arith in rw e refl
 
   -- if it is refused, so is the statement
-  pub round_refused : (left n : ℕ) (last : Option (List ℕ)) (e : StatementFault) → 0 < left → GivesRound (Err e) (perform_once_within MAX_BYTES s (unwrap_or last t)) → GivesRewritten (Err e) (rounds_left s t left n last)
+  pub round_refused : (left n : ℕ) (last : Option (List ℕ)) (e : FileStatementFault) → 0 < left → GivesRound (Err e) (perform_once_within MAX_BYTES s (unwrap_or last t)) → GivesRewritten (Err e) (rounds_left s t left n last)
   round_refused left n last e some refused other = round_more left n last some ∙ ap (round_left n last (rounds_left s t (left - 1) (n + 1))) (refused other)
 
   -- if it fails, the rounds end

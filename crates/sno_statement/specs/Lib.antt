@@ -1,6 +1,7 @@
 pub mod Statement
 pub mod FileStatements
 pub mod Sought
+pub mod FileFaults
 pub mod StatementPatterns
 pub mod Bindings
 pub mod LastAssignments

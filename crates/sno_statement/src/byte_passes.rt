@@ -2,7 +2,7 @@
 ghost use Rattle.std.specs.Prelude.{◌≡◌, ◌<◌, ◌≤◌, ◌↔◌, ◌∷◌, [], length, slice_get, IsTrue, Some, None, IfOk, IfErr, OnOk, MatchOption};
 ghost use Rattle.std.specs.Option.{option_map};
 ghost use Rattle.sno_pattern.specs.CursorLaws.{SetsLie};
-ghost use Rattle.sno_statement.specs.declared.outcomes.StatementFault.TheVariants.{TooManyTrials, TextTooLong};
+ghost use Rattle.sno_statement.specs.declared.file_faults.FileStatementFault.TheVariants.{TooManyTrials, TextTooLong};
 ghost use Rattle.sno_statement.specs.Bindings.{lookup};
 ghost use Rattle.sno_statement.specs.BytePasses.{byte_match, first_match, first_trials};
 ghost use Rattle.sno_statement.specs.Passes.{begun, cursors_left, match_by, matches_left, trials_together};
@@ -12,11 +12,12 @@ ghost use Rattle.sno_statement.specs.Statement.{with_limit};
 
 use crate::assigned::Assigned;
 use crate::binding_refs::last_of;
+use crate::file_searches::first_in;
 use crate::searches::Searches;
 use crate::spans::SpanValue;
-use crate::{FileStatement, StatementFault};
+use crate::{FileStatement, FileStatementFault};
 use sno_machine::{Code, MAX_KEPT, Workspace};
-use sno_pattern::{Assigns, ByteText, Hit, Name, cursors_lie_within_the_text};
+use sno_pattern::{Assigns, ByteText, Hit, Name};
 use std::alloc::{AllocError, Global};
 use std::marker::Model;
 
@@ -129,10 +130,11 @@ impl<'c, 't, 'a> BytePass<'c, 't, 'a> {
     ///
     /// Refused:
     /// - `TooManyTrials` only if all searches of the pass together take more trials than the limit;
-    /// - `Memory` if out of memory, or if a search would have to keep more than [`MAX_KEPT`] entries in its history.
+    /// - `HistoryTooLong` only if a search would have to keep more than [`MAX_KEPT`] entries in its history;
+    /// - `Memory` if out of memory.
     ///
     /// After a refusal no further match should be asked for: the search that was refused would be tried again.
-    pub fn next(&mut self, alloc: Global) -> Result<Option<ByteMatch<'t>>, StatementFault>
+    pub fn next(&mut self, alloc: Global) -> Result<Option<ByteMatch<'t>>, FileStatementFault>
         ensures next { IfOk result (λ next. MatchOption next (matches_left self.old ≡ []) (λ m. matches_left self.old ≡ byte_match m ∷ matches_left self.new)) }
         ensures ended { IfOk result (λ next. MatchOption next (self.new.at ≡ None) (λ _. cursors_left self.new.text self.new.at < cursors_left self.old.text self.old.at)) }
         ensures trials { OnOk result (trials_together self.new ≡ trials_together self.old) }
@@ -141,7 +143,7 @@ impl<'c, 't, 'a> BytePass<'c, 't, 'a> {
         ensures refused { IfErr result (λ e. e ≡ TooManyTrials → self.old.statement.limit < trials_together self.old) }
         ensures never { IfErr result (λ e. e ≡ TextTooLong → ⊥) }
     {
-        match self.searches.next_hit(alloc)? {
+        match self.searches.next_in_file(alloc)? {
             None => Ok(None),
             Some((sets, hit)) => {
                 let next = match_in(alloc, self.text, &sets, &hit)?;
@@ -176,26 +178,25 @@ fn match_in<'t>(
 /// none. It is sought as the statement's first round is. The code is that of the statement's pattern, compiled with its definitions.
 ///
 /// Refused:
-/// - `TooManyTrials` exactly if the match takes more than `trials` trials, unless memory runs out first;
-/// - `Memory` if out of memory, or if the search would have to keep more than [`MAX_KEPT`] entries in its history.
+/// - `TooManyTrials` exactly if the match takes more than `trials` trials, unless one of the others comes first;
+/// - `HistoryTooLong` only if the search would have to keep more than [`MAX_KEPT`] entries in its history;
+/// - `Memory` if out of memory.
 pub fn first_match<'t>(
     alloc: Global,
     statement: &FileStatement,
     code: &Code<'_>,
     text: &'t ByteText,
     trials: u32,
-) -> Result<Option<ByteMatch<'t>>, StatementFault>
+) -> Result<Option<ByteMatch<'t>>, FileStatementFault>
     requires { IsCodeOf code.now statement.now }
     ensures first { IfOk result (λ m. option_map byte_match m ≡ first_match statement.now text.now) }
     ensures within { IfOk result (λ _. first_trials statement.now text.now ≤ trials) }
     ensures refused { IfErr result (λ e. e ≡ TooManyTrials → trials < first_trials statement.now text.now) }
     ensures never { IfErr result (λ e. e ≡ TextTooLong → ⊥) }
 {
-    // for the proof
-    cursors_lie_within_the_text();
     let mut workspace = Workspace::bounded(alloc, MAX_KEPT);
     let anchored = statement.search().anchored();
-    let found = code.first_in_bytes(alloc, &mut workspace, text, anchored, trials)?;
+    let found = first_in(alloc, code, &mut workspace, text, anchored, trials)?;
     match &found.end {
         None => Ok(None),
         Some(hit) => {

@@ -42,7 +42,8 @@
 //!   statement's limit. `TextTooLong` comes exactly if it doesn't, succeeds, and the new text would have more than 65,536 characters.
 //!
 //! The contract of `rewrite` is the same equation for the longest text of a file and a limit of trials of the caller's
-//! (`perform_within` of `specs/Perform.antt`), without the matches and the bindings.
+//! (`perform_within` of `specs/Perform.antt`), without the matches and the bindings. A file may also be refused since a search would
+//! have to keep too long a history (`HistoryTooLong`): that comes where `perform` would run out of memory, and no clause says when.
 //!
 //! What each file has:
 //!
@@ -62,7 +63,8 @@
 //! - `src/values.rt`: the object's value, and cutting and joining texts.
 //! - `src/binding.rt`: [`Bindings`], by value a list of distinct variables with their values, and [`Datum`].
 //! - `src/binding_refs.rt`: [`BindingsRef`], bindings that are lent, whether they are kept or are those of one of all matches.
-//! - `src/outcomes.rt`: [`Outcome`] and [`StatementFault`].
+//! - `src/outcomes.rt`: [`Outcome`] and [`StatementFault`]; `src/file_faults.rt`: [`FileStatementFault`], why a statement is refused
+//!   on the content of a file; `src/file_searches.rt`: its first search there.
 //! - `specs/Rewriting.antt`: what `rewrite` leaves; `specs/MatchLists.antt`, `specs/BindingRefs.antt` and `specs/Spans.antt`: what
 //!   is lent, by value.
 //! - `proofs/Ascii.antt`: what is joined from ASCII is ASCII, so a new text is refused for its length alone.
@@ -79,6 +81,8 @@ mod assigned;
 mod binding;
 mod binding_refs;
 mod byte_passes;
+mod file_faults;
+mod file_searches;
 mod file_statements;
 mod gathered;
 mod last_assignments;
@@ -98,6 +102,7 @@ mod values;
 pub use binding::{Bindings, Datum};
 pub use binding_refs::{BindingsRef, DatumRef, TextPart};
 pub use byte_passes::{ByteBindings, ByteMatch, BytePass, first_match};
+pub use file_faults::FileStatementFault;
 pub use file_statements::FileStatement;
 pub use laws::{kept_matches_keep_the_text, matches_are_in_order, the_first_is_the_plain_match};
 pub use match_lists::{Match, MatchRef, Matches};

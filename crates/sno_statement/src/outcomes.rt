@@ -69,7 +69,7 @@ impl Outcome {
 /// Why a statement is refused on a text. Statement and text are unchanged.
 #[derive(Clone, Copy, Debug, PartialEq, Eq, Error)]
 pub enum StatementFault {
-    /// The new text would have more than 65,536 characters; that of a file, more than 16,777,216 bytes.
+    /// The new text would have more than 65,536 characters.
     #[error("text too long")]
     TextTooLong,
     /// Out of memory, in any allocation.

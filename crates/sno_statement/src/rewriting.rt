@@ -4,6 +4,7 @@ ghost use Rattle.sno_pattern.specs.CursorLaws.{SetsLie};
 ghost use Rattle.sno_pattern.specs.Ends.{part};
 ghost use Rattle.sno_pattern.specs.declared.byte_texts.TheConstants.{MAX_BYTES};
 ghost use Rattle.sno_statement.specs.declared.outcomes.StatementFault.TheVariants.{TooManyTrials, TextTooLong};
+ghost use Rattle.sno_statement.specs.FileFaults.{plain};
 ghost use Rattle.sno_statement.specs.Passes.{match_by, matches_left, replaced, trials_together};
 ghost use Rattle.sno_statement.specs.Perform.{IsCodeOf, finish_found_within, perform_all_within, perform_once_within, perform_times_within, perform_within};
 ghost use Rattle.sno_statement.specs.Rewriting.{GivesBytes, GivesRewritten, GivesRound, IsReplaced, finished, left_by, rewriting};
@@ -11,12 +12,13 @@ ghost use Rattle.sno_statement.specs.Statement.{with_limit};
 ghost use Rattle.sno_statement.specs.Value.{new_text, value_of};
 
 use crate::assigned::Assigned;
+use crate::file_searches::first_in;
 use crate::searches::Searches;
 use crate::spans::Spans;
 use crate::values::{back, between, front};
-use crate::{FileStatement, StatementFault};
+use crate::{FileStatement, FileStatementFault};
 use sno_machine::{Code, MAX_KEPT, Workspace, compile};
-use sno_pattern::{Assigns, ByteText, Found, Hit, MAX_BYTES, cursors_lie_within_the_text};
+use sno_pattern::{Assigns, ByteText, Found, Hit, MAX_BYTES};
 use sno_read::ByteObject;
 use std::alloc::{AllocError, Global};
 use std::sync::Arc;
@@ -48,7 +50,7 @@ fn new_text(
     subject: &[u8],
     sets: &Assigns,
     hit: &Hit,
-) -> Result<ByteText, StatementFault>
+) -> Result<ByteText, FileStatementFault>
     requires short { length subject.now ≤ MAX_BYTES }
     requires lies { SetsLie subject.now sets.now }
     ensures { GivesBytes result (new_text subject.now hit.now.start hit.now.end (value_of (match_by subject.now sets.now hit.now).bindings object.now)) }
@@ -59,7 +61,7 @@ fn new_text(
     let before = front(subject, hit.start);
     let after = back(subject, hit.end);
     let Some(length) = values.length_with(before.len() + after.len(), object.parts()) else {
-        return Err(StatementFault::TextTooLong);
+        return Err(FileStatementFault::TextTooLong);
     };
     let mut bytes = Vec::with_capacity(alloc, length)?;
     bytes.extend_from_slice(before)?;
@@ -74,7 +76,7 @@ fn finish(
     object: &ByteObject,
     subject: &ByteText,
     found: &Found,
-) -> Result<Option<ByteText>, StatementFault>
+) -> Result<Option<ByteText>, FileStatementFault>
     requires { SetsLie subject.now found.now.sets }
     ensures { GivesRound result (finish_found_within MAX_BYTES (Some object.now) subject.now found.now) }
 {
@@ -97,15 +99,13 @@ fn round<'a>(
     object: &ByteObject,
     subject: &ByteText,
     trials: u32,
-) -> Result<Option<ByteText>, StatementFault>
+) -> Result<Option<ByteText>, FileStatementFault>
     requires code { IsCodeOf code.now statement.now }
     requires object { statement.now.object ≡ Some object.now }
     ensures { GivesRound result (perform_once_within MAX_BYTES (with_limit statement.now trials) subject.now) }
 {
-    // for the proof
-    cursors_lie_within_the_text();
     let anchored = statement.search().anchored();
-    let found = code.first_in_bytes(alloc, workspace, subject, anchored, trials)?;
+    let found = first_in(alloc, code, workspace, subject, anchored, trials)?;
     let after = finish(alloc, object, subject, &found);
     workspace.give_back(found);
     after
@@ -133,7 +133,11 @@ fn rounds_of(statement: &FileStatement) -> u32
 }
 
 /// What this many rounds leave, with the new text of the last one; `None` if none matched.
-fn left_by(alloc: Global, matches: u32, last: Option<ByteText>) -> Result<Rewritten, StatementFault>
+fn left_by(
+    alloc: Global,
+    matches: u32,
+    last: Option<ByteText>,
+) -> Result<Rewritten, FileStatementFault>
     ensures rewritten { GivesRewritten result (left_by matches last) }
     ensures few { IfOk result (λ r. r.matches < 2 ^ 32) }
 {
@@ -157,7 +161,7 @@ fn rewrite_rounds(
     subject: &ByteText,
     trials: u32,
     times: u32,
-) -> Result<Rewritten, StatementFault>
+) -> Result<Rewritten, FileStatementFault>
     requires code { IsCodeOf code.now statement.now }
     requires object { statement.now.object ≡ Some object.now }
     requires some { 1 ≤ times }
@@ -183,7 +187,7 @@ fn match_once(
     statement: &FileStatement,
     subject: &ByteText,
     trials: u32,
-) -> Result<Rewritten, StatementFault>
+) -> Result<Rewritten, FileStatementFault>
     requires code { IsCodeOf code.now statement.now }
     requires object { statement.now.object ≡ None }
     ensures rewritten { GivesRewritten result (rewriting (perform_once_within MAX_BYTES (with_limit statement.now trials) subject.now)) }
@@ -191,7 +195,7 @@ fn match_once(
 {
     let mut workspace = Workspace::bounded(alloc, MAX_KEPT);
     let anchored = statement.search().anchored();
-    let found = code.first_in_bytes(alloc, &mut workspace, subject, anchored, trials)?;
+    let found = first_in(alloc, code, &mut workspace, subject, anchored, trials)?;
     let matches = if found.end.is_some() { 1 } else { 0 };
     Ok(Rewritten {
         matches,
@@ -268,15 +272,15 @@ fn with_end(text: Option<Vec<u8>>, end: &[u8]) -> Result<Option<Vec<u8>>, AllocE
 }
 
 /// How many matches are left of a pass.
-fn count(alloc: Global, pass: &mut Searches<'_, '_, '_>) -> Result<u64, StatementFault>
+fn count(alloc: Global, pass: &mut Searches<'_, '_, '_>) -> Result<u64, FileStatementFault>
     requires { length (matches_left pass.old) ≤ MAX_BYTES + 1 }
     ensures counted { IfOk result (λ n. n ≡ length (matches_left pass.old)) }
     ensures within { IfOk result (λ _. trials_together pass.old ≤ pass.old.statement.limit) }
-    ensures refused { IfErr result (λ e. e ≡ TooManyTrials → pass.old.statement.limit < trials_together pass.old) }
-    ensures never { IfErr result (λ e. e ≡ TextTooLong → ⊥) }
+    ensures refused { IfErr result (λ e. plain e ≡ TooManyTrials → pass.old.statement.limit < trials_together pass.old) }
+    ensures never { IfErr result (λ e. plain e ≡ TextTooLong → ⊥) }
 {
     let mut matches = 0;
-    while let Some((sets, hit)) = pass.next_hit(alloc)? {
+    while let Some((sets, hit)) = pass.next_in_file(alloc)? {
         matches += 1;
         pass.give_back(sets, hit);
     }
@@ -290,21 +294,21 @@ fn replace_left(
     subject: &[u8],
     pass: &mut Searches<'_, '_, '_>,
     object: &ByteObject,
-) -> Result<(u64, Option<Vec<u8>>), StatementFault>
+) -> Result<(u64, Option<Vec<u8>>), FileStatementFault>
     requires few { length (matches_left pass.old) ≤ MAX_BYTES + 1 }
     requires short { length subject.now ≤ MAX_BYTES }
     requires text { pass.old.text ≡ subject.now }
     ensures replaced { IfOk result (λ left. IsReplaced (replaced object.now subject.now 0 (matches_left pass.old)) left.1) }
     ensures counted { IfOk result (λ left. left.0 ≡ length (matches_left pass.old)) }
     ensures within { IfOk result (λ _. trials_together pass.old ≤ pass.old.statement.limit) }
-    ensures refused { IfErr result (λ e. e ≡ TooManyTrials → pass.old.statement.limit < trials_together pass.old) }
-    ensures never { IfErr result (λ e. e ≡ TextTooLong → ⊥) }
+    ensures refused { IfErr result (λ e. plain e ≡ TooManyTrials → pass.old.statement.limit < trials_together pass.old) }
+    ensures never { IfErr result (λ e. plain e ≡ TextTooLong → ⊥) }
 {
     let mut one = Assigned::new(alloc);
     let mut text = Some(Vec::new(alloc));
     let mut cursor = 0;
     let mut matches = 0;
-    while let Some((sets, hit)) = pass.next_hit(alloc)? {
+    while let Some((sets, hit)) = pass.next_in_file(alloc)? {
         text = with_hit(alloc, subject, text, cursor, object, &mut one, &sets, &hit)?;
         cursor = hit.end;
         matches += 1;
@@ -316,7 +320,11 @@ fn replace_left(
 }
 
 /// What this number of matches leaves, with the text in which they are replaced. Without a match there is no new text.
-fn finished(alloc: Global, matches: u64, text: Option<Vec<u8>>) -> Result<Rewritten, StatementFault>
+fn finished(
+    alloc: Global,
+    matches: u64,
+    text: Option<Vec<u8>>,
+) -> Result<Rewritten, FileStatementFault>
     requires text { IfSome text (λ v. length v.items ≤ MAX_BYTES) }
     requires few { matches < 2 ^ 32 }
     ensures rewritten { GivesRewritten result (finished matches text) }
@@ -329,7 +337,7 @@ fn finished(alloc: Global, matches: u64, text: Option<Vec<u8>>) -> Result<Rewrit
         });
     }
     match text {
-        None => Err(StatementFault::TextTooLong),
+        None => Err(FileStatementFault::TextTooLong),
         Some(text) => Ok(Rewritten {
             matches,
             after: Some(Arc::new(alloc, text_of(text))?),
@@ -344,7 +352,7 @@ fn rewrite_all(
     statement: &FileStatement,
     subject: &ByteText,
     trials: u32,
-) -> Result<Rewritten, StatementFault>
+) -> Result<Rewritten, FileStatementFault>
     requires { IsCodeOf code.now statement.now }
     ensures rewritten { GivesRewritten result (rewriting (perform_all_within MAX_BYTES (with_limit statement.now trials) subject.now)) }
     ensures few { IfOk result (λ r. r.matches < 2 ^ 32) }
@@ -377,14 +385,14 @@ fn rewrite_all(
 /// - `TooManyTrials` exactly if the match takes more trials than the limit; of a statement for all matches, if all searches
 ///   together do;
 /// - then `TextTooLong` exactly if the new text would have more than 16,777,216 bytes;
-/// - `Memory` at any allocation that fails, or if a search would have to keep more than [`MAX_KEPT`] entries in its history; and
-///   so instead of any refusal that would have come later.
+/// - `HistoryTooLong` only if a search would have to keep more than [`MAX_KEPT`] entries in its history, and `Memory` at any
+///   allocation that fails; each so instead of any refusal that would have come later.
 pub fn rewrite(
     alloc: Global,
     statement: &FileStatement,
     subject: &ByteText,
     trials: u32,
-) -> Result<Rewritten, StatementFault>
+) -> Result<Rewritten, FileStatementFault>
     ensures rewritten { GivesRewritten result (rewriting (perform_within MAX_BYTES (with_limit statement.now trials) subject.now)) }
     ensures few { IfOk result (λ r. r.matches < 2 ^ 32) }
 {

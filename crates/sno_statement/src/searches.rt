@@ -2,13 +2,14 @@
 ghost use Rattle.std.specs.Prelude.{◌≡◌, ◌+◌, ◌<◌, ◌≤◌, ◌∷◌, [], length, Some, None, IfOk, IfErr, IfSome, OnOk, MatchOption};
 ghost use Rattle.sno_pattern.specs.CursorLaws.{SetsLie};
 ghost use Rattle.sno_statement.specs.declared.outcomes.StatementFault.TheVariants.{TooManyTrials, TextTooLong};
+ghost use Rattle.sno_statement.specs.FileFaults.{plain};
 ghost use Rattle.sno_statement.specs.Passes.{begun, counts, cursors_left, match_by, matches_left, moved, next_search, search, search_trials, trials_together};
 ghost use Rattle.sno_statement.specs.Sought.{sought};
 ghost use Rattle.sno_statement.specs.Perform.{IsCodeOf};
 ghost use Rattle.sno_statement.specs.Statement.{with_limit};
 
 use crate::passes::{counts, next_cursor};
-use crate::{FileStatement, Statement, StatementFault};
+use crate::{FileStatement, FileStatementFault, Statement, StatementFault};
 use sno_machine::{Code, SearchOutcome, Searched};
 use sno_pattern::{Assigns, ByteText, Found, Hit, Text, searches_lie_within_the_text};
 use std::alloc::Global;
@@ -175,5 +176,29 @@ impl<'c, 't, 'a> Searches<'c, 't, 'a> {
             }
         }
         Ok(None)
+    }
+
+    /// As [`Searches::next_hit`], with the fault that a file has.
+    pub(crate) fn next_in_file(
+        &mut self,
+        alloc: Global,
+    ) -> Result<Option<(Assigns, Hit)>, FileStatementFault>
+        ensures next { IfOk result (λ next. MatchOption next (matches_left self.old ≡ []) (λ h. matches_left self.old ≡ match_by self.old.text h.0 h.1 ∷ matches_left self.new)) }
+        ensures lies { IfOk result (λ next. IfSome next (λ h. SetsLie self.old.text h.0)) }
+        ensures ended { IfOk result (λ next. MatchOption next (self.new.at ≡ None) (λ _. cursors_left self.new.text self.new.at < cursors_left self.old.text self.old.at)) }
+        ensures trials { OnOk result (trials_together self.new ≡ trials_together self.old) }
+        ensures same { OnOk result ((self.new.statement ≡ self.old.statement) × (self.new.text ≡ self.old.text)) }
+        ensures within { OnOk result (self.new.spent ≤ self.new.statement.limit) }
+        ensures refused { IfErr result (λ e. plain e ≡ TooManyTrials → self.old.statement.limit < trials_together self.old) }
+        ensures never { IfErr result (λ e. plain e ≡ TextTooLong → ⊥) }
+        ensures text { self.new.text ≡ self.old.text }
+    {
+        match self.next_hit(alloc) {
+            Ok(next) => Ok(next),
+            Err(fault) => {
+                let is_full = self.searched.is_full();
+                Err(FileStatementFault::of(fault, is_full))
+            }
+        }
     }
 }

@@ -79,6 +79,9 @@ pub enum LineFault {
 /// Why the store of a file isn't opened.
 #[derive(Clone, Copy, Debug, Error)]
 pub enum OpenFault {
+    /// Another file took its place while it was opened.
+    #[error("the file was replaced while it was opened")]
+    Replaced,
     /// Another process has the file open, or this one.
     #[error("the file is in use")]
     Busy,

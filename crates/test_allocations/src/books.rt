@@ -11,7 +11,7 @@ use crate::jobs::{
 use sno_book::{
     Book, BookFault, CommitFault, Proposal, Snapshot, StatementFault, Text, TextName, propose,
 };
-use sno_statement::{ByteText, FileStatement, Statement, perform, rewrite};
+use sno_statement::{ByteText, FileStatement, FileStatementFault, Statement, perform, rewrite};
 use std::alloc::Global;
 use std::process::Abort;
 use std::sync::Arc;
@@ -103,7 +103,7 @@ fn rewrite_once(
             CallEnd::Given
         }
         Err(fault) => {
-            check_eq(rt, &fault, &StatementFault::Memory);
+            check_eq(rt, &fault, &FileStatementFault::Memory);
             CallEnd::Refused
         }
     }

@@ -5,7 +5,7 @@ use crate::byte_texts::bytes_of;
 use crate::written::{check_eq, no_rules, pattern_of, rule_pattern_of};
 use sno_pattern::TextName;
 use sno_read::{read_object, read_rule_object};
-use sno_statement::{FileStatement, Rewritten, Statement, StatementFault, rewrite};
+use sno_statement::{FileStatement, FileStatementFault, Rewritten, Statement, rewrite};
 use std::alloc::Global;
 use std::process::Abort;
 use std::test::Fail;
@@ -143,7 +143,7 @@ fn check_refused(
 ) -> Result<(), Fail> {
     let text = bytes_of(alloc, bytes)?;
     let fault = rewrite(alloc, statement, &text, trials).err();
-    check_eq(rt, &fault, &Some(StatementFault::TooManyTrials));
+    check_eq(rt, &fault, &Some(FileStatementFault::TooManyTrials));
     Ok(())
 }
 

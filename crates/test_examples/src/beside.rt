@@ -2,8 +2,8 @@
 use sno_machine::{Code, Found, MatchFault, compile};
 use sno_pattern::{ByteText, MAX_TEXT, Name, Text};
 use sno_statement::{
-    BindingsRef, DatumRef, FileStatement, Match, MatchRef, Matches, Outcome, Pass, Rewritten,
-    Statement, StatementFault, perform, rewrite,
+    BindingsRef, DatumRef, FileStatement, FileStatementFault, Match, MatchRef, Matches, Outcome,
+    Pass, Rewritten, Statement, StatementFault, perform, rewrite,
 };
 use std::alloc::Global;
 use std::sync::Arc;
@@ -246,7 +246,7 @@ fn is_same_text(bytes: Option<&Arc<ByteText>>, text: Option<&Arc<Text>>) -> bool
 /// long for a text is none for bytes.
 fn leaves_the_same(
     performed: &Result<Outcome, StatementFault>,
-    rewritten: &Result<Rewritten, StatementFault>,
+    rewritten: &Result<Rewritten, FileStatementFault>,
     is_repeated: bool,
 ) -> bool {
     match (performed, rewritten) {
@@ -258,7 +258,7 @@ fn leaves_the_same(
             Some(after) => after.bytes().len() > MAX_TEXT || is_repeated,
             None => false,
         },
-        (Err(fault), Err(other)) => fault == other,
+        (Err(fault), Err(other)) => FileStatementFault::of(*fault, false) == *other,
         _ => false,
     }
 }

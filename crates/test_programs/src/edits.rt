@@ -2,8 +2,8 @@
 
 use crate::Memory;
 use sno_edit::{
-    CutCharacter, Done, EditRules, FileFault, Position, RefusedStatement, StatementFault, Trials,
-    edit_files,
+    CutCharacter, Done, EditRules, FileFault, FileStatementFault, Position, RefusedStatement,
+    Trials, edit_files,
 };
 use std::alloc::Global;
 use std::io::ErrorKind;
@@ -47,7 +47,7 @@ static REPORTS: [Result<Done, FileFault>; 7] = [
     }),
     Err(FileFault::Refused(RefusedStatement {
         statement: 3,
-        fault: StatementFault::TooManyTrials,
+        fault: FileStatementFault::TooManyTrials,
     })),
     Ok(Done {
         changed: true,

@@ -1,9 +1,10 @@
 //! What rules match in a file.
 
 use sno_edit::{EditRules, Trials};
-use sno_find::{FindFault, find_in, put_count, put_json, put_line};
+use sno_find::{FindFault, find_in, put_count, put_json, put_line, write_edit_rows};
 use sno_pattern::ByteText;
 use std::alloc::Global;
+use std::sync::Arc;
 use std::test::Fail;
 
 const RULES: &[u8] = br#"{"statements":[
@@ -73,6 +74,30 @@ fn a_finding_as_json(rt: HostRuntime) -> Result<(), Fail> {
     assert_eq!(rt;
         line.as_slice(),
         "{\"path\":\"x\",\"statement\":1,\"start\":0,\"end\":2,\"line\":1,\"column\":1,\"text\":\"\\\"\u{fffd}\",\"variables\":{\"N\":2,\"X\":\"\\\"\u{fffd}\"}}\n".as_bytes()
+    );
+    Ok(())
+}
+
+const EDITS: &[u8] = br#"{"statements":[
+    {"pattern":"'a'","object":"'bb'","all":true},
+    {"pattern":"'bb'","object":"'c'","repeat":3},
+    {"pattern":"'c'"}]}"#;
+
+/// Each match is in the text that the rules before left, and a repeated rule has its number of rounds.
+#[test]
+fn rows_of_an_edit(rt: HostRuntime) -> Result<(), Fail> {
+    let alloc = rt.alloc();
+    let rules = EditRules::read(alloc, EDITS, false, Trials::Usual)
+        .ok()
+        .ok_or("rules")?;
+    let text = Arc::new(alloc, text_of(alloc, "\u{e9}a")?)?;
+    let mut rows = Vec::new(alloc);
+    write_edit_rows(alloc, &rules, "x", text, &mut rows)
+        .ok()
+        .ok_or("rows")?;
+    assert_eq!(rt;
+        rows.as_slice(),
+        b"{\"path\":\"x\",\"statement\":1,\"start\":2,\"end\":3,\"line\":1,\"column\":2,\"text\":\"a\",\"variables\":{}}\n{\"path\":\"x\",\"statement\":2,\"rounds\":1}\n{\"path\":\"x\",\"statement\":3,\"start\":2,\"end\":3,\"line\":1,\"column\":2,\"text\":\"c\",\"variables\":{}}\n".as_slice()
     );
     Ok(())
 }

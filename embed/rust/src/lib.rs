@@ -117,6 +117,8 @@ pub enum Error {
     TooLong,
     /// The cursor lies past the end of the text.
     PastEnd,
+    /// The search would have to keep more than 4,194,304 places to back up to.
+    HistoryTooLong,
     /// The library returned a status that it shouldn't have returned.
     Unexpected(u8),
 }
@@ -132,6 +134,7 @@ impl Error {
             Error::TooManyTrials(_) => patterns::TOO_MANY_TRIALS,
             Error::TooLong => patterns::TOO_LONG,
             Error::PastEnd => patterns::PAST_END,
+            Error::HistoryTooLong => patterns::HISTORY_TOO_LONG,
             Error::Unexpected(status) => *status,
         }
     }
@@ -151,6 +154,9 @@ impl fmt::Display for Error {
             Error::TooManyTrials(trials) => write!(formatter, "more than {trials} trials"),
             Error::TooLong => formatter.write_str("a text of more than 16777216 bytes"),
             Error::PastEnd => formatter.write_str("a cursor past the end of the text"),
+            Error::HistoryTooLong => {
+                formatter.write_str("a history of more than 4194304 entries")
+            }
             Error::Unexpected(status) => write!(formatter, "unexpected status {status}"),
         }
     }

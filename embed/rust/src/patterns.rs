@@ -9,6 +9,7 @@ const BAD_LIMIT: u8 = 3;
 const NO_MEMORY: u8 = 4;
 const TOO_SHORT: u8 = 5;
 pub(crate) const TOO_MANY_TRIALS: u8 = 8;
+pub(crate) const HISTORY_TOO_LONG: u8 = 11;
 pub(crate) const TOO_LONG: u8 = 9;
 pub(crate) const PAST_END: u8 = 10;
 
@@ -119,6 +120,7 @@ fn error(status: u8, trials: u32) -> Error {
         TOO_MANY_TRIALS => Error::TooManyTrials(trials),
         TOO_LONG => Error::TooLong,
         PAST_END => Error::PastEnd,
+        HISTORY_TOO_LONG => Error::HistoryTooLong,
         _ => Error::Unexpected(status),
     }
 }
@@ -282,7 +284,7 @@ impl Pattern {
     }
 
     /// The first match whose start is the cursor `from` or lies past it. Refused: [`Error::BadLimit`], [`Error::PastEnd`],
-    /// [`Error::TooManyTrials`] and [`Error::NoMemory`].
+    /// [`Error::TooManyTrials`], [`Error::HistoryTooLong`] and [`Error::NoMemory`].
     pub fn find_from(&mut self, text: &mut Text, from: usize) -> Result<Option<Match>, Error> {
         let mut found = FoundMatch::default();
         let status = unsafe {
@@ -334,7 +336,7 @@ impl Pattern {
     }
 
     /// What the rule makes of the text; `None` if there was no match or the rule has no object. Refused: [`Error::BadLimit`],
-    /// [`Error::TooManyTrials`], [`Error::TooLong`] and [`Error::NoMemory`].
+    /// [`Error::TooManyTrials`], [`Error::TooLong`], [`Error::HistoryTooLong`] and [`Error::NoMemory`].
     pub fn replace(&mut self, text: &mut Text) -> Result<Option<Replaced>, Error> {
         let mut bytes = crate::zeros(FIRST_ROOM)?;
         let (mut status, mut done) = self.replace_into(text, &mut bytes);

@@ -12,7 +12,7 @@ from typing import Any, NamedTuple
 from ._library import load
 
 DONE, NOTHING, FAULT, BAD_LIMIT, NO_MEMORY, TOO_SHORT = range(6)
-TOO_MANY_TRIALS, TOO_LONG, PAST_END = 8, 9, 10
+TOO_MANY_TRIALS, TOO_LONG, PAST_END, HISTORY_TOO_LONG = 8, 9, 10, 11
 
 _LINE_ROOM = 1024
 _NAME_ROOM = 64

@@ -24,6 +24,7 @@ from ._handles import Found, HeldPattern, HeldText, Refused
 from ._library import MOST_TRIALS, USUAL_TRIALS
 
 __all__ = [
+    "HistoryError",
     "Match",
     "Pattern",
     "PatternError",
@@ -48,6 +49,10 @@ class TrialsError(RuntimeError):
     """A search that takes more trials than it may."""
 
 
+class HistoryError(RuntimeError):
+    """A search that would have to keep more places to back up to than it may."""
+
+
 error = PatternError
 
 
@@ -59,6 +64,8 @@ def _raised(refused: Refused, trials: int) -> Exception:
             return MemoryError("out of memory")
         case _handles.TOO_MANY_TRIALS:
             return TrialsError(f"more than {trials} trials")
+        case _handles.HISTORY_TOO_LONG:
+            return HistoryError("a history of more than 4194304 entries")
         case _handles.TOO_LONG:
             return ValueError("a text of more than 16777216 bytes")
         case status:

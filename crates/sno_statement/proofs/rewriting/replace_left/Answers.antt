@@ -11,7 +11,7 @@ use Rattle.sno_statement.proofs.rewriting.replace_left.Goals as goal
 
 pub overflow_add-matches : goal.overflow_add-matches
 overflow_add-matches c =
-    let next : matches_left c.loop-text.pass ≡ match_by c.loop-text.pass.text c.in-Some.sets c.in-Some.hit ∷ matches_left c.next_hit.new.self = rw c.in-Some.is at c.in_ok-sets.ensures.next in
+    let next : matches_left c.loop-text.pass ≡ match_by c.loop-text.pass.text c.in-Some.sets c.in-Some.hit ∷ matches_left c.next_in_file.new.self = rw c.in-Some.is at c.in_ok-sets.ensures.next in
     let here = ap length next in
     omega (arith, here, c.loop-text.invariant.counted, c.requires.few)
 
@@ -22,9 +22,9 @@ loop-text-preserved c =
     let before = c.loop-text.invariant in
     let found : Match = match_by t c.in-Some.sets c.in-Some.hit in
     let kept = c.give_back.ensures in
-    let next : matches_left c.loop-text.pass ≡ match_by c.loop-text.pass.text c.in-Some.sets c.in-Some.hit ∷ matches_left c.next_hit.new.self = rw c.in-Some.is at c.in_ok-sets.ensures.next in
+    let next : matches_left c.loop-text.pass ≡ match_by c.loop-text.pass.text c.in-Some.sets c.in-Some.hit ∷ matches_left c.next_in_file.new.self = rw c.in-Some.is at c.in_ok-sets.ensures.next in
     let left : matches_left c.loop-text.pass ≡ found ∷ matches_left c.give_back.new.self =
-    next ∙ ap (λ (z : List ℕ). match_by z c.in-Some.sets c.in-Some.hit ∷ matches_left c.next_hit.new.self) before.text ∙ ap (λ (z : Pass). found ∷ matches_left z) (sym kept) in
+    next ∙ ap (λ (z : List ℕ). match_by z c.in-Some.sets c.in-Some.hit ∷ matches_left c.next_in_file.new.self) before.text ∙ ap (λ (z : Pass). found ∷ matches_left z) (sym kept) in
     let here = ap length left in
     let all = replaced parts t 0 (matches_left c.args.pass.now) in
     let so_far : MatchOption c.loop-text.text (MAX_BYTES < length all) (λ v. v.items ++ replaced parts t c.loop-text.cursor (found ∷ matches_left c.give_back.new.self) ≡ all) =
@@ -61,5 +61,5 @@ pub returns-clause-within : goal.returns-clause-within
 returns-clause-within c =
     let kept = c.in_ok-sets.ensures.trials ∙ c.loop-text.invariant.trials in
     let limit = ap (λ (z : Statement). z.limit) (c.in_ok-sets.ensures.same.0 ∙ c.loop-text.invariant.statement) in
-    let spent = ended_within c.next_hit.new.self (rw c.in_default.is at c.in_ok-sets.ensures.ended) c.in_ok-sets.ensures.within in
+    let spent = ended_within c.next_in_file.new.self (rw c.in_default.is at c.in_ok-sets.ensures.ended) c.in_ok-sets.ensures.within in
     omega (arith, kept, limit, spent)
