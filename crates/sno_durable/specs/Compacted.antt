@@ -63,7 +63,7 @@ pub record GoesOn (origin : Origin) (number : ℕ) (v : View) (line : List ℕ) 
   pub written : IsDocumentAfter origin.document.items (state_of v) document
   pub first : read line ≡ Some (later_data document origin.trials (made_of origin.document.items origin.before) (past_after origin.before number v))
 
--- the listing of a store before which there were so many entries, and whose texts had these versions
+-- the listing of a store, after this number of entries and these versions of its texts
 abbrev pub listing_shown : ℕ → Data → History → List ℕ
 listing_shown entries versions h = compact_text (shown entries versions 0 (json_listing_data h)) ++ 10 ∷ []
 
