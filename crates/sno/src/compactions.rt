@@ -60,7 +60,7 @@ fn refuse_place<E: Write>(error: &io::Error, errors: &mut E) -> u8 {
     FAILED
 }
 
-/// Puts a new store of these lines in the place of the one with this path, and returns it. It is locked before it has the place.
+/// Replaces the store with this path by a new one of these lines, and returns that. It is locked before it has its place.
 fn replace<R: Files + Stores, E: Write>(
     rt: &R,
     alloc: Global,

@@ -1,3 +1,4 @@
 pub mod CompactedLemmas
 pub mod Keeping
 pub mod ShownLemmas
+pub mod WrittenLemmas

@@ -1,5 +1,6 @@
 //! What came before the first entry of a store, and the numbers that a client is shown.
 ghost use Rattle.std.specs.Prelude.{◌≡◌, IfOk, map, option_and_then};
+ghost use Rattle.serde_json.specs.Data.{no_members, object};
 ghost use Rattle.serde_json.specs.Find.{as_array, as_str, get};
 ghost use Rattle.std.specs.Option.{option_map};
 ghost use Rattle.serde_json.specs.View.{items_view, view};
@@ -76,7 +77,10 @@ fn list_in<'v>(object: &'v Value, list: &str) -> Option<&'v Vec<Value>>
 
 impl Past {
     /// Before a store that was made of a document there is nothing.
-    pub(crate) fn nothing(alloc: Global) -> Past {
+    pub(crate) fn nothing(alloc: Global) -> Past
+        ensures numbers { (result.entries ≡ 0) × (result.statements ≡ 0) }
+        ensures versions { view result.versions ≡ object no_members }
+    {
         Past {
             entries: 0,
             statements: 0,

@@ -27,11 +27,27 @@ pub(crate) struct Origin {
 }
 
 impl Origin {
+    ghost use Rattle.sno_durable.specs.Compacted.{entries_before, made_of, statements_before, versions_before};
+
     /// The bytes of the document that the store was made of, or the first of those that it goes on from.
-    pub(crate) fn made_of(&self) -> &[u8] {
+    pub(crate) fn made_of(&self) -> &[u8]
+        ensures { result.now ≡ made_of self.now.document.items self.now.before }
+    {
         match &self.before {
             None => &self.document,
             Some(before) => &before.made_of,
+        }
+    }
+
+    /// What came before the store's first entry.
+    pub(crate) fn past(&self, alloc: Global) -> Result<Past, AllocError>
+        ensures entries { IfOk result (λ p. p.entries ≡ entries_before self.now.before) }
+        ensures statements { IfOk result (λ p. p.statements ≡ statements_before self.now.before) }
+        ensures versions { IfOk result (λ p. view p.versions ≡ versions_before self.now.before) }
+    {
+        match &self.before {
+            None => Ok(Past::nothing(alloc)),
+            Some(before) => before.past.clone(),
         }
     }
 }

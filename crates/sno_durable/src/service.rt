@@ -206,10 +206,7 @@ fn at_named_desk<L: Naming, D: Disk + Drop, I: Read + Drop, W: Write + Drop, R: 
 
 /// What came before the first entry of a store, and the number of the statement after those of its document.
 fn beginning(alloc: Global, origin: &Origin, statements: u32) -> Result<(Past, u32), AllocError> {
-    let past = match &origin.before {
-        None => Past::nothing(alloc),
-        Some(before) => before.past.clone()?,
-    };
+    let past = origin.past(alloc)?;
     let number = past.statements.saturating_add(statements).saturating_add(1);
     Ok((past, number))
 }
