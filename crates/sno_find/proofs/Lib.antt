@@ -8,3 +8,4 @@ pub mod Variables
 pub mod Joined
 pub mod OneRising
 pub mod EditRows
+mod Causes

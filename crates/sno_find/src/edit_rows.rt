@@ -18,9 +18,7 @@ use crate::hits::add_hits;
 use crate::json::{put_head, put_json, put_number_member};
 use crate::lines::put_text;
 use crate::{FindFault, Finding};
-use sno_edit::{
-    EditRules, FileFault, FileStatementFault, RefusedStatement, Trials, Turn, turn_of,
-};
+use sno_edit::{EditRules, FileFault, FileStatementFault, RefusedStatement, Trials, Turn, turn_of};
 use sno_pattern::ByteText;
 use sno_statement::{FileStatement, matches_are_in_order, the_first_is_the_plain_match};
 use std::alloc::{AllocError, Global};
@@ -181,10 +179,14 @@ fn left_in(
     match turn_of(alloc, rules, statement, path, text) {
         Ok(turn) => Ok(Some(turn)),
         Err(FileFault::Memory)
-        | Err(FileFault::Refused(RefusedStatement {
-            fault: FileStatementFault::HistoryTooLong,
-            ..
-        })) => Err(RowsFault::Memory),
+        | Err(
+            FileFault::Refused(
+                RefusedStatement {
+                    fault: FileStatementFault::HistoryTooLong,
+                    ..
+                },
+            ),
+        ) => Err(RowsFault::Memory),
         Err(_) => Ok(None),
     }
 }
