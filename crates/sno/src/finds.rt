@@ -385,7 +385,9 @@ fn find_share<R: Files<File = File, Dir: Send> + Threads + Sync, I: Read, W: Wri
             rt, alloc, shown, rules, threads, paths, sought, input, output, errors,
         );
     }
-    find_each(rt, alloc, shown, rules, paths, sought, input, output, errors)
+    find_each(
+        rt, alloc, shown, rules, paths, sought, input, output, errors,
+    )
 }
 
 /// Seeks the rules in the files, by this many threads, and writes what is shown of each.
