@@ -108,6 +108,11 @@ impl EditRequest<'_> {
         self.files.are_missing() || self.files.have_input()
     }
 
+    /// Whether nothing is written to standard output before the last file is edited.
+    pub(crate) fn writes_last(&self) -> bool {
+        matches!(self.options.purpose, Purpose::Write) && !self.options.json
+    }
+
     /// Whether the rules are on standard input.
     fn has_rules_on_input(&self) -> bool {
         !self.lines.are_given() && self.options.rules == Some("-")

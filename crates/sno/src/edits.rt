@@ -8,6 +8,7 @@ use crate::filters::run_filter;
 use crate::found_files::found_files;
 use crate::given_lines::NoRules;
 use crate::match_rows::write_plan_rows;
+use crate::progress::Progress;
 use crate::rounds_left::{report_stopped, report_stopped_in};
 use crate::row_edits::edit_with_rows;
 use crate::rule_lines::rules_of_lines;
@@ -107,7 +108,7 @@ fn write_files<R: Files<File = File, Dir: Send> + Threads + Sync, W: Write, E: W
     writing: Writing<'_>,
     threads: usize,
     output: &mut W,
-    errors: &mut E,
+    errors: &mut Progress<'_, E>,
 ) -> Result<Tally, ProgramFault>
     requires { 0 < threads }
 {
@@ -126,7 +127,9 @@ fn write_files<R: Files<File = File, Dir: Send> + Threads + Sync, W: Write, E: W
             rt, alloc, rules, files, &ends, &mut tally, &mut lines, errors,
         )?;
         edited = edited.saturating_add(ends.len());
+        errors.show(edited, paths.len());
     }
+    errors.end();
     write_all(output, &lines)?;
     Ok(tally)
 }
@@ -279,6 +282,27 @@ fn show_seen<R: Files<File = File>, W: Write, E: Write>(
     Ok(())
 }
 
+/// Shows what would change in these files, by this many threads.
+fn show_share<R: Files<File = File, Dir: Send> + Threads + Sync, W: Write, E: Write>(
+    rt: &R,
+    alloc: Global,
+    rules: &EditRules,
+    paths: &[&str],
+    show: Show,
+    threads: usize,
+    tally: &mut Tally,
+    output: &mut W,
+    errors: &mut E,
+) -> Result<(), ProgramFault>
+    requires { 0 < threads }
+{
+    if threads == 1 || paths.len() == 1 {
+        return show_each(rt, alloc, rules, paths, show, tally, output, errors);
+    }
+    let seen = see_shared(rt, alloc, rules, show, threads, paths)?;
+    show_seen(rt, alloc, rules, &seen, show, tally, output, errors)
+}
+
 /// Shows what would change, and writes no file. Several files are planned by this many threads.
 fn show_files<R: Files<File = File, Dir: Send> + Threads + Sync, W: Write, E: Write>(
     rt: &R,
@@ -288,18 +312,18 @@ fn show_files<R: Files<File = File, Dir: Send> + Threads + Sync, W: Write, E: Wr
     show: Show,
     threads: usize,
     output: &mut W,
-    errors: &mut E,
+    errors: &mut Progress<'_, E>,
 ) -> Result<Tally, ProgramFault>
     requires { 0 < threads }
 {
     let mut tally = Tally::of(paths.len());
-    if threads == 1 || paths.len() == 1 {
-        show_each(rt, alloc, rules, paths, show, &mut tally, output, errors)?;
-        return Ok(tally);
-    }
+    let mut shown = 0_usize;
     for share in paths.chunks(threads.saturating_mul(SHARE).max(1)) {
-        let seen = see_shared(rt, alloc, rules, show, threads, share)?;
-        show_seen(rt, alloc, rules, &seen, show, &mut tally, output, errors)?;
+        show_share(
+            rt, alloc, rules, share, show, threads, &mut tally, output, errors,
+        )?;
+        shown = shown.saturating_add(share.len());
+        errors.show(shown, paths.len());
     }
     Ok(tally)
 }
@@ -393,7 +417,7 @@ fn edit<R: Files<File = File, Dir: Send> + Threads + Sync, W: Write, E: Write>(
     show: Option<Show>,
     threads: usize,
     output: &mut W,
-    errors: &mut E,
+    errors: &mut Progress<'_, E>,
 ) -> Result<Tally, ProgramFault>
     requires { 0 < threads }
 {
@@ -458,7 +482,7 @@ pub(crate) fn run_edit<
     coloured: bool,
     input: &mut I,
     output: &mut W,
-    errors: &mut E,
+    errors: &mut Progress<'_, E>,
 ) -> Result<u8, ProgramFault> {
     let rules = match rules_for(rt, alloc, request, input, errors) {
         Ok(rules) => rules,

@@ -7,7 +7,9 @@ use crate::find_options::{FindRequest, Shown};
 use crate::first_matches::have_match;
 use crate::found_files::found_files;
 use crate::given_lines::NoRules;
+use crate::progress::Progress;
 use crate::rule_lines::rules_of_lines;
+use crate::shared_files::SHARE;
 use crate::shared_finds::find_shared;
 use crate::streams::{read_up_to, write_all};
 use crate::thread_options::thread_count;
@@ -363,6 +365,31 @@ fn find_each<R: Files<File = File>, I: Read, W: Write, E: Write>(
     Ok(())
 }
 
+/// Seeks the rules in these files, by this many threads, and writes what is shown of each.
+fn find_share<R: Files<File = File, Dir: Send> + Threads + Sync, I: Read, W: Write, E: Write>(
+    rt: &R,
+    alloc: Global,
+    shown: Shown<'_>,
+    rules: &EditRules,
+    threads: usize,
+    paths: &[&str],
+    sought: &mut Sought,
+    input: &mut I,
+    output: &mut W,
+    errors: &mut E,
+) -> Result<(), ProgramFault>
+    requires { 0 < threads }
+{
+    if threads > 1 && paths.len() > 1 {
+        return find_shared(
+            rt, alloc, shown, rules, threads, paths, sought, input, output, errors,
+        );
+    }
+    find_each(
+        rt, alloc, shown, rules, paths, sought, input, output, errors,
+    )
+}
+
 /// Seeks the rules in the files, by this many threads, and writes what is shown of each.
 fn find_all<R: Files<File = File, Dir: Send> + Threads + Sync, I: Read, W: Write, E: Write>(
     rt: &R,
@@ -373,7 +400,7 @@ fn find_all<R: Files<File = File, Dir: Send> + Threads + Sync, I: Read, W: Write
     paths: &Paths,
     input: &mut I,
     output: &mut W,
-    errors: &mut E,
+    errors: &mut Progress<'_, E>,
 ) -> Result<Sought, ProgramFault>
     requires { 0 < threads }
 {
@@ -382,31 +409,22 @@ fn find_all<R: Files<File = File, Dir: Send> + Threads + Sync, I: Read, W: Write
         failed: !paths.unread.is_empty(),
     };
     let files = paths.lent(alloc)?;
-    if threads > 1 && files.len() > 1 {
-        find_shared(
+    let mut done = 0_usize;
+    for share in files.chunks(threads.saturating_mul(SHARE).max(1)) {
+        find_share(
             rt,
             alloc,
             shown,
             rules,
             threads,
-            &files,
+            share,
             &mut sought,
             input,
             output,
             errors,
         )?;
-    } else {
-        find_each(
-            rt,
-            alloc,
-            shown,
-            rules,
-            &files,
-            &mut sought,
-            input,
-            output,
-            errors,
-        )?;
+        done = done.saturating_add(share.len());
+        errors.show(done, files.len());
     }
     Ok(sought)
 }
@@ -446,7 +464,7 @@ pub(crate) fn run_find<
     request: &FindRequest<'_>,
     input: &mut I,
     output: &mut W,
-    errors: &mut E,
+    errors: &mut Progress<'_, E>,
 ) -> Result<u8, ProgramFault> {
     let rules = match rules_of_lines(rt, alloc, &request.lines, request.anchor, request.trials) {
         Ok(rules) => rules,

@@ -30,6 +30,7 @@
 //! | `listing_files` | the file of a listing |
 //! | `store_command`, `stored` | `sno serve --store` and `sno store`: a document is served over a store by `sno_durable`, and a store looked at |
 //! | `compactions` | a store that replaces the one from which it goes on |
+//! | `progress` | how many files are done, on a terminal |
 //! | `program` | from the arguments and the streams to the status |
 #![tactic(auto)]
 
@@ -55,6 +56,7 @@ mod line_checks;
 mod listing_files;
 mod match_rows;
 mod program;
+mod progress;
 mod ready_files;
 mod rounds_left;
 mod row_edits;

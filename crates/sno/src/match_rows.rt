@@ -13,11 +13,11 @@ use std::sync::Arc;
 /// How many bytes are gathered before they are written.
 const PIECE: usize = 65_536;
 
-/// Why rows are not written.
+/// Why rows are not written. The rules were performed on the text before, so no history is too long.
 fn fault_of(fault: RowsFault) -> ProgramFault {
     match fault {
         RowsFault::Write => ProgramFault::Write,
-        RowsFault::Memory => ProgramFault::Memory,
+        RowsFault::HistoryTooLong(_) | RowsFault::Memory => ProgramFault::Memory,
     }
 }
 

@@ -5,6 +5,7 @@ use crate::command_line::{RUN, Request, asked_for};
 use crate::edits::run_edit;
 use crate::faults::{FAILED, INPUT, MISUSED, ProgramFault};
 use crate::finds::run_find;
+use crate::progress::Progress;
 use crate::serves::run_serve;
 use crate::stored::{Stores, run_store, run_stored};
 use crate::streams::write_all;
@@ -83,7 +84,7 @@ fn run_request<
         + Sync,
     I: Read + Send + Drop,
     W: Write + IsTerminal + Send + Drop,
-    E: Write,
+    E: Write + IsTerminal,
 >(
     rt: &R,
     alloc: Global,
@@ -96,9 +97,19 @@ fn run_request<
         Request::Check(check) => run_check(rt, alloc, check, input, output, errors),
         Request::Edit(edit) => {
             let coloured = output.is_terminal() && !is_set(rt, "NO_COLOR");
-            run_edit(rt, alloc, edit, coloured, input, output, errors)
+            let counts = errors.is_terminal() && (edit.writes_last() || !output.is_terminal());
+            let mut progress = Progress::of(errors, counts);
+            let status = run_edit(rt, alloc, edit, coloured, input, output, &mut progress);
+            progress.end();
+            status
         }
-        Request::Find(find) => run_find(rt, alloc, find, input, output, errors),
+        Request::Find(find) => {
+            let counts = errors.is_terminal() && !output.is_terminal();
+            let mut progress = Progress::of(errors, counts);
+            let status = run_find(rt, alloc, find, input, output, &mut progress);
+            progress.end();
+            status
+        }
         Request::Trace(trace) => run_trace(rt, alloc, trace, input, output, errors),
         Request::Serve(options) => run_serve(rt, alloc, options, input, output, errors),
         Request::ServeStore(options) => run_stored(rt, alloc, options, input, output, errors),
@@ -140,7 +151,7 @@ fn perform<
         + Sync,
     I: Read + Send + Drop,
     W: Write + IsTerminal + Send + Drop,
-    E: Write,
+    E: Write + IsTerminal,
 >(
     rt: &R,
     alloc: Global,
@@ -168,7 +179,7 @@ fn run_words<
         + Sync,
     I: Read + Send + Drop,
     W: Write + IsTerminal + Send + Drop,
-    E: Write,
+    E: Write + IsTerminal,
 >(rt: &R, alloc: Global, words: &[String], input: &mut I, output: &mut W, errors: &mut E) -> u8 {
     match asked_for(alloc, words) {
         Ok(request) => perform(rt, alloc, &request, input, output, errors),
@@ -195,7 +206,7 @@ pub(crate) fn run<
         + Sync,
     I: Read + Send + Drop,
     W: Write + IsTerminal + Send + Drop,
-    E: Write,
+    E: Write + IsTerminal,
 >(
     rt: &R,
     alloc: Global,

@@ -4,6 +4,7 @@ ghost use Rattle.std.specs.Prelude.{◌<◌};
 use crate::edit_reports::{Form, put_end, report_fault};
 use crate::faults::ProgramFault;
 use crate::match_rows::{Rows, rows_of};
+use crate::progress::Progress;
 use crate::rounds_left::report_stopped_in;
 use crate::shared_files::places_of;
 use crate::streams::write_all;
@@ -168,7 +169,7 @@ pub(crate) fn edit_with_rows<R: Files<File = File, Dir: Send> + Threads + Sync, 
     writing: Writing<'_>,
     threads: usize,
     output: &mut W,
-    errors: &mut E,
+    errors: &mut Progress<'_, E>,
 ) -> Result<Tally, ProgramFault>
     requires { 0 < threads }
 {
@@ -177,6 +178,7 @@ pub(crate) fn edit_with_rows<R: Files<File = File, Dir: Send> + Threads + Sync, 
         output,
         fault: None,
     };
+    let mut edited = 0_usize;
     for share in paths.chunks(threads.saturating_mul(SHARE).max(1)) {
         edit_share(
             rt,
@@ -189,6 +191,8 @@ pub(crate) fn edit_with_rows<R: Files<File = File, Dir: Send> + Threads + Sync, 
             &mut outlet,
             errors,
         )?;
+        edited = edited.saturating_add(share.len());
+        errors.show(edited, paths.len());
     }
     match outlet.fault {
         Some(fault) => Err(fault),

@@ -4,7 +4,7 @@ ghost use Rattle.std.specs.Prelude.{◌<◌};
 use crate::faults::ProgramFault;
 use crate::find_options::Shown;
 use crate::finds::{NotFound, Sought, find_file, find_named, keep};
-use crate::shared_files::{Kept, SHARE, places_of};
+use crate::shared_files::{Kept, places_of};
 use crate::streams::write_all;
 use sno_edit::{EditRules, FileFault};
 use sno_files::{Place, side_by_side};
@@ -88,7 +88,7 @@ fn write_each<R: Files<File = File>, I: Read, W: Write, E: Write>(
     Ok(())
 }
 
-/// Seeks the rules in each file, by several threads, and writes what is shown of it, in the order of the paths.
+/// Seeks the rules in each of these files, by several threads, and writes what is shown of it, in the order of the paths.
 pub(crate) fn find_shared<
     R: Files<File = File, Dir: Send> + Threads + Sync,
     I: Read,
@@ -108,17 +108,14 @@ pub(crate) fn find_shared<
 ) -> Result<(), ProgramFault>
     requires { 0 < threads }
 {
-    for share in paths.chunks(threads.saturating_mul(SHARE).max(1)) {
-        let mut places = places_of(alloc, share)?;
-        side_by_side(
-            rt,
-            threads,
-            &mut places,
-            &|path: &str| see(rt, alloc, rules, shown, path),
-        );
-        write_each(
-            rt, alloc, shown, rules, &places, sought, input, output, errors,
-        )?;
-    }
-    Ok(())
+    let mut places = places_of(alloc, paths)?;
+    side_by_side(
+        rt,
+        threads,
+        &mut places,
+        &|path: &str| see(rt, alloc, rules, shown, path),
+    );
+    write_each(
+        rt, alloc, shown, rules, &places, sought, input, output, errors,
+    )
 }

@@ -1,5 +1,5 @@
 -- The matches of one statement don't go back.
-use Rattle.std.proofs.Common.{◌≡◌, ◌≤◌, ℕ, Bool, true, false, List, [], ◌∷◌, length, map, Option, if◌then◌else◌, ap, subst, sym, arith}
+use Rattle.std.proofs.Common.{◌≡◌, ◌≤◌, ℕ, Bool, true, false, List, [], ◌∷◌, ◌++◌, length, map, Option, if◌then◌else◌, ap, subst, sym, ◌∙◌, arith}
 use Rattle.sno_pattern.specs.Outcome.{outcome}
 use Rattle.sno_pattern.specs.declared.found.Found.{Found}
 use Rattle.sno_pattern.specs.declared.found.Hit.{Hit as FoundHit}
@@ -10,7 +10,8 @@ use Rattle.sno_statement.specs.Statement.{Statement}
 use Rattle.sno_statement.specs.declared.match_lists.Match.{Match}
 use Rattle.sno_edit.specs.Edits.{is_for}
 use Rattle.sno_edit.specs.declared.trials.Trials.{Trials}
-use Rattle.sno_find.specs.Findings.{AreRising, Hit, hit_of, hits_of, limited, match_list, sought}
+use Rattle.sno_find.specs.Findings.{AreRising, Hit, hit_of, hits_of, hits_seen, limited, match_list, sought}
+use Rattle.sno_find.specs.declared.hits.Hit.{Hit as StoredHit}
 
 -- hits that don't go back before a place don't go back before an earlier one
 earlier : (bytes c d : ℕ) (hits : List Hit) → c ≤ d → AreRising bytes d hits → AreRising bytes c hits
@@ -49,3 +50,7 @@ module _ (order : MatchesAreInOrder) (first : FirstIsThePlainMatch) where
       by : (it_is : Bool) → AreRising (length t) 0 (if it_is then map (hit_of s.number) (sought (limited trials t s) t) else [])
       by true = sought_rising t s.number (limited trials t s)
       by false = tt
+
+-- the hits that were added to none are all hits
+pub first_added : (old new : List StoredHit) (hits : List Hit) → old ≡ [] → hits_seen new ≡ hits_seen old ++ hits → hits_seen new ≡ hits
+first_added old new hits none is = is ∙ ap (λ (z : List StoredHit). hits_seen z ++ hits) none

@@ -1,10 +1,11 @@
 //! What rules match in the text of a file that they edit, as rows of JSON.
-ghost use Rattle.std.specs.Prelude.{◌≡◌, ◌++◌, not, map, false, IfOk, IfErr, OnOk};
+ghost use Rattle.std.specs.Prelude.{◌≡◌, ◌++◌, not, map, false, None, IfOk, IfErr, OnOk};
 ghost use Rattle.std.specs.Arc.{arc_value};
 ghost use Rattle.std.specs.Io.KnownBytes.{Appends};
 ghost use Rattle.std.specs.List.{flat_map};
 ghost use Rattle.std.specs.Option.{option_map};
 ghost use Rattle.sno_edit.specs.Edits.{turn};
+ghost use Rattle.sno_edit.specs.Faults.{follows};
 ghost use Rattle.sno_edit.specs.Rules.{rules_seen};
 ghost use Rattle.sno_edit.specs.Turns.{begun, turn_seen};
 ghost use Rattle.sno_find.specs.EditRows.{edit_json, left_of, matches_json, ok_of, rounds_json, rounds_row, statement_json, text_in, turn_json};
@@ -32,6 +33,9 @@ pub enum RowsFault {
     /// The writer refused some bytes.
     #[error("write failed")]
     Write,
+    /// A search of the statement with this number would have to keep more than [`sno_machine::MAX_KEPT`] entries in its history.
+    #[error("statement {0}: history too long")]
+    HistoryTooLong(u32),
     /// Out of memory.
     #[error("out of memory")]
     Memory,
@@ -129,7 +133,8 @@ fn write_once<W: Write>(
             Ok(true)
         }
         Err(FindFault::TooManyTrials(_)) => Ok(false),
-        Err(_) => Err(RowsFault::Memory),
+        Err(FindFault::HistoryTooLong(statement)) => Err(RowsFault::HistoryTooLong(statement)),
+        Err(FindFault::Memory) => Err(RowsFault::Memory),
     }
 }
 
@@ -152,6 +157,7 @@ fn write_rounds<W: Write>(
 }
 
 /// Appends a repeated statement with the number of its rounds that matched.
+#[tactic(auto, unfolding(crate::specs::EditRows::rounds_row))]
 fn put_rounds(
     alloc: Global,
     path: &str,
@@ -166,6 +172,22 @@ fn put_rounds(
     put_text("}\n", out)
 }
 
+/// Why a statement was refused, if that doesn't follow from its text.
+fn unknown(fault: FileFault) -> Option<RowsFault>
+    ensures { result ≡ None → follows fault }
+{
+    match fault {
+        FileFault::Memory => Some(RowsFault::Memory),
+        FileFault::Refused(RefusedStatement { statement, fault }) => match fault {
+            FileStatementFault::Memory => Some(RowsFault::Memory),
+            FileStatementFault::HistoryTooLong => Some(RowsFault::HistoryTooLong(statement)),
+            FileStatementFault::TooManyTrials | FileStatementFault::TextTooLong => None,
+        },
+        FileFault::TooLong | FileFault::Cut(_) | FileFault::Unread(_) | FileFault::Unwritten(_) =>
+            None,
+    }
+}
+
 /// What a statement leaves of a text; `None` if it is refused.
 fn left_in(
     alloc: Global,
@@ -178,16 +200,10 @@ fn left_in(
 {
     match turn_of(alloc, rules, statement, path, text) {
         Ok(turn) => Ok(Some(turn)),
-        Err(FileFault::Memory)
-        | Err(
-            FileFault::Refused(
-                RefusedStatement {
-                    fault: FileStatementFault::HistoryTooLong,
-                    ..
-                },
-            ),
-        ) => Err(RowsFault::Memory),
-        Err(_) => Ok(None),
+        Err(fault) => match unknown(fault) {
+            Some(fault) => Err(fault),
+            None => Ok(None),
+        },
     }
 }
 
@@ -265,7 +281,9 @@ fn write_last<W: Write>(
 /// Refused with
 ///
 /// - `Write` if the writer refuses some bytes;
-/// - `Memory` if out of memory, or if a search would have to keep more than `sno_machine::MAX_KEPT` entries in its history.
+/// - `HistoryTooLong` only if a search of the statement with that number would have to keep more than `sno_machine::MAX_KEPT` entries
+///   in its history;
+/// - `Memory` if out of memory.
 ///
 /// Then some of the rows may be written.
 pub fn write_edit_rows<W: Write>(
