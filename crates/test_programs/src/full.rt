@@ -4,7 +4,7 @@ use sno_book::Book;
 use sno_desk::{Desk, DeskWork, Naming, Seat, at_desk};
 use sno_document::{Mode, Rules};
 use sno_pattern::{Names, Text, TextName};
-use sno_serve::{Reason, Refusal, answer, line_in};
+use sno_serve::{Reason, Refusal, answer as reply_to, line_in};
 use std::alloc::Global;
 use std::process::Abort;
 use std::sync::{Arc, Wait};
@@ -35,8 +35,8 @@ impl<R: Abort> Fills<'_, R> {
         };
         let line = line_in(alloc, &self.rules, mode, number, LINE);
         let line = line.expect(self.rt, "there is memory");
-        let answered = answer(rt, alloc, desk, seat, line, 1);
-        answered.expect(self.rt, "there is memory").refused
+        let reply = reply_to(rt, alloc, desk, seat, line, 1);
+        reply.expect(self.rt, "there is memory").refused
     }
 }
 
