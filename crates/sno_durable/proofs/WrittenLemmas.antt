@@ -2,7 +2,7 @@
 use Rattle.std.proofs.Common.{◌≡◌, ◌≤◌, ◌+◌, ℕ, Bool, true, false, ◌||◌, List, [], ◌∷◌, map, Option, Some, None, option_and_then, nat_eq, Ordering, Less, Equal, Greater, refl, subst, sym, ap, ◌∙◌, arith}
 use Rattle.std.specs.Prelude.{⊤, codes, if◌then◌else◌}
 use Rattle.std.specs.Ordering.{match_ordering}
-use Rattle.serde_json.specs.Data.{Data, null, boolean, number, string, array, object, unsigned, Items, no_items, item, Members, no_members, member, put, depth, items_depth, members_depth}
+use Rattle.serde_json.specs.Data.{Data, null, boolean, number, string, array, object, Items, no_items, item, Members, no_members, member, put, depth, items_depth, members_depth}
 use Rattle.serde_json.specs.Find.{get, get_member, as_array}
 use Rattle.serde_json.specs.Read.{read, max_depth}
 use Rattle.serde_json.specs.View.{items_of}
@@ -14,7 +14,7 @@ use Rattle.sno_listing.specs.JsonListing.{text_data, json_listing_data}
 use Rattle.sno_listing.proofs.JsonListingLemmas.{no_float}
 use Rattle.sno_serve.specs.Replies.{with_further}
 use Rattle.sno_durable.specs.Compacted.{IsDocumentAfter, document_after, versions_after, with_version}
-use Rattle.sno_durable.specs.Past.{items_shown, named_row_shown, number_at, raised, raised_from, row_shown, rows_in, rows_shown, shown}
+use Rattle.sno_durable.specs.Past.{items_shown, number_at, raised, raised_from, row_shown, rows_in, rows_shown, shown}
 
 ordering_depth : (o : Ordering) (a b c : Members) (n : ℕ) → members_depth a ≤ n → members_depth b ≤ n → members_depth c ≤ n → members_depth (match_ordering o a b c) ≤ n
 ordering_depth Less a b c n p q r = p

@@ -53,15 +53,15 @@ pub record IsDocumentAfter (document : List ℕ) (texts : List VersionedText) (b
 
 -- what came before a store that goes on from one after which these texts and entries are left, and whose next statement has this number
 abbrev pub past_after : Option Before → ℕ → View → Data
-past_after before number v =
-    past_data (higher (entries_before before) (length v.journal)) (number - 1) (object (versions_after (versions_before before) no_members (state_of v)))
+past_after before next v =
+    past_data (higher (entries_before before) (length v.journal)) (next - 1) (object (versions_after (versions_before before) no_members (state_of v)))
 
 -- the line is the first one of a store that goes on from such a store: its document has the texts as they are and no statements, and
 -- what came before is counted
-pub record GoesOn (origin : Origin) (number : ℕ) (v : View) (line : List ℕ) : Type 0 where
+pub record GoesOn (origin : Origin) (next : ℕ) (v : View) (line : List ℕ) : Type 0 where
   pub document : List ℕ
   pub written : IsDocumentAfter origin.document.items (state_of v) document
-  pub first : read line ≡ Some (later_data document origin.trials (made_of origin.document.items origin.before) (past_after origin.before number v))
+  pub first : read line ≡ Some (later_data document origin.trials (made_of origin.document.items origin.before) (past_after origin.before next v))
 
 -- the listing of a store, after this number of entries and these versions of its texts
 abbrev pub listing_shown : ℕ → Data → History → List ℕ

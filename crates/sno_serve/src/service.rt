@@ -211,7 +211,7 @@ fn may_cross<T: Send + Sync>()
     ensures shares { IsSync T.row }
 {}
 
-/// Serves a document: performs its statements, then answers each line of the reader by a line of the writer, until there
+/// Serves a document: performs its statements, then replies to each line of the reader by a line of the writer, until there
 /// are no more. From 1 to 16 seats take lines as they come, each in a thread of its own. A statement takes the number after
 /// that of the one read before it, counted on from the document's.
 ///

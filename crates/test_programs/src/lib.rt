@@ -8,6 +8,8 @@ mod diffs;
 mod edits;
 #[cfg(test)]
 mod findings;
+#[cfg(test)]
+mod full;
 mod memory;
 #[cfg(test)]
 mod seekers;

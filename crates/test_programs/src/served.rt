@@ -73,7 +73,7 @@ fn check_refused(rt: &impl Abort, refused: &[Refusal], expected: &[u32]) {
 }
 
 #[test]
-fn lines_are_answered(rt: HostRuntime) -> Result<(), Fail> {
+fn lines_get_replies(rt: HostRuntime) -> Result<(), Fail> {
     let alloc = rt.alloc();
     let mode = Mode {
         anchor: false,
