@@ -110,7 +110,7 @@ pub(crate) fn exchange(rt: &impl Abort, alloc: Global) -> Result<Arc<Statement>,
     statement(rt, alloc, "T", PAIR, "V '=' K")
 }
 
-/// The statement on its text as it stands.
+/// The statement on its text as it is now.
 pub(crate) fn proposal(alloc: Global, book: &Book, job: &Arc<Statement>) -> Result<Proposal, Fail>
     ensures { IfOk result (λ p. IsPrefix p.origin (view_of book.now)) }
 {

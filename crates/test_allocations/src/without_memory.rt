@@ -160,12 +160,12 @@ fn count_and_close<L: Naming, R: Wait + Abort + Print>(
     requires empty { book.journal ≡ [] }
 {
     let (desk, seats) = Desk::<L>::new(rt, alloc, blank, book, 2).map_err(|(fault, _)| fault)?;
-    let told = tell_ready(rt);
+    let ready = tell_ready(rt);
     check_seats(rt, seats.as_slice());
     let closed = close(rt, desk, seats);
     let book = closed.ok().expect(rt, "it is closed");
     check_book(rt, &book, b"x".as_slice(), 0, 0);
-    told?;
+    ready?;
     tell(rt, CallEnd::Given)
 }
 

@@ -36,7 +36,7 @@ fn numbered_names(alloc: Global, count: usize) -> Result<Vec<Name>, Fail> {
     Ok(names)
 }
 
-// How many names there are where these are so many.
+// How many names there are of a list of this length.
 fn count_of(alloc: Global, names: &[Name]) -> Result<usize, NamesFault> {
     Ok(Names::new(alloc, names)?.len())
 }

@@ -146,7 +146,7 @@ fn kept_on(alloc: Global, text: &ByteText) -> Result<(Result<bool, MatchFault>, 
     Ok(kept_by(alloc, &code, text))
 }
 
-// The same on so many `a`.
+// The same on this number of `a`.
 fn kept_in(alloc: Global, count: usize) -> Result<(Result<bool, MatchFault>, bool), Fail> {
     let text = ByteText::new(vec![in alloc; b'a'; count]?)?;
     kept_on(alloc, &text)

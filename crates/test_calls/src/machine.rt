@@ -113,7 +113,7 @@ fn one_workspace_serves_many_matches(rt: HostRuntime) -> Result<(), Fail> {
     Ok(())
 }
 
-// So many `(`, an `x`, and so many `)`.
+// n times `(`, an `x`, and n times `)`.
 fn nested(alloc: Global, depth: usize) -> Result<Text, Fail> {
     let mut text = vec![in alloc; b'('; depth]?;
     text.push(b'x')?;
@@ -178,7 +178,7 @@ fn limited_on(
     limited(alloc, pattern, &text_of(alloc, text)?, limit)
 }
 
-// Checks that the match takes so many trials, and where it begins and ends: one trial less refuses it.
+// Checks how many trials the match takes, and where it begins and ends: one trial less refuses it.
 fn check_limit(rt: &impl Abort, found: &[Result<Option<Extent>, MatchFault>; 2], expected: Extent) {
     check_eq(rt, &found[0], &Ok(Some(expected)));
     check_eq(rt, &found[1], &Err(MatchFault::TooManyTrials));

@@ -162,7 +162,7 @@ fn names_of_definitions(rt: HostRuntime) -> Result<(), Fail> {
     Ok(())
 }
 
-// How many parts the object of so many blanks has.
+// How many parts an object of n blanks has.
 fn parts_of_blanks(alloc: Global, names: &Names, count: usize) -> Result<usize, ReadFault> {
     let blanks = vec![in alloc; b' '; count].map_err(|_| ReadFault::Memory)?;
     Ok(read_object(alloc, names, &blanks)?.parts().len())
