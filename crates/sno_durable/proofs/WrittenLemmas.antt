@@ -153,5 +153,5 @@ shown_float entries versions d h is =
     let entry_rows = rows_shown entries versions (codes "entries") (codes "text") row in
     ap has_float is
     ∙ either_float (nat_eq entries 0) (json_listing_data h) (rows_shown entries versions (codes "texts") (codes "name") entry_rows) (no_float h)
-      (lists_float entries versions (codes "texts") (codes "name") entry_rows
-        (lists_float entries versions (codes "entries") (codes "text") row (row_float entries 0 (json_listing_data h) (no_float h))))
+    (lists_float entries versions (codes "texts") (codes "name") entry_rows
+    (lists_float entries versions (codes "entries") (codes "text") row (row_float entries 0 (json_listing_data h) (no_float h))))
