@@ -42,9 +42,13 @@ versions_depth before ms (held ∷ texts) h = versions_depth before (with_versio
 pub versions_shallow : (before d : Data) (texts : List VersionedText) → d ≡ object (versions_after before no_members texts) → depth d + 2 ≤ max_depth
 versions_shallow before d texts is = subst (λ e. depth e + 2 ≤ max_depth) (sym is) (omega (arith, versions_depth before no_members texts (omega arith)))
 
+text_depth : (t : VersionedText) → depth (text_data t) ≤ 1
+unfolding text_data
+text_depth t = omega arith
+
 texts_depth : (texts : List VersionedText) → items_depth (items_of (map text_data texts)) ≤ 1
 texts_depth [] = omega arith
-texts_depth (t ∷ texts) = omega (arith, texts_depth texts)
+texts_depth (t ∷ texts) = omega (arith, text_depth t, texts_depth texts)
 
 after_depth : (d : Data) (texts : List VersionedText) → depth d ≤ max_depth → depth (document_after d texts) ≤ max_depth
 after_depth d texts h =
