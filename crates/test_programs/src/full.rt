@@ -1,4 +1,5 @@
 //! A desk whose journal is full: a further statement is refused, and listed so.
+ghost use Rattle.std.specs.Prelude.{◌≡◌, [], IfOk};
 
 use sno_book::Book;
 use sno_desk::{Desk, DeskWork, Naming, Seat, at_desk};
@@ -63,7 +64,9 @@ impl<R: Abort> DeskWork for Fills<'_, R> {
 }
 
 /// A book of one text with room for one entry.
-fn small_book(rt: &impl Abort, alloc: Global) -> Result<Book, Fail> {
+fn small_book(rt: &impl Abort, alloc: Global) -> Result<Book, Fail>
+    ensures { IfOk result (λ book. book.journal ≡ []) }
+{
     let name = TextName::new(alloc, b"T").expect(rt, "it is a name");
     let text = Text::new(Vec::from_slice(alloc, b"a")?).expect(rt, "it is a text");
     let mut texts = Vec::new(alloc);
