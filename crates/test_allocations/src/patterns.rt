@@ -86,7 +86,7 @@ fn bodies_of(
 }
 
 /// The definitions as they are written, in a box, as a pattern is.
-fn definitions(
+fn read_definitions(
     rt: &impl Abort,
     alloc: Global,
     written: &[(&'static str, &'static str)],
@@ -129,8 +129,8 @@ fn admit_both(
 #[test]
 fn definitions_are_admitted(rt: HostRuntime) -> Result<(), Fail> {
     let alloc = rt.alloc();
-    let first = definitions(&rt, alloc, NUMBERS.as_slice())?;
-    let second = definitions(&rt, alloc, NUMBERS.as_slice())?;
+    let first = read_definitions(&rt, alloc, NUMBERS.as_slice())?;
+    let second = read_definitions(&rt, alloc, NUMBERS.as_slice())?;
     tell_ready(&rt)?;
     tell_both(&rt, admit_both(&rt, alloc, first, second))
 }
@@ -216,7 +216,7 @@ static ROW: [(&str, &str); 1] = [("S", "'a' *S | ''")];
 const TWO_ROWS: &[u8] = b"*S . A 'a' *S . B 'b'";
 
 fn admitted_row(rt: &impl Abort, alloc: Global) -> Result<Arc<Rules>, Fail> {
-    let row = definitions(rt, alloc, ROW.as_slice())?;
+    let row = read_definitions(rt, alloc, ROW.as_slice())?;
     let Definitions { names, bodies } = Box::into_inner(row);
     assert!(rt; names.len() == bodies.len());
     Ok(Arc::new(alloc, Rules::admit(alloc, names, bodies)?)?)
