@@ -154,9 +154,7 @@ impl fmt::Display for Error {
             Error::TooManyTrials(trials) => write!(formatter, "more than {trials} trials"),
             Error::TooLong => formatter.write_str("a text of more than 16777216 bytes"),
             Error::PastEnd => formatter.write_str("a cursor past the end of the text"),
-            Error::HistoryTooLong => {
-                formatter.write_str("a history of more than 4194304 entries")
-            }
+            Error::HistoryTooLong => formatter.write_str("a history of more than 4194304 entries"),
             Error::Unexpected(status) => write!(formatter, "unexpected status {status}"),
         }
     }
