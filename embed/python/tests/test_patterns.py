@@ -6,7 +6,7 @@ import threading
 import unittest
 
 from sno_rewrite import Statement, patterns, rewrite
-from sno_rewrite.patterns import PatternError, TrialsError
+from sno_rewrite.patterns import HistoryError, PatternError, TrialsError
 
 NUMBER = "SPAN('0123456789') . N"
 
@@ -198,6 +198,15 @@ class Refusals(unittest.TestCase):
         self.assertTrue(pattern.search("aab"))
         with self.assertRaises(TrialsError):
             pattern.search("aaab")
+
+    def test_a_history_that_is_too_long(self) -> None:
+        pattern = patterns.compile("ARBNO('a' | 'b') '#' = 'x' :anchored", trials=1_000_000_000)
+        long = "ab" * 8_388_608
+        self.assertEqual(pattern.replace("ab#"), "x")
+        with self.assertRaises(HistoryError):
+            pattern.search(long)
+        with self.assertRaises(HistoryError):
+            pattern.replace(long)
 
     def test_wrong_arguments(self) -> None:
         for trials in (0, 1_000_000_001):
