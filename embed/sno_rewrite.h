@@ -4,7 +4,7 @@
  * The functions are part of the static library that crates/sno_c makes. They are proved to do what this header says
  * about statuses, numbers and buffers. The text of a fault's line is only tested.
  *
- * The caller has to see to four things, which no proof can check:
+ * The caller must guarantee four things, which no proof can check:
  * - A pointer with a length points to that many bytes, and each other one to a value of its type.
  * - No pointer is null, even if its length is 0. The functions that are defined here check this first.
  * - What the pointers of a call point to doesn't overlap.

@@ -4,17 +4,20 @@ import os
 import re
 import shutil
 import sys
+import sysconfig
 
 from cases import EMBED, EXAMPLES, OUT, SHARED, TOP, VERSION, WARNINGS, environment, expect, has, made, run
 
-# Prints the module's folder, the library's folder and the result of a call.
+# Prints the module's folder, the library's folder, the way of seeking patterns and the results of two calls.
 PYTHON_CALL = """
-import sno_rewrite, sno_rewrite._library, pathlib
+import sno_rewrite, sno_rewrite._library, sno_rewrite._finders, sno_rewrite.patterns, pathlib
 folder = pathlib.Path(sno_rewrite.__file__).parent
 assert (folder / "py.typed").is_file()
 assert (folder / "service/page.html").is_file() and (folder / "service/openapi.json").is_file()
 print(folder)
 print(pathlib.Path(sno_rewrite._library.load().path).parent)
+print(sno_rewrite._finders.Finder.__module__)
+print(sno_rewrite.patterns.sub("'b'", "'Y'", "abc"))
 print(sno_rewrite.rewrite(texts={"T": "abc"}, statements=[sno_rewrite.Statement("T", "'b'", "'X'")]).texts[0].text)
 """
 
@@ -73,8 +76,9 @@ def try_python(folder):
     whole = try_pip("pip install .", environments / "folder", source, ["."])
     expect("pip install .: the wheel holds the library", whole and whole[1], whole and whole[0])
     found = try_pip("pip install -e .", environments / "editable", source, ["-e", "."])
-    expect("pip install -e .: it uses the sources", found, [str(source / "src/sno_rewrite"), str(built), "aXc"])
-    try_wheel(folder, source, environments / "wheel")
+    expect("pip install -e .: it uses the sources", found and found[:2], [str(source / "src/sno_rewrite"), str(built)])
+    try_wheel(folder, source, environments / "wheel", "cp311-abi3")
+    try_wheel(folder, source, environments / "wheel_by_ctypes", "py3-none", CC="false")
 
     # A source distribution and a repository have no library, so the environment names it.
     sources = folder / "sources"
@@ -100,8 +104,8 @@ def pip(python, *words):
     return [sys.executable, "-m", "pip", "--python", python, "--disable-pip-version-check", "-q", *words]
 
 
-def try_pip(what, place, cwd, words, library=None):
-    """Installs into a new environment, and makes a call there. Returns the three lines that the call prints."""
+def try_pip(what, place, cwd, words, library=None, way="_fast"):
+    """Installs into a new environment, and makes calls there. Returns the lines that they print."""
     python = place / "bin/python"
     if not made(f"{what}: the environment", [sys.executable, "-m", "venv", "--without-pip", place]):
         return None
@@ -111,22 +115,25 @@ def try_pip(what, place, cwd, words, library=None):
     named = {"SNO_REWRITE_LIBRARY": library} if library else {}
     status, output, faults = run([python, "-c", PYTHON_CALL], cwd=place, env=environment(**named))
     lines = output.decode().split("\n")[:-1]
-    expect(f"{what}: the call", (status, lines[2:], faults), (0, ["aXc"], b""))
+    expect(f"{what}: the calls", (status, lines[2:], faults), (0, [f"sno_rewrite.{way}", "aYc", "aXc"], b""))
     found = run([place / "bin/nomyake-service", "--version"], cwd=place, env=environment())
     expect(f"{what}: the service", found, (0, f"nomyake-service {VERSION}\n".encode(), b""))
     return lines
 
 
-def try_wheel(folder, source, place):
-    wheels = folder / "wheels"
-    flags = environment(PIP_CONFIG_FILE=os.devnull, PIP_NO_INDEX=1)
+def try_wheel(folder, source, place, tag, **changes):
+    """Makes a wheel that needs this of Python, and installs it."""
+    wheels = folder / place.name
+    flags = environment(PIP_CONFIG_FILE=os.devnull, PIP_NO_INDEX=1, **changes)
     command = pip(sys.executable, "wheel", "-w", wheels, ".")
-    if not made("pip wheel", command, cwd=source, env=flags):
+    if not made(f"pip wheel, {tag}", command, cwd=source, env=flags):
         return
     names = [path.name for path in wheels.iterdir()]
-    expect("the wheel's name", [name.startswith(f"sno_rewrite-{VERSION}-py3-none-linux_") for name in names], [True])
-    whole = try_pip("pip install of the wheel", place, wheels, names)
-    expect("the wheel holds the library", whole and whole[1], whole and whole[0])
+    machine = sysconfig.get_platform().replace("-", "_")
+    expect("the wheel's name", names, [f"sno_rewrite-{VERSION}-{tag}-{machine}.whl"])
+    way = "_plain" if tag.startswith("py3") else "_fast"
+    whole = try_pip(f"pip install of the wheel, {tag}", place, wheels, names, way=way)
+    expect(f"the wheel holds the library, {tag}", whole and whole[1], whole and whole[0])
 
 
 # C and C++.

@@ -67,7 +67,7 @@ fn count_unmarked(alloc: Global, rest: &Rest, entries: usize) -> Result<(u64, u6
 }
 
 /// The findings of a load, if each seat's record is as it should be, and there are as many receipts as entries.
-pub fn findings_of(alloc: Global, rest: &Rest) -> Result<Findings, Fault> {
+pub(crate) fn findings_of(alloc: Global, rest: &Rest) -> Result<Findings, Fault> {
     let entries = rest.book.journal().len();
     let (receipts, snapshots) = count_unmarked(alloc, rest, entries)?;
     if receipts != entries as u64 {

@@ -1,13 +1,12 @@
 //! A desk under load, from its opening to its close.
 ghost use Rattle.std.specs.Prelude.{◌≡◌, ◌≤◌, ◌+◌, [], IfOk, length};
-ghost use Rattle.std.specs.Thread.{IsSend, IsSync};
 
 use crate::faults::Fault;
 use crate::posts::{Post, Record, Shared, Shift};
 use crate::texts::{TEXTS, book_of, jobs_of, names_of};
 use crate::words::Load;
 use sno_book::{Book, Entry, Receipt};
-use sno_desk::{Blank, Desk, Naming, Seat, close};
+use sno_desk::{Blank, Desk, Naming, Seat, close, may_cross};
 use sno_statement::Statement;
 use std::alloc::Global;
 use std::marker::Brand;
@@ -26,16 +25,9 @@ pub struct Rest {
 }
 
 /// The time that the clock shows.
-pub fn now<C: Clock>(clock: &C) -> Result<Instant, Fault> {
+pub(crate) fn now<C: Clock>(clock: &C) -> Result<Instant, Fault> {
     Instant::now(clock).map_err(|_| Fault::Clock)
 }
-
-/// A value of this type may go to another thread, and be shared there. The function does nothing: its contract is used
-/// more than once.
-fn may_cross<T: Send + Sync>()
-    ensures sends { IsSend T.row }
-    ensures shares { IsSync T.row }
-{}
 
 /// Lets all posts work, each in a thread of its own.
 fn work_all<L: Naming + Send + Sync, R: Threads + Wait + Sync>(
@@ -208,7 +200,7 @@ fn run<L: Naming + Send + Sync, R: Threads + Wait + Clock + Sync>(
 }
 
 /// Puts a new desk under load.
-pub fn run_load<R: Threads + Wait + Clock + Sync>(
+pub(crate) fn run_load<R: Threads + Wait + Clock + Sync>(
     rt: &R,
     alloc: Global,
     load: Load,

@@ -44,7 +44,7 @@ pub struct Post<L: Naming> {
 
 impl<L: Naming> Post<L> {
     /// A post at which nothing was done.
-    pub fn new(alloc: Global, seat: Seat<L>) -> Post<L> {
+    pub(crate) fn new(alloc: Global, seat: Seat<L>) -> Post<L> {
         Post {
             seat,
             record: Record::new(alloc),
@@ -52,13 +52,13 @@ impl<L: Naming> Post<L> {
     }
 
     /// Takes the record, with the seat's count, and puts a new one in its place.
-    pub fn take_record(&mut self, alloc: Global) -> Record {
+    pub(crate) fn take_record(&mut self, alloc: Global) -> Record {
         self.record.accepted = self.seat.accepted();
         mem::replace(&mut self.record, Record::new(alloc))
     }
 
     /// The seat, without its record.
-    pub fn into_seat(self) -> Seat<L> {
+    pub(crate) fn into_seat(self) -> Seat<L> {
         self.seat
     }
 
@@ -183,7 +183,7 @@ impl<L: Naming> Shift<'_, L> {
     }
 
     /// Does the work of the post at a place: the first posts write, the others read.
-    pub fn work<R: Wait>(&self, rt: &R, alloc: Global, place: usize, post: &mut Post<L>) {
+    pub(crate) fn work<R: Wait>(&self, rt: &R, alloc: Global, place: usize, post: &mut Post<L>) {
         let shared = self.shared;
         let done = if place < shared.load.writers {
             let done = self.write(rt, alloc, post, place);

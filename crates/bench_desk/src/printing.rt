@@ -49,7 +49,7 @@ fn print_rates<R: Print>(rt: &R, load: Load, findings: Findings, took: Duration)
 }
 
 /// Puts a desk under the load, and prints the findings, and the rates if they are wanted.
-pub fn print_load<R: Print + Threads + Wait + Clock + AllocGlobal + Sync>(
+pub(crate) fn print_load<R: Print + Threads + Wait + Clock + AllocGlobal + Sync>(
     rt: &R,
     load: Load,
     is_timed: bool,
@@ -64,7 +64,7 @@ pub fn print_load<R: Print + Threads + Wait + Clock + AllocGlobal + Sync>(
 }
 
 /// Prints the line of each timed desk.
-pub fn print_times<R: Print + Wait + Clock + AllocGlobal>(
+pub(crate) fn print_times<R: Print + Wait + Clock + AllocGlobal>(
     rt: &R,
     times: Times,
 ) -> Result<(), Fault> {

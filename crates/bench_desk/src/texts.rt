@@ -20,13 +20,13 @@ const ROOM: u32 = 1_000_000;
 static OBJECTS: [Option<&str>; 4] = [None, Some("'a'"), None, Some("'b'")];
 
 /// The name of a text by its place.
-pub fn name_of(alloc: Global, place: usize) -> Result<TextName, Fault> {
+pub(crate) fn name_of(alloc: Global, place: usize) -> Result<TextName, Fault> {
     let name = format!(in alloc; "T{place}")?;
     TextName::new(alloc, name.as_bytes()).map_err(|_| Fault::NoLoad)
 }
 
 /// The names of the first `count` texts.
-pub fn names_of(alloc: Global, count: usize) -> Result<Vec<TextName>, Fault> {
+pub(crate) fn names_of(alloc: Global, count: usize) -> Result<Vec<TextName>, Fault> {
     let mut names = Vec::new(alloc);
     for place in 0..count {
         names.push(name_of(alloc, place)?)?;
@@ -51,7 +51,7 @@ pub fn book_of(alloc: Global, count: usize) -> Result<Book, Fault>
 }
 
 /// No definitions.
-pub fn no_rules(alloc: Global) -> Result<Arc<Rules>, Fault> {
+pub(crate) fn no_rules(alloc: Global) -> Result<Arc<Rules>, Fault> {
     let names = Names::new(alloc, &[]).map_err(|_| Fault::NoLoad)?;
     let rules = Rules::admit(alloc, names, Vec::new(alloc)).map_err(|_| Fault::NoLoad)?;
     Ok(Arc::new(alloc, rules)?)
@@ -68,7 +68,7 @@ fn object_of(alloc: Global, rules: &Rules, written: Option<&str>) -> Result<Opti
 }
 
 /// A statement that matches the one character of the text at a place, and puts the object in its place, if there is one.
-pub fn statement_of(
+pub(crate) fn statement_of(
     alloc: Global,
     rules: &Arc<Rules>,
     place: usize,
@@ -120,7 +120,7 @@ fn jobs_from(
 
 /// The statements of a load. Those that go to the writers at the same time are on one text. Of the statements on a text
 /// every second one replaces its character.
-pub fn jobs_of(alloc: Global, load: Load) -> Result<Vec<Arc<Statement>>, Fault> {
+pub(crate) fn jobs_of(alloc: Global, load: Load) -> Result<Vec<Arc<Statement>>, Fault> {
     let kinds = kinds(alloc)?;
     jobs_from(alloc, &kinds, load)
 }

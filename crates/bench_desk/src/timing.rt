@@ -34,6 +34,14 @@ fn one_of(took: Duration, times: Times) -> Tenths {
     Tenths(took.as_nanos().saturating_mul(10) / u128::from(times.number))
 }
 
+/// What is timed at one desk: commits of these jobs, and snapshots, after this many entries.
+#[derive(Drop)]
+struct Series<'a> {
+    jobs: &'a [Arc<Statement>],
+    entries: u32,
+    times: Times,
+}
+
 /// What a snapshot and a commit take at one desk.
 #[derive(Clone, Copy)]
 pub struct DeskTimes {
@@ -89,16 +97,19 @@ fn time_commits<L: Naming, R: Wait + Clock>(
     Ok(took)
 }
 
-/// The least times of some runs, after this many entries were committed.
+/// The least times of some runs, after the entries of the series were committed.
 fn least_times<L: Naming, R: Wait + Clock>(
     rt: &R,
     alloc: Global,
     desk: &Desk<L>,
     seat: &mut Seat<L>,
-    jobs: &[Arc<Statement>],
-    entries: u32,
-    times: Times,
+    series: &Series<'_>,
 ) -> Result<DeskTimes, Fault> {
+    let Series {
+        jobs,
+        entries,
+        times,
+    } = *series;
     let name = name_of(alloc, 0)?;
     time_commits(rt, alloc, desk, seat, jobs, entries)?;
     let mut snapshot = Duration::MAX;
@@ -129,9 +140,7 @@ fn time_at<L: Naming, R: Wait + Clock>(
     alloc: Global,
     blank: Blank,
     book: Book,
-    jobs: &[Arc<Statement>],
-    entries: u32,
-    times: Times,
+    series: &Series<'_>,
 ) -> Result<DeskTimes, Fault>
     requires name { (blank.ledger.name ≡ L.name) × (blank.ledger.parts ≡ L.parts) }
     requires histories { (blank.history ≡ record { history = L.book; entries = [] }) × (blank.attempts.history ≡ L.tries) }
@@ -141,13 +150,13 @@ fn time_at<L: Naming, R: Wait + Clock>(
 {
     let (desk, mut seats) = Desk::<L>::new(rt, alloc, blank, book, 1).map_err(|_| Fault::NoDesk)?;
     let (first, _) = seats.as_mut_slice().split_at_mut(1);
-    let timed = least_times(rt, alloc, &desk, &mut first[0], jobs, entries, times);
+    let timed = least_times(rt, alloc, &desk, &mut first[0], series);
     let _book = close(rt, desk, seats).map_err(|_| Fault::Close)?;
     timed
 }
 
 /// What a snapshot and a commit take at a new desk with this many texts, whose journal begins with this many entries.
-pub fn time_desk<R: Wait + Clock>(
+pub(crate) fn time_desk<R: Wait + Clock>(
     rt: &R,
     alloc: Global,
     texts: usize,
@@ -156,5 +165,10 @@ pub fn time_desk<R: Wait + Clock>(
 ) -> Result<DeskTimes, Fault> {
     let book = book_of(alloc, texts)?;
     let jobs = jobs_on(alloc, texts)?;
-    time_at::<Brand, R>(rt, alloc, Blank::new(1), book, &jobs, entries, times)
+    let series = Series {
+        jobs: &jobs,
+        entries,
+        times,
+    };
+    time_at::<Brand, R>(rt, alloc, Blank::new(1), book, &series)
 }

@@ -1,16 +1,15 @@
 //! What the program's arguments ask for.
 ghost use Rattle.std.specs.Prelude.{◌≤◌, ◌+◌, IfOk};
+ghost use Rattle.sno_book.specs.declared.openings.TheConstants.{MAX_ENTRIES};
+ghost use Rattle.sno_desk.specs.declared.desk.TheConstants.{MAX_SEATS};
+ghost use Rattle.bench_desk.specs.declared.words.TheConstants.{MAX_TIMES};
 
 use crate::faults::Fault;
+use sno_book::MAX_ENTRIES;
+use sno_desk::MAX_SEATS;
 use std::env::Args;
 use std::io;
 use std::io::ErrorKind;
-
-/// The most submits: as many as a journal has room for.
-const MAX_SUBMITS: u32 = 1_000_000;
-
-/// The most seats, writers and readers together.
-const MAX_SEATS: u32 = 16;
 
 /// The most repetitions in a timed run, so that the journal has room for five runs.
 const MAX_TIMES: u32 = 100_000;
@@ -35,16 +34,16 @@ pub struct Load {
     pub writers: usize,
     pub readers: usize,
     pub look: Look,
-    ghost room: { submits ≤ 1000000 },
+    ghost room: { submits ≤ MAX_ENTRIES },
     ghost some: { 1 ≤ writers },
-    ghost few: { writers + readers ≤ 16 },
+    ghost few: { writers + readers ≤ MAX_SEATS },
 }
 
 /// How many repetitions a timed run has.
 #[derive(Clone, Copy)]
 pub struct Times {
     pub number: u32,
-    ghost valid: { (1 ≤ number) × (number ≤ 100000) },
+    ghost valid: { (1 ≤ number) × (number ≤ MAX_TIMES) },
 }
 
 /// What the arguments ask for.
@@ -101,7 +100,7 @@ fn look_in(words: &mut Args) -> Result<Look, Fault> {
 
 /// The load of `--submits N --writers W --readers R [--looks HOW]`, after the first of these arguments.
 fn load_in(words: &mut Args) -> Result<Load, Fault> {
-    let submits = number_in(words.next(), 1, MAX_SUBMITS)?;
+    let submits = number_in(words.next(), 1, MAX_ENTRIES)?;
     let writers = option_in(words, "--writers", 1, MAX_SEATS)?;
     let readers = option_in(words, "--readers", 0, MAX_SEATS - writers)?;
     let look = look_in(words)?;
@@ -157,7 +156,7 @@ fn task_after_name(words: Args) -> Result<Task, Fault> {
 /// What the program's arguments ask for. The first of them is its name.
 ///
 /// Refused: `Usage` for other arguments, even for one that is not a text; `Memory` if memory runs out.
-pub fn task_in(words: io::Result<Args>) -> Result<Task, Fault> {
+pub(crate) fn task_in(words: io::Result<Args>) -> Result<Task, Fault> {
     match words {
         Ok(words) => task_after_name(words),
         Err(error) => Err(match error.kind() {

@@ -37,16 +37,11 @@ use crate::faults::Fault;
 use crate::statements::print_statement;
 use crate::words::times_in;
 use sno_document::{Document, MAX_DOCUMENT, Mode, read_document};
+use sno_statement::{MAX_TRIALS, USUAL_TRIALS};
 use std::alloc::Global;
 use std::env;
 use std::io::{ErrorKind, Read};
 use std::process::ExitCode;
-
-/// How many trials a match may take if it isn't timed: as many as in a document that gives no limit.
-const USUAL_TRIALS: u32 = 1_000_000;
-
-/// How many trials a match may take if it is timed: as many as a limit can allow.
-const MOST_TRIALS: u32 = 1_000_000_000;
 
 /// All bytes of the reader, but at most one more than a document can have.
 fn read_all<R: Read + Drop>(alloc: Global, reader: R) -> Result<Vec<u8>, Fault> {
@@ -67,7 +62,7 @@ fn read_all<R: Read + Drop>(alloc: Global, reader: R) -> Result<Vec<u8>, Fault> 
 #[inline(never)]
 fn document<R: Read + Drop>(alloc: Global, reader: R, timed: bool) -> Result<Document, Fault> {
     let bytes = read_all(alloc, reader)?;
-    let trials = if timed { MOST_TRIALS } else { USUAL_TRIALS };
+    let trials = if timed { MAX_TRIALS } else { USUAL_TRIALS };
     let mode = Mode {
         anchor: false,
         trials,

@@ -1,5 +1,6 @@
 //! The arguments of the program.
 ghost use Rattle.std.specs.Prelude.{◌≤◌, IfOk, IfSome};
+ghost use Rattle.bench_matches.specs.declared.words.TheConstants.{MAX_TIMES};
 
 use crate::faults::Fault;
 use std::env::Args;
@@ -10,7 +11,7 @@ const MAX_TIMES: u32 = 1_000_000;
 
 /// The number that an argument is, 1 to 1,000,000; `None` if it isn't one.
 fn number_in(word: &str) -> Option<u32>
-    ensures { IfSome result (λ n. (1 ≤ n) × (n ≤ 1000000)) }
+    ensures { IfSome result (λ n. (1 ≤ n) × (n ≤ MAX_TIMES)) }
 {
     match word.parse::<u32>() {
         Ok(number) if 1 <= number && number <= MAX_TIMES => Some(number),
@@ -20,7 +21,7 @@ fn number_in(word: &str) -> Option<u32>
 
 /// What the arguments after the program's name ask for.
 fn times_after_name(words: Args) -> Result<Option<u32>, Fault>
-    ensures { IfOk result (λ times. IfSome times (λ n. (1 ≤ n) × (n ≤ 1000000))) }
+    ensures { IfOk result (λ times. IfSome times (λ n. (1 ≤ n) × (n ≤ MAX_TIMES))) }
 {
     let mut words = words;
     let _name = words.next();
@@ -43,7 +44,7 @@ fn times_after_name(words: Args) -> Result<Option<u32>, Fault>
 ///
 /// Refused: `Usage` for other arguments, also for one that is not a text, and `Memory` if out of memory.
 pub fn times_in(words: io::Result<Args>) -> Result<Option<u32>, Fault>
-    ensures { IfOk result (λ times. IfSome times (λ n. (1 ≤ n) × (n ≤ 1000000))) }
+    ensures { IfOk result (λ times. IfSome times (λ n. (1 ≤ n) × (n ≤ MAX_TIMES))) }
 {
     match words {
         Ok(words) => {

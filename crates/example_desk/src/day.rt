@@ -1,11 +1,10 @@
 //! A day at the desk: a book, its desk with four seats, their threads, and the close.
 ghost use Rattle.std.specs.Prelude.{◌≡◌, ◌≤◌, [], IfOk};
-ghost use Rattle.std.specs.Thread.{IsSend, IsSync};
 
 use crate::faults::Fault;
 use crate::seats::{read, submit, write};
 use crate::statements::Edits;
-use sno_desk::{Book, Desk, DeskWork, Naming, Seat, Statement, Text, TextName, at_desk};
+use sno_desk::{Book, Desk, DeskWork, Naming, Seat, Statement, Text, TextName, at_desk, may_cross};
 use std::alloc::Global;
 use std::sync::Wait;
 use std::sync::atomic::{AtomicUsize, Ordering};
@@ -61,12 +60,6 @@ impl<C: Clock> DeskWork for Day<'_, C> {
         }
     }
 }
-
-/// A value of this type may go to another thread, and be shared there.
-fn may_cross<T: Send + Sync>()
-    ensures sends { IsSend T.row }
-    ensures shares { IsSync T.row }
-{}
 
 /// Spends a day at a new desk, and returns the book that it leaves.
 pub(crate) fn run_day<R: Threads + Wait + Clock + Sync>(

@@ -1,7 +1,7 @@
 //! A store that replaces the one from which it goes on.
 
 use crate::faults::FAILED;
-use crate::stored::{Stores, opened, refuse};
+use crate::stored::{Opened, Stores, opened, refuse};
 use sno_durable::{DurableFault, Kept};
 use sno_store::{File, Lines, Store};
 use sqlite_disk::Disk;
@@ -85,7 +85,7 @@ pub(crate) fn compact<R: Files + Stores, D: Disk, I: Read, W: Write, E: Write>(
     path: &str,
     kept: &Kept<D, I, W>,
     errors: &mut E,
-) -> Result<(Store<File>, Lines), u8> {
+) -> Result<Opened, u8> {
     let lines = match kept.compacted(alloc) {
         Ok(lines) => lines,
         Err(fault) => return Err(refuse(&fault, errors)),

@@ -18,6 +18,13 @@ pub(crate) struct Last {
     pub(crate) end: usize,
 }
 
+/// A line: its number, and where it begins.
+#[derive(Clone, Copy)]
+pub(crate) struct LineStart {
+    pub(crate) line: usize,
+    pub(crate) start: usize,
+}
+
 /// What comes after the first bytes.
 fn rest(bytes: &[u8], start: usize) -> &[u8] {
     bytes.get(start..).unwrap_or(&[])
@@ -114,20 +121,18 @@ impl Around<'_> {
         self.put_next(alloc, last, self.context.after, out)
     }
 
-    /// Adds what comes between the last line that was shown and the line with this number, which begins at `start`: lines after the
-    /// one, a line `--` if lines are left out or if this is another group, and lines before the other. `grouped` says whether a group
-    /// was shown before, of this file or of another.
+    /// Adds what comes between the last line that was shown and the next: lines after the one, a line `--` if lines are left out or if
+    /// this is another group, and lines before the other. `grouped` says whether a group was shown before, of this file or of another.
     pub(crate) fn put_between(
         self,
         alloc: Global,
         last: Last,
-        line: usize,
-        start: usize,
+        next: LineStart,
         grouped: bool,
         out: &mut Vec<u8>,
     ) -> Result<(), AllocError> {
         let is_first = last.line == 0;
-        let gap = line.saturating_sub(last.line).saturating_sub(1);
+        let gap = next.line.saturating_sub(last.line).saturating_sub(1);
         let after = if is_first {
             0
         } else {
@@ -139,8 +144,8 @@ impl Around<'_> {
             out.extend_from_slice(b"--\n")?;
         }
         let from = Last {
-            line: line.saturating_sub(before).saturating_sub(1),
-            end: lines_back(self.bytes, start, before),
+            line: next.line.saturating_sub(before).saturating_sub(1),
+            end: lines_back(self.bytes, next.start, before),
         };
         self.put_next(alloc, from, before, out)
     }

@@ -32,7 +32,7 @@ const RULES_HELP: &str =
     "The file of a document whose statements need no text; - is standard input; with -e the first file";
 
 const FILES_HELP: &str =
-    "The files, each a text by itself: any bytes, up to 16 MiB; of a folder the files in it that are text; without any, and for -, standard input, whose new text goes to standard output";
+    "The files, each a text of its own: any bytes, up to 16 MiB; of a folder the files in it that are text; without any, and for -, standard input, whose new text goes to standard output";
 
 const EXAMPLE: &str =
     "Examples: sno edit --diff rules.json src/*.c\n          sno edit -e \"'colour' = 'color'\" README.md\n          sno edit --with c -e \"'malloc(' ARG . SIZE ')' = 'xmalloc(' SIZE ')'\" src/*.c";

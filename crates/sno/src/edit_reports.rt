@@ -1,8 +1,9 @@
 //! What is written of edited files.
 
 use crate::faults::ProgramFault;
+use crate::rounds_left::report_stopped;
 use crate::streams::write_all;
-use sno_edit::{Done, FileFault, Plan, Tally, script_of, unified_diff};
+use sno_edit::{Done, EditRules, FileFault, Plan, Tally, script_of, unified_diff};
 use sno_files::Reason;
 use sno_find::put_string;
 use std::alloc::{AllocError, Global};
@@ -41,6 +42,30 @@ pub(crate) fn done_of(plan: &Plan) -> Done {
 pub(crate) fn report_fault<E: Write>(errors: &mut E, path: &str, fault: FileFault) {
     let reason = Reason(fault);
     let _printed = errors.writeln(format_args!("{path}: {reason}"));
+}
+
+/// Counts a file that is planned, and reports a statement that stopped on it at the most rounds.
+pub(crate) fn count_plan<E: Write>(
+    alloc: Global,
+    rules: &EditRules,
+    path: &str,
+    plan: &Plan,
+    tally: &mut Tally,
+    errors: &mut E,
+) {
+    tally.count(&Ok(done_of(plan)));
+    report_stopped(alloc, rules, path, plan, tally, errors);
+}
+
+/// Counts a file that stays as it was for this cause, and reports it.
+pub(crate) fn count_fault<E: Write>(
+    path: &str,
+    fault: FileFault,
+    tally: &mut Tally,
+    errors: &mut E,
+) {
+    tally.count(&Err(fault));
+    report_fault(errors, path, fault);
 }
 
 /// Adds what became of a file as a JSON object: `path`, `changed`, `matches` and, if it stays as it was for a cause, `refused`.

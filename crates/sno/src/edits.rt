@@ -1,15 +1,20 @@
 //! `sno edit`.
 ghost use Rattle.std.specs.Prelude.{◌≡◌, ◌≤◌, ◌<◌};
+ghost use Rattle.sno.specs.declared.thread_options.TheConstants.{MAX_THREADS};
 
+use crate::colours::has_colours;
 use crate::edit_options::{EditOptions, EditRequest};
-use crate::edit_reports::{Form, Show, done_of, put_end, put_shown, report_fault, report_tally};
-use crate::faults::{FAILED, INPUT, ProgramFault};
+use crate::edit_reports::{
+    Form, Show, count_fault, count_plan, put_end, put_shown, report_fault, report_tally,
+};
+use crate::editors::Editor;
+use crate::faults::{FAILED, ProgramFault, name_of};
 use crate::filters::run_filter;
 use crate::found_files::found_files;
 use crate::given_lines::NoRules;
 use crate::match_rows::write_plan_rows;
 use crate::progress::Progress;
-use crate::rounds_left::{report_stopped, report_stopped_in};
+use crate::rounds_left::report_stopped_in;
 use crate::row_edits::edit_with_rows;
 use crate::rule_lines::rules_of_lines;
 use crate::shared_edits::{Seen, edit_shared, see_shared};
@@ -19,12 +24,12 @@ use crate::thread_options::thread_count;
 use sno_check::{Warning, member_warnings};
 use sno_document::{DocumentFault, MAX_DOCUMENT};
 use sno_edit::{Done, EditRules, FileFault, Plan, Purpose, Tally, plan_file};
-use sno_files::{Paths, Place, ReadOnly, Writing, edit_some, path_from_here};
+use sno_files::{Listed, Paths, Place, ReadOnly, Writing, edit_some, path_from_here};
 use std::alloc::{AllocError, Global};
 use std::fs;
 use std::fs::File;
-use std::io::{Read, Write};
-use std::rt::Files;
+use std::io::{IsTerminal, Read, Write};
+use std::rt::{Env, Files};
 use std::thread::Threads;
 
 /// The status after rules that are not rules.
@@ -47,7 +52,7 @@ fn rules_bytes<R: Files, I: Read>(
     };
     match read {
         Err(ProgramFault::Read) => {
-            let called = if rules == "-" { INPUT } else { rules };
+            let called = name_of(rules);
             Err(NoRules::Unread(format!(in alloc; "{called}: read failed\n")?))
         }
         Err(fault) => Err(NoRules::Fault(fault)),
@@ -57,9 +62,7 @@ fn rules_bytes<R: Files, I: Read>(
 
 /// Counts what became of files, and adds what is reported of each.
 fn report_ends<R: Files<File = File>, E: Write>(
-    rt: &R,
-    alloc: Global,
-    rules: &EditRules,
+    editor: &Editor<'_, R>,
     paths: &[&str],
     ends: &[Result<Done, FileFault>],
     tally: &mut Tally,
@@ -69,10 +72,10 @@ fn report_ends<R: Files<File = File>, E: Write>(
     for (path, end) in paths.iter().zip(ends.iter()) {
         tally.count(end);
         match end {
-            Ok(done) => report_stopped_in(rt, alloc, rules, path, done, tally, errors),
+            Ok(done) => report_stopped_in(editor, path, done, tally, errors),
             Err(fault) => report_fault(errors, path, *fault),
         }
-        put_end(alloc, Form::Paths, path, end, lines)?;
+        put_end(editor.alloc, Form::Paths, path, end, lines)?;
     }
     Ok(())
 }
@@ -80,54 +83,43 @@ fn report_ends<R: Files<File = File>, E: Write>(
 /// Edits the first of these files, at least one, and returns what became of each: up to 64 of them together, if new files have to be on
 /// the disk, and otherwise a share for each thread.
 fn edit_first<R: Files<File = File, Dir: Send> + Threads + Sync>(
-    rt: &R,
-    alloc: Global,
-    rules: &EditRules,
+    editor: &Editor<'_, R>,
     paths: &[&str],
     writing: Writing<'_>,
-    threads: usize,
-) -> Result<Vec<Result<Done, FileFault>>, AllocError>
-    requires { 0 < threads }
-{
+) -> Result<Vec<Result<Done, FileFault>>, AllocError> {
     if writing.sync {
-        let ends = edit_some(rt, alloc, rules, writing, paths)?;
+        let ends = edit_some(editor.rt, editor.alloc, editor.rules, writing, paths)?;
         return Ok(ends);
     }
-    let most = threads.saturating_mul(SHARE);
+    let most = editor.threads.saturating_mul(SHARE);
     let (share, _later) = paths.split_at(most.min(paths.len()));
-    let ends = edit_shared(rt, alloc, rules, writing, threads, share)?;
+    let ends = edit_shared(editor, writing, share)?;
     Ok(ends)
 }
 
 /// Edits the files, and then writes the path of each that changed.
 fn write_files<R: Files<File = File, Dir: Send> + Threads + Sync, W: Write, E: Write>(
-    rt: &R,
-    alloc: Global,
-    rules: &EditRules,
+    editor: &Editor<'_, R>,
     paths: &[&str],
     writing: Writing<'_>,
-    threads: usize,
     output: &mut W,
     errors: &mut Progress<'_, E>,
-) -> Result<Tally, ProgramFault>
-    requires { 0 < threads }
-{
+) -> Result<Tally, ProgramFault> {
     let mut tally = Tally::of(paths.len());
-    let mut lines = Vec::new(alloc);
+    let mut lines = Vec::new(editor.alloc);
     let mut edited = 0;
+    errors.begin(paths.len());
     // Each step edits at least one file.
     for _ in 0..paths.len() {
         let (_before, rest) = paths.split_at(paths.len().min(edited));
         if rest.is_empty() {
             break;
         }
-        let ends = edit_first(rt, alloc, rules, rest, writing, threads)?;
+        let ends = edit_first(editor, rest, writing)?;
         let (files, _later) = rest.split_at(ends.len().min(rest.len()));
-        report_ends(
-            rt, alloc, rules, files, &ends, &mut tally, &mut lines, errors,
-        )?;
+        report_ends(editor, files, &ends, &mut tally, &mut lines, errors)?;
         edited = edited.saturating_add(ends.len());
-        errors.show(edited, paths.len());
+        errors.add(ends.len());
     }
     errors.end();
     write_all(output, &lines)?;
@@ -144,14 +136,13 @@ fn diff_path<R: Files>(rt: &R, alloc: Global, path: &str) -> Result<Option<Strin
 
 /// Adds what is shown of a file that is not written. `None` if its diff is left out, since the file is not in the current folder.
 pub(crate) fn put_file<R: Files<File = File>>(
-    rt: &R,
-    alloc: Global,
-    rules: &EditRules,
+    editor: &Editor<'_, R>,
     path: &str,
     show: Show,
     out: &mut Vec<u8>,
 ) -> Result<Option<Plan>, FileFault> {
-    let plan = plan_file(alloc, &ReadOnly { rt }, rules, path)?;
+    let (rt, alloc) = (editor.rt, editor.alloc);
+    let plan = plan_file(alloc, &ReadOnly { rt }, editor.rules, path)?;
     if !matches!(show, Show::Diff { .. }) {
         put_shown(alloc, show, path, path, &plan, out)?;
     } else if plan.changes() {
@@ -177,41 +168,47 @@ fn put_refused(
     }
 }
 
-/// Counts a file that is planned, and writes what is shown of it: these bytes, and then its matches.
-fn show_plan<W: Write, E: Write>(
-    alloc: Global,
-    rules: &EditRules,
+/// Writes what is shown of a file that is planned: these bytes, and then its matches.
+fn write_plan<R: Files<File = File>, W: Write>(
+    editor: &Editor<'_, R>,
     path: &str,
     show: Show,
     plan: &Plan,
     shown: &[u8],
-    tally: &mut Tally,
     output: &mut W,
-    errors: &mut E,
 ) -> Result<(), ProgramFault> {
-    let done = done_of(plan);
-    tally.count(&Ok(done));
-    report_stopped(alloc, rules, path, path, &done, &plan.after, tally, errors);
     write_all(output, shown)?;
-    write_plan_rows(alloc, rules, path, show, plan, output)
+    write_plan_rows(editor.alloc, editor.rules, path, show, plan, output)
+}
+
+/// Writes what is shown of a file that could not be taken.
+fn write_refused<W: Write>(
+    alloc: Global,
+    path: &str,
+    fault: FileFault,
+    show: Show,
+    output: &mut W,
+) -> Result<(), ProgramFault> {
+    let mut shown = Vec::new(alloc);
+    put_refused(alloc, path, fault, show, &mut shown)?;
+    write_all(output, &shown)
 }
 
 /// Writes what is shown of a file that is not written, and counts it.
 fn show_file<R: Files<File = File>, W: Write, E: Write>(
-    rt: &R,
-    alloc: Global,
-    rules: &EditRules,
+    editor: &Editor<'_, R>,
     path: &str,
     show: Show,
     tally: &mut Tally,
     output: &mut W,
     errors: &mut E,
 ) -> Result<(), ProgramFault> {
-    let mut shown = Vec::new(alloc);
-    match put_file(rt, alloc, rules, path, show, &mut shown) {
-        Ok(Some(plan)) => show_plan(
-            alloc, rules, path, show, &plan, &shown, tally, output, errors,
-        ),
+    let mut shown = Vec::new(editor.alloc);
+    match put_file(editor, path, show, &mut shown) {
+        Ok(Some(plan)) => {
+            count_plan(editor.alloc, editor.rules, path, &plan, tally, errors);
+            write_plan(editor, path, show, &plan, &shown, output)
+        }
         Ok(None) => {
             tally.failed = true;
             let _printed = errors.writeln(format_args!(
@@ -219,32 +216,16 @@ fn show_file<R: Files<File = File>, W: Write, E: Write>(
             ));
             Ok(())
         }
-        Err(fault) => show_fault(alloc, path, fault, show, tally, output, errors),
+        Err(fault) => {
+            count_fault(path, fault, tally, errors);
+            write_refused(editor.alloc, path, fault, show, output)
+        }
     }
-}
-
-/// Writes what is shown of a file that could not be taken, and counts it.
-fn show_fault<W: Write, E: Write>(
-    alloc: Global,
-    path: &str,
-    fault: FileFault,
-    show: Show,
-    tally: &mut Tally,
-    output: &mut W,
-    errors: &mut E,
-) -> Result<(), ProgramFault> {
-    tally.count(&Err(fault));
-    report_fault(errors, path, fault);
-    let mut shown = Vec::new(alloc);
-    put_refused(alloc, path, fault, show, &mut shown)?;
-    write_all(output, &shown)
 }
 
 /// Shows what would change in each of the files.
 fn show_each<R: Files<File = File>, W: Write, E: Write>(
-    rt: &R,
-    alloc: Global,
-    rules: &EditRules,
+    editor: &Editor<'_, R>,
     paths: &[&str],
     show: Show,
     tally: &mut Tally,
@@ -252,16 +233,14 @@ fn show_each<R: Files<File = File>, W: Write, E: Write>(
     errors: &mut E,
 ) -> Result<(), ProgramFault> {
     for path in paths {
-        show_file(rt, alloc, rules, path, show, tally, output, errors)?;
+        show_file(editor, path, show, tally, output, errors)?;
     }
     Ok(())
 }
 
 /// Writes what is shown of each file that threads have planned.
 fn show_seen<R: Files<File = File>, W: Write, E: Write>(
-    rt: &R,
-    alloc: Global,
-    rules: &EditRules,
+    editor: &Editor<'_, R>,
     places: &[Place<'_, Seen>],
     show: Show,
     tally: &mut Tally,
@@ -275,55 +254,45 @@ fn show_seen<R: Files<File = File>, W: Write, E: Write>(
                 tally.count(&Ok(sight.done));
                 write_all(output, &sight.bytes)?;
             }
-            Some(Err(fault)) => show_fault(alloc, path, *fault, show, tally, output, errors)?,
-            _ => show_file(rt, alloc, rules, path, show, tally, output, errors)?,
+            Some(Err(fault)) => {
+                count_fault(path, *fault, tally, errors);
+                write_refused(editor.alloc, path, *fault, show, output)?;
+            }
+            _ => show_file(editor, path, show, tally, output, errors)?,
         }
     }
     Ok(())
 }
 
-/// Shows what would change in these files, by this many threads.
+/// Shows what would change in these files. Several are planned by threads.
 fn show_share<R: Files<File = File, Dir: Send> + Threads + Sync, W: Write, E: Write>(
-    rt: &R,
-    alloc: Global,
-    rules: &EditRules,
+    editor: &Editor<'_, R>,
     paths: &[&str],
     show: Show,
-    threads: usize,
     tally: &mut Tally,
     output: &mut W,
     errors: &mut E,
-) -> Result<(), ProgramFault>
-    requires { 0 < threads }
-{
-    if threads == 1 || paths.len() == 1 {
-        return show_each(rt, alloc, rules, paths, show, tally, output, errors);
+) -> Result<(), ProgramFault> {
+    if editor.threads == 1 || paths.len() == 1 {
+        return show_each(editor, paths, show, tally, output, errors);
     }
-    let seen = see_shared(rt, alloc, rules, show, threads, paths)?;
-    show_seen(rt, alloc, rules, &seen, show, tally, output, errors)
+    let seen = see_shared(editor, show, paths)?;
+    show_seen(editor, &seen, show, tally, output, errors)
 }
 
-/// Shows what would change, and writes no file. Several files are planned by this many threads.
+/// Shows what would change, and writes no file.
 fn show_files<R: Files<File = File, Dir: Send> + Threads + Sync, W: Write, E: Write>(
-    rt: &R,
-    alloc: Global,
-    rules: &EditRules,
+    editor: &Editor<'_, R>,
     paths: &[&str],
     show: Show,
-    threads: usize,
     output: &mut W,
     errors: &mut Progress<'_, E>,
-) -> Result<Tally, ProgramFault>
-    requires { 0 < threads }
-{
+) -> Result<Tally, ProgramFault> {
     let mut tally = Tally::of(paths.len());
-    let mut shown = 0_usize;
-    for share in paths.chunks(threads.saturating_mul(SHARE).max(1)) {
-        show_share(
-            rt, alloc, rules, share, show, threads, &mut tally, output, errors,
-        )?;
-        shown = shown.saturating_add(share.len());
-        errors.show(shown, paths.len());
+    errors.begin(paths.len());
+    for share in paths.chunks(editor.threads.saturating_mul(SHARE).max(1)) {
+        show_share(editor, share, show, &mut tally, output, errors)?;
+        errors.add(share.len());
     }
     Ok(tally)
 }
@@ -354,7 +323,7 @@ fn rules_of_file<R: Files, I: Read, E: Write>(
     let bytes = rules_bytes(rt, alloc, input, rules)?;
     match EditRules::read(alloc, &bytes, options.anchor, options.trials) {
         Ok(read) => {
-            let called = if rules == "-" { INPUT } else { rules };
+            let called = name_of(rules);
             warn_of_members(alloc, called, &bytes, errors)?;
             Ok(read)
         }
@@ -399,7 +368,7 @@ fn form_of(options: &EditOptions<'_>) -> Form {
 
 /// How many threads share the files. If old files are kept it is one: what is kept of a file may be the next one.
 fn threads_for<R: Threads>(rt: &R, options: &EditOptions<'_>) -> usize
-    ensures { (0 < result) × (result ≤ 16) }
+    ensures { (0 < result) × (result ≤ MAX_THREADS) }
 {
     if options.backup.is_some() {
         return 1;
@@ -409,38 +378,33 @@ fn threads_for<R: Threads>(rt: &R, options: &EditOptions<'_>) -> usize
 
 /// Edits the files and writes how many changed, or shows what would become of them.
 fn edit<R: Files<File = File, Dir: Send> + Threads + Sync, W: Write, E: Write>(
-    rt: &R,
-    alloc: Global,
+    editor: &Editor<'_, R>,
     options: &EditOptions<'_>,
     found: &Paths,
-    rules: &EditRules,
     show: Option<Show>,
-    threads: usize,
     output: &mut W,
     errors: &mut Progress<'_, E>,
-) -> Result<Tally, ProgramFault>
-    requires { 0 < threads }
-{
-    let paths = &found.lent(alloc)?;
+) -> Result<Tally, ProgramFault> {
+    let paths = &found.lent(editor.alloc)?;
     if let Some(show) = show {
-        return show_files(rt, alloc, rules, paths, show, threads, output, errors);
+        return show_files(editor, paths, show, output, errors);
     }
     let writing = Writing {
         sync: options.sync,
         backup: options.backup,
     };
     let tally = if options.json {
-        edit_with_rows(rt, alloc, rules, paths, writing, threads, output, errors)?
+        edit_with_rows(editor, paths, writing, output, errors)?
     } else {
-        write_files(rt, alloc, rules, paths, writing, threads, output, errors)?
+        write_files(editor, paths, writing, output, errors)?
     };
-    report_tally(alloc, &tally, found.not_text, errors)?;
+    report_tally(editor.alloc, &tally, found.not_text, errors)?;
     Ok(tally)
 }
 
 /// The status after an edit: that of the files, or 4 if a folder could not be read.
-fn status_of(tally: &Tally, purpose: Purpose, found: &Paths) -> u8 {
-    if found.unread.is_empty() {
+fn status_of(tally: &Tally, purpose: Purpose, listed: &Listed) -> u8 {
+    if listed.unread.is_empty() {
         tally.status(purpose)
     } else {
         FAILED
@@ -464,22 +428,21 @@ fn without_rules<E: Write>(refused: NoRules, errors: &mut E) -> Result<u8, Progr
 /// - otherwise 1 if a statement was refused on a file, or stopped at the most rounds and matches once more, or if there was no
 ///   match in any, or, if files are only checked, if one would change;
 /// - otherwise 0;
-/// - 2 if the rules are not rules. Then `errors` has their first fault, and no file was touched.
+/// - 2 if the rules are invalid. Then `errors` has their first fault, and no file was touched.
 ///
 /// A file that several paths lead to is edited once, under the first of them. Without files the text of `input` is edited, and
 /// written to `output`.
 ///
 /// Refused with `Memory` or `Write`.
 pub(crate) fn run_edit<
-    R: Files<File = File, Dir: Send> + Threads + AllocGlobal + Clone + Drop + Sync,
+    R: Files<File = File, Dir: Send> + Env + Threads + AllocGlobal + Clone + Drop + Sync,
     I: Read,
-    W: Write,
+    W: Write + IsTerminal,
     E: Write,
 >(
     rt: &R,
     alloc: Global,
     request: &EditRequest<'_>,
-    coloured: bool,
     input: &mut I,
     output: &mut W,
     errors: &mut Progress<'_, E>,
@@ -489,18 +452,25 @@ pub(crate) fn run_edit<
         Err(refused) => return without_rules(refused, errors),
     };
     let options = &request.options;
-    let show = show_of(options, coloured);
+    let show = show_of(options, has_colours(rt, output));
     if request.is_filter() {
-        let purpose = options.purpose;
-        return run_filter(alloc, &rules, purpose, show, input, output, errors);
+        return match run_filter(alloc, &rules, show, input, output, errors) {
+            Ok(tally) => Ok(tally.status(options.purpose)),
+            Err(fault) => Err(fault),
+        };
     }
     let threads = threads_for(rt, options);
-    let Some(found) = found_files(rt, alloc, threads, &request.files, input, errors)? else {
+    let Some(mut listed) = found_files(rt, alloc, &request.files, threads, input, errors)? else {
         return Ok(FAILED);
     };
-    let found = found.without_repeats(rt, alloc, threads)?;
-    let tally = edit(
-        rt, alloc, options, &found, &rules, show, threads, output, errors,
-    )?;
-    Ok(status_of(&tally, options.purpose, &found))
+    let texts = listed.take_texts(rt, alloc, threads)?;
+    let found = texts.without_repeats(rt, alloc, threads)?;
+    let editor = Editor {
+        rt,
+        alloc,
+        rules: &rules,
+        threads,
+    };
+    let tally = edit(&editor, options, &found, show, output, errors)?;
+    Ok(status_of(&tally, options.purpose, &listed))
 }

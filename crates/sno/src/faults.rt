@@ -12,6 +12,11 @@ pub(crate) const MISUSED: u8 = 3;
 /// What standard input is called.
 pub(crate) const INPUT: &str = "(standard input)";
 
+/// What the file with this path is called; `-` is standard input.
+pub(crate) fn name_of(path: &str) -> &str {
+    if path == "-" { INPUT } else { path }
+}
+
 /// Why nothing was done. Its printed form is the line for standard error.
 #[derive(Clone, Copy, Debug, PartialEq, Eq, Error)]
 pub(crate) enum ProgramFault {

@@ -1,10 +1,9 @@
 //! `sno edit` of standard input.
 
-use crate::edit_reports::{Show, done_of, put_shown, report_fault, report_tally};
-use crate::faults::{FAILED, INPUT, ProgramFault};
-use crate::rounds_left::report_stopped;
+use crate::edit_reports::{Show, count_fault, count_plan, put_shown, report_tally};
+use crate::faults::{INPUT, ProgramFault};
 use crate::streams::{read_up_to, write_all};
-use sno_edit::{EditRules, FileFault, Plan, Purpose, Tally, plan_file};
+use sno_edit::{EditRules, FileFault, Plan, Tally, plan_file};
 use sno_files::OneText;
 use sno_pattern::MAX_BYTES;
 use std::alloc::Global;
@@ -38,48 +37,36 @@ fn kept_of<'t>(text: &'t OneText, fault: &FileFault) -> &'t [u8] {
 }
 
 /// Performs the rules on the text of standard input, and writes what they leave, or what is shown of that, to the output. A text on
-/// which a statement is refused is written as it was. Returns the status, as for a file.
+/// which a statement is refused is written as it was. Returns what became of it, as of a file.
 ///
 /// Refused with `Memory` or `Write`.
 pub(crate) fn run_filter<I: Read, W: Write, E: Write>(
     alloc: Global,
     rules: &EditRules,
-    purpose: Purpose,
     show: Option<Show>,
     input: &mut I,
     output: &mut W,
     errors: &mut E,
-) -> Result<u8, ProgramFault> {
+) -> Result<Tally, ProgramFault> {
+    let mut tally = Tally::of(1);
     let bytes = match read_up_to(alloc, input, MAX_BYTES) {
         Ok(bytes) => bytes,
         Err(ProgramFault::Read) => {
             let _printed = errors.writeln(format_args!("{INPUT}: read failed"));
-            return Ok(FAILED);
+            tally.failed = true;
+            return Ok(tally);
         }
         Err(fault) => return Err(fault),
     };
     let text = OneText { bytes };
-    let mut tally = Tally::of(1);
     let mut out = Vec::new(alloc);
     match filtered(alloc, rules, show, &text, &mut out) {
         Ok(plan) => {
-            let done = done_of(&plan);
-            tally.count(&Ok(done));
-            report_stopped(
-                alloc,
-                rules,
-                INPUT,
-                PATH,
-                &done,
-                &plan.after,
-                &mut tally,
-                errors,
-            );
+            count_plan(alloc, rules, PATH, &plan, &mut tally, errors);
             write_all(output, &out)?;
         }
         Err(fault) => {
-            tally.count(&Err(fault));
-            report_fault(errors, INPUT, fault);
+            count_fault(INPUT, fault, &mut tally, errors);
             if show.is_none() {
                 write_all(output, kept_of(&text, &fault))?;
             }
@@ -88,5 +75,5 @@ pub(crate) fn run_filter<I: Read, W: Write, E: Write>(
     if show.is_none() {
         report_tally(alloc, &tally, 0, errors)?;
     }
-    Ok(tally.status(purpose))
+    Ok(tally)
 }

@@ -1,21 +1,21 @@
 //! `sno find`.
-ghost use Rattle.std.specs.Prelude.{◌<◌};
 
-use crate::contexts::{Around, Last, line_end, line_start};
-use crate::faults::{INPUT, MISUSED, ProgramFault};
+use crate::contexts::{Around, Last, LineStart, line_end, line_start};
+use crate::faults::{MISUSED, ProgramFault, name_of};
 use crate::find_options::{FindRequest, Shown};
 use crate::first_matches::have_match;
 use crate::found_files::found_files;
 use crate::given_lines::NoRules;
 use crate::progress::Progress;
 use crate::rule_lines::rules_of_lines;
+use crate::searches::Search;
 use crate::shared_files::SHARE;
 use crate::shared_finds::find_shared;
 use crate::streams::{read_up_to, write_all};
 use crate::thread_options::thread_count;
 use crate::variables::has_variable;
 use sno_edit::{EditRules, FileFault, FileStatementFault, Folder, ReadFault, RefusedStatement};
-use sno_files::{Paths, ReadOnly, Reason};
+use sno_files::{Listed, Part, ReadOnly, Reason, text_bytes};
 use sno_find::{FindFault, Finding, SpanValue, find_in, put_count, put_json, put_line};
 use sno_pattern::{ByteText, MAX_BYTES, Name};
 use std::alloc::{AllocError, Global};
@@ -159,7 +159,8 @@ fn write_groups<W: Write>(
         if last.line < line {
             let start = line_start(bytes, finding.start.place);
             let others = grouped || last.line > 0;
-            around.put_between(alloc, last, line, start, others, &mut out)?;
+            let next = LineStart { line, start };
+            around.put_between(alloc, last, next, others, &mut out)?;
             last = Last {
                 line,
                 end: line_end(bytes, start),
@@ -173,46 +174,45 @@ fn write_groups<W: Write>(
 }
 
 /// Writes what is shown of the matches in a file.
-fn write_findings<W: Write>(
-    alloc: Global,
-    shown: Shown<'_>,
+fn write_findings<R: Files<File = File>, W: Write>(
+    search: &Search<'_, R>,
     path: &str,
     text: &ByteText,
     findings: &[Finding<'_>],
     grouped: bool,
     output: &mut W,
 ) -> Result<(), ProgramFault> {
-    match shown {
+    let alloc = search.alloc;
+    let called = name_of(path);
+    match search.shown {
         Shown::Counts => {
             let mut out = Vec::new(alloc);
-            put_count(alloc, path, findings.len(), &mut out)?;
+            put_count(alloc, called, findings.len(), &mut out)?;
             write_all(output, &out)
         }
         Shown::Lines(Some(context)) if !findings.is_empty() => {
             let bytes = text.bytes();
             let around = Around {
-                path,
+                path: called,
                 bytes,
                 context,
             };
             write_groups(alloc, around, text, findings, grouped, output)
         }
-        _ => write_each(alloc, shown, path, text, findings, output),
+        shown => write_each(alloc, shown, called, text, findings, output),
     }
 }
 
 /// Writes the path of a file that has a match, and returns whether it has.
-fn write_path<W: Write>(
-    alloc: Global,
-    rules: &EditRules,
+fn write_path<R: Files<File = File>, W: Write>(
+    search: &Search<'_, R>,
     path: &str,
-    called: &str,
     text: &ByteText,
     output: &mut W,
 ) -> Result<bool, NotFound> {
-    let found = have_match(alloc, rules, path, text)?;
+    let found = have_match(search.alloc, search.rules, path, text)?;
     if found {
-        write_all(output, called.as_bytes())?;
+        write_all(output, name_of(path).as_bytes())?;
         write_all(output, b"\n")?;
     }
     Ok(found)
@@ -240,89 +240,79 @@ impl From<ProgramFault> for NotFound {
 }
 
 /// Writes what is shown of a text, and returns whether it has a match.
-fn find_text<W: Write>(
-    alloc: Global,
-    rules: &EditRules,
-    shown: Shown<'_>,
+fn find_text<R: Files<File = File>, W: Write>(
+    search: &Search<'_, R>,
     path: &str,
     text: &ByteText,
     grouped: bool,
     output: &mut W,
 ) -> Result<bool, NotFound> {
-    let called = name_of(path);
-    if matches!(shown, Shown::Paths) {
-        return write_path(alloc, rules, path, called, text, output);
+    if matches!(search.shown, Shown::Paths) {
+        return write_path(search, path, text, output);
     }
-    let findings = match find_in(alloc, rules, path, text) {
+    let findings = match find_in(search.alloc, search.rules, path, text) {
         Ok(findings) => findings,
         Err(fault) => return Err(NotFound::File(fault_of(fault))),
     };
-    write_findings(alloc, shown, called, text, &findings, grouped, output)?;
+    write_findings(search, path, text, &findings, grouped, output)?;
     Ok(!findings.is_empty())
 }
 
 /// Writes what is shown of a file, and returns whether it has a match. `grouped` says whether there were lines of other files before.
 pub(crate) fn find_file<R: Files<File = File>, W: Write>(
-    rt: &R,
-    alloc: Global,
-    rules: &EditRules,
-    shown: Shown<'_>,
+    search: &Search<'_, R>,
     path: &str,
     grouped: bool,
     output: &mut W,
 ) -> Result<bool, NotFound> {
-    let bytes = read_file(rt, alloc, path)?;
+    let Some(bytes) = read_file(search, path)? else {
+        return Ok(false);
+    };
     let text = text_of(bytes)?;
-    find_text(alloc, rules, shown, path, &text, grouped, output)
+    find_text(search, path, &text, grouped, output)
 }
 
-/// The bytes of a file.
+/// The bytes of a file; `None` if it is left out, since it is of a folder and not text.
 fn read_file<R: Files<File = File>>(
-    rt: &R,
-    alloc: Global,
+    search: &Search<'_, R>,
     path: &str,
-) -> Result<Vec<u8>, FileFault> {
-    let bytes = ReadOnly { rt }.read(alloc, path, MAX_BYTES)?;
-    Ok(bytes)
+) -> Result<Option<Vec<u8>>, FileFault> {
+    let rt = search.rt;
+    if search.in_folder {
+        let bytes = text_bytes(rt, search.alloc, path, MAX_BYTES)?;
+        return Ok(bytes);
+    }
+    let bytes = ReadOnly { rt }.read(search.alloc, path, MAX_BYTES)?;
+    Ok(Some(bytes))
 }
 
 /// Writes what is shown of standard input, and returns whether it has a match.
-fn find_input<I: Read, W: Write>(
-    alloc: Global,
-    rules: &EditRules,
-    shown: Shown<'_>,
+fn find_input<R: Files<File = File>, I: Read, W: Write>(
+    search: &Search<'_, R>,
     grouped: bool,
     input: &mut I,
     output: &mut W,
 ) -> Result<bool, NotFound> {
-    let bytes = match input_bytes(alloc, input) {
+    let bytes = match input_bytes(search.alloc, input) {
         Ok(bytes) => bytes,
         Err(fault) => return Err(NotFound::File(FileFault::from(fault))),
     };
     let text = text_of(bytes)?;
-    find_text(alloc, rules, shown, "-", &text, grouped, output)
+    find_text(search, "-", &text, grouped, output)
 }
 
 /// Writes what is shown of the file with this path, or of standard input for `-`, and returns whether it has a match.
 pub(crate) fn find_named<R: Files<File = File>, I: Read, W: Write>(
-    rt: &R,
-    alloc: Global,
-    rules: &EditRules,
-    shown: Shown<'_>,
+    search: &Search<'_, R>,
     path: &str,
     grouped: bool,
     input: &mut I,
     output: &mut W,
 ) -> Result<bool, NotFound> {
     if path == "-" {
-        return find_input(alloc, rules, shown, grouped, input, output);
+        return find_input(search, grouped, input, output);
     }
-    find_file(rt, alloc, rules, shown, path, grouped, output)
-}
-
-/// What a file is called: its path, or what standard input is called.
-fn name_of(path: &str) -> &str {
-    if path == "-" { INPUT } else { path }
+    find_file(search, path, grouped, output)
 }
 
 /// Notes what became of a file; why nothing is known of it goes to `errors`. Refused as the program has to end.
@@ -347,10 +337,7 @@ pub(crate) fn keep<E: Write>(
 
 /// Seeks the rules in each file, and writes what is shown of it.
 fn find_each<R: Files<File = File>, I: Read, W: Write, E: Write>(
-    rt: &R,
-    alloc: Global,
-    shown: Shown<'_>,
-    rules: &EditRules,
+    search: &Search<'_, R>,
     paths: &[&str],
     sought: &mut Sought,
     input: &mut I,
@@ -359,72 +346,60 @@ fn find_each<R: Files<File = File>, I: Read, W: Write, E: Write>(
 ) -> Result<(), ProgramFault> {
     for path in paths {
         let grouped = sought.found;
-        let found = find_named(rt, alloc, rules, shown, path, grouped, input, output);
+        let found = find_named(search, path, grouped, input, output);
         keep(path, found, sought, errors)?;
     }
     Ok(())
 }
 
-/// Seeks the rules in these files, by this many threads, and writes what is shown of each.
+/// Seeks the rules in these files, by threads if there are several, and writes what is shown of each.
 fn find_share<R: Files<File = File, Dir: Send> + Threads + Sync, I: Read, W: Write, E: Write>(
-    rt: &R,
-    alloc: Global,
-    shown: Shown<'_>,
-    rules: &EditRules,
-    threads: usize,
+    search: &Search<'_, R>,
     paths: &[&str],
     sought: &mut Sought,
     input: &mut I,
     output: &mut W,
     errors: &mut E,
-) -> Result<(), ProgramFault>
-    requires { 0 < threads }
-{
-    if threads > 1 && paths.len() > 1 {
-        return find_shared(
-            rt, alloc, shown, rules, threads, paths, sought, input, output, errors,
-        );
+) -> Result<(), ProgramFault> {
+    if search.threads > 1 && paths.len() > 1 {
+        return find_shared(search, paths, sought, input, output, errors);
     }
-    find_each(
-        rt, alloc, shown, rules, paths, sought, input, output, errors,
-    )
+    find_each(search, paths, sought, input, output, errors)
 }
 
-/// Seeks the rules in the files, by this many threads, and writes what is shown of each.
-fn find_all<R: Files<File = File, Dir: Send> + Threads + Sync, I: Read, W: Write, E: Write>(
-    rt: &R,
-    alloc: Global,
-    shown: Shown<'_>,
-    rules: &EditRules,
-    threads: usize,
-    paths: &Paths,
+/// Seeks the rules in files that were named together, or in those of a folder, as the search says, and writes what is shown of each.
+fn find_part<R: Files<File = File, Dir: Send> + Threads + Sync, I: Read, W: Write, E: Write>(
+    search: &Search<'_, R>,
+    part: &Part,
+    sought: &mut Sought,
     input: &mut I,
     output: &mut W,
     errors: &mut Progress<'_, E>,
-) -> Result<Sought, ProgramFault>
-    requires { 0 < threads }
-{
+) -> Result<(), ProgramFault> {
+    let files = part.lent(search.alloc)?;
+    for share in files.chunks(search.threads.saturating_mul(SHARE).max(1)) {
+        find_share(search, share, sought, input, output, errors)?;
+        errors.add(share.len());
+    }
+    Ok(())
+}
+
+/// Seeks the rules in the files, and writes what is shown of each.
+fn find_all<R: Files<File = File, Dir: Send> + Threads + Sync, I: Read, W: Write, E: Write>(
+    search: &Search<'_, R>,
+    listed: &Listed,
+    input: &mut I,
+    output: &mut W,
+    errors: &mut Progress<'_, E>,
+) -> Result<Sought, ProgramFault> {
     let mut sought = Sought {
         found: false,
-        failed: !paths.unread.is_empty(),
+        failed: !listed.unread.is_empty(),
     };
-    let files = paths.lent(alloc)?;
-    let mut done = 0_usize;
-    for share in files.chunks(threads.saturating_mul(SHARE).max(1)) {
-        find_share(
-            rt,
-            alloc,
-            shown,
-            rules,
-            threads,
-            share,
-            &mut sought,
-            input,
-            output,
-            errors,
-        )?;
-        done = done.saturating_add(share.len());
-        errors.show(done, files.len());
+    errors.begin(listed.count());
+    for part in &listed.parts {
+        let within = search.in_part(part.in_folder);
+        find_part(&within, part, &mut sought, input, output, errors)?;
     }
     Ok(sought)
 }
@@ -446,6 +421,14 @@ fn unknown_variable<'s>(rules: &EditRules, shown: Shown<'s>) -> Option<&'s str> 
         Shown::Only(name) if !has_variable(rules, name) => Some(name),
         _ => None,
     }
+}
+
+/// Writes that no rule has the variable with this name, and returns the status.
+fn refuse_variable<E: Write>(name: &str, errors: &mut E) -> u8 {
+    let _printed = errors.writeln(format_args!(
+        "error: '--only {name}': no rule has this variable\n\nFor more information, try '--help'."
+    ));
+    MISUSED
 }
 
 /// Shows what rules match in files and returns the status, as `grep` does: 2 if the rules are no rules or nothing is known of a
@@ -475,18 +458,20 @@ pub(crate) fn run_find<
         }
     };
     if let Some(name) = unknown_variable(&rules, request.shown) {
-        let _printed = errors.writeln(format_args!(
-            "error: '--only {name}': no rule has this variable\n\nFor more information, try '--help'."
-        ));
-        return Ok(MISUSED);
+        return Ok(refuse_variable(name, errors));
     }
     let threads = thread_count(rt, request.threads);
-    let Some(paths) = found_files(rt, alloc, threads, &request.files, input, errors)? else {
+    let Some(listed) = found_files(rt, alloc, &request.files, threads, input, errors)? else {
         return Ok(TROUBLE);
     };
-    let shown = request.shown;
-    let sought = find_all(
-        rt, alloc, shown, &rules, threads, &paths, input, output, errors,
-    )?;
+    let search = Search {
+        rt,
+        alloc,
+        rules: &rules,
+        shown: request.shown,
+        threads,
+        in_folder: false,
+    };
+    let sought = find_all(&search, &listed, input, output, errors)?;
     Ok(status_of(sought))
 }

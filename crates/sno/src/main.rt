@@ -12,10 +12,13 @@
 //! | `check_command`, `checks` | `sno check`: its arguments; a document or rules in JSON are checked by `sno_check`, and the report written |
 //! | `line_checks` | `sno check` of rules in lines |
 //! | `edit_options`, `edits` | `sno edit`: its arguments; files are edited by `sno_edit` |
+//! | `editors` | rules, with what performs them on files |
+//! | `colours` | whether what is written is coloured |
 //! | `filters` | `sno edit` of standard input |
 //! | `edit_reports` | what is written of edited files |
 //! | `match_rows`, `row_edits` | what is written of the matches in edited files; `sno edit --json` of files that are written |
 //! | `find_options`, `finds` | `sno find`: its arguments; rules are sought in files by `sno_find` |
+//! | `searches` | rules, with what seeks them in files |
 //! | `thread_options`, `shared_files` | the option for threads; files that several threads share |
 //! | `shared_finds`, `shared_edits` | `sno find` and `sno edit` by several threads |
 //! | `contexts` | the lines around those on which matches start |
@@ -37,12 +40,14 @@
 mod arguments;
 mod check_command;
 mod checks;
+mod colours;
 mod command_line;
 mod command_options;
 mod compactions;
 mod contexts;
 mod edit_options;
 mod edit_reports;
+mod editors;
 mod edits;
 mod faults;
 mod file_options;
@@ -62,6 +67,7 @@ mod rounds_left;
 mod row_edits;
 mod rule_lines;
 mod rule_options;
+mod searches;
 mod serve_command;
 mod serves;
 mod shared_edits;

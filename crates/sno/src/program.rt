@@ -12,7 +12,7 @@ use crate::streams::write_all;
 use crate::traces::run_trace;
 use sno_rewrite::{explain, run_program, words_after_name};
 use std::alloc::Global;
-use std::env::{Args, FillError};
+use std::env::Args;
 use std::fs::File;
 use std::io;
 use std::io::{ErrorKind, IsTerminal, Read, Write};
@@ -22,15 +22,28 @@ use std::thread::Threads;
 
 const NOT_TEXT: &[u8] = b"error: an argument is not UTF-8\n\nFor more information, try '--help'.\n";
 
-/// Whether the variable of the environment is there and isn't empty.
-fn is_set<R: Env>(rt: &R, name: &str) -> bool {
-    let mut start = [0; 1];
-    match rt.var(name, &mut start) {
-        Ok(count) => count > 0,
-        Err(FillError::NotPresent) => false,
-        Err(_) => true,
-    }
-}
+/// What the system does for the program.
+pub(crate) trait System: Files<File = File, Dir: Send>
+    + Env
+    + Stores
+    + Threads
+    + Wait
+    + AllocGlobal
+    + Clone
+    + Drop
+    + Sync {}
+
+impl<
+    R: Files<File = File, Dir: Send>
+        + Env
+        + Stores
+        + Threads
+        + Wait
+        + AllocGlobal
+        + Clone
+        + Drop
+        + Sync,
+> System for R {}
 
 /// Writes the line of a fault, and returns its status. If the line can't be printed, the status is the same.
 fn report<E: Write>(fault: ProgramFault, errors: &mut E) -> u8 {
@@ -73,15 +86,7 @@ fn refuse_words<E: Write>(error: &io::Error, errors: &mut E) -> u8 {
 
 /// Does what is asked for, and returns the status.
 fn run_request<
-    R: Files<File = File, Dir: Send>
-        + Env
-        + Stores
-        + Threads
-        + Wait
-        + AllocGlobal
-        + Clone
-        + Drop
-        + Sync,
+    R: System,
     I: Read + Send + Drop,
     W: Write + IsTerminal + Send + Drop,
     E: Write + IsTerminal,
@@ -96,10 +101,9 @@ fn run_request<
     match request {
         Request::Check(check) => run_check(rt, alloc, check, input, output, errors),
         Request::Edit(edit) => {
-            let coloured = output.is_terminal() && !is_set(rt, "NO_COLOR");
             let counts = errors.is_terminal() && (edit.writes_last() || !output.is_terminal());
             let mut progress = Progress::of(errors, counts);
-            let status = run_edit(rt, alloc, edit, coloured, input, output, &mut progress);
+            let status = run_edit(rt, alloc, edit, input, output, &mut progress);
             progress.end();
             status
         }
@@ -138,51 +142,18 @@ fn run_document<T: Threads + Wait + Sync, I: Read, W: Write, E: Write>(
     run_program(rt, alloc, Ok(words.into_iter()), input, output, errors)
 }
 
-/// Does what is asked for, and returns the status, also that of a fault.
-fn perform<
-    R: Files<File = File, Dir: Send>
-        + Env
-        + Stores
-        + Threads
-        + Wait
-        + AllocGlobal
-        + Clone
-        + Drop
-        + Sync,
-    I: Read + Send + Drop,
-    W: Write + IsTerminal + Send + Drop,
-    E: Write + IsTerminal,
->(
-    rt: &R,
-    alloc: Global,
-    request: &Request<'_>,
-    input: &mut I,
-    output: &mut W,
-    errors: &mut E,
-) -> u8 {
-    match run_request(rt, alloc, request, input, output, errors) {
-        Ok(status) => status,
-        Err(fault) => report_of(request, fault, errors),
-    }
-}
-
 /// Does what the words ask for, and returns the status.
 fn run_words<
-    R: Files<File = File, Dir: Send>
-        + Env
-        + Stores
-        + Threads
-        + Wait
-        + AllocGlobal
-        + Clone
-        + Drop
-        + Sync,
+    R: System,
     I: Read + Send + Drop,
     W: Write + IsTerminal + Send + Drop,
     E: Write + IsTerminal,
 >(rt: &R, alloc: Global, words: &[String], input: &mut I, output: &mut W, errors: &mut E) -> u8 {
     match asked_for(alloc, words) {
-        Ok(request) => perform(rt, alloc, &request, input, output, errors),
+        Ok(request) => match run_request(rt, alloc, &request, input, output, errors) {
+            Ok(status) => status,
+            Err(fault) => report_of(&request, fault, errors),
+        },
         Err(fault) => explain(&fault, output, errors),
     }
 }
@@ -195,15 +166,7 @@ fn run_words<
 /// - Otherwise the status is that of the check, the edit, the search, the trace or the service. If that has a fault, the line of
 ///   the fault goes to `errors`, and the status is 4, even if the line can't be printed.
 pub(crate) fn run<
-    R: Files<File = File, Dir: Send>
-        + Env
-        + Stores
-        + Threads
-        + Wait
-        + AllocGlobal
-        + Clone
-        + Drop
-        + Sync,
+    R: System,
     I: Read + Send + Drop,
     W: Write + IsTerminal + Send + Drop,
     E: Write + IsTerminal,

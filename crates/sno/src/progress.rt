@@ -13,6 +13,8 @@ pub(crate) struct Progress<'e, E: Write> {
     errors: &'e mut E,
     wanted: bool,
     shown: bool,
+    done: usize,
+    files: usize,
 }
 
 impl<'e, E: Write> Progress<'e, E> {
@@ -22,11 +24,22 @@ impl<'e, E: Write> Progress<'e, E> {
             errors,
             wanted,
             shown: false,
+            done: 0,
+            files: 0,
         }
     }
 
-    /// Shows how many of the files are done, if some are left.
-    pub(crate) fn show(&mut self, done: usize, files: usize) {
+    /// Begins to count: none of this many files is done.
+    pub(crate) fn begin(&mut self, files: usize) {
+        self.done = 0;
+        self.files = files;
+    }
+
+    /// Counts this many files more that are done, and shows how many they are if some are left.
+    pub(crate) fn add(&mut self, files: usize) {
+        self.done = self.done.saturating_add(files);
+        let done = self.done;
+        let files = self.files;
         if self.wanted && done < files {
             self.shown = true;
             let _printed = self

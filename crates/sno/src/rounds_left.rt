@@ -1,7 +1,10 @@
 //! Repeated rules that stop at the most rounds that a rule may have.
 
+use crate::edit_reports::done_of;
+use crate::editors::Editor;
+use crate::faults::name_of;
 use crate::first_matches::matches;
-use sno_edit::{Done, EditRules, Folder, Tally, is_for};
+use sno_edit::{Done, EditRules, Folder, Plan, Tally, is_for};
 use sno_files::ReadOnly;
 use sno_pattern::{ByteText, MAX_BYTES};
 use sno_statement::{FileStatement, MAX_ROUNDS};
@@ -34,46 +37,60 @@ fn stopped(alloc: Global, rules: &EditRules, path: &str, left: &ByteText) -> Opt
     None
 }
 
-/// Says of a file on which a statement stopped at the most rounds, and matches once more, which one it is. Such a file counts as one on
-/// which a statement was refused.
-pub(crate) fn report_stopped<E: Write>(
+/// Says of a file in which the rules left this text which statement stopped at the most rounds, and matches once more. Such a file counts
+/// as one on which a statement was refused.
+fn report_left<E: Write>(
     alloc: Global,
     rules: &EditRules,
-    called: &str,
     path: &str,
-    done: &Done,
     left: &ByteText,
     tally: &mut Tally,
     errors: &mut E,
 ) {
-    if !may_stop(done) {
-        return;
-    }
     if let Some(number) = stopped(alloc, rules, path, left) {
         tally.refused = true;
+        let called = name_of(path);
         let _printed = errors.writeln(format_args!(
             "{called}: statement {number}: stopped after {MAX_ROUNDS} rounds, and matches once more"
         ));
     }
 }
 
-/// The same of a file that was written. It is read again, if it may be one.
-pub(crate) fn report_stopped_in<R: Files<File = File>, E: Write>(
-    rt: &R,
+/// Says the same of a file that is planned.
+pub(crate) fn report_stopped<E: Write>(
     alloc: Global,
     rules: &EditRules,
+    path: &str,
+    plan: &Plan,
+    tally: &mut Tally,
+    errors: &mut E,
+) {
+    if may_stop(&done_of(plan)) {
+        report_left(alloc, rules, path, &plan.after, tally, errors);
+    }
+}
+
+/// Whether one of the rules is for the file with this path and has as many rounds as a rule may have.
+fn have_most_rounds(rules: &EditRules, path: &str) -> bool {
+    rules.statements().iter().any(|s| has_most_rounds(s, path))
+}
+
+/// Says the same of a file that was written. It is read again, if it may be one.
+pub(crate) fn report_stopped_in<R: Files<File = File>, E: Write>(
+    editor: &Editor<'_, R>,
     path: &str,
     done: &Done,
     tally: &mut Tally,
     errors: &mut E,
 ) {
-    if !may_stop(done) || !rules.statements().iter().any(|s| has_most_rounds(s, path)) {
+    let rt = editor.rt;
+    if !may_stop(done) || !have_most_rounds(editor.rules, path) {
         return;
     }
-    let Ok(bytes) = (ReadOnly { rt }).read(alloc, path, MAX_BYTES) else {
+    let Ok(bytes) = (ReadOnly { rt }).read(editor.alloc, path, MAX_BYTES) else {
         return;
     };
     if let Ok(left) = ByteText::new(bytes) {
-        report_stopped(alloc, rules, path, path, done, &left, tally, errors);
+        report_left(editor.alloc, editor.rules, path, &left, tally, errors);
     }
 }

@@ -1,7 +1,7 @@
 //! `sno edit --json`: files that are edited, with what is written of each and of its matches.
-ghost use Rattle.std.specs.Prelude.{◌<◌};
 
 use crate::edit_reports::{Form, put_end, report_fault};
+use crate::editors::Editor;
 use crate::faults::ProgramFault;
 use crate::match_rows::{Rows, rows_of};
 use crate::progress::Progress;
@@ -28,15 +28,13 @@ struct Edit {
 
 /// Edits a file, and seeks its matches in the text that it held.
 fn edit_file<R: Files<File = File>>(
-    rt: &R,
-    alloc: Global,
-    rules: &EditRules,
+    editor: &Editor<'_, R>,
     writing: Writing<'_>,
     path: &str,
 ) -> Result<Edit, FileFault> {
-    match edit_with_text(rt, alloc, rules, writing, path) {
+    match edit_with_text(editor.rt, editor.alloc, editor.rules, writing, path) {
         Ok(EditedFile { done, before }) => {
-            let rows = rows_of(alloc, rules, path, before, done.matches);
+            let rows = rows_of(editor.alloc, editor.rules, path, before, done.matches);
             Ok(Edit { done, rows })
         }
         Err(fault) => Err(fault),
@@ -92,9 +90,7 @@ fn done_in(end: &Result<Edit, FileFault>) -> Result<Done, FileFault> {
 
 /// Counts what became of a file, and reports it.
 fn report_end<R: Files<File = File>, W: Write, E: Write>(
-    rt: &R,
-    alloc: Global,
-    rules: &EditRules,
+    editor: &Editor<'_, R>,
     path: &str,
     end: &Result<Edit, FileFault>,
     tally: &mut Tally,
@@ -104,17 +100,15 @@ fn report_end<R: Files<File = File>, W: Write, E: Write>(
     let done = done_in(end);
     tally.count(&done);
     match &done {
-        Ok(done) => report_stopped_in(rt, alloc, rules, path, done, tally, errors),
+        Ok(done) => report_stopped_in(editor, path, done, tally, errors),
         Err(fault) => report_fault(errors, path, *fault),
     }
-    outlet.take(alloc, rules, path, end);
+    outlet.take(editor.alloc, editor.rules, path, end);
 }
 
 /// Reports what became of the file at a place. If there was no room for it while other threads wrote theirs, it is edited once more.
 fn report_place<R: Files<File = File>, W: Write, E: Write>(
-    rt: &R,
-    alloc: Global,
-    rules: &EditRules,
+    editor: &Editor<'_, R>,
     writing: Writing<'_>,
     place: &Place<'_, Result<Edit, FileFault>>,
     tally: &mut Tally,
@@ -124,75 +118,68 @@ fn report_place<R: Files<File = File>, W: Write, E: Write>(
     let path = place.path;
     match &place.result {
         Some(end) if !lacks_room(end) => {
-            report_end(rt, alloc, rules, path, end, tally, outlet, errors);
+            report_end(editor, path, end, tally, outlet, errors);
         }
         _ => {
-            let end = edit_file(rt, alloc, rules, writing, path);
-            report_end(rt, alloc, rules, path, &end, tally, outlet, errors);
+            let end = edit_file(editor, writing, path);
+            report_end(editor, path, &end, tally, outlet, errors);
         }
     }
 }
 
-/// Edits these files by this many threads, and reports what became of each, in the order of the paths.
+/// Edits these files by threads, and reports what became of each, in the order of the paths.
 fn edit_share<R: Files<File = File, Dir: Send> + Threads + Sync, W: Write, E: Write>(
-    rt: &R,
-    alloc: Global,
-    rules: &EditRules,
+    editor: &Editor<'_, R>,
     paths: &[&str],
     writing: Writing<'_>,
-    threads: usize,
     tally: &mut Tally,
     outlet: &mut Outlet<'_, W>,
     errors: &mut E,
-) -> Result<(), AllocError>
-    requires { 0 < threads }
-{
+) -> Result<(), AllocError> {
+    let Editor {
+        rt,
+        alloc,
+        rules,
+        threads,
+    } = *editor;
     let mut places = places_of(alloc, paths)?;
     side_by_side(
         rt,
         threads,
         &mut places,
-        &|path: &str| edit_file(rt, alloc, rules, writing, path),
+        &|path: &str| {
+            let alone = Editor {
+                rt,
+                alloc,
+                rules,
+                threads: 1,
+            };
+            edit_file(&alone, writing, path)
+        },
     );
     for place in &places {
-        report_place(rt, alloc, rules, writing, place, tally, outlet, errors);
+        report_place(editor, writing, place, tally, outlet, errors);
     }
     Ok(())
 }
 
-/// Edits the files by this many threads, and writes an object for each file, and one for each of its matches.
+/// Edits the files by threads, and writes an object for each file, and one for each of its matches.
 pub(crate) fn edit_with_rows<R: Files<File = File, Dir: Send> + Threads + Sync, W: Write, E: Write>(
-    rt: &R,
-    alloc: Global,
-    rules: &EditRules,
+    editor: &Editor<'_, R>,
     paths: &[&str],
     writing: Writing<'_>,
-    threads: usize,
     output: &mut W,
     errors: &mut Progress<'_, E>,
-) -> Result<Tally, ProgramFault>
-    requires { 0 < threads }
-{
+) -> Result<Tally, ProgramFault> {
     let mut tally = Tally::of(paths.len());
     let mut outlet = Outlet {
         output,
         fault: None,
     };
-    let mut edited = 0_usize;
-    for share in paths.chunks(threads.saturating_mul(SHARE).max(1)) {
-        edit_share(
-            rt,
-            alloc,
-            rules,
-            share,
-            writing,
-            threads,
-            &mut tally,
-            &mut outlet,
-            errors,
-        )?;
-        edited = edited.saturating_add(share.len());
-        errors.show(edited, paths.len());
+    errors.begin(paths.len());
+    for share in paths.chunks(editor.threads.saturating_mul(SHARE).max(1)) {
+        edit_share(editor, share, writing, &mut tally, &mut outlet, errors)?;
+        errors.add(share.len());
     }
     match outlet.fault {
         Some(fault) => Err(fault),

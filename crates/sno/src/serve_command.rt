@@ -15,7 +15,7 @@ use std::alloc::{AllocError, Global};
 const MAX_KEEP: u32 = 900_000;
 
 const ABOUT: &str =
-    "Performs the statements of DOCUMENT, then answers each line of standard input by a line: a statement, a text to be read, or an index to list entries from";
+    "Performs the statements of DOCUMENT, then writes a reply for each line of standard input: a statement, a text to be read, or an index to list entries from";
 
 // The subcommand's own usage would leave out the program's name.
 const USAGE: &str =

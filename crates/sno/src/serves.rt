@@ -8,7 +8,7 @@ use crate::listing_files::{ListingFile, open_listing, write_listing};
 use crate::serve_command::ServeOptions;
 use sno_document::{Document, DocumentFault, Mode, read_document};
 use sno_listing::listing_of;
-use sno_serve::{ServeFault, Served, serve};
+use sno_serve::{ServeFault, Served, Terms, serve};
 use std::alloc::Global;
 use std::io::{Read, Write};
 use std::rt::Files;
@@ -46,31 +46,34 @@ fn end<R: Files>(
     }
 }
 
+/// How statements are performed that don't say it.
+fn mode_of(options: &ServeOptions<'_>) -> Mode
+    ensures { IsLimit result.trials }
+{
+    Mode {
+        anchor: false,
+        trials: options.trials,
+    }
+}
+
 /// Serves a document that was read.
 fn serve_document<R: Files + Threads + Wait + Sync, I: Read + Send + Drop, W: Write + Send + Drop>(
     rt: &R,
     alloc: Global,
     options: &ServeOptions<'_>,
     document: Document,
-    mode: Mode,
     input: I,
     output: W,
 ) -> Result<u8, ProgramFault>
-    requires limit { IsLimit mode.trials }
-    requires ready { IsReady document }
+    requires { IsReady document }
 {
     let listing = open_listing(rt, alloc, options.listing)?;
-    let seats = options.seats as usize;
-    match serve(
-        rt,
-        alloc,
-        document,
-        mode,
-        seats,
-        options.tries,
-        input,
-        output,
-    ) {
+    let terms = Terms {
+        mode: mode_of(options),
+        seats: options.seats as usize,
+        tries: options.tries,
+    };
+    match serve(rt, alloc, document, terms, input, output) {
         Ok(served) => end(rt, alloc, options, &served, listing),
         Err(fault) => Err(fault_of(fault)),
     }
@@ -94,14 +97,10 @@ pub(crate) fn run_serve<
     errors: &mut E,
 ) -> Result<u8, ProgramFault> {
     let bytes = document_bytes(rt, alloc, &mut input, Some(options.document))?;
-    let mode = Mode {
-        anchor: false,
-        trials: options.trials,
-    };
-    let read = read_document(alloc, &bytes, mode);
+    let read = read_document(alloc, &bytes, mode_of(options));
     drop(bytes);
     match read {
-        Ok(document) => serve_document(rt, alloc, options, document, mode, input, output),
+        Ok(document) => serve_document(rt, alloc, options, document, input, output),
         Err(DocumentFault::Memory) => Err(ProgramFault::Memory),
         Err(fault) => {
             let _printed = errors.writeln(fault);

@@ -1,44 +1,52 @@
 //! `sno edit` by several threads.
-ghost use Rattle.std.specs.Prelude.{◌<◌};
 
 use crate::edit_reports::{Show, done_of};
+use crate::editors::Editor;
 use crate::edits::put_file;
 use crate::match_rows::write_plan_rows;
 use crate::rounds_left::may_stop;
 use crate::shared_files::{KEPT, Kept, places_of};
-use sno_edit::{Done, EditRules, FileFault};
+use sno_edit::{Done, FileFault};
 use sno_files::{Place, Writing, edit_one, lacks_room, side_by_side};
-use std::alloc::{AllocError, Global};
+use std::alloc::AllocError;
 use std::fs::File;
 use std::rt::Files;
 use std::thread::Threads;
 
+/// Edits the file with this path.
+fn edit_path<R: Files<File = File>>(
+    editor: &Editor<'_, R>,
+    writing: Writing<'_>,
+    path: &str,
+) -> Result<Done, FileFault> {
+    edit_one(editor.rt, editor.alloc, editor.rules, writing, path)
+}
+
 /// What became of a file at a place. If there was no room for it while other threads wrote theirs, it is edited once more.
 fn end_at<R: Files<File = File>>(
-    rt: &R,
-    alloc: Global,
-    rules: &EditRules,
+    editor: &Editor<'_, R>,
     writing: Writing<'_>,
     place: &Place<'_, Result<Done, FileFault>>,
 ) -> Result<Done, FileFault> {
     match &place.result {
         Some(end) if !lacks_room(end) => *end,
-        _ => edit_one(rt, alloc, rules, writing, place.path),
+        _ => edit_path(editor, writing, place.path),
     }
 }
 
-/// Edits these files by this many threads, and returns what became of each, in the order of the paths. Refused only if out of memory.
+/// Edits these files by threads, and returns what became of each, in the order of the paths. Refused only if out of memory.
 /// Then files may have been edited.
 pub(crate) fn edit_shared<R: Files<File = File, Dir: Send> + Threads + Sync>(
-    rt: &R,
-    alloc: Global,
-    rules: &EditRules,
+    editor: &Editor<'_, R>,
     writing: Writing<'_>,
-    threads: usize,
     paths: &[&str],
-) -> Result<Vec<Result<Done, FileFault>>, AllocError>
-    requires { 0 < threads }
-{
+) -> Result<Vec<Result<Done, FileFault>>, AllocError> {
+    let Editor {
+        rt,
+        alloc,
+        rules,
+        threads,
+    } = *editor;
     let mut places = places_of(alloc, paths)?;
     let mut ends = Vec::with_capacity(alloc, paths.len())?;
     side_by_side(
@@ -48,7 +56,7 @@ pub(crate) fn edit_shared<R: Files<File = File, Dir: Send> + Threads + Sync>(
         &|path: &str| edit_one(rt, alloc, rules, writing, path),
     );
     for place in &places {
-        ends.push(end_at(rt, alloc, rules, writing, place))?;
+        ends.push(end_at(editor, writing, place))?;
     }
     Ok(ends)
 }
@@ -67,15 +75,9 @@ pub(crate) struct Sight {
 pub(crate) type Seen = Result<Option<Sight>, FileFault>;
 
 /// Plans a file.
-fn see<R: Files<File = File>>(
-    rt: &R,
-    alloc: Global,
-    rules: &EditRules,
-    show: Show,
-    path: &str,
-) -> Seen {
-    let mut bytes = Vec::new(alloc);
-    let Some(plan) = put_file(rt, alloc, rules, path, show, &mut bytes)? else {
+fn see<R: Files<File = File>>(editor: &Editor<'_, R>, show: Show, path: &str) -> Seen {
+    let mut bytes = Vec::new(editor.alloc);
+    let Some(plan) = put_file(editor, path, show, &mut bytes)? else {
         return Ok(None);
     };
     let done = done_of(&plan);
@@ -83,7 +85,7 @@ fn see<R: Files<File = File>>(
         return Ok(None);
     }
     let mut kept = Kept { bytes };
-    match write_plan_rows(alloc, rules, path, show, &plan, &mut kept) {
+    match write_plan_rows(editor.alloc, editor.rules, path, show, &plan, &mut kept) {
         Ok(()) => Ok(Some(Sight {
             bytes: kept.bytes,
             done,
@@ -92,23 +94,32 @@ fn see<R: Files<File = File>>(
     }
 }
 
-/// Plans these files by this many threads: what is known of each, in the order of the paths.
+/// Plans these files by threads: what is known of each, in the order of the paths.
 pub(crate) fn see_shared<'p, R: Files<File = File, Dir: Send> + Threads + Sync>(
-    rt: &R,
-    alloc: Global,
-    rules: &EditRules,
+    editor: &Editor<'_, R>,
     show: Show,
-    threads: usize,
     paths: &[&'p str],
-) -> Result<Vec<Place<'p, Seen>>, AllocError>
-    requires { 0 < threads }
-{
+) -> Result<Vec<Place<'p, Seen>>, AllocError> {
+    let Editor {
+        rt,
+        alloc,
+        rules,
+        threads,
+    } = *editor;
     let mut places = places_of(alloc, paths)?;
     side_by_side(
         rt,
         threads,
         &mut places,
-        &|path: &str| see(rt, alloc, rules, show, path),
+        &|path: &str| {
+            let alone = Editor {
+                rt,
+                alloc,
+                rules,
+                threads: 1,
+            };
+            see(&alone, show, path)
+        },
     );
     Ok(places)
 }

@@ -6,11 +6,11 @@ use std::alloc::{AllocError, Global};
 use std::io;
 use std::io::{ErrorKind, Write};
 
-/// How many files a thread takes before what became of them is written.
-pub(crate) const SHARE: usize = 64;
+/// How many files a thread takes before what became of them is written. To begin threads takes as long as to read some forty files.
+pub(crate) const SHARE: usize = 512;
 
-/// The most bytes that are kept of what is shown of a file, until what comes before it is written.
-pub(crate) const KEPT: usize = 1_048_576;
+/// The most bytes that are kept of what is shown of a file, until what comes before it is written. So a thread keeps at most 64 MiB.
+pub(crate) const KEPT: usize = 131_072;
 
 /// Bytes that are kept until what comes before them is written. No more than [`KEPT`] are taken.
 #[derive(Drop)]

@@ -1,14 +1,13 @@
 //! `sno find` by several threads.
-ghost use Rattle.std.specs.Prelude.{◌<◌};
 
 use crate::faults::ProgramFault;
 use crate::find_options::Shown;
 use crate::finds::{NotFound, Sought, find_file, find_named, keep};
+use crate::searches::Search;
 use crate::shared_files::{Kept, places_of};
 use crate::streams::write_all;
-use sno_edit::{EditRules, FileFault};
+use sno_edit::FileFault;
 use sno_files::{Place, side_by_side};
-use std::alloc::Global;
 use std::fs::File;
 use std::io::{Read, Write};
 use std::rt::Files;
@@ -26,20 +25,14 @@ struct Sight {
 type Seen = Result<Option<Sight>, FileFault>;
 
 /// Seeks the rules in a file.
-fn see<R: Files<File = File>>(
-    rt: &R,
-    alloc: Global,
-    rules: &EditRules,
-    shown: Shown<'_>,
-    path: &str,
-) -> Seen {
+fn see<R: Files<File = File>>(search: &Search<'_, R>, path: &str) -> Seen {
     if path == "-" {
         return Ok(None);
     }
     let mut kept = Kept {
-        bytes: Vec::new(alloc),
+        bytes: Vec::new(search.alloc),
     };
-    match find_file(rt, alloc, rules, shown, path, false, &mut kept) {
+    match find_file(search, path, false, &mut kept) {
         Ok(found) => Ok(Some(Sight {
             bytes: kept.bytes,
             found,
@@ -65,10 +58,7 @@ fn write_sight<W: Write>(
 
 /// Writes what is shown of each of the files.
 fn write_each<R: Files<File = File>, I: Read, W: Write, E: Write>(
-    rt: &R,
-    alloc: Global,
-    shown: Shown<'_>,
-    rules: &EditRules,
+    search: &Search<'_, R>,
     places: &[Place<'_, Seen>],
     sought: &mut Sought,
     input: &mut I,
@@ -79,43 +69,53 @@ fn write_each<R: Files<File = File>, I: Read, W: Write, E: Write>(
         let path = place.path;
         let grouped = sought.found;
         let found = match &place.result {
-            Some(Ok(Some(sight))) => write_sight(shown, sight, grouped, output),
+            Some(Ok(Some(sight))) => write_sight(search.shown, sight, grouped, output),
             Some(Err(fault)) => Err(NotFound::File(*fault)),
-            _ => find_named(rt, alloc, rules, shown, path, grouped, input, output),
+            _ => find_named(search, path, grouped, input, output),
         };
         keep(path, found, sought, errors)?;
     }
     Ok(())
 }
 
-/// Seeks the rules in each of these files, by several threads, and writes what is shown of it, in the order of the paths.
+/// Seeks the rules in each of these files, by threads, and writes what is shown of it, in the order of the paths.
 pub(crate) fn find_shared<
     R: Files<File = File, Dir: Send> + Threads + Sync,
     I: Read,
     W: Write,
     E: Write,
 >(
-    rt: &R,
-    alloc: Global,
-    shown: Shown<'_>,
-    rules: &EditRules,
-    threads: usize,
+    search: &Search<'_, R>,
     paths: &[&str],
     sought: &mut Sought,
     input: &mut I,
     output: &mut W,
     errors: &mut E,
-) -> Result<(), ProgramFault>
-    requires { 0 < threads }
-{
+) -> Result<(), ProgramFault> {
+    let Search {
+        rt,
+        alloc,
+        rules,
+        shown,
+        threads,
+        in_folder,
+    } = *search;
     let mut places = places_of(alloc, paths)?;
     side_by_side(
         rt,
         threads,
         &mut places,
-        &|path: &str| see(rt, alloc, rules, shown, path),
+        &|path: &str| {
+            let alone = Search {
+                rt,
+                alloc,
+                rules,
+                shown,
+                threads: 1,
+                in_folder,
+            };
+            see(&alone, path)
+        },
     );
-    write_each(
-        rt, alloc, shown, rules, &places, sought, input, output, errors,
-    )
+    write_each(search, &places, sought, input, output, errors)
 }

@@ -19,14 +19,17 @@ use std::sync::Wait;
 /// The status after a store or a document that is refused.
 const INVALID: u8 = 2;
 
+/// A store that was opened, and its lines.
+pub(crate) type Opened = (Store<File>, Lines);
+
 /// What opens stores.
 pub(crate) trait Stores {
     /// Opens the store in a file, which is made if it is missing.
-    fn open_store(&self, path: &str) -> Result<(Store<File>, Lines), OpenFault>;
+    fn open_store(&self, path: &str) -> Result<Opened, OpenFault>;
 }
 
 impl Stores for HostRuntime {
-    fn open_store(&self, path: &str) -> Result<(Store<File>, Lines), OpenFault> {
+    fn open_store(&self, path: &str) -> Result<Opened, OpenFault> {
         open(self, path)
     }
 }
@@ -62,7 +65,7 @@ pub(crate) fn opened<R: Stores, E: Write>(
     rt: &R,
     path: &str,
     errors: &mut E,
-) -> Result<(Store<File>, Lines), u8> {
+) -> Result<Opened, u8> {
     match rt.open_store(path) {
         Ok(opened) => Ok(opened),
         Err(fault) => {
@@ -75,6 +78,15 @@ pub(crate) fn opened<R: Stores, E: Write>(
 /// Whether there is something with this path.
 fn is_there<R: Files>(rt: &R, path: &str) -> bool {
     fs::metadata(rt, path).is_ok()
+}
+
+/// The streams of a service.
+#[derive(Drop)]
+struct Streams<I: Read + Drop, W: Write + Drop> {
+    /// From where lines come.
+    input: I,
+    /// Where replies go.
+    output: W,
 }
 
 /// Serves a document over a store, and returns the status: 0 at the end of the input; 2 if the store or the document is
@@ -95,7 +107,8 @@ pub(crate) fn run_stored<R: Files + Stores + Wait, I: Read + Drop, W: Write + Dr
         None => None,
         Some(path) => Some(document_bytes(rt, alloc, &mut input, Some(path))?),
     };
-    serve_listed(rt, alloc, options, document, input, output, errors)
+    let streams = Streams { input, output };
+    serve_listed(rt, alloc, options, document, streams, errors)
 }
 
 /// Serves the document, or that of the store, and writes the listing.
@@ -104,35 +117,64 @@ fn serve_listed<R: Files + Stores + Wait, I: Read + Drop, W: Write + Drop, E: Wr
     alloc: Global,
     options: &StoreOptions<'_>,
     document: Option<Vec<u8>>,
-    input: I,
-    output: W,
+    streams: Streams<I, W>,
     errors: &mut E,
 ) -> Result<u8, ProgramFault> {
     let listing = open_listing(rt, alloc, options.listing)?;
-    match serve_given(rt, alloc, options, document, input, output, errors) {
+    match serve_given(rt, alloc, options, document, streams, errors) {
         Ok(kept) => end(rt, alloc, &kept, listing, errors),
         Err(status) => Ok(status),
     }
 }
 
-/// Opens the store and serves lines; if nothing can be served, the line of the fault is written, and the status comes back.
+/// Opens the store and serves lines until there are no more; if nothing can be served, the line of the fault is written, and the status
+/// comes back.
 fn serve_given<R: Files + Stores + Wait, I: Read + Drop, W: Write + Drop, E: Write>(
     rt: &R,
     alloc: Global,
     options: &StoreOptions<'_>,
     document: Option<Vec<u8>>,
-    input: I,
-    output: W,
+    streams: Streams<I, W>,
     errors: &mut E,
 ) -> Result<Kept<File, I, W>, u8> {
-    let (store, lines) = opened(rt, options.store, errors)?;
+    let kept = serve_first(rt, alloc, options, document, streams, errors)?;
+    serve_on(rt, alloc, options, kept, errors)
+}
+
+/// Opens the store and serves lines until there are no more, or until the store has as many entries as it keeps.
+fn serve_first<R: Stores + Wait, I: Read + Drop, W: Write + Drop, E: Write>(
+    rt: &R,
+    alloc: Global,
+    options: &StoreOptions<'_>,
+    document: Option<Vec<u8>>,
+    streams: Streams<I, W>,
+    errors: &mut E,
+) -> Result<Kept<File, I, W>, u8> {
+    let opened = opened(rt, options.store, errors)?;
     let given = Given {
         document,
         trials: options.trials,
         most: options.keep,
     };
+    let Streams { input, output } = streams;
     match Client::new(alloc, input, output) {
-        Ok(client) => serve_on(rt, alloc, options, store, lines, given, client, errors),
+        Ok(client) => serve_opened(rt, alloc, opened, given, client, errors),
+        Err(fault) => Err(refuse(&fault, errors)),
+    }
+}
+
+/// Serves a client over a store; if nothing can be served, the line of the fault is written, and the status comes back.
+fn serve_opened<R: Wait, I: Read + Drop, W: Write + Drop, E: Write>(
+    rt: &R,
+    alloc: Global,
+    opened: Opened,
+    given: Given,
+    client: Client<I, W>,
+    errors: &mut E,
+) -> Result<Kept<File, I, W>, u8> {
+    let (store, lines) = opened;
+    match serve_durably(rt, alloc, store, lines, given, client) {
+        Ok(kept) => Ok(kept),
         Err(fault) => Err(refuse(&fault, errors)),
     }
 }
@@ -143,22 +185,16 @@ fn serve_on<R: Files + Stores + Wait, I: Read + Drop, W: Write + Drop, E: Write>
     rt: &R,
     alloc: Global,
     options: &StoreOptions<'_>,
-    store: Store<File>,
-    lines: Lines,
-    given: Given,
-    client: Client<I, W>,
+    kept: Kept<File, I, W>,
     errors: &mut E,
 ) -> Result<Kept<File, I, W>, u8> {
-    let mut kept = match serve_durably(rt, alloc, store, lines, given, client) {
-        Ok(kept) => kept,
-        Err(fault) => return Err(refuse(&fault, errors)),
-    };
+    let mut kept = kept;
     for _ in 0..u64::MAX {
         if !has_more(&kept) {
             return Ok(kept);
         }
-        let (store, lines) = compact(rt, alloc, options.store, &kept, errors)?;
-        kept = next_store(rt, alloc, options, kept, store, lines, errors)?;
+        let opened = compact(rt, alloc, options.store, &kept, errors)?;
+        kept = serve_next(rt, alloc, options, kept, opened, errors)?;
     }
     Ok(kept)
 }
@@ -172,13 +208,12 @@ fn has_more<D: Disk, I: Read, W: Write>(kept: &Kept<D, I, W>) -> bool {
 }
 
 /// Serves the client that is left over the store that goes on.
-fn next_store<R: Wait, I: Read + Drop, W: Write + Drop, E: Write>(
+fn serve_next<R: Wait, I: Read + Drop, W: Write + Drop, E: Write>(
     rt: &R,
     alloc: Global,
     options: &StoreOptions<'_>,
     kept: Kept<File, I, W>,
-    store: Store<File>,
-    lines: Lines,
+    opened: Opened,
     errors: &mut E,
 ) -> Result<Kept<File, I, W>, u8> {
     let Kept { client, .. } = kept;
@@ -187,10 +222,7 @@ fn next_store<R: Wait, I: Read + Drop, W: Write + Drop, E: Write>(
         trials: None,
         most: options.keep,
     };
-    match serve_durably(rt, alloc, store, lines, given, client) {
-        Ok(kept) => Ok(kept),
-        Err(fault) => Err(refuse(&fault, errors)),
-    }
+    serve_opened(rt, alloc, opened, given, client, errors)
 }
 
 /// Writes the listing, or the line of the fault that ended the service, and returns the status.
@@ -216,12 +248,8 @@ const NO_LINES: &[u8] = &[];
 type Looked = Kept<File, &'static [u8], Vec<u8>>;
 
 /// Performs the statements of a store again.
-fn replay<R: Wait>(
-    rt: &R,
-    alloc: Global,
-    store: Store<File>,
-    lines: Lines,
-) -> Result<Looked, DurableFault> {
+fn replay<R: Wait>(rt: &R, alloc: Global, opened: Opened) -> Result<Looked, DurableFault> {
+    let (store, lines) = opened;
     let client = Client::new(alloc, NO_LINES, Vec::new(alloc))?;
     let given = Given {
         document: None,
@@ -238,8 +266,8 @@ fn replayed<R: Stores + Wait, E: Write>(
     path: &str,
     errors: &mut E,
 ) -> Result<Looked, u8> {
-    let (store, lines) = opened(rt, path, errors)?;
-    match replay(rt, alloc, store, lines) {
+    let opened = opened(rt, path, errors)?;
+    match replay(rt, alloc, opened) {
         Ok(kept) => Ok(kept),
         Err(fault) => Err(refuse(&fault, errors)),
     }

@@ -1,5 +1,6 @@
 //! The option that says how many threads share the files.
 ghost use Rattle.std.specs.Prelude.{◌≡◌, ◌≤◌, ◌<◌};
+ghost use Rattle.sno.specs.declared.thread_options.TheConstants.{MAX_THREADS};
 
 use crate::arguments::is_up_to;
 use clap::{Arg, ArgMatches};
@@ -9,7 +10,7 @@ use std::thread;
 use std::thread::Threads;
 
 /// The most threads.
-const MAX_THREADS: u32 = 16;
+pub(crate) const MAX_THREADS: u32 = 16;
 
 const THREADS_HELP: &str =
     "How many threads share the files, 1 to 16; by default as many as there are processors";
@@ -38,14 +39,14 @@ pub(crate) fn are_threads_in_range(matches: &ArgMatches<'_>) -> bool {
 
 /// This number, or the nearest one that is in the range.
 fn in_range(count: usize) -> usize
-    ensures { (0 < result) × (result ≤ 16) }
+    ensures { (0 < result) × (result ≤ MAX_THREADS) }
 {
     count.max(1).min(MAX_THREADS as usize)
 }
 
 /// How many threads share the files: those that are asked for, or as many as there are processors, at most 16.
 pub(crate) fn thread_count<R: Threads>(rt: &R, asked: Option<u32>) -> usize
-    ensures { (0 < result) × (result ≤ 16) }
+    ensures { (0 < result) × (result ≤ MAX_THREADS) }
 {
     match asked {
         Some(count) => in_range(count as usize),

@@ -203,7 +203,7 @@ fn shared_for_texts(alloc: Global, rule: FileStatement) -> Result<Option<Arc<Sta
     Ok(Some(Arc::new(alloc, statement)?))
 }
 
-/// What is said of a rule that is none on texts.
+/// What is said of a rule that can't be a statement on texts.
 fn not_for_texts(alloc: Global, number: u32) -> Unshown {
     let said = format!(in alloc;
         "statement {number}: the object is not ASCII: a rule is traced on ASCII alone\n"

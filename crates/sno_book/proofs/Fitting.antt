@@ -9,7 +9,7 @@ use Rattle.sno_book.specs.Entries.{Entry}
 use Rattle.sno_book.specs.Openings.{names_in, start, place_in}
 use Rattle.sno_book.specs.Views.{View, IsValid, AreRelated, state_of, and_then}
 use Rattle.sno_book.specs.Books.{Book, view_of}
-use Rattle.sno_book.specs.Origins.{Stands, IsPerformed}
+use Rattle.sno_book.specs.Origins.{HoldsText, IsPerformed}
 use Rattle.sno_book.specs.Proposals.{Proposal, Receipt, entry_of}
 use Rattle.sno_book.specs.Commits.{full, refusal, Fits, IsAccepted}
 use Rattle.sno_book.specs.VersionedTexts.{Keeps, with_names}
@@ -73,17 +73,17 @@ place_free b book p stored equal keeps none =
 -- the text in the book is the one that the proposal's statement was performed on
 pub stands_still : (b book : Book) (p : Proposal) (stored : List StoredText) (s : StoredText) → b ≡ book → Keeps (view_of b) stored → refusal (view_of book) p ≡ None
     → AreRelated p.origin (view_of book) → IsPerformed p.origin p.place p.version p.statement p.outcome → slice_get stored p.place ≡ Some s
-    → Stands p.origin p.place p.version (arc_value s.text)
+    → HoldsText p.origin p.place p.version (arc_value s.text)
 stands_still b book p stored s equal keeps none related performed at =
     let f = free (view_of b) p (ap (λ (c : Book). refusal (view_of c) p) equal ∙ none) in
     let there = stands_there b stored p.statement.text p.place s keeps f.placed at in
     let is : f.versioned ≡ record { name = p.statement.text; text = arc_value s.text; version = s.version } = cc in
     let here : AreRelated p.origin (view_of b) = subst (λ (c : Book). AreRelated p.origin (view_of c)) (sym equal) related in
-    let before : VersionedText = record { name = performed.stands.name; text = performed.text; version = p.version } in
+    let before : VersionedText = record { name = performed.held.name; text = performed.text; version = p.version } in
     let now : VersionedText = record { name = p.statement.text; text = arc_value s.text; version = s.version } in
     let text : performed.text ≡ arc_value s.text =
-    related_agree p.origin (view_of b) here p.place before now performed.stands.there there (f.version ∙ ap (λ (x : VersionedText). x.version) is) in
-    subst (λ (t : List ℕ). Stands p.origin p.place p.version t) text performed.stands
+    related_agree p.origin (view_of b) here p.place before now performed.held.there there (f.version ∙ ap (λ (x : VersionedText). x.version) is) in
+    subst (λ (t : List ℕ). HoldsText p.origin p.place p.version t) text performed.held
 
 pub fits_still : (b book : Book) (p ready : Proposal) (stored : List StoredText) (journal : List Entry) → b ≡ book → ready ≡ p → journal ≡ b.journal → Keeps (view_of b) stored
     → refusal (view_of book) p ≡ None → Fits (record { opening = b.opening; journal = journal }) ready
@@ -95,7 +95,7 @@ fits_still b book p ready stored journal same holds still keeps none =
 
 -- a proposal that was prepared, and a book that it fits
 module _ (b book : Book) (p ready : Proposal) (stored : List StoredText) (text : List ℕ) (equal : b ≡ book) (holds : p ≡ ready) (keeps : Keeps (view_of b) stored)
-    (fit : Fits (view_of book) ready) (related : AreRelated ready.origin (view_of book)) (stands : Stands p.origin p.place p.version text) (performed : perform p.statement text ≡ Ok p.outcome) where
+    (fit : Fits (view_of book) ready) (related : AreRelated ready.origin (view_of book)) (stands : HoldsText p.origin p.place p.version text) (performed : perform p.statement text ≡ Ok p.outcome) where
   fit_here : Fits (view_of b) p
   fit_here =
       let here : Fits (view_of b) ready = subst (λ (c : Book). Fits (view_of c) ready) (sym equal) fit in
@@ -138,7 +138,7 @@ module _ (b book : Book) (p ready : Proposal) (stored : List StoredText) (text :
         index = ap (λ (r : Receipt). r.index) received;
         entry = ap (λ (r : Receipt). r.entry) received;
         text = fit_here.there ∙ ap (λ (t : List ℕ). Some (record { name = p.statement.text; text = t; version = p.version })) (sym agree ∙ given_text);
-        seen = subst (λ (t : List ℕ). Stands p.origin p.place p.version t) given_text stands;
+        seen = subst (λ (t : List ℕ). HoldsText p.origin p.place p.version t) given_text stands;
       } in
       let at_book : IsAccepted (view_of book) (record { opening = b.opening; journal = journal }) p given =
       subst (λ (c : Book). IsAccepted (view_of c) (record { opening = b.opening; journal = journal }) p given) equal is in
@@ -146,8 +146,8 @@ module _ (b book : Book) (p ready : Proposal) (stored : List StoredText) (text :
 
 -- a current text of a book
 pub stands_in : (book : Book) (origin : View) (name taken text : List ℕ) (place version : ℕ) → origin ≡ view_of book → IsValid (view_of book) → text ≡ taken
-    → slice_get (state_of (view_of book)) place ≡ Some (record { name = name; text = taken; version = version }) → Stands origin place version text
+    → slice_get (state_of (view_of book)) place ≡ Some (record { name = name; text = taken; version = version }) → HoldsText origin place version text
 stands_in book origin name taken text place version from valid same_text there =
-    let here : Stands (view_of book) place version taken = record { valid = valid; name = name; there = there } in
-    let at : Stands origin place version taken = subst (λ (v : View). Stands v place version taken) (sym from) here in
-    subst (λ (t : List ℕ). Stands origin place version t) (sym same_text) at
+    let here : HoldsText (view_of book) place version taken = record { valid = valid; name = name; there = there } in
+    let at : HoldsText origin place version taken = subst (λ (v : View). HoldsText v place version taken) (sym from) here in
+    subst (λ (t : List ℕ). HoldsText origin place version t) (sym same_text) at

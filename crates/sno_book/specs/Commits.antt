@@ -5,7 +5,7 @@ use Rattle.sno_book.specs.Journals.{HasStep, step}
 use Rattle.sno_book.specs.Openings.{place_in}
 use Rattle.sno_book.specs.Views.{View, state_of, and_then}
 use Rattle.sno_book.specs.Books.{Book, view_of}
-use Rattle.sno_book.specs.Origins.{Stands}
+use Rattle.sno_book.specs.Origins.{HoldsText}
 use Rattle.sno_book.specs.Proposals.{Proposal, Receipt, entry_of}
 use Rattle.sno_book.specs.declared.faults.CommitFault.{CommitFault}
 use Rattle.sno_book.specs.declared.faults.CommitFault.TheVariants as fault
@@ -43,7 +43,7 @@ pub record IsAccepted (before after : View) (p : Proposal) (given : Receipt) : T
   pub index : given.index ≡ length before.journal
   pub entry : given.entry ≡ entry_of p
   pub text : slice_get (state_of before) p.place ≡ Some (record { name = p.statement.text; text = given.text; version = p.version })
-  pub seen : Stands p.origin p.place p.version given.text
+  pub seen : HoldsText p.origin p.place p.version given.text
 
 -- the refusal is the first that holds, or `Memory` if no other holds; nothing is changed, and the proposal comes back
 pub record IsRefused (before after : View) (p back : Proposal) (e : CommitFault) : Type 0 where

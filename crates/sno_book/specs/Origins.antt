@@ -15,7 +15,7 @@ first_view [] = record { opening = record { texts = []; room = 0 }; journal = []
 first_view (b ∷ books) = view_of b
 
 -- the view is valid, and after it the text at this place has this version and these characters
-pub record Stands (v : View) (place version : ℕ) (text : List ℕ) : Type 0 where
+pub record HoldsText (v : View) (place version : ℕ) (text : List ℕ) : Type 0 where
   pub valid : IsValid v
   pub name : List ℕ
   pub there : slice_get (state_of v) place ≡ Some (record { name = name; text = text; version = version })
@@ -23,5 +23,5 @@ pub record Stands (v : View) (place version : ℕ) (text : List ℕ) : Type 0 wh
 -- the outcome is what the statement does to the text at this place after the view
 pub record IsPerformed (v : View) (place version : ℕ) (s : Statement) (done : Outcome) : Type 0 where
   pub text : List ℕ
-  pub stands : Stands v place version text
+  pub held : HoldsText v place version text
   pub performed : perform s text ≡ Ok done

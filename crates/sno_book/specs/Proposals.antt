@@ -7,7 +7,7 @@ use Rattle.sno_statement.specs.declared.outcomes.StatementFault.{StatementFault}
 use Rattle.sno_statement.specs.declared.outcomes.StatementFault.TheVariants as fault
 use Rattle.sno_book.specs.Entries.{Entry, after_of, outcome_code, entry_code}
 use Rattle.sno_book.specs.Views.{View, view_code}
-use Rattle.sno_book.specs.Origins.{Stands}
+use Rattle.sno_book.specs.Origins.{HoldsText}
 use Rattle.sno_book.specs.Snapshots.{Snapshot}
 
 -- a statement, the place and version of the text that it was performed on, the view after which that text is there, and
@@ -34,7 +34,7 @@ entry_of p = record { statement = p.statement; version = p.version; outcome = p.
 pub record IsPrepared (p : Proposal) (entry : Entry) (after : Option (List ℕ)) (text : List ℕ) : Type 0 where
   pub entry_is : entry ≡ entry_of p
   pub after_is : after ≡ after_of p.outcome
-  pub stands : Stands p.origin p.place p.version text
+  pub held : HoldsText p.origin p.place p.version text
   pub performed : perform p.statement text ≡ Ok p.outcome
 
 -- the entry's index in the journal, the entry, and the text that it was performed on

@@ -22,7 +22,7 @@ impl Rule<Book, u64> for Free {
 
     ghost keeps = { λ names log. ftrue };
 
-    ghost moves = { λ ask before after answer. Unit {0} };
+    ghost moves = { λ ask before after result. Unit {0} };
 }
 
 /// A value that shows a view, as a book does.

@@ -4,7 +4,7 @@ ghost use Rattle.std.specs.Option.{option_map};
 ghost use Rattle.std.specs.Arc.{arc_value};
 ghost use Rattle.sno_statement.specs.Perform.{outcome_seen};
 ghost use Rattle.sno_book.specs.Entries.{after_of};
-ghost use Rattle.sno_book.specs.Origins.{Stands};
+ghost use Rattle.sno_book.specs.Origins.{HoldsText};
 ghost use Rattle.sno_book.specs.Proposals.{entry_of};
 
 use crate::{Entry, Proposal};
@@ -52,7 +52,7 @@ impl Ready {
     /// Returns the proposal with all that its commit needs. If memory runs out, the proposal alone comes back. The text
     /// is the one that its statement was performed on.
     pub(crate) fn of(proposal: Proposal, text: &Arc<Text>) -> Result<Ready, Proposal>
-        requires { Stands proposal.origin proposal.place proposal.version (arc_value text.now) }
+        requires { HoldsText proposal.origin proposal.place proposal.version (arc_value text.now) }
         ensures ready { IfOk result (λ ready. ready ≡ proposal) }
         ensures back { IfErr result (λ p. p ≡ proposal) }
     {

@@ -1,7 +1,7 @@
 //! Snapshots.
 ghost use Rattle.std.specs.Prelude.{◌≡◌};
 ghost use Rattle.std.specs.Arc.{arc_value};
-ghost use Rattle.sno_book.specs.Origins.{Stands};
+ghost use Rattle.sno_book.specs.Origins.{HoldsText};
 
 use crate::Origin;
 use sno_pattern::Text;
@@ -24,7 +24,7 @@ pub struct Snapshot {
 
 impl Model for Snapshot {
     ghost use Rattle.std.specs.Arc.{arc_value};
-    ghost use Rattle.sno_book.specs.Origins.{Stands};
+    ghost use Rattle.sno_book.specs.Origins.{HoldsText};
     ghost use Rattle.sno_book.specs.Snapshots.{Snapshot, snapshot_code};
 
     ghost Value = { Snapshot };
@@ -33,13 +33,13 @@ impl Model for Snapshot {
 
     ghost view = { λ s. record { place = s.place; version = s.version; text = arc_value s.text; origin = s.origin } };
 
-    ghost invariant = { λ s. Stands s.origin s.place s.version (arc_value s.text) };
+    ghost invariant = { λ s. HoldsText s.origin s.place s.version (arc_value s.text) };
 }
 
 impl Snapshot {
     /// A snapshot of the text at this place after a valid view.
     pub fn new(origin: Origin, place: usize, version: u64, text: Arc<Text>) -> Snapshot
-        requires { Stands origin place version (arc_value text) }
+        requires { HoldsText origin place version (arc_value text) }
         ensures { result ≡ record { place = place; version = version; text = arc_value text; origin = origin } }
     {
         Snapshot {
@@ -52,7 +52,7 @@ impl Snapshot {
 
     /// After the view the text is at its place.
     pub fn check(&self)
-        ensures { Stands self.now.origin self.now.place self.now.version self.now.text }
+        ensures { HoldsText self.now.origin self.now.place self.now.version self.now.text }
     {
         // for the proof
         let _ = &self.place;

@@ -57,7 +57,7 @@ pub(crate) fn start_of(
     room: u32,
 ) -> Result<Start, BookFault>
     requires { room ≤ MAX_ENTRIES }
-    ensures answer { GivesStart result texts.items room }
+    ensures result { GivesStart result texts.items room }
     ensures opening { IfOk result (λ start. IsOpening start.opening) }
     ensures first { IfOk result (λ start. contents start.versioned_texts.items ≡ first_contents start.opening.texts) }
 {

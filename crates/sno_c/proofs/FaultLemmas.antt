@@ -5,7 +5,7 @@ use Rattle.sno_document.specs.declared.modes.Mode.{Mode}
 use Rattle.sno_rewrite.specs.Faults.{IsFirstFault, status}
 use Rattle.sno_rewrite.specs.declared.faults.RunFault.{RunFault}
 use Rattle.sno_rewrite.specs.declared.faults.RunFault.TheVariants as run
-use Rattle.sno_c.specs.Answers.{IsFaulty}
+use Rattle.sno_c.specs.Listed.{IsFaulty}
 
 -- a fault with status 2 is the first of the bytes
 pub faulty : (mode : Mode) (bytes : List ℕ) (e : RunFault) → (e ≢ run.Memory → IsFirstFault mode bytes e) → status e ≡ 2 → IsFaulty mode bytes

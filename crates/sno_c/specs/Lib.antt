@@ -1,4 +1,4 @@
-pub mod Answers
+pub mod Listed
 pub mod Assignments
 pub mod Blocks
 pub mod Kept

@@ -1,6 +1,6 @@
 //! The listing of a document's serial run, in a caller's buffer.
 ghost use Rattle.std.specs.Prelude.{◌≡◌, ◌<◌, ◌≤◌, ◌↔◌, ◌⊎◌, ◌++◌, drop, length};
-ghost use Rattle.sno_c.specs.Answers.{IsFaulty, IsListed, IsLonger};
+ghost use Rattle.sno_c.specs.Listed.{IsFaulty, IsListed, IsLonger};
 ghost use Rattle.sno_document.specs.declared.modes.Mode.{Mode};
 ghost use Rattle.sno_rewrite.specs.Reports.{IsReport, status_of_run};
 
@@ -9,28 +9,28 @@ use crate::statuses::{BAD_LIMIT, TOO_SHORT};
 use sno_rewrite::{MAX_TRIALS, Options, Report, RunFault, run_serial, status_of};
 use std::alloc::Global;
 
-/// Puts the line of a fault in the buffer, as much of it as there is room for, and sets `told` to that many bytes.
-fn put_fault(alloc: Global, fault: &RunFault, buffer: &mut [u8], told: &mut usize)
-    ensures rest { drop told.new buffer.new ≡ drop told.new buffer.old }
+/// Puts the line of a fault in the buffer, as much of it as there is room for, and sets `reported` to that many bytes.
+fn put_fault(alloc: Global, fault: &RunFault, buffer: &mut [u8], reported: &mut usize)
+    ensures rest { drop reported.new buffer.new ≡ drop reported.new buffer.old }
     ensures same { length buffer.new ≡ length buffer.old }
-    ensures inside { told.new ≤ length buffer.new }
+    ensures inside { reported.new ≤ length buffer.new }
 {
-    *told = 0;
+    *reported = 0;
     if let Ok(line) = fault.to_string(alloc) {
-        *told = put_line(buffer, line.as_bytes());
+        *reported = put_line(buffer, line.as_bytes());
     }
 }
 
-/// Puts the listing in the buffer if there is room for it, sets `told` to its length either way, and returns the
+/// Puts the listing in the buffer if there is room for it, sets `reported` to its length either way, and returns the
 /// status.
-fn put_listing(report: &Report, buffer: &mut [u8], told: &mut usize) -> u8
-    ensures counted { told.new ≡ length report.now.bytes.items }
-    ensures longer { result ≡ 5 → (length buffer.old < told.new) × (buffer.new ≡ buffer.old) }
-    ensures written { result < 2 → (buffer.new ≡ report.now.bytes.items ++ drop told.new buffer.old) × (result ≡ status_of_run report.now.refused) }
-    ensures inside { result < 2 → told.new ≤ length buffer.old }
+fn put_listing(report: &Report, buffer: &mut [u8], reported: &mut usize) -> u8
+    ensures counted { reported.new ≡ length report.now.bytes.items }
+    ensures longer { result ≡ 5 → (length buffer.old < reported.new) × (buffer.new ≡ buffer.old) }
+    ensures written { result < 2 → (buffer.new ≡ report.now.bytes.items ++ drop reported.new buffer.old) × (result ≡ status_of_run report.now.refused) }
+    ensures inside { result < 2 → reported.new ≤ length buffer.old }
     ensures known { (result < 2) ⊎ (result ≡ 5) }
 {
-    *told = report.bytes.len();
+    *reported = report.bytes.len();
     if report.bytes.len() > buffer.len() {
         return TOO_SHORT;
     }
@@ -42,17 +42,17 @@ fn put_listing(report: &Report, buffer: &mut [u8], told: &mut usize) -> u8
 /// is true. `anchor` says whether statements that don't say otherwise are anchored. `trials` says how many trials a
 /// match may take, 1 to 1,000,000,000. The function takes memory by `malloc`, and frees all of it.
 ///
-/// It returns a status, and sets `told` to a number of bytes:
+/// It returns a status, and sets `reported` to a number of bytes:
 ///
-/// - 0: no statement was refused. The listing is the first `told` bytes of the buffer.
+/// - 0: no statement was refused. The listing is the first `reported` bytes of the buffer.
 /// - 1: the same, but statements were refused, as the listing shows.
-/// - 2: the bytes are not a document. The first `told` bytes of the buffer are the line of the first fault, as much of
+/// - 2: the bytes are not a document. The first `reported` bytes of the buffer are the line of the first fault, as much of
 ///   it as there is room for.
-/// - 3: the limit of trials is invalid. `told` is 0.
-/// - 4: out of memory. The first `told` bytes of the buffer are a line that says so.
-/// - 5: the buffer is too short for the listing, which has `told` bytes. The buffer is unchanged.
+/// - 3: the limit of trials is invalid. `reported` is 0.
+/// - 4: out of memory. The first `reported` bytes of the buffer are a line that says so.
+/// - 5: the buffer is too short for the listing, which has `reported` bytes. The buffer is unchanged.
 ///
-/// After the first `told` bytes the buffer is unchanged.
+/// After the first `reported` bytes the buffer is unchanged.
 #[tactic(auto, using(crate::proofs::FaultLemmas::faulty))]
 #[unsafe(no_mangle)]
 pub extern "C" fn sno_rewrite_list(
@@ -62,19 +62,19 @@ pub extern "C" fn sno_rewrite_list(
     json: bool,
     trials: u32,
     buffer: &mut [u8],
-    told: &mut usize,
+    reported: &mut usize,
 ) -> u8
-    ensures listed { result < 2 → IsListed (record { anchor = anchor; trials = trials }) json document.now buffer.old buffer.new told.new result }
+    ensures listed { result < 2 → IsListed (record { anchor = anchor; trials = trials }) json document.now buffer.old buffer.new reported.new result }
     ensures faulty { result ≡ 2 → IsFaulty (record { anchor = anchor; trials = trials }) document.now }
     ensures limit { result ≡ 3 ↔ ((trials ≡ 0) ⊎ (MAX_TRIALS < trials)) }
-    ensures longer { result ≡ 5 → IsLonger (record { anchor = anchor; trials = trials }) json document.now buffer.old told.new }
-    ensures rest { drop told.new buffer.new ≡ drop told.new buffer.old }
-    ensures inside { result < 5 → told.new ≤ length buffer.old }
-    ensures none { result ≡ 3 → told.new ≡ 0 }
+    ensures longer { result ≡ 5 → IsLonger (record { anchor = anchor; trials = trials }) json document.now buffer.old reported.new }
+    ensures rest { drop reported.new buffer.new ≡ drop reported.new buffer.old }
+    ensures inside { result < 5 → reported.new ≤ length buffer.old }
+    ensures none { result ≡ 3 → reported.new ≡ 0 }
     ensures kept { result ≡ 5 → buffer.new ≡ buffer.old }
     ensures known { result ≤ 5 }
 {
-    *told = 0;
+    *reported = 0;
     if trials == 0 || trials > MAX_TRIALS {
         return BAD_LIMIT;
     }
@@ -86,9 +86,9 @@ pub extern "C" fn sno_rewrite_list(
         trials,
     };
     match run_serial(alloc, document, &options) {
-        Ok(report) => put_listing(&report, buffer, told),
+        Ok(report) => put_listing(&report, buffer, reported),
         Err(fault) => {
-            put_fault(alloc, &fault, buffer, told);
+            put_fault(alloc, &fault, buffer, reported);
             status_of(&fault)
         }
     }

@@ -8,9 +8,9 @@ use Rattle.sno_document.specs.declared.modes.Mode.{Mode}
 use Rattle.sno_findings.specs.declared.findings.Mistake.{Mistake}
 
 -- Without an error the bytes are a document. Otherwise they are not, and the first error is their first fault.
-abbrev pub Tells : Mode → List ℕ → List Mistake → Type 0
-Tells mode bytes [] = (d : document.Document) × IsDocument mode bytes (Ok d)
-Tells mode bytes (mistake ∷ others) = IsDocument mode bytes (Err mistake.fault)
+abbrev pub IsReported : Mode → List ℕ → List Mistake → Type 0
+IsReported mode bytes [] = (d : document.Document) × IsDocument mode bytes (Ok d)
+IsReported mode bytes (mistake ∷ others) = IsDocument mode bytes (Err mistake.fault)
 
 -- the same of rules in JSON
 abbrev pub TellsRules : Mode → List ℕ → List Mistake → Type 0

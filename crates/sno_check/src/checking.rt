@@ -3,7 +3,7 @@ ghost use Rattle.std.specs.Prelude.{◌≡◌, ◌≢◌, List, [], ◌∷◌, I
 ghost use Rattle.sno_document.specs.Document as document;
 ghost use Rattle.sno_document.specs.Document.{IsDocument};
 ghost use Rattle.sno_check.specs.declared.checking.TheConstants.{USUAL};
-ghost use Rattle.sno_check.specs.Reports.{Tells};
+ghost use Rattle.sno_check.specs.Reports.{IsReported};
 
 use crate::definitions::check_definitions;
 use crate::members::check_members;
@@ -184,7 +184,7 @@ pub fn member_warnings(alloc: Global, bytes: &[u8]) -> Result<Vec<Warning>, Allo
 /// Refused only if memory runs out.
 pub fn check(alloc: Global, bytes: &[u8]) -> Result<Report, AllocError>
     // Without an error the bytes are a document. Otherwise they are not, and the first error is their first fault.
-    ensures tells { IfOk result (λ report. Tells USUAL bytes.now report.errors.items) }
+    ensures says { IfOk result (λ report. IsReported USUAL bytes.now report.errors.items) }
 {
     let first = first_fault(alloc, bytes)?;
     let Collector {

@@ -2,7 +2,7 @@
 //!
 //! [`check`] takes the bytes of a document to a [`Report`]: its errors, each with its place and with what to write
 //! instead, and its warnings. There is an error exactly if `read_document` of `sno_document` has a fault, and the first
-//! error is that fault (`Tells` of `specs/Reports.antt`). What else is found is tested, not proved. What a finding is, and
+//! error is that fault (`IsReported` of `specs/Reports.antt`). What else is found is tested, not proved. What a finding is, and
 //! what single patterns and bytes say, is in `sno_findings`.
 //!
 //! | File | What it does |

@@ -25,10 +25,10 @@ use Rattle.sno_desk.specs.declared.faults.CommitFault.TheVariants as commit
 use Rattle.sno_desk.specs.declared.faults.SnapshotFault.{SnapshotFault}
 use Rattle.sno_desk.specs.declared.faults.SnapshotFault.TheVariants as snapshot
 use Rattle.sno_desk.specs.declared.faults.SubmitFault.TheVariants as submit
-use Rattle.sno_desk.specs.Answers.{Answer, AnswersAt, DecidesNoText, HasRisen, IsJustified, MayFollow, SpentAt, is_lost, receipts_in}
+use Rattle.sno_desk.specs.Replies.{Reply, IsReplyAt, DecidesNoText, HasRisen, IsJustified, MayFollow, SpentAt, is_lost, receipts_in}
 use Rattle.sno_desk.specs.Faults.{of_commit, of_snapshot, of_statement}
 use Rattle.sno_desk.specs.Receipts.{IsCause, StandsAfter}
-use Rattle.sno_desk.specs.Seen.{GivesSeen, HasVersion, IsSeen, IsTold, view_after}
+use Rattle.sno_desk.specs.Seen.{GivesSeen, HasVersion, IsSeen, IsInView, view_after}
 use Rattle.sno_desk.specs.Turns.{IsSubmitted, Position}
 use Rattle.sno_book.proofs.Standing.{standing}
 use Rattle.sno_desk.proofs.Causes.{explained, follows}
@@ -90,8 +90,8 @@ lost_more opening earlier seen after s attempt saw now come last place was named
     let more : mid.0 + 1 ≤ saw + 1 = last.risen mid.0 there in
     omega (arith, before, more)
 
-pub come_next : (opening : Opening) (earlier seen after : List Entry) (s : Statement) (attempt : ℕ) (answer : Answer) → is_lost answer ≡ true → HasCome opening earlier seen s attempt
-    → Begins seen after → AnswersAt 1 opening seen after s answer → HasCome opening earlier after s (attempt + 1)
+pub come_next : (opening : Opening) (earlier seen after : List Entry) (s : Statement) (attempt : ℕ) (reply : Reply) → is_lost reply ≡ true → HasCome opening earlier seen s attempt
+    → Begins seen after → IsReplyAt 1 opening seen after s reply → HasCome opening earlier after s (attempt + 1)
 come_next opening earlier seen after s attempt (Err (submit.TriesSpent was_seen now)) lost come begins last = record {
   begins = prefix_trans earlier seen after come.begins begins;
   risen = λ place was is named h k.
@@ -102,12 +102,12 @@ come_next opening earlier seen after s attempt (Err (submit.TriesSpent was_seen 
       let level = one_version opening after last.place is now there last.versioned in
       omega (arith, more, higher, level);
 }
-come_next opening earlier seen after s attempt answer lost come begins last = absurd cc
+come_next opening earlier seen after s attempt reply lost come begins last = absurd cc
 
 -- ---- the result of the last attempt is that of all
 
-pub last_at : (tries : ℕ) (opening : Opening) (earlier seen after : List Entry) (s : Statement) (attempt : ℕ) (answer : Answer) → (is_lost answer ≡ true → attempt ≡ tries)
-    → HasCome opening earlier seen s attempt → AnswersAt 1 opening seen after s answer → AnswersAt tries opening earlier after s answer
+pub last_at : (tries : ℕ) (opening : Opening) (earlier seen after : List Entry) (s : Statement) (attempt : ℕ) (reply : Reply) → (is_lost reply ≡ true → attempt ≡ tries)
+    → HasCome opening earlier seen s attempt → IsReplyAt 1 opening seen after s reply → IsReplyAt tries opening earlier after s reply
 last_at tries opening earlier seen after s attempt (Err (submit.TriesSpent was_seen now)) all come last =
     let level : attempt ≡ tries = all refl in
     record {
@@ -128,29 +128,29 @@ last_at tries opening earlier seen after s attempt (Ok receipt) all come last =
     let more = prefix_length earlier seen come.begins in
     let many = last.0 in
     (omega (arith, more, many), last.1)
-last_at tries opening earlier seen after s attempt answer all come last = last
+last_at tries opening earlier seen after s attempt reply all come last = last
 
-pub last_justified : (shuts : ℕ → ℕ → Type 0) (tries : ℕ) (opening : Opening) (earlier seen after : List Entry) (s : Statement) (attempt : ℕ) (answer : Answer)
-    → (is_lost answer ≡ true → attempt ≡ tries) → HasCome opening earlier seen s attempt → AnswersAt 1 opening seen after s answer → IsJustified shuts tries 1 s answer → IsJustified shuts tries tries s answer
+pub last_justified : (shuts : ℕ → ℕ → Type 0) (tries : ℕ) (opening : Opening) (earlier seen after : List Entry) (s : Statement) (attempt : ℕ) (reply : Reply)
+    → (is_lost reply ≡ true → attempt ≡ tries) → HasCome opening earlier seen s attempt → IsReplyAt 1 opening seen after s reply → IsJustified shuts tries 1 s reply → IsJustified shuts tries tries s reply
 last_justified shuts tries opening earlier seen after s attempt (Err (submit.TriesSpent was_seen now)) all come last justified =
     let level : attempt ≡ tries = all refl in
     let was = versioned opening earlier s.text last.place last.named in
     let more = lost_more opening earlier seen after s attempt was_seen now come last last.place was.0 last.named was.1 in
     let higher : was_seen < now = justified.0 in
     (justified.0, omega (arith, more, higher, level))
-last_justified shuts tries opening earlier seen after s attempt answer all come last justified = justified
+last_justified shuts tries opening earlier seen after s attempt reply all come last justified = justified
 
 -- so the submit ends with it
-pub submitted : (shuts : ℕ → ℕ → Type 0) (tries : ℕ) (opening : Opening) (seats : ℕ) (first before after : Position) (s : Statement) (attempt : ℕ) (answer : Answer)
-    → (is_lost answer ≡ true → attempt ≡ tries) → before.accepted ≡ first.accepted → HasCome opening first.seen before.seen s attempt → DecidesNoText opening s answer
-    → IsJustified shuts tries 1 s answer → AnswersAt 1 opening before.seen after.seen s answer → Begins before.seen after.seen → IfOk answer (λ r. StandsAfter seats before.accepted r)
-    → IfErr answer (λ e. SpentAt seats before.accepted e) → after.accepted ≡ before.accepted + receipts_in answer → IsSubmitted shuts tries opening seats first after s answer
-submitted shuts tries opening seats first before after s attempt answer all same come no_text justified last begins index spent counted = record {
-  answers = (no_text, last_justified shuts tries opening first.seen before.seen after.seen s attempt answer all come last justified);
-  at = last_at tries opening first.seen before.seen after.seen s attempt answer all come last;
+pub submitted : (shuts : ℕ → ℕ → Type 0) (tries : ℕ) (opening : Opening) (seats : ℕ) (first before after : Position) (s : Statement) (attempt : ℕ) (reply : Reply)
+    → (is_lost reply ≡ true → attempt ≡ tries) → before.accepted ≡ first.accepted → HasCome opening first.seen before.seen s attempt → DecidesNoText opening s reply
+    → IsJustified shuts tries 1 s reply → IsReplyAt 1 opening before.seen after.seen s reply → Begins before.seen after.seen → IfOk reply (λ r. StandsAfter seats before.accepted r)
+    → IfErr reply (λ e. SpentAt seats before.accepted e) → after.accepted ≡ before.accepted + receipts_in reply → IsSubmitted shuts tries opening seats first after s reply
+submitted shuts tries opening seats first before after s attempt reply all same come no_text justified last begins index spent counted = record {
+  allowed = (no_text, last_justified shuts tries opening first.seen before.seen after.seen s attempt reply all come last justified);
+  at = last_at tries opening first.seen before.seen after.seen s attempt reply all come last;
   begins = prefix_trans first.seen before.seen after.seen come.begins begins;
-  follows = subst (λ (n : ℕ). MayFollow seats n answer) same (follows seats before.accepted answer index spent);
-  counted = counted ∙ ap (λ (n : ℕ). n + receipts_in answer) same;
+  follows = subst (λ (n : ℕ). MayFollow seats n reply) same (follows seats before.accepted reply index spent);
+  counted = counted ∙ ap (λ (n : ℕ). n + receipts_in reply) same;
 }
 
 -- ---- one attempt: the snapshot
@@ -165,7 +165,7 @@ seen_justified snapshot.NoText shuts tries s = tt
 seen_justified snapshot.Stopped shuts tries s = tt
 seen_justified snapshot.Memory shuts tries s = tt
 
-pub seen_at : (e : SnapshotFault) (opening : Opening) (before after : List Entry) (s : Statement) → AnswersAt 1 opening before after s (Err (of_snapshot e))
+pub seen_at : (e : SnapshotFault) (opening : Opening) (before after : List Entry) (s : Statement) → IsReplyAt 1 opening before after s (Err (of_snapshot e))
 seen_at snapshot.NoText opening before after s = tt
 seen_at snapshot.Stopped opening before after s = tt
 seen_at snapshot.Memory opening before after s = tt
@@ -188,7 +188,7 @@ performed_justified statement.Memory shuts tries s taken short ascii h = tt
 performed_justified statement.TooManyTrials shuts tries s taken short ascii h = record { text = taken.text; short = short; ascii = ascii; performed = h }
 
 pub performed_at : (e : StatementFault) (opening : Opening) (before seen : List Entry) (s : Statement) (taken : Snapshot) → IsSeen opening seen s.text taken → GivesProposal (Err e) s taken
-    → AnswersAt 1 opening before seen s (Err (of_statement e))
+    → IsReplyAt 1 opening before seen s (Err (of_statement e))
 performed_at statement.TextTooLong opening before seen s taken h given =
     record { place = taken.place; named = h.place; held = text_at opening taken.place taken.text taken.version; there = h.there; performed = given }
 performed_at statement.Memory opening before seen s taken h given = tt
@@ -246,7 +246,7 @@ committed_justified (commit.Changed was now) shuts tries opening seen after s p 
 committed_justified e shuts tries opening seen after s p h begins why = tt
 
 pub committed_at : (e : CommitFault) (opening : Opening) (before seen after : List Entry) (s : Statement) (p : Proposal) → IsProposed opening seen s p → Begins before seen → Begins seen after
-    → IsCause e (view_after opening after) p → AnswersAt 1 opening before after s (Err (of_commit e))
+    → IsCause e (view_after opening after) p → IsReplyAt 1 opening before after s (Err (of_commit e))
 committed_at (commit.Changed was now) opening before seen after s p h first then_on why =
     let up = changed opening seen after s p was now h then_on why in
     let told = explained (view_after opening after) p (book.Changed was now) why in
@@ -283,6 +283,6 @@ committed_at commit.Full opening before seen after s p h first then_on why =
     )
 committed_at e opening before seen after s p h first then_on why = tt
 
-pub received_at : (opening : Opening) (before seen after : List Entry) (s : Statement) (receipt : Receipt) → Begins before seen → length seen ≤ receipt.index → IsTold opening after receipt
-    → AnswersAt 1 opening before after s (Ok receipt)
+pub received_at : (opening : Opening) (before seen after : List Entry) (s : Statement) (receipt : Receipt) → Begins before seen → length seen ≤ receipt.index → IsInView opening after receipt
+    → IsReplyAt 1 opening before after s (Ok receipt)
 received_at opening before seen after s receipt begins later told = let more = prefix_length before seen begins in (omega (arith, more, later), told)

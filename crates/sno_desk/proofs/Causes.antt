@@ -21,9 +21,9 @@ use Rattle.sno_desk.specs.declared.faults.CommitFault.{CommitFault}
 use Rattle.sno_desk.specs.declared.faults.CommitFault.TheVariants as commit
 use Rattle.sno_desk.specs.Commits.{IsCommitted, IsReturned}
 use Rattle.sno_desk.specs.Receipts.{IsCause, IsFor, NamesVersion, StandsAfter}
-use Rattle.sno_desk.specs.Answers.{Answer, MayFollow, SpentAt}
+use Rattle.sno_desk.specs.Replies.{Reply, MayFollow, SpentAt}
 use Rattle.sno_desk.specs.Faults.{of_book, of_commit}
-use Rattle.sno_desk.specs.Seen.{HasVersion, IsTold, view_after}
+use Rattle.sno_desk.specs.Seen.{HasVersion, IsInView, view_after}
 use Rattle.sno_desk.specs.Turns.{Position}
 use Rattle.sno_book.proofs.Standing.{standing}
 use Rattle.sno_published.specs.Tables.{text_after}
@@ -126,7 +126,7 @@ has_step v p none performed related law =
     let stood = standing v.opening v.journal p.statement.text p.place is_free.placed in
     let held : is_free.versioned ≡ stood.held = cc (is_free.there, stood.there) in
     let version : stood.held.version ≡ p.version = ap (λ (x : VersionedText). x.version) (sym held) ∙ sym is_free.version in
-    let text : performed.text ≡ stood.held.text = law p.origin v related p.place _ stood.held performed.stands.there stood.there (sym version) in
+    let text : performed.text ≡ stood.held.text = law p.origin v related p.place _ stood.held performed.held.there stood.there (sym version) in
     record { versioned = stood.held; found = stood.found; at_version = version; performed = subst (λ (l : List ℕ). perform p.statement l ≡ Ok p.outcome) text performed.performed }
 
 -- and so has its entry, from what is shown of the book
@@ -139,10 +139,10 @@ next_step v p opening shown entry step opens is same =
 
 -- ---- receipts
 
--- the seat is told of the entry, with the text that the entry is for
-pub told : (before after : View) (p : Proposal) (given : Receipt) (opening : Opening) (seen : List Entry) → IsAccepted before after p given → before.opening ≡ opening
-    → Legal (start opening) (before.journal ++ given.entry ∷ []) → Begins (before.journal ++ given.entry ∷ []) seen → IsTold opening seen given
-told before after p given opening seen a opens legal begins =
+-- the entry is in the seat's view, with the text that the entry is for
+pub in_view : (before after : View) (p : Proposal) (given : Receipt) (opening : Opening) (seen : List Entry) → IsAccepted before after p given → before.opening ≡ opening
+    → Legal (start opening) (before.journal ++ given.entry ∷ []) → Begins (before.journal ++ given.entry ∷ []) seen → IsInView opening seen given
+in_view before after p given opening seen a opens legal begins =
     let named : place_in before.opening p.statement.text ≡ Some p.place = (free before p a.free).placed in
     record {
       front = before.journal;
@@ -186,28 +186,28 @@ stands before after p given seats accepted total a law below alone counted room 
     record { after = omega arith; alone = λ one. let all : accepted ≡ total = alone one in omega arith; within = omega arith; version = version }
 
 -- a submit may return a receipt with a possible index, or a refusal with a possible version
-pub follows : (seats accepted : ℕ) (r : Answer) → IfOk r (λ receipt. StandsAfter seats accepted receipt) → IfErr r (λ e. SpentAt seats accepted e) → MayFollow seats accepted r
+pub follows : (seats accepted : ℕ) (r : Reply) → IfOk r (λ receipt. StandsAfter seats accepted receipt) → IfErr r (λ e. SpentAt seats accepted e) → MayFollow seats accepted r
 follows seats accepted (Ok receipt) stands spent = stands
 follows seats accepted (Err e) stands spent = spent
 
 -- ---- a commit, from the publish at its end
 
 -- the seat has seen more since the commit began, and the proposal is the one that was made ready
-pub committed_since : (opening : Opening) (seats : ℕ) (first before after : Position) (p ready : Proposal) (answer : Result Receipt (CommitFault × Proposal)) → before.accepted ≡ first.accepted
-    → length first.seen ≤ length before.seen → ready ≡ p → IfOk answer (λ r. IsCommitted opening seats before after ready r) → IfOk answer (λ r. IsCommitted opening seats first after p r)
+pub committed_since : (opening : Opening) (seats : ℕ) (first before after : Position) (p ready : Proposal) (reply : Result Receipt (CommitFault × Proposal)) → before.accepted ≡ first.accepted
+    → length first.seen ≤ length before.seen → ready ≡ p → IfOk reply (λ r. IsCommitted opening seats before after ready r) → IfOk reply (λ r. IsCommitted opening seats first after p r)
 committed_since opening seats first before after p ready (Ok r) count more is h = record {
   receipt = subst (λ (q : Proposal). IsFor r q) is h.receipt;
   index = subst (λ (n : ℕ). StandsAfter seats n r) count h.index;
   later = let later = h.later in omega (arith, more, later);
-  told = h.told;
+  in_view = h.in_view;
   counted = h.counted ∙ ap (λ (n : ℕ). n + 1) count;
 }
 committed_since opening seats first before after p ready (Err e) count more is h = tt
 
 -- the publish had no memory, and nothing else refuses the proposal
-pub returned_since : (opening : Opening) (seats : ℕ) (first before after : Position) (held : Book) (p ready : Proposal) (answer : Result Receipt (CommitFault × Proposal)) → before.accepted ≡ first.accepted
-    → held.opening ≡ opening → held.journal ≡ before.seen → refusal (view_of held) p ≡ None → ready ≡ p → IfErr answer (λ r. (r.0 ≡ commit.Memory) × (r.1 ≡ ready))
-    → OnErr answer (after.accepted ≡ before.accepted) → OnErr answer (after.seen ≡ before.seen) → IfErr answer (λ r. IsReturned opening seats first after p r.0 r.1)
+pub returned_since : (opening : Opening) (seats : ℕ) (first before after : Position) (held : Book) (p ready : Proposal) (reply : Result Receipt (CommitFault × Proposal)) → before.accepted ≡ first.accepted
+    → held.opening ≡ opening → held.journal ≡ before.seen → refusal (view_of held) p ≡ None → ready ≡ p → IfErr reply (λ r. (r.0 ≡ commit.Memory) × (r.1 ≡ ready))
+    → OnErr reply (after.accepted ≡ before.accepted) → OnErr reply (after.seen ≡ before.seen) → IfErr reply (λ r. IsReturned opening seats first after p r.0 r.1)
 returned_since opening seats first before after held p ready (Ok r) count opens level free is back same seen = tt
 returned_since opening seats first before after held p ready (Err r) count opens level free is back same seen =
     let cause : refusal (view_after opening after.seen) p ≡ None =

@@ -58,6 +58,7 @@ use Rattle.sno_desk.specs.contracts.faults.SubmitFault as SubmitFault
 use Rattle.sno_desk.specs.contracts.locked.Locked as Locked
 use Rattle.sno_desk.specs.contracts.locked.Locked.TheInside as LockedInside
 use Rattle.sno_desk.specs.contracts.seats.Seat as Seat
+use Rattle.sno_desk.specs.contracts.seats.Seat.TheInside as SeatInside
 
 -- definitions
 rules_send : IsSend Rules.the_row
@@ -126,7 +127,7 @@ replies_send receipt =
     option.the_send Replies (Deque-send Reply reply)
 
 pub seat_send : (L : RattleType) (n : NamingGhosts L.Denot) (g : Ghosts L.Denot) → IsSend Receipt.the_row → IsSend (Seat.the_row L n g)
-seat_send L n g receipt = declared_send (Seat.the_type L n g) (search sendable, (share.the_send L g, (as_row_send (Viewer.the_field L n g) (viewer.the_send L n g), (replies_send receipt, tt))))
+seat_send L n g receipt = view_send _ _ _ _ _ (declared_send (SeatInside.the_type L n g) (search sendable, (share.the_send L g, (as_row_send (Viewer.the_field L n g) (viewer.the_send L n g), (replies_send receipt, tt)))))
 
 -- ---- what is under the lock
 

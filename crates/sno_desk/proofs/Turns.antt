@@ -10,8 +10,8 @@ use Rattle.sno_statement.specs.Statement.{Statement}
 use Rattle.sno_published.proofs.Prefixes.{prefix_self, prefix_trans}
 use Rattle.sno_book.specs.Entries.{Entry}
 use Rattle.sno_book.specs.Openings.{Opening}
-use Rattle.sno_desk.specs.Answers.{Answer, Answers, receipts_in}
-use Rattle.sno_desk.specs.Turns.{AllAnswer, BeginsWith, Deals, Goes, HasGrown, HasTurns, HasWorked, InTurn, IsSubmitted, Position, every, position, shares_after}
+use Rattle.sno_desk.specs.Replies.{Reply, IsReply, receipts_in}
+use Rattle.sno_desk.specs.Turns.{AreReplies, BeginsWith, Deals, Goes, HasGrown, HasTurns, HasWorked, InTurn, IsSubmitted, Position, every, position, shares_after}
 
 -- a seat that did nothing has grown in the sense of `HasGrown`
 pub grown_self : (p : Position) → HasGrown p p
@@ -24,7 +24,7 @@ grown_on first second third g h =
     record { accepted = omega arith; begins = prefix_trans first.seen second.seen third.seen g.begins h.begins }
 
 -- and so has one that submitted
-pub grown_by : (before after : Position) (r : Answer) → after.accepted ≡ before.accepted + receipts_in r → Begins before.seen after.seen → HasGrown before after
+pub grown_by : (before after : Position) (r : Reply) → after.accepted ≡ before.accepted + receipts_in r → Begins before.seen after.seen → HasGrown before after
 grown_by before after r counted begins = record { accepted = omega arith; begins = begins }
 
 pub grown_still : (before now after : Position) → HasGrown before now → after.accepted ≡ now.accepted → after.seen ≡ now.seen → HasGrown before after
@@ -32,27 +32,27 @@ grown_still before now after g counted seen =
     let one : before.accepted ≤ now.accepted = g.accepted in
     record { accepted = omega arith; begins = subst (λ (l : List Entry). Begins before.seen l) (sym seen) g.begins }
 
-pub goes_none : (A : Position → Position → Statement → Answer → Type 0) (before : Position) (all : List Statement) → Goes A before before all all []
+pub goes_none : (A : Position → Position → Statement → Reply → Type 0) (before : Position) (all : List Statement) → Goes A before before all all []
 goes_none A before all = record { on = λ after more h. h }
 
 -- the job whose turn it is has its reply
-pub goes_one : (A : Position → Position → Statement → Answer → Type 0) (before now next : Position) (all : List Statement) (count wait : ℕ) (s : Statement) (jobs : List Statement)
-    (replies : List Answer) (r : Answer)
+pub goes_one : (A : Position → Position → Statement → Reply → Type 0) (before now next : Position) (all : List Statement) (count wait : ℕ) (s : Statement) (jobs : List Statement)
+    (replies : List Reply) (r : Reply)
     → wait ≡ 0 → A now next s r → Goes A before now all (every count wait (s ∷ jobs)) replies → Goes A before next all (every count (count - 1) jobs) (replies ++ r ∷ [])
 goes_one A before now next all count zero s jobs replies r e a g = record { on = λ after more h. rw append_assoc (g.on after (r ∷ more) (next, a, h)) }
 goes_one A before now next all count (suc wait) s jobs replies r e a g = absurd (omega arith)
 
 -- a job of another seat is passed over
-pub goes_by : (A : Position → Position → Statement → Answer → Type 0) (before now : Position) (all : List Statement) (count wait next : ℕ) (s : Statement) (jobs : List Statement)
-    (replies : List Answer)
+pub goes_by : (A : Position → Position → Statement → Reply → Type 0) (before now : Position) (all : List Statement) (count wait next : ℕ) (s : Statement) (jobs : List Statement)
+    (replies : List Reply)
     → next + 1 ≡ wait → Goes A before now all (every count wait (s ∷ jobs)) replies → Goes A before now all (every count next jobs) replies
 goes_by A before now all count zero next s jobs replies e g = absurd (omega arith)
 goes_by A before now all count (suc wait) next s jobs replies e g =
     let q : wait ≡ next = omega arith in
     let P : ℕ → Type 0 = λ w. Goes A before now all (every count w jobs) replies in subst P q g
 
-pub goes_end : (A : Position → Position → Statement → Answer → Type 0) (before now : Position) (all : List Statement) (count wait : ℕ) (left : List Statement)
-    (replies : List Answer) → left ≡ [] → Goes A before now all (every count wait left) replies → InTurn A before now all replies
+pub goes_end : (A : Position → Position → Statement → Reply → Type 0) (before now : Position) (all : List Statement) (count wait : ℕ) (left : List Statement)
+    (replies : List Reply) → left ≡ [] → Goes A before now all (every count wait left) replies → InTurn A before now all replies
 goes_end A before now all count wait left replies none g =
     let P : List Statement → Type 0 = λ l. Goes A before now all (every count wait l) replies in
     let h = subst P none g in
@@ -60,7 +60,7 @@ goes_end A before now all count wait left replies none g =
 
 -- ---- the replies of one seat
 
-as_many : (A : Position → Position → Statement → Answer → Type 0) (before after : Position) (jobs : List Statement) (replies : List Answer) → InTurn A before after jobs replies → length replies ≡ length jobs
+as_many : (A : Position → Position → Statement → Reply → Type 0) (before after : Position) (jobs : List Statement) (replies : List Reply) → InTurn A before after jobs replies → length replies ≡ length jobs
 as_many A before after [] [] a = refl
 as_many A before after [] (r ∷ replies) a = absurd a
 as_many A before after (s ∷ jobs) [] a = absurd a
@@ -68,14 +68,14 @@ as_many A before after (s ∷ jobs) (r ∷ replies) a = ap (λ n. suc n) (as_man
 
 -- each reply is a result for its job, and the seat has accepted as many more as there are receipts
 module _ (shuts : ℕ → ℕ → Type 0) (tries : ℕ) (opening : Opening) (seats : ℕ) where
-  each_answers : (before after : Position) (jobs : List Statement) (replies : List Answer) → InTurn (IsSubmitted shuts tries opening seats) before after jobs replies
-      → AllAnswer (Answers shuts tries opening) jobs replies
-  each_answers before after [] [] a = tt
-  each_answers before after [] (r ∷ replies) a = absurd a
-  each_answers before after (s ∷ jobs) [] a = absurd a
-  each_answers before after (s ∷ jobs) (r ∷ replies) a = (a.1.answers, each_answers a.0 after jobs replies a.2)
+  each_reply : (before after : Position) (jobs : List Statement) (replies : List Reply) → InTurn (IsSubmitted shuts tries opening seats) before after jobs replies
+      → AreReplies (IsReply shuts tries opening) jobs replies
+  each_reply before after [] [] a = tt
+  each_reply before after [] (r ∷ replies) a = absurd a
+  each_reply before after (s ∷ jobs) [] a = absurd a
+  each_reply before after (s ∷ jobs) (r ∷ replies) a = (a.1.allowed, each_reply a.0 after jobs replies a.2)
 
-  all_counted : (before after : Position) (jobs : List Statement) (replies : List Answer) → InTurn (IsSubmitted shuts tries opening seats) before after jobs replies
+  all_counted : (before after : Position) (jobs : List Statement) (replies : List Reply) → InTurn (IsSubmitted shuts tries opening seats) before after jobs replies
       → after.accepted ≡ before.accepted + sum_by receipts_in replies
   all_counted before after [] [] a = let same = ap (λ (p : Position). p.accepted) a in omega (arith, same)
   all_counted before after [] (r ∷ replies) a = absurd a
@@ -118,26 +118,26 @@ deals_at {X} count first (queue ∷ queues) replies d zero place e h =
 deals_at count first (queue ∷ queues) replies d (suc k) place e h = deals_at count (suc first) queues replies d.1 k place (omega arith) (omega arith)
 
 -- if the replies of each seat are for its jobs, the replies in the order of the jobs are for all jobs
-pub answer_all : (A : Statement → Answer → Type 0) (count : ℕ) → 1 ≤ count → (jobs : List Statement) (replies : List Answer)
-    → length replies ≡ length jobs → ((k : ℕ) → k < count → AllAnswer A (every count k jobs) (every count k replies)) → AllAnswer A jobs replies
-answer_all A count some [] [] e each = tt
-answer_all A count some [] (r ∷ replies) e each = absurd (omega arith)
-answer_all A count some (s ∷ jobs) [] e each = absurd (omega arith)
-answer_all A count some (s ∷ jobs) (r ∷ replies) e each =
+pub all_replies : (A : Statement → Reply → Type 0) (count : ℕ) → 1 ≤ count → (jobs : List Statement) (replies : List Reply)
+    → length replies ≡ length jobs → ((k : ℕ) → k < count → AreReplies A (every count k jobs) (every count k replies)) → AreReplies A jobs replies
+all_replies A count some [] [] e each = tt
+all_replies A count some [] (r ∷ replies) e each = absurd (omega arith)
+all_replies A count some (s ∷ jobs) [] e each = absurd (omega arith)
+all_replies A count some (s ∷ jobs) (r ∷ replies) e each =
     let front = each 0 (omega arith) in
-    (front.0, answer_all A count some jobs replies (omega arith) (λ k h. later A count jobs replies k front.1 (λ inside. each (suc k) inside) (leb_tells (suc (suc k)) count) h))
+    (front.0, all_replies A count some jobs replies (omega arith) (λ k h. later A count jobs replies k front.1 (λ inside. each (suc k) inside) (leb_tells (suc (suc k)) count) h))
   where
-    later : (A : Statement → Answer → Type 0) (count : ℕ) (jobs : List Statement) (replies : List Answer) (k : ℕ)
-        → AllAnswer A (every count (count - 1) jobs) (every count (count - 1) replies)
-        → (suc k < count → AllAnswer A (every count k jobs) (every count k replies))
-        → ((leb (suc (suc k)) count ≡ true) × (suc (suc k) ≤ count)) ⊎ ((leb (suc (suc k)) count ≡ false) × (count < suc (suc k))) → k < count → AllAnswer A (every count k jobs) (every count k replies)
+    later : (A : Statement → Reply → Type 0) (count : ℕ) (jobs : List Statement) (replies : List Reply) (k : ℕ)
+        → AreReplies A (every count (count - 1) jobs) (every count (count - 1) replies)
+        → (suc k < count → AreReplies A (every count k jobs) (every count k replies))
+        → ((leb (suc (suc k)) count ≡ true) × (suc (suc k) ≤ count)) ⊎ ((leb (suc (suc k)) count ≡ false) × (count < suc (suc k))) → k < count → AreReplies A (every count k jobs) (every count k replies)
     later A count jobs replies k last inside (inl p) h = inside (omega arith)
     later A count jobs replies k last inside (inr p) h =
         let same : count - 1 ≡ k = omega arith in
-        let P : ℕ → Type 0 = λ m. AllAnswer A (every count m jobs) (every count m replies) in subst P same last
+        let P : ℕ → Type 0 = λ m. AreReplies A (every count m jobs) (every count m replies) in subst P same last
 
 -- all shares, from each seat's share
-raised_all : (count first : ℕ) (before after : List ℕ) (replies : List Answer) → length after ≡ length before
+raised_all : (count first : ℕ) (before after : List ℕ) (replies : List Reply) → length after ≡ length before
     → ((k place : ℕ) → place ≡ first + k → k < length before → get_or after k 0 ≡ get_or before k 0 + sum_by receipts_in (every count place replies))
     → after ≡ shares_after count first before replies
 raised_all count first [] [] replies e each = refl
@@ -153,8 +153,8 @@ first_of [] k h = absurd (omega arith)
 first_of (x ∷ xs) k h = x
 
 -- one seat's replies, from what it kept
-replies_of_seat : (A : Position → Position → Statement → Answer → Type 0) (jobs : List Statement) (mine : List Answer) (before after : Position)
-    (kept : Option (List Answer)) (queue : List Answer)
+replies_of_seat : (A : Position → Position → Statement → Reply → Type 0) (jobs : List Statement) (mine : List Reply) (before after : Position)
+    (kept : Option (List Reply)) (queue : List Reply)
     → HasWorked A jobs before after kept → kept ≡ Some queue → BeginsWith queue mine → length mine ≡ length jobs → InTurn A before after jobs mine
 replies_of_seat A jobs mine before after None queue worked kept b e = absurd cc
 replies_of_seat A jobs mine before after (Some replies) queue worked kept b e =
@@ -162,16 +162,16 @@ replies_of_seat A jobs mine before after (Some replies) queue worked kept b e =
     let counts = as_many A before after jobs replies worked in
     let counted : length mine ≡ length queue = e ∙ sym counts ∙ ap length same in
     let whole : replies ≡ mine = same ∙ begins_whole queue mine b counted in
-    let P : List Answer → Type 0 = λ l. InTurn A before after jobs l in
+    let P : List Reply → Type 0 = λ l. InTurn A before after jobs l in
     subst P whole worked
 
 -- as many replies as jobs are kept
-kept_turns : (A : Position → Position → Statement → Answer → Type 0) (jobs : List Statement) (before after : Position) (kept : Option (List Answer)) (queue : List Answer)
+kept_turns : (A : Position → Position → Statement → Reply → Type 0) (jobs : List Statement) (before after : Position) (kept : Option (List Reply)) (queue : List Reply)
     → HasWorked A jobs before after kept → kept ≡ Some queue → length queue ≡ length jobs
 kept_turns A jobs before after None queue worked kept = absurd cc
 kept_turns A jobs before after (Some replies) queue worked kept =
     let same : replies ≡ queue = cc in
-    let P : List Answer → Type 0 = λ l. length l ≡ length jobs in
+    let P : List Reply → Type 0 = λ l. length l ≡ length jobs in
     subst P same (as_many A before after jobs replies worked)
 
 turns_all : {X : Type 0} (count first : ℕ) (queues : List (List X)) (jobs : List Statement)
@@ -182,15 +182,15 @@ turns_all count first (queue ∷ queues) jobs each = (
   turns_all count (suc first) queues jobs (λ k place q h. each (suc k) place (omega arith) (omega arith)),
 )
 
-module _ {X Q : Type 0} (share : X → ℕ) (view : X → List Entry) (kept : X → Option (List Answer)) (items : Q → List Answer) (shuts : ℕ → ℕ → Type 0) (tries : ℕ) (opening : Opening) (seats : ℕ) where
+module _ {X Q : Type 0} (share : X → ℕ) (view : X → List Entry) (kept : X → Option (List Reply)) (items : Q → List Reply) (shuts : ℕ → ℕ → Type 0) (tries : ℕ) (opening : Opening) (seats : ℕ) where
   abbrev at : X → Position
   at x = position (share x) (view x)
 
-  abbrev Submitted : Position → Position → Statement → Answer → Type 0
+  abbrev Submitted : Position → Position → Statement → Reply → Type 0
   Submitted = IsSubmitted shuts tries opening seats
 
   -- the seats work, and then their replies are taken and put in order: each seat's jobs have their replies in turn
-  pub record Settles (jobs : List Statement) (before worked after : List X) (queues : List Q) (replies : List Answer) : Type 0 where
+  pub record Settles (jobs : List Statement) (before worked after : List X) (queues : List Q) (replies : List Reply) : Type 0 where
     pub some : 1 ≤ length before
     pub worked_as_many : length worked ≡ length before
     pub after_as_many : length after ≡ length before
@@ -202,14 +202,14 @@ module _ {X Q : Type 0} (share : X → ℕ) (view : X → List Entry) (kept : X 
     pub dealt : Deals (length before) 0 (map items queues) replies
     pub in_all : length replies ≡ length jobs
 
-  at_seat : (jobs : List Statement) (before worked after : List X) (queues : List Q) (replies : List Answer)
+  at_seat : (jobs : List Statement) (before worked after : List X) (queues : List Q) (replies : List Reply)
       → Settles jobs before worked after queues replies → (k : ℕ) (d : X) (e : Q) → k < length before
       → InTurn Submitted (at (get_or before k d)) (at (get_or after k d)) (every (length before) k jobs) (every (length before) k replies)
   at_seat jobs before worked after queues replies s k d e h =
       let inside : k < length (map items queues) = rw length-map (rw s.queues_as_many h) in
       let begins = deals_at (length before) 0 (map items queues) replies s.dealt k k (omega arith) inside in
       let there = get_or-map items queues k e [] (rw s.queues_as_many h) in
-      let P : List Answer → Type 0 = λ q. BeginsWith q (every (length before) k replies) in
+      let P : List Reply → Type 0 = λ q. BeginsWith q (every (length before) k replies) in
       let mine = replies_of_seat Submitted (every (length before) k jobs) (every (length before) k replies) (at (get_or before k d)) (at (get_or worked k d)) (kept (get_or worked k d))
       (items (get_or queues k e)) (s.at_work k d h) (s.taken k d e h) (subst P there begins) (turns_alike (length before) k replies jobs s.in_all) in
       let count : ℕ → Type 0 = λ n. InTurn Submitted (at (get_or before k d)) (position n (view (get_or worked k d))) (every (length before) k jobs) (every (length before) k replies) in
@@ -235,22 +235,22 @@ module _ {X Q : Type 0} (share : X → ℕ) (view : X → List Entry) (kept : X 
       let P : ℕ → Type 0 = λ m. length (get_or (map items queues) k []) ≡ length (every (length before) m jobs) in
       subst P same (there ∙ mine))
 
-  pub settled_answers : (jobs : List Statement) (before worked after : List X) (queues : List Q) (replies : List Answer)
-      → Settles jobs before worked after queues replies → AllAnswer (Answers shuts tries opening) jobs replies
-  settled_answers jobs before worked after queues replies s =
-      answer_all (Answers shuts tries opening) (length before) s.some jobs replies s.in_all
+  pub settled_results : (jobs : List Statement) (before worked after : List X) (queues : List Q) (replies : List Reply)
+      → Settles jobs before worked after queues replies → AreReplies (IsReply shuts tries opening) jobs replies
+  settled_results jobs before worked after queues replies s =
+      all_replies (IsReply shuts tries opening) (length before) s.some jobs replies s.in_all
       (λ k h.
       let d = first_of before k h in
-      each_answers shuts tries opening seats (at (get_or before k d)) (at (get_or after k d)) (every (length before) k jobs) (every (length before) k replies)
+      each_reply shuts tries opening seats (at (get_or before k d)) (at (get_or after k d)) (every (length before) k jobs) (every (length before) k replies)
       (at_seat jobs before worked after queues replies s k d (first_of queues k (rw s.queues_as_many h)) h))
 
-  pub settled_turns : (jobs : List Statement) (before worked after : List X) (queues : List Q) (replies : List Answer)
+  pub settled_turns : (jobs : List Statement) (before worked after : List X) (queues : List Q) (replies : List Reply)
       → Settles jobs before worked after queues replies → (k : ℕ) (d : X) → k < length before
       → InTurn Submitted (at (get_or before k d)) (at (get_or after k d)) (every (length before) k jobs) (every (length before) k replies)
   settled_turns jobs before worked after queues replies s k d h =
       at_seat jobs before worked after queues replies s k d (first_of queues k (rw s.queues_as_many h)) h
 
-  pub settled_shares : (jobs : List Statement) (before worked after : List X) (queues : List Q) (replies : List Answer)
+  pub settled_shares : (jobs : List Statement) (before worked after : List X) (queues : List Q) (replies : List Reply)
       → Settles jobs before worked after queues replies → map share after ≡ shares_after (length before) 0 (map share before) replies
   settled_shares jobs before worked after queues replies s =
       raised_all (length before) 0 (map share before) (map share after) replies (simp length-map s.after_as_many)
@@ -344,7 +344,7 @@ first_has_one items (queue ∷ queues) d job jobs some h = let many = h.0 in ome
 
 -- ---- all shares together
 -- the receipts among the turns of some seats, from one seat on
-abbrev turns_total : ℕ → ℕ → ℕ → List Answer → ℕ
+abbrev turns_total : ℕ → ℕ → ℕ → List Reply → ℕ
 turns_total count first zero replies = 0
 turns_total count first (suc seats) replies = sum_by receipts_in (every count first replies) + turns_total count (suc first) seats replies
 
@@ -352,11 +352,11 @@ turns_of_none : (count first seats : ℕ) → turns_total count first seats [] �
 turns_of_none count first zero = refl
 turns_of_none count first (suc seats) = let rest = turns_of_none count (suc first) seats in omega (arith, rest)
 
-turns_later : (count first seats : ℕ) (r : Answer) (replies : List Answer) → turns_total count (suc first) seats (r ∷ replies) ≡ turns_total count first seats replies
+turns_later : (count first seats : ℕ) (r : Reply) (replies : List Reply) → turns_total count (suc first) seats (r ∷ replies) ≡ turns_total count first seats replies
 turns_later count first zero r replies = refl
 turns_later count first (suc seats) r replies = ap (λ n. sum_by receipts_in (every count first replies) + n) (turns_later count (suc first) seats r replies)
 
-turns_last : (count first seats place : ℕ) (replies : List Answer) → place ≡ first + seats
+turns_last : (count first seats place : ℕ) (replies : List Reply) → place ≡ first + seats
     → turns_total count first (suc seats) replies ≡ turns_total count first seats replies + sum_by receipts_in (every count place replies)
 turns_last count first zero place replies e =
     let same : first ≡ place = omega arith in
@@ -365,7 +365,7 @@ turns_last count first zero place replies e =
 turns_last count first (suc seats) place replies e =
     let rest = turns_last count (suc first) seats place replies (omega arith) in omega (arith, rest)
 
-turns_whole : (seats : ℕ) (replies : List Answer) → turns_total (suc seats) 0 (suc seats) replies ≡ sum_by receipts_in replies
+turns_whole : (seats : ℕ) (replies : List Reply) → turns_total (suc seats) 0 (suc seats) replies ≡ sum_by receipts_in replies
 turns_whole seats [] = turns_of_none (suc seats) 0 (suc seats)
 turns_whole seats (r ∷ replies) =
     let rest = turns_whole seats replies in
@@ -375,7 +375,7 @@ turns_whole seats (r ∷ replies) =
     let all = sum_by-cons receipts_in r replies in
     omega (arith, rest, last, later, front, all)
 
-raised_total : (count first : ℕ) (shares : List ℕ) (replies : List Answer)
+raised_total : (count first : ℕ) (shares : List ℕ) (replies : List Reply)
     → sum (shares_after count first shares replies) ≡ sum shares + turns_total count first (length shares) replies
 raised_total count first [] replies = refl
 raised_total count first (share ∷ shares) replies =
@@ -385,7 +385,7 @@ raised_total count first (share ∷ shares) replies =
     omega (arith, rest, a, b)
 
 -- all shares together have risen by the number of all receipts
-pub shares_total : {X : Type 0} (share : X → ℕ) (before after : List X) (replies : List Answer) → 1 ≤ length before
+pub shares_total : {X : Type 0} (share : X → ℕ) (before after : List X) (replies : List Reply) → 1 ≤ length before
     → map share after ≡ shares_after (length before) 0 (map share before) replies → sum_by share after ≡ sum_by share before + sum_by receipts_in replies
 shares_total share [] after replies some e = absurd (omega arith)
 shares_total share (x ∷ xs) after replies some e =

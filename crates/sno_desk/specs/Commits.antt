@@ -4,7 +4,7 @@ use Rattle.sno_book.specs.Openings.{Opening}
 use Rattle.sno_book.specs.Proposals.{Proposal, Receipt}
 use Rattle.sno_desk.specs.declared.faults.CommitFault.{CommitFault}
 use Rattle.sno_desk.specs.Receipts.{IsCause, IsFor, NamesVersion, StandsAfter}
-use Rattle.sno_desk.specs.Seen.{IsTold, view_after}
+use Rattle.sno_desk.specs.Seen.{IsInView, view_after}
 use Rattle.sno_desk.specs.Turns.{Position}
 
 -- the proposal was accepted with this receipt
@@ -12,7 +12,7 @@ pub record IsCommitted (opening : Opening) (seats : ℕ) (before after : Positio
   pub receipt : IsFor r p
   pub index : StandsAfter seats before.accepted r
   pub later : length before.seen ≤ r.index
-  pub told : IsTold opening after.seen r
+  pub in_view : IsInView opening after.seen r
   pub counted : after.accepted ≡ before.accepted + 1
 
 -- the proposal was refused, and came back

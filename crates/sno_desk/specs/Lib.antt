@@ -1,9 +1,10 @@
-pub mod Answers
+pub mod Replies
 pub mod Closings
 pub mod Commits
 pub mod Faults
 pub mod Proposed
 pub mod Receipts
+pub mod Seatings
 pub mod Seen
 pub mod Turns
 pub mod Worked

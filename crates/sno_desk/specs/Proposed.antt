@@ -5,7 +5,7 @@ use Rattle.sno_statement.specs.declared.outcomes.StatementFault.TheVariants as s
 use Rattle.sno_book.specs.Entries.{Entry}
 use Rattle.sno_book.specs.Openings.{Opening, place_in}
 use Rattle.sno_book.specs.Proposals.{Proposal}
-use Rattle.sno_desk.specs.Answers.{IsRefusedOn}
+use Rattle.sno_desk.specs.Replies.{IsRefusedOn}
 use Rattle.sno_desk.specs.Seen.{view_after}
 use Rattle.sno_desk.specs.declared.faults.SubmitFault.{SubmitFault}
 use Rattle.sno_desk.specs.declared.faults.SubmitFault.TheVariants as submit

@@ -1,7 +1,7 @@
 -- What a seat gets from a commit.
 use Rattle.std.specs.Prelude.{◌≡◌, ◌<◌, ◌≤◌, ℕ, Some, None}
 use Rattle.sno_book.specs.Commits.{refusal}
-use Rattle.sno_book.specs.Origins.{Stands}
+use Rattle.sno_book.specs.Origins.{HoldsText}
 use Rattle.sno_book.specs.Proposals.{Proposal, Receipt, entry_of}
 use Rattle.sno_book.specs.Views.{View}
 use Rattle.sno_book.specs.declared.openings.TheConstants.{MAX_ENTRIES}
@@ -12,7 +12,7 @@ use Rattle.sno_desk.specs.declared.faults.CommitFault.TheVariants as commit
 -- the receipt's entry is the proposal's, and its text the one that the proposal is for
 pub record IsFor (receipt : Receipt) (p : Proposal) : Type 0 where
   pub entry : receipt.entry ≡ entry_of p
-  pub text : Stands p.origin p.place p.version receipt.text
+  pub text : HoldsText p.origin p.place p.version receipt.text
 
 -- the receipt's index is no lower than the number of entries that its seat had accepted, and equal to it if the desk
 -- has no other seat. A journal has at most a million entries. A version rises only with an entry, so the entry's

@@ -12,7 +12,8 @@ use Rattle.sno_book.specs.States.{VersionedText}
 use Rattle.sno_book.specs.Views.{View}
 use Rattle.sno_published.specs.Snapshots.{if_all}
 use Rattle.sno_published.specs.Tables.{text_after, text_at}
-use Rattle.sno_published.specs.Viewings.{IsLent, Viewing}
+use Rattle.sno_published.specs.Viewings.{IsLent}
+use Rattle.sno_desk.specs.Seatings.{Seating}
 use Rattle.sno_desk.specs.declared.faults.SnapshotFault.{SnapshotFault}
 use Rattle.sno_desk.specs.declared.faults.SnapshotFault.TheVariants as snapshot
 use Rattle.sno_desk.specs.declared.faults.LookFault.{LookFault}
@@ -70,15 +71,15 @@ IsLookCause look.NoText opening name = place_in opening name ≡ None
 IsLookCause look.Stopped opening name = place_in opening name ≢ None
 
 -- after `Memory` what is shown was seen; after another refusal nothing more is seen
-abbrev pub IsViewAfter : SnapshotFault → Viewing → Viewing → Type 0
+abbrev pub IsViewAfter : SnapshotFault → Seating → Seating → Type 0
 IsViewAfter snapshot.Memory before after = after.seen ≡ after.shown
 IsViewAfter snapshot.NoText before after = after.seen ≡ before.seen
 IsViewAfter snapshot.Stopped before after = after.seen ≡ before.seen
 
--- the seat was told a legal list that ends in the receipt's entry, with as many entries before it as the receipt's
+-- there is a legal list that ends in the receipt's entry, with as many entries before it as the receipt's
 -- index. What the seat has seen begins with that list. The receipt's text is that of its statement's name, with the
 -- entry's version, as the entries before its own leave it
-pub record IsTold (opening : Opening) (seen : List Entry) (receipt : Receipt) : Type 0 where
+pub record IsInView (opening : Opening) (seen : List Entry) (receipt : Receipt) : Type 0 where
   pub front : List Entry
   pub legal : Legal (start opening) (front ++ receipt.entry ∷ [])
   pub many : length front ≡ receipt.index

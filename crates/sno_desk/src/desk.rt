@@ -5,10 +5,10 @@ ghost use Rattle.std.specs.List.{All};
 ghost use mathlib.Core.List.{IsPrefix as Begins};
 ghost use Rattle.sno_book.specs.Books.{view_of};
 ghost use Rattle.sno_book.specs.Views.{IsValid, IsPrefix};
-ghost use Rattle.sno_desk.specs.Answers.{Answers, AnswersAt, SpentAt, receipts_in};
+ghost use Rattle.sno_desk.specs.Replies.{IsReply, IsReplyAt, SpentAt, receipts_in};
 ghost use Rattle.sno_desk.specs.Closings.{IsCloseCause, book_in};
 ghost use Rattle.sno_desk.specs.Receipts.{IsCause, IsFor, NamesVersion, StandsAfter};
-ghost use Rattle.sno_desk.specs.Seen.{IsTold, view_after};
+ghost use Rattle.sno_desk.specs.Seen.{IsInView, view_after};
 
 use crate::locked::Locked;
 use crate::openings::is_same;
@@ -27,7 +27,7 @@ pub const MAX_SEATS: u32 = 16;
 /// How many times a statement may be tried at most.
 pub const MAX_TRIES: u32 = 1_000;
 
-/// A book behind one lock, for the seats of one ledger. By the type of what is under the lock, the journal has as many
+/// A book under one lock, for the seats of one ledger. By the type of what is under the lock, the journal has as many
 /// entries as all seats together have accepted. It is not `Drop`: end it by [`close`] or [`Desk::end`].
 pub struct Desk<L: Naming> {
     pub(crate) opening: Arc<Opening>,
@@ -39,7 +39,7 @@ pub struct Desk<L: Naming> {
 fn seat_of<L: Naming>(screen: &Screen<L>, rest: &mut Share<L>) -> Result<Seat<L>, DeskFault>
     requires parts { 1 ≤ rest.old.parts }
     requires amount { rest.old.amount ≡ 0 }
-    ensures none { IfOk result (λ s. (s.accepted ≡ 0) × (s.viewer.seen ≡ screen.now.shown)) }
+    ensures none { IfOk result (λ s. (s.accepted ≡ 0) × (s.seen ≡ screen.now.shown)) }
     ensures rest { IfOk result (λ _. (rest.new.parts + 1 ≡ rest.old.parts) × (rest.new.amount ≡ 0)) }
 {
     let Ok(viewer) = screen.viewer() else {
@@ -59,7 +59,7 @@ fn seats_of<L: Naming>(
     requires amount { rest.old.amount ≡ 0 }
     requires first { screen.now.shown ≡ [] }
     ensures count { IfOk result (λ v. length v.items ≡ seats) }
-    ensures none { IfOk result (λ v. All (λ s. (s.accepted ≡ 0) × (s.viewer.seen ≡ [])) v.items) }
+    ensures none { IfOk result (λ v. All (λ s. (s.accepted ≡ 0) × (s.seen ≡ [])) v.items) }
     ensures rest { IfOk result (λ _. (rest.new.parts ≡ 0) × (rest.new.amount ≡ 0)) }
 {
     let mut made = Vec::new(alloc);
@@ -116,7 +116,7 @@ impl<L: Naming> Desk<L> {
         requires empty { book.journal ≡ [] }
         ensures opening { IfOk result (λ d. arc_value d.0.opening ≡ book.opening) }
         ensures count { IfOk result (λ d. length d.1.items ≡ seats) }
-        ensures none { IfOk result (λ d. All (λ s. (s.accepted ≡ 0) × (s.viewer.seen ≡ [])) d.1.items) }
+        ensures none { IfOk result (λ d. All (λ s. (s.accepted ≡ 0) × (s.seen ≡ [])) d.1.items) }
         ensures back { IfErr result (λ r. r.1 ≡ book) }
     {
         let Ok(opening) = Arc::try_clone(book.opening()) else {
@@ -156,7 +156,7 @@ impl<L: Naming> Desk<L> {
     ///
     /// - The receipt's entry is the proposal's, its text is the one that the proposal was made for, and the seat's
     ///   share is one higher.
-    /// - The seat was told a legal list of entries that ends in the receipt's, with as many entries before it as the
+    /// - The seat's view begins with a legal list of entries that ends in the receipt's, with as many entries before it as the
     ///   receipt's index.
     /// - What the seat has seen begins with this list, and with all that it had seen before.
     /// - The text is what the entries before the receipt's leave.
@@ -184,22 +184,22 @@ impl<L: Naming> Desk<L> {
         seat: &mut Seat<L>,
         proposal: Proposal,
     ) -> Result<Receipt, (CommitFault, Proposal)>
-        requires view { IsPrefix proposal.origin (view_after L.opening seat.old.viewer.seen) }
+        requires view { IsPrefix proposal.origin (view_after L.opening seat.old.seen) }
         ensures receipt { IfOk result (λ r. IsFor r proposal) }
         ensures index { IfOk result (λ r. StandsAfter L.parts seat.old.accepted r) }
-        ensures later { IfOk result (λ r. length seat.old.viewer.seen ≤ r.index) }
-        ensures told { IfOk result (λ r. IsTold L.opening seat.new.viewer.seen r) }
-        ensures begins { Begins seat.old.viewer.seen seat.new.viewer.seen }
+        ensures later { IfOk result (λ r. length seat.old.seen ≤ r.index) }
+        ensures in_view { IfOk result (λ r. IsInView L.opening seat.new.seen r) }
+        ensures begins { Begins seat.old.seen seat.new.seen }
         ensures counted { OnOk result (seat.new.accepted ≡ seat.old.accepted + 1) }
         ensures back { IfErr result (λ r. r.1 ≡ proposal) }
-        ensures cause { IfErr result (λ r. IsCause r.0 (view_after L.opening seat.new.viewer.seen) proposal) }
+        ensures cause { IfErr result (λ r. IsCause r.0 (view_after L.opening seat.new.seen) proposal) }
         ensures version { IfErr result (λ r. NamesVersion L.parts seat.old.accepted r.0) }
         ensures same { OnErr result (seat.new.accepted ≡ seat.old.accepted) }
     {
         let mut guard = self.lock.lock(rt);
-        let answer = guard.commit(rt, seat, proposal);
+        let reply = guard.commit(rt, seat, proposal);
         MutexGuard::unlock(guard);
-        answer
+        reply
     }
 
     /// Submits a statement. An attempt takes a snapshot, passes the gate, performs the statement on the snapshot and
@@ -239,9 +239,9 @@ impl<L: Naming> Desk<L> {
         gate: &G,
     ) -> Result<Receipt, SubmitFault>
         requires { (1 ≤ tries) × (tries ≤ MAX_TRIES) }
-        ensures answer { Answers (G.shuts gate.now) tries L.opening (arc_value statement) result }
-        ensures at { AnswersAt tries L.opening seat.old.viewer.seen seat.new.viewer.seen (arc_value statement) result }
-        ensures begins { Begins seat.old.viewer.seen seat.new.viewer.seen }
+        ensures reply { IsReply (G.shuts gate.now) tries L.opening (arc_value statement) result }
+        ensures at { IsReplyAt tries L.opening seat.old.seen seat.new.seen (arc_value statement) result }
+        ensures begins { Begins seat.old.seen seat.new.seen }
         ensures index { IfOk result (λ r. StandsAfter L.parts seat.old.accepted r) }
         ensures spent { IfErr result (λ e. SpentAt L.parts seat.old.accepted e) }
         ensures counted { seat.new.accepted ≡ seat.old.accepted + receipts_in result }
@@ -270,9 +270,9 @@ impl<L: Naming> Desk<L> {
         seat: &mut Seat<L>,
         from: usize,
     ) -> Result<Vec<Entry>, SinceFault>
-        ensures entries { IfOk result (λ entries. entries.items ≡ drop from seat.new.viewer.seen) }
-        ensures shown { OnOk result (seat.new.viewer.seen ≡ seat.new.viewer.shown) }
-        ensures begins { Begins seat.old.viewer.seen seat.new.viewer.seen }
+        ensures entries { IfOk result (λ entries. entries.items ≡ drop from seat.new.seen) }
+        ensures shown { OnOk result (seat.new.seen ≡ seat.new.shown) }
+        ensures begins { Begins seat.old.seen seat.new.seen }
         ensures same { seat.new.accepted ≡ seat.old.accepted }
     {
         let guard = self.lock.lock(rt);
@@ -305,7 +305,7 @@ impl<L: Naming> Desk<L> {
 /// The call waits for readers that still read.
 ///
 /// On `Ok` the book's opening is the one that the desk began with. Its journal is legal from there, and has as many
-/// entries as the seats have accepted. It begins with what each of the seats has seen or was told of, so the entry of
+/// entries as the seats have accepted. It begins with what each of the seats has seen or was shown, so the entry of
 /// each receipt is in it, at the receipt's index. The call takes no memory.
 ///
 /// Refused, in this order:
@@ -322,8 +322,8 @@ pub fn close<L: Naming, R: Wait>(
 ) -> Result<Book, (CloseFault, Book)>
     requires all { length seats.items ≡ L.parts }
     ensures opening { IfOk result (λ book. book.opening ≡ arc_value desk.opening) }
-    ensures seen { IfOk result (λ book. All (λ s. Begins s.viewer.seen book.journal) seats.items) }
-    ensures cause { IfErr result (λ r. IsCloseCause r.0 r.1 (arc_value desk.opening) (All (λ s. Begins s.viewer.seen r.1.journal) seats.items)) }
+    ensures seen { IfOk result (λ book. All (λ s. Begins s.seen book.journal) seats.items) }
+    ensures cause { IfErr result (λ r. IsCloseCause r.0 r.1 (arc_value desk.opening) (All (λ s. Begins s.seen r.1.journal) seats.items)) }
     ensures counted { length (book_in result).journal ≡ sum_by (λ s. s.accepted) seats.items }
     ensures valid { IsValid (view_of (book_in result)) }
 {

@@ -17,7 +17,7 @@ use std::sync::Wait;
 use std::thread;
 use std::thread::Threads;
 
-/// What a caller does at a desk: one call for each seat, in a thread of its own. What comes of it is kept by the type
+/// What a caller does at a desk: one call for each seat, in a thread of its own. The result is kept by the type
 /// itself, such as in a `Mutex` or an atomic count.
 pub trait DeskWork {
     /// From which position to which a call may take its seat.
@@ -32,7 +32,7 @@ pub trait DeskWork {
         seat: &mut Seat<L>,
         number: usize,
     )
-        ensures { takes self.now (position seat.old.accepted seat.old.viewer.seen) (position seat.new.accepted seat.new.viewer.seen) };
+        ensures { takes self.now (position seat.old.accepted seat.old.seen) (position seat.new.accepted seat.new.seen) };
 }
 
 /// Lets all seats work, each in a thread of its own.
@@ -45,14 +45,14 @@ fn work_each<L: Naming + Send + Sync, W: DeskWork + Sync, R: Threads + Wait + Sy
 )
     requires { 1 ≤ length seats.old }
     ensures { (k : ℕ) (d : Seat L) → k < length seats.old → W.takes work.now
-        (position (slice_index_or seats.old k d).accepted (slice_index_or seats.old k d).viewer.seen) (position (slice_index_or seats.new k d).accepted (slice_index_or seats.new k d).viewer.seen) }
+        (position (slice_index_or seats.old k d).accepted (slice_index_or seats.old k d).seen) (position (slice_index_or seats.new k d).accepted (slice_index_or seats.new k d).seen) }
 {
     may_cross::<Entry>();
     may_cross::<Book>();
     may_cross::<Receipt>();
     let count = seats.len();
     let worker = |number: usize, seat: &mut Seat<L>|
-        ensures { W.takes work.entry.now (position seat.old.accepted seat.old.viewer.seen) (position seat.new.accepted seat.new.viewer.seen) }
+        ensures { W.takes work.entry.now (position seat.old.accepted seat.old.seen) (position seat.new.accepted seat.new.seen) }
     {
         work.work(rt, alloc, desk, seat, number);
     };

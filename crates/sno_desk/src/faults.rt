@@ -28,7 +28,7 @@ pub enum SnapshotFault {
     /// The desk's opening has no text of that name.
     #[error("no text")]
     NoText,
-    /// Nothing is shown to the seat any more, or less than it was told of, which no legal run meets.
+    /// Nothing is shown to the seat any more, or less than it has seen, which no legal run meets.
     #[error("stopped")]
     Stopped,
     /// Out of memory: the text could not be shared.
@@ -42,7 +42,7 @@ pub enum LookFault {
     /// The desk's opening has no text of that name.
     #[error("no text")]
     NoText,
-    /// Nothing is shown to the seat any more, or less than it was told of, which no legal run meets.
+    /// Nothing is shown to the seat any more, or less than it has seen, which no legal run meets.
     #[error("stopped")]
     Stopped,
 }
@@ -125,7 +125,7 @@ pub enum CloseFault {
     /// The book's opening is not the desk's. No legal run meets this.
     #[error("another opening")]
     Opening,
-    /// The book's journal does not begin with what one of the seats has seen or was told of. No legal run meets this.
+    /// The book's journal does not begin with what one of the seats has seen or was shown. No legal run meets this.
     #[error("another journal")]
     Journal,
 }

@@ -1,4 +1,4 @@
-//! The desk: a book behind one lock, at which many threads work at once. Its texts are read without the lock.
+//! The desk: a book under one lock, at which many threads work at once. Its texts are read without the lock.
 //!
 //! A [`Desk`] holds a [`Book`], its texts and its journal, under a lock. It publishes each accepted entry, so that
 //! texts are read without the lock. Each caller that wants to change a text has a [`Seat`] and does three things: take
@@ -23,10 +23,10 @@
 //!   proposal's entry, which is at the receipt's index in the seat's view, and the text that the proposal was made for.
 //!   A refused proposal comes back as it was. Each refusal except `Stopped` is the one that the book's own rule gives
 //!   after the seat's view. `Memory` comes only if the rule gives no refusal.
-//! - **[`Desk::submit`]** (`src/submissions.rt`, `specs/Answers.antt`): a receipt's entry has the statement. By the
+//! - **[`Desk::submit`]** (`src/submissions.rt`, `specs/Replies.antt`): a receipt's entry has the statement. By the
 //!   receipt's type its outcome is what the statement does to the receipt's text. The refusals have these causes:
 //!   - `NoText` comes exactly if the opening has no text of that name.
-//!   - `TriesSpent` comes only if the text's version has risen at least as often as the statement was tried. It names a
+//!   - `TriesSpent` comes only if the text's version has risen at least once for each try. It names a
 //!     version that the text had on the way.
 //!   - `TextTooLong` and `TooManyTrials` come only if performing the statement on the text gets this refusal, and
 //!     `Full` and `TriesSpent` only if performing it is not refused.
@@ -66,7 +66,7 @@
 //! - That a snapshot is the newest, or that nothing is refused as `Stopped` without cause. With ample memory no legal
 //!   run meets `Stopped`.
 //! - How many tries are made beyond the versions that `TriesSpent` names, and which of the versions that a text had on
-//!   the way the last try saw. What the gate is told isn't promised either. Tests show these.
+//!   the way the last try saw. What the gate is passed isn't promised either. Tests show these.
 //! - Which seat made an entry: that isn't kept.
 //! - That there is enough memory.
 #![tactic(auto)]
@@ -96,4 +96,4 @@ pub use sno_book::{Book, Entry, Opening, Proposal, Receipt, Snapshot, propose};
 pub use sno_pattern::{Text, TextName};
 pub use sno_published::Naming;
 pub use sno_statement::{Outcome, Statement, StatementFault};
-pub use workers::run_workers;
+pub use workers::{may_cross, run_workers};

@@ -56,7 +56,7 @@ fn publish<L: Naming, R: Wait>(
 ) -> Result<Receipt, (CommitFault, Proposal)>
     requires open { screen.old.is_open ≡ true }
     requires opening { book.old.opening ≡ L.opening }
-    requires level { (screen.old.shown ≡ book.old.journal) × (seat.old.viewer.seen ≡ book.old.journal) }
+    requires level { (screen.old.shown ≡ book.old.journal) × (seat.old.seen ≡ book.old.journal) }
     requires total { length book.old.journal ≡ total.old.total }
     requires backed { seat.old.accepted ≤ total.old.total }
     requires alone { L.parts ≡ 1 → seat.old.accepted ≡ total.old.total }
@@ -68,11 +68,11 @@ fn publish<L: Naming, R: Wait>(
     ensures opening { book.new.opening ≡ L.opening }
     ensures shown { screen.new.shown ≡ book.new.journal }
     ensures total { length book.new.journal ≡ total.new.total }
-    ensures committed { IfOk result (λ r. IsCommitted L.opening L.parts (position seat.old.accepted seat.old.viewer.seen) (position seat.new.accepted seat.new.viewer.seen) ready r) }
-    ensures begins { Begins seat.old.viewer.seen seat.new.viewer.seen }
+    ensures committed { IfOk result (λ r. IsCommitted L.opening L.parts (position seat.old.accepted seat.old.seen) (position seat.new.accepted seat.new.seen) ready r) }
+    ensures begins { Begins seat.old.seen seat.new.seen }
     ensures back { IfErr result (λ r. (r.0 ≡ Memory) × (r.1 ≡ ready)) }
     ensures same { OnErr result (seat.new.accepted ≡ seat.old.accepted) }
-    ensures seen { OnErr result (seat.new.viewer.seen ≡ seat.old.viewer.seen) }
+    ensures seen { OnErr result (seat.new.seen ≡ seat.old.seen) }
 {
     // for the proof
     related_agree();
@@ -109,10 +109,10 @@ impl<L: Naming> Locked<L> {
         seat: &mut Seat<L>,
         proposal: Proposal,
     ) -> Result<Receipt, (CommitFault, Proposal)>
-        requires view { IsPrefix proposal.origin (view_after L.opening seat.old.viewer.seen) }
-        ensures committed { IfOk result (λ r. IsCommitted L.opening L.parts (position seat.old.accepted seat.old.viewer.seen) (position seat.new.accepted seat.new.viewer.seen) proposal r) }
-        ensures refused { IfErr result (λ r. IsReturned L.opening L.parts (position seat.old.accepted seat.old.viewer.seen) (position seat.new.accepted seat.new.viewer.seen) proposal r.0 r.1) }
-        ensures begins { Begins seat.old.viewer.seen seat.new.viewer.seen }
+        requires view { IsPrefix proposal.origin (view_after L.opening seat.old.seen) }
+        ensures committed { IfOk result (λ r. IsCommitted L.opening L.parts (position seat.old.accepted seat.old.seen) (position seat.new.accepted seat.new.seen) proposal r) }
+        ensures refused { IfErr result (λ r. IsReturned L.opening L.parts (position seat.old.accepted seat.old.seen) (position seat.new.accepted seat.new.seen) proposal r.0 r.1) }
+        ensures begins { Begins seat.old.seen seat.new.seen }
     {
         if !self.screen.is_open() {
             return Err((CommitFault::Stopped, proposal));
@@ -149,9 +149,9 @@ impl<L: Naming> Locked<L> {
         seat: &mut Seat<L>,
         from: usize,
     ) -> Result<Vec<Entry>, SinceFault>
-        ensures entries { IfOk result (λ entries. entries.items ≡ drop from seat.new.viewer.seen) }
-        ensures shown { OnOk result (seat.new.viewer.seen ≡ seat.new.viewer.shown) }
-        ensures begins { Begins seat.old.viewer.seen seat.new.viewer.seen }
+        ensures entries { IfOk result (λ entries. entries.items ≡ drop from seat.new.seen) }
+        ensures shown { OnOk result (seat.new.seen ≡ seat.new.shown) }
+        ensures begins { Begins seat.old.seen seat.new.seen }
         ensures same { seat.new.accepted ≡ seat.old.accepted }
     {
         let Ok(_count) = seat.look() else {
@@ -165,7 +165,7 @@ impl<L: Naming> Locked<L> {
 
     /// Whether the journal begins with all that each of the seats has seen.
     pub(crate) fn has_all(&self, seats: &[Seat<L>]) -> bool
-        ensures { Decides result (All (λ s. Begins s.viewer.seen self.now.journal) seats.now) }
+        ensures { Decides result (All (λ s. Begins s.seen self.now.journal) seats.now) }
     {
         are_within(seats, self.screen.table())
     }

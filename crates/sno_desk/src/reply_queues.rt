@@ -1,9 +1,8 @@
 //! Replies put in the order of the jobs.
 ghost use Rattle.std.specs.Prelude.{◌≡◌, ◌<◌, ℕ, ◌∷◌, IfOk, Some, List, length, map, slice_index_or};
-ghost use Rattle.std.specs.Option.{option_map};
 ghost use Rattle.std.specs.Arc.{arc_value};
 ghost use Rattle.sno_statement.specs.Statement.{Statement as Job};
-ghost use Rattle.sno_desk.specs.Answers.{Answer};
+ghost use Rattle.sno_desk.specs.Replies.{Reply};
 ghost use Rattle.sno_desk.specs.Turns.{Deals, HasTurns};
 
 use crate::{Reply, Seat, WorkersFault};
@@ -20,9 +19,9 @@ pub(crate) fn collect<L: Naming>(
     seats: &mut [Seat<L>],
 ) -> Result<VecDeque<VecDeque<Reply>>, WorkersFault>
     ensures as_many { IfOk result (λ queues. length queues.items ≡ length seats.old) }
-    ensures taken { IfOk result (λ queues. (k : ℕ) (d : Seat L) (e : _) → k < length seats.old → option_map (λ q. q.items) (slice_index_or seats.old k d).replies ≡ Some (slice_index_or queues.items k e).items) }
+    ensures taken { IfOk result (λ queues. (k : ℕ) (d : Seat L) (e : _) → k < length seats.old → (slice_index_or seats.old k d).replies ≡ Some (slice_index_or queues.items k e).items) }
     ensures same { (k : ℕ) (d : Seat L) → k < length seats.old → (slice_index_or seats.new k d).accepted ≡ (slice_index_or seats.old k d).accepted }
-    ensures same_view { (k : ℕ) (d : Seat L) → k < length seats.old → (slice_index_or seats.new k d).viewer.seen ≡ (slice_index_or seats.old k d).viewer.seen }
+    ensures same_view { (k : ℕ) (d : Seat L) → k < length seats.old → (slice_index_or seats.new k d).seen ≡ (slice_index_or seats.old k d).seen }
 {
     let mut queues = VecDeque::new(alloc);
     for seat in seats.iter_mut() {
@@ -38,7 +37,7 @@ pub(crate) fn collect<L: Naming>(
 fn next_reply(queues: &mut VecDeque<VecDeque<Reply>>) -> Reply
     requires some { 0 < length queues.old.items }
     requires waiting { (d : _) → 0 < length (slice_index_or queues.old.items 0 d).items }
-    ensures order { (replies : List Answer) → Deals (length queues.old.items) 0 (map (λ q. q.items) queues.new.items) replies
+    ensures order { (replies : List Reply) → Deals (length queues.old.items) 0 (map (λ q. q.items) queues.new.items) replies
         → Deals (length queues.old.items) 0 (map (λ q. q.items) queues.old.items) (result ∷ replies) }
     ensures turns { (job : Job) (jobs : List Job) → HasTurns (length queues.old.items) 0 (map (λ q. q.items) queues.old.items) (job ∷ jobs)
         → HasTurns (length queues.old.items) 0 (map (λ q. q.items) queues.new.items) jobs }

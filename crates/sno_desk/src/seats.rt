@@ -2,6 +2,7 @@
 ghost use Rattle.std.specs.Prelude.{◌≡◌, ◌≢◌, ◌+◌, ◌<◌, ◌≤◌, ◌^◌, Decides, MatchBool, OnOk, OnErr, IfOk, IfErr, None, length, Some, map, sum_by};
 ghost use Rattle.std.specs.Arc.{arc_value};
 ghost use Rattle.std.specs.List.{All};
+ghost use Rattle.std.specs.Option.{option_map};
 ghost use mathlib.Core.List.{IsPrefix};
 ghost use Rattle.sno_book.specs.Openings.{place_in};
 ghost use Rattle.sno_book.specs.Views.{IsPrefix as BeginsView};
@@ -17,22 +18,36 @@ use sno_published::{Naming, Table, Viewer};
 use sno_statement::Statement;
 use std::alloc::{AllocError, Global};
 use std::collections::VecDeque;
+use std::marker::Model;
 use std::sync::Arc;
 use std::sync::ledger::{self, Share};
 
 /// What a submit returns.
 pub type Reply = Result<Receipt, SubmitFault>;
 
-/// A place at a desk. It counts the proposals that were accepted through it, and holds that count as its share of the
-/// desk's ledger. It sees the texts without the lock, and what it has seen never goes back.
+/// A place at a desk. It counts the proposals that were accepted through it, and by its type holds that count as its
+/// share of the desk's ledger. It sees the texts without the lock, and what it has seen never goes back. Contracts see
+/// the count, the entries that it has seen or learned of, and those that were shown when it looked last.
 #[derive(Drop)]
 pub struct Seat<L: Naming> {
-    pub(crate) accepted: u64,
-    pub(crate) share: Share<L>,
-    pub(crate) viewer: Viewer<L>,
-    pub(crate) replies: Option<VecDeque<Reply>>,
-    ghost one_part: { share.parts ≡ 1 },
-    ghost backed: { share.amount ≡ accepted },
+    accepted: u64,
+    share: Share<L>,
+    viewer: Viewer<L>,
+    replies: Option<VecDeque<Reply>>,
+}
+
+impl<L: Naming> Model for Seat<L> {
+    ghost use Rattle.std.specs.Prelude.{◌≡◌};
+    ghost use Rattle.std.specs.Option.{option_map};
+    ghost use Rattle.sno_desk.specs.Seatings.{Seating, seating_code};
+
+    ghost Value = { Seating };
+
+    ghost coded = { seating_code };
+
+    ghost view = { λ s. record { accepted = s.accepted; shown = s.viewer.shown; seen = s.viewer.seen; replies = option_map (λ q. q.items) s.replies } };
+
+    ghost invariant = { λ s. (s.share.parts ≡ 1) × (s.share.amount ≡ s.accepted) };
 }
 
 impl<L: Naming> Seat<L> {
@@ -43,9 +58,9 @@ impl<L: Naming> Seat<L> {
         self.accepted
     }
 
-    /// How many entries the seat has seen or was told of.
+    /// How many entries the seat has seen or was shown.
     pub fn seen(&self) -> u64
-        ensures { result ≡ length self.now.viewer.seen }
+        ensures { result ≡ length self.now.seen }
     {
         self.viewer.seen()
     }
@@ -54,10 +69,10 @@ impl<L: Naming> Seat<L> {
     ///
     /// Refused: `Stopped`, and nothing more is seen.
     pub fn look(&mut self) -> Result<u64, LookFault>
-        ensures count { IfOk result (λ n. n ≡ length self.new.viewer.seen) }
-        ensures shown { OnOk result (self.new.viewer.seen ≡ self.new.viewer.shown) }
-        ensures stopped { IfErr result (λ e. (e ≡ Stopped) × (self.new.viewer.seen ≡ self.old.viewer.seen)) }
-        ensures begins { IsPrefix self.old.viewer.seen self.new.viewer.seen }
+        ensures count { IfOk result (λ n. n ≡ length self.new.seen) }
+        ensures shown { OnOk result (self.new.seen ≡ self.new.shown) }
+        ensures stopped { IfErr result (λ e. (e ≡ Stopped) × (self.new.seen ≡ self.old.seen)) }
+        ensures begins { IsPrefix self.old.seen self.new.seen }
         ensures same { self.new.accepted ≡ self.old.accepted }
     {
         match self.viewer.enter() {
@@ -95,11 +110,11 @@ impl<L: Naming> Seat<L> {
         read: F,
     ) -> Result<T, LookFault>
         requires { F.IsAlwaysCallable read }
-        ensures read { IfOk result (λ r. IsRead F.FnOnce read L.opening self.new.viewer.seen name.now r) }
-        ensures shown { OnOk result (self.new.viewer.seen ≡ self.new.viewer.shown) }
+        ensures read { IfOk result (λ r. IsRead F.FnOnce read L.opening self.new.seen name.now r) }
+        ensures shown { OnOk result (self.new.seen ≡ self.new.shown) }
         ensures no_text { IfErr result (λ e. IsLookCause e L.opening name.now) }
-        ensures refused { OnErr result (self.new.viewer.seen ≡ self.old.viewer.seen) }
-        ensures begins { IsPrefix self.old.viewer.seen self.new.viewer.seen }
+        ensures refused { OnErr result (self.new.seen ≡ self.old.seen) }
+        ensures begins { IsPrefix self.old.seen self.new.seen }
         ensures same { self.new.accepted ≡ self.old.accepted }
     {
         let Some(place) = self.place(name) else {
@@ -120,11 +135,11 @@ impl<L: Naming> Seat<L> {
         read: F,
     ) -> Result<T, LookFault>
         requires { F.IsAlwaysCallable read }
-        ensures read { IfOk result (λ r. IsReadAt F.FnOnce read L.opening self.new.viewer.seen place r) }
-        ensures shown { OnOk result (self.new.viewer.seen ≡ self.new.viewer.shown) }
+        ensures read { IfOk result (λ r. IsReadAt F.FnOnce read L.opening self.new.seen place r) }
+        ensures shown { OnOk result (self.new.seen ≡ self.new.shown) }
         ensures no_text { IfErr result (λ e. IsPlaceCause e L.opening place) }
-        ensures refused { OnErr result (self.new.viewer.seen ≡ self.old.viewer.seen) }
-        ensures begins { IsPrefix self.old.viewer.seen self.new.viewer.seen }
+        ensures refused { OnErr result (self.new.seen ≡ self.old.seen) }
+        ensures begins { IsPrefix self.old.seen self.new.seen }
         ensures same { self.new.accepted ≡ self.old.accepted }
     {
         if place >= self.viewer.opening().len() {
@@ -141,7 +156,7 @@ impl<L: Naming> Seat<L> {
 
     /// Returns a snapshot of the text of this name as it is shown. It takes no lock and waits for nobody. On `Ok` it is
     /// the text at the place that the name has in the opening, as the entries that the seat has seen now leave it.
-    /// These entries begin with all that the seat had seen or was told of.
+    /// These entries begin with all that the seat had seen or was shown.
     ///
     /// Refused, in this order:
     ///
@@ -149,10 +164,10 @@ impl<L: Naming> Seat<L> {
     /// - `Stopped`, and nothing more is seen;
     /// - `Memory`, and what is shown was seen.
     pub fn snapshot(&mut self, name: &TextName) -> Result<Snapshot, SnapshotFault>
-        ensures gives { GivesSeen result L.opening self.new.viewer.seen name.now }
-        ensures begins { IsPrefix self.old.viewer.seen self.new.viewer.seen }
-        ensures shown { OnOk result (self.new.viewer.seen ≡ self.new.viewer.shown) }
-        ensures cause { IfErr result (λ e. IsViewAfter e self.old.viewer self.new.viewer) }
+        ensures gives { GivesSeen result L.opening self.new.seen name.now }
+        ensures begins { IsPrefix self.old.seen self.new.seen }
+        ensures shown { OnOk result (self.new.seen ≡ self.new.shown) }
+        ensures cause { IfErr result (λ e. IsViewAfter e self.old self.new) }
         ensures same { self.new.accepted ≡ self.old.accepted }
     {
         let Some(place) = self.place(name) else {
@@ -169,7 +184,7 @@ impl<L: Naming> Seat<L> {
 
     /// Returns snapshots of the texts of these names, in their order, all as they are shown at one moment. It takes no
     /// lock and waits for nobody. On `Ok` each is the text at the place that its name has in the opening, as the
-    /// entries that the seat has seen now leave it. These entries begin with all that the seat had seen or was told of.
+    /// entries that the seat has seen now leave it. These entries begin with all that the seat had seen or was shown.
     /// While the texts are shared, no entry can be published.
     ///
     /// Refused, in this order:
@@ -182,27 +197,27 @@ impl<L: Naming> Seat<L> {
         alloc: Global,
         names: &[&TextName],
     ) -> Result<Vec<Snapshot>, SnapshotFault>
-        ensures gives { IfOk result (λ v. snapshots_of L.opening self.new.viewer.seen (map (λ n. n.now) names.now) ≡ Some v.items) }
+        ensures gives { IfOk result (λ v. snapshots_of L.opening self.new.seen (map (λ n. n.now) names.now) ≡ Some v.items) }
         ensures no_text { IfErr result (λ e. IsCauseForAll e L.opening (map (λ n. n.now) names.now)) }
-        ensures begins { IsPrefix self.old.viewer.seen self.new.viewer.seen }
-        ensures shown { OnOk result (self.new.viewer.seen ≡ self.new.viewer.shown) }
-        ensures cause { IfErr result (λ e. IsViewAfter e self.old.viewer self.new.viewer) }
+        ensures begins { IsPrefix self.old.seen self.new.seen }
+        ensures shown { OnOk result (self.new.seen ≡ self.new.shown) }
+        ensures cause { IfErr result (λ e. IsViewAfter e self.old self.new) }
         ensures same { self.new.accepted ≡ self.old.accepted }
     {
         if !has_all(self.viewer.opening(), names) {
             return Err(SnapshotFault::NoText);
         }
-        match self.viewer.snapshots(alloc, names)? {
-            Some(snapshots) => Ok(snapshots),
-            None => Err(SnapshotFault::NoText),
-        }
+        let Some(snapshots) = self.viewer.snapshots(alloc, names)? else {
+            return Err(SnapshotFault::NoText);
+        };
+        Ok(snapshots)
     }
 
     /// Takes a snapshot of the statement's text, and performs the statement on it. It takes no lock and waits for
     /// nobody. What comes back can be committed by [`Desk::commit`](crate::Desk::commit) through this seat.
     ///
     /// On `Ok` the proposal has the statement, and comes from the text of its name as the entries that the seat has seen
-    /// now leave it. These entries are those that are shown, and begin with all that the seat had seen or was told of.
+    /// now leave it. These entries are those that are shown, and begin with all that the seat had seen or was shown.
     ///
     /// Refused as [`Seat::snapshot`] and `propose` are: `NoText`, exactly if the opening has no text of the statement's
     /// name; `Stopped`; `TooManyTrials` and `TextTooLong`, only if performing the statement on that text is refused so;
@@ -212,10 +227,10 @@ impl<L: Naming> Seat<L> {
         alloc: Global,
         statement: &Arc<Statement>,
     ) -> Result<Proposal, SubmitFault>
-        ensures gives { GivesProposed result L.opening self.new.viewer.seen (arc_value statement.now) }
-        ensures view { IfOk result (λ p. BeginsView p.origin (view_after L.opening self.new.viewer.seen)) }
-        ensures shown { OnOk result (self.new.viewer.seen ≡ self.new.viewer.shown) }
-        ensures begins { IsPrefix self.old.viewer.seen self.new.viewer.seen }
+        ensures gives { GivesProposed result L.opening self.new.seen (arc_value statement.now) }
+        ensures view { IfOk result (λ p. BeginsView p.origin (view_after L.opening self.new.seen)) }
+        ensures shown { OnOk result (self.new.seen ≡ self.new.shown) }
+        ensures begins { IsPrefix self.old.seen self.new.seen }
         ensures same { self.new.accepted ≡ self.old.accepted }
     {
         let snapshot = self.snapshot(statement.text())?;
@@ -226,8 +241,8 @@ impl<L: Naming> Seat<L> {
 
     /// Sees what a table shows. Returns whether it has then seen just that, and no more.
     pub(crate) fn see_all(&mut self, table: &Table<L>) -> bool
-        ensures begins { IsPrefix self.old.viewer.seen self.new.viewer.seen }
-        ensures level { MatchBool result (self.new.viewer.seen ≡ table.now) (Unit {0}) }
+        ensures begins { IsPrefix self.old.seen self.new.seen }
+        ensures level { MatchBool result (self.new.seen ≡ table.now) (Unit {0}) }
         ensures accepted { self.new.accepted ≡ self.old.accepted }
     {
         self.learn(table);
@@ -236,8 +251,8 @@ impl<L: Naming> Seat<L> {
 
     /// Sees what a table shows.
     pub(crate) fn learn(&mut self, table: &Table<L>)
-        ensures begins { IsPrefix self.old.viewer.seen self.new.viewer.seen }
-        ensures told { IsPrefix table.now self.new.viewer.seen }
+        ensures begins { IsPrefix self.old.seen self.new.seen }
+        ensures learnt { IsPrefix table.now self.new.seen }
         ensures accepted { self.new.accepted ≡ self.old.accepted }
     {
         self.viewer.learn(table);
@@ -245,14 +260,14 @@ impl<L: Naming> Seat<L> {
 
     /// Whether a table shows just what the seat has seen.
     pub(crate) fn is_level(&self, table: &Table<L>) -> bool
-        ensures { Decides result (self.now.viewer.seen ≡ table.now) }
+        ensures { Decides result (self.now.seen ≡ table.now) }
     {
         self.viewer.is_level(table)
     }
 
     /// Whether a table shows all that the seat has seen.
     pub(crate) fn is_within(&self, table: &Table<L>) -> bool
-        ensures { Decides result (IsPrefix self.now.viewer.seen table.now) }
+        ensures { Decides result (IsPrefix self.now.seen table.now) }
     {
         self.viewer.is_within(table)
     }
@@ -262,7 +277,7 @@ impl<L: Naming> Seat<L> {
         requires part { share.parts ≡ 1 }
         requires amount { share.amount ≡ 0 }
         ensures accepted { result.accepted ≡ 0 }
-        ensures viewer { result.viewer ≡ viewer }
+        ensures seen { result.seen ≡ viewer.seen }
     {
         Seat {
             accepted: 0,
@@ -278,7 +293,7 @@ impl<L: Naming> Seat<L> {
         ensures backed { self.old.accepted ≤ total.old.total }
         ensures alone { L.parts ≡ 1 → self.old.accepted ≡ total.old.total }
         ensures accepted { self.new.accepted ≡ self.old.accepted }
-        ensures viewer { self.new.viewer ≡ self.old.viewer }
+        ensures seen { self.new.seen ≡ self.old.seen }
         ensures total { total.new.total ≡ total.old.total }
     {
         total.audit(&mut self.share);
@@ -288,17 +303,26 @@ impl<L: Naming> Seat<L> {
     pub(crate) fn count(&mut self, total: &mut ledger::Book<L>)
         requires { self.old.accepted + 1 < 2 ^ 64 }
         ensures accepted { self.new.accepted ≡ self.old.accepted + 1 }
-        ensures viewer { self.new.viewer ≡ self.old.viewer }
+        ensures seen { self.new.seen ≡ self.old.seen }
         ensures total { total.new.total ≡ total.old.total + 1 }
     {
         total.add(&mut self.share, 1);
         self.accepted += 1;
     }
 
+    /// Keeps these replies until they are taken.
+    pub(crate) fn keep_replies(&mut self, replies: Option<VecDeque<Reply>>)
+        ensures kept { self.new.replies ≡ option_map (λ q. q.items) replies }
+        ensures seen { self.new.seen ≡ self.old.seen }
+        ensures same { self.new.accepted ≡ self.old.accepted }
+    {
+        self.replies = replies;
+    }
+
     /// Takes from the seat the replies that it has kept, and returns them.
     pub(crate) fn take_replies(&mut self) -> Option<VecDeque<Reply>>
-        ensures taken { result ≡ self.old.replies }
-        ensures viewer { self.new.viewer ≡ self.old.viewer }
+        ensures taken { option_map (λ q. q.items) result ≡ self.old.replies }
+        ensures seen { self.new.seen ≡ self.old.seen }
         ensures same { self.new.accepted ≡ self.old.accepted }
     {
         self.replies.take()
@@ -327,7 +351,7 @@ fn has_all(opening: &Opening, names: &[&TextName]) -> bool
 
 /// Whether a table shows all that each of the seats has seen.
 pub(crate) fn are_within<L: Naming>(seats: &[Seat<L>], table: &Table<L>) -> bool
-    ensures { Decides result (All (λ s. IsPrefix s.viewer.seen table.now) seats.now) }
+    ensures { Decides result (All (λ s. IsPrefix s.seen table.now) seats.now) }
 {
     for seat in seats {
         if !seat.is_within(table) {

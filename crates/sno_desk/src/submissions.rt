@@ -2,7 +2,7 @@
 ghost use Rattle.std.specs.Prelude.{◌≡◌, ◌+◌, ◌≤◌, true, IfOk, IfErr};
 ghost use Rattle.std.specs.Arc.{arc_value};
 ghost use mathlib.Core.List.{IsPrefix};
-ghost use Rattle.sno_desk.specs.Answers.{AnswersAt, DecidesNoText, IsJustified, SpentAt, receipts_in, is_lost};
+ghost use Rattle.sno_desk.specs.Replies.{IsReplyAt, DecidesNoText, IsJustified, SpentAt, receipts_in, is_lost};
 ghost use Rattle.sno_desk.specs.Receipts.{StandsAfter};
 ghost use Rattle.sno_desk.specs.Turns.{IsSubmitted, position};
 
@@ -25,11 +25,11 @@ pub(crate) struct Submission<'a, L: Naming, G: Gate> {
 }
 
 /// Whether the text changed during the try.
-fn is_lost(answer: &Reply) -> bool
-    ensures value { result ≡ is_lost answer.now }
-    ensures none { result ≡ true → receipts_in answer.now ≡ 0 }
+fn is_lost(reply: &Reply) -> bool
+    ensures value { result ≡ is_lost reply.now }
+    ensures none { result ≡ true → receipts_in reply.now ≡ 0 }
 {
-    matches!(answer, Err(SubmitFault::TriesSpent { .. }))
+    matches!(reply, Err(SubmitFault::TriesSpent { .. }))
 }
 
 impl<L: Naming, G: Gate> Submission<'_, L, G> {
@@ -39,8 +39,8 @@ impl<L: Naming, G: Gate> Submission<'_, L, G> {
         requires in_turn { (1 ≤ attempt) × (attempt ≤ self.now.tries) }
         ensures no_text { DecidesNoText L.opening (arc_value self.now.statement.now) result }
         ensures justified { IsJustified (G.shuts self.now.gate.now) self.now.tries 1 (arc_value self.now.statement.now) result }
-        ensures at { AnswersAt 1 L.opening seat.old.viewer.seen seat.new.viewer.seen (arc_value self.now.statement.now) result }
-        ensures begins { IsPrefix seat.old.viewer.seen seat.new.viewer.seen }
+        ensures at { IsReplyAt 1 L.opening seat.old.seen seat.new.seen (arc_value self.now.statement.now) result }
+        ensures begins { IsPrefix seat.old.seen seat.new.seen }
         ensures index { IfOk result (λ r. StandsAfter L.parts seat.old.accepted r) }
         ensures spent { IfErr result (λ e. SpentAt L.parts seat.old.accepted e) }
         ensures counted { seat.new.accepted ≡ seat.old.accepted + receipts_in result }
@@ -63,13 +63,13 @@ impl<L: Naming, G: Gate> Submission<'_, L, G> {
 
     /// Makes all attempts, up to the first during which the text doesn't change.
     fn attempts<R: Wait>(&self, rt: &R, seat: &mut Seat<L>) -> Reply
-        ensures submitted { IsSubmitted (G.shuts self.now.gate.now) self.now.tries L.opening L.parts (position seat.old.accepted seat.old.viewer.seen) (position seat.new.accepted seat.new.viewer.seen)
+        ensures submitted { IsSubmitted (G.shuts self.now.gate.now) self.now.tries L.opening L.parts (position seat.old.accepted seat.old.seen) (position seat.new.accepted seat.new.seen)
             (arc_value self.now.statement.now) result }
     {
         for attempt in 1..self.tries {
-            let answer = self.attempt(rt, seat, attempt);
-            if !is_lost(&answer) {
-                return answer;
+            let reply = self.attempt(rt, seat, attempt);
+            if !is_lost(&reply) {
+                return reply;
             }
         }
         self.attempt(rt, seat, self.tries)
@@ -77,11 +77,11 @@ impl<L: Naming, G: Gate> Submission<'_, L, G> {
 
     /// Makes all attempts, and reports to the gate whether the statement was accepted.
     pub(crate) fn reply<R: Wait>(&self, rt: &R, seat: &mut Seat<L>) -> Reply
-        ensures submitted { IsSubmitted (G.shuts self.now.gate.now) self.now.tries L.opening L.parts (position seat.old.accepted seat.old.viewer.seen) (position seat.new.accepted seat.new.viewer.seen)
+        ensures submitted { IsSubmitted (G.shuts self.now.gate.now) self.now.tries L.opening L.parts (position seat.old.accepted seat.old.seen) (position seat.new.accepted seat.new.seen)
             (arc_value self.now.statement.now) result }
     {
-        let answer = self.attempts(rt, seat);
-        self.gate.done(rt, self.statement.number(), answer.is_ok());
-        answer
+        let reply = self.attempts(rt, seat);
+        self.gate.done(rt, self.statement.number(), reply.is_ok());
+        reply
     }
 }

@@ -1,11 +1,10 @@
 //! Workers: each seat submits its part of a list of jobs, in threads.
 ghost use Rattle.std.specs.Prelude.{◌≡◌, ◌+◌, ◌<◌, ◌≤◌, ℕ, ◌∷◌, IfOk, List, length, map, slice_index_or, sum_by};
-ghost use Rattle.std.specs.Option.{option_map};
 ghost use Rattle.std.specs.Thread.{IsSend, IsSync};
 ghost use Rattle.std.specs.Arc.{arc_value};
 ghost use Rattle.sno_statement.specs.Statement.{Statement as Job};
-ghost use Rattle.sno_desk.specs.Answers.{Answers, receipts_in};
-ghost use Rattle.sno_desk.specs.Turns.{AllAnswer, Goes, HasGrown, HasWorked, InTurn, IsSubmitted, Position, every, position, shares_after};
+ghost use Rattle.sno_desk.specs.Replies.{IsReply, receipts_in};
+ghost use Rattle.sno_desk.specs.Turns.{AreReplies, Goes, HasGrown, HasWorked, InTurn, IsSubmitted, Position, every, position, shares_after};
 ghost use Rattle.sno_desk.specs.declared.desk.TheConstants.{MAX_SEATS, MAX_TRIES};
 
 use crate::reply_queues::{collect, in_order};
@@ -39,23 +38,22 @@ impl<L: Naming, G: Gate> Shift<'_, L, G> {
     fn turn<R: Wait>(
         &self,
         rt: &R,
-        alloc: Global,
         seat: &mut Seat<L>,
         job: &Arc<Statement>,
         wait: usize,
         replies: &mut VecDeque<Reply>,
     ) -> Result<usize, AllocError>
         ensures goes { IfOk result (λ next. (before : Position) (all jobs : List Job)
-            → Goes (IsSubmitted (G.shuts self.now.gate.now) self.now.tries L.opening L.parts) before (position seat.old.accepted seat.old.viewer.seen) all (every self.now.workers wait (arc_value job.now ∷ jobs)) replies.old.items
-            → Goes (IsSubmitted (G.shuts self.now.gate.now) self.now.tries L.opening L.parts) before (position seat.new.accepted seat.new.viewer.seen) all (every self.now.workers next jobs) replies.new.items) }
-        ensures grown { HasGrown (position seat.old.accepted seat.old.viewer.seen) (position seat.new.accepted seat.new.viewer.seen) }
+            → Goes (IsSubmitted (G.shuts self.now.gate.now) self.now.tries L.opening L.parts) before (position seat.old.accepted seat.old.seen) all (every self.now.workers wait (arc_value job.now ∷ jobs)) replies.old.items
+            → Goes (IsSubmitted (G.shuts self.now.gate.now) self.now.tries L.opening L.parts) before (position seat.new.accepted seat.new.seen) all (every self.now.workers next jobs) replies.new.items) }
+        ensures grown { HasGrown (position seat.old.accepted seat.old.seen) (position seat.new.accepted seat.new.seen) }
     {
         if wait > 0 {
             return Ok(wait - 1);
         }
         let submission = Submission {
             desk: self.desk,
-            alloc,
+            alloc: self.desk.alloc,
             statement: job,
             tries: self.tries,
             gate: self.gate,
@@ -69,38 +67,39 @@ impl<L: Naming, G: Gate> Shift<'_, L, G> {
     fn replies<R: Wait>(
         &self,
         rt: &R,
-        alloc: Global,
         seat: &mut Seat<L>,
         first: usize,
     ) -> Result<VecDeque<Reply>, AllocError>
         ensures in_turn { IfOk result (λ replies. InTurn (IsSubmitted (G.shuts self.now.gate.now) self.now.tries L.opening L.parts)
-            (position seat.old.accepted seat.old.viewer.seen) (position seat.new.accepted seat.new.viewer.seen) (every self.now.workers first (map arc_value self.now.jobs.now)) replies.items) }
-        ensures grown { HasGrown (position seat.old.accepted seat.old.viewer.seen) (position seat.new.accepted seat.new.viewer.seen) }
+            (position seat.old.accepted seat.old.seen) (position seat.new.accepted seat.new.seen) (every self.now.workers first (map arc_value self.now.jobs.now)) replies.items) }
+        ensures grown { HasGrown (position seat.old.accepted seat.old.seen) (position seat.new.accepted seat.new.seen) }
     {
-        let mut replies = VecDeque::with_capacity(alloc, self.jobs.len().div_ceil(self.workers))?;
+        let most = self.jobs.len().div_ceil(self.workers);
+        let mut replies = VecDeque::with_capacity(self.desk.alloc, most)?;
         let mut wait = first;
         for job in self.jobs {
-            wait = self.turn(rt, alloc, seat, job, wait, &mut replies)?;
+            wait = self.turn(rt, seat, job, wait, &mut replies)?;
         }
         Ok(replies)
     }
 
     /// Submits the jobs of one seat. The seat keeps the replies.
-    fn work<R: Wait>(&self, rt: &R, alloc: Global, seat: &mut Seat<L>, first: usize)
+    fn work<R: Wait>(&self, rt: &R, seat: &mut Seat<L>, first: usize)
         ensures worked { HasWorked (IsSubmitted (G.shuts self.now.gate.now) self.now.tries L.opening L.parts) (every self.now.workers first (map arc_value self.now.jobs.now))
-            (position seat.old.accepted seat.old.viewer.seen) (position seat.new.accepted seat.new.viewer.seen) (option_map (λ q. q.items) seat.new.replies) }
-        ensures grown { HasGrown (position seat.old.accepted seat.old.viewer.seen) (position seat.new.accepted seat.new.viewer.seen) }
+            (position seat.old.accepted seat.old.seen) (position seat.new.accepted seat.new.seen) seat.new.replies }
+        ensures grown { HasGrown (position seat.old.accepted seat.old.seen) (position seat.new.accepted seat.new.seen) }
     {
-        seat.replies = match self.replies(rt, alloc, seat, first) {
+        let replies = match self.replies(rt, seat, first) {
             Ok(replies) => Some(replies),
             Err(_) => None,
         };
+        seat.keep_replies(replies);
     }
 }
 
-/// A value of this type may go to another thread, and be shared there. The function does nothing: its contract is used
-/// more than once.
-pub(crate) fn may_cross<T: Send + Sync>()
+/// Says to the prover that a value of this type may go to another thread, and be shared there. The function does nothing:
+/// its contract is used by those who give threads a book's types.
+pub fn may_cross<T: Send + Sync>()
     ensures sends { IsSend T.row }
     ensures shares { IsSync T.row }
 {}
@@ -108,7 +107,6 @@ pub(crate) fn may_cross<T: Send + Sync>()
 /// Lets all seats work, each on the jobs of its place.
 fn work_all<L: Naming + Send + Sync, G: Gate + Sync, R: Threads + Wait + Sync>(
     rt: &R,
-    alloc: Global,
     desk: &Desk<L>,
     seats: &mut [Seat<L>],
     jobs: &[Arc<Statement>],
@@ -118,9 +116,9 @@ fn work_all<L: Naming + Send + Sync, G: Gate + Sync, R: Threads + Wait + Sync>(
     requires some { 1 ≤ length seats.old }
     requires valid { (1 ≤ tries) × (tries ≤ MAX_TRIES) }
     ensures worked { (k : ℕ) (d : Seat L) → k < length seats.old → HasWorked (IsSubmitted (G.shuts gate.now) tries L.opening L.parts) (every (length seats.old) k (map arc_value jobs.now))
-        (position (slice_index_or seats.old k d).accepted (slice_index_or seats.old k d).viewer.seen) (position (slice_index_or seats.new k d).accepted (slice_index_or seats.new k d).viewer.seen)
-        (option_map (λ q. q.items) (slice_index_or seats.new k d).replies) }
-    ensures grown { (k : ℕ) (d : Seat L) → k < length seats.old → HasGrown (position (slice_index_or seats.old k d).accepted (slice_index_or seats.old k d).viewer.seen) (position (slice_index_or seats.new k d).accepted (slice_index_or seats.new k d).viewer.seen) }
+        (position (slice_index_or seats.old k d).accepted (slice_index_or seats.old k d).seen) (position (slice_index_or seats.new k d).accepted (slice_index_or seats.new k d).seen)
+        (slice_index_or seats.new k d).replies }
+    ensures grown { (k : ℕ) (d : Seat L) → k < length seats.old → HasGrown (position (slice_index_or seats.old k d).accepted (slice_index_or seats.old k d).seen) (position (slice_index_or seats.new k d).accepted (slice_index_or seats.new k d).seen) }
 {
     may_cross::<Entry>();
     may_cross::<Book>();
@@ -130,8 +128,8 @@ fn work_all<L: Naming + Send + Sync, G: Gate + Sync, R: Threads + Wait + Sync>(
     let worker = |first: usize, seat: &mut Seat<L>|
         requires { (1 ≤ workers) × (1 ≤ tries) × (tries ≤ MAX_TRIES) }
         ensures worked { HasWorked (IsSubmitted (G.shuts gate.entry.now) tries L.opening L.parts) (every workers first (map arc_value jobs.entry.now))
-            (position seat.old.accepted seat.old.viewer.seen) (position seat.new.accepted seat.new.viewer.seen) (option_map (λ q. q.items) seat.new.replies) }
-        ensures grown { HasGrown (position seat.old.accepted seat.old.viewer.seen) (position seat.new.accepted seat.new.viewer.seen) }
+            (position seat.old.accepted seat.old.seen) (position seat.new.accepted seat.new.seen) seat.new.replies }
+        ensures grown { HasGrown (position seat.old.accepted seat.old.seen) (position seat.new.accepted seat.new.seen) }
     {
         let shift = Shift {
             desk,
@@ -140,7 +138,7 @@ fn work_all<L: Naming + Send + Sync, G: Gate + Sync, R: Threads + Wait + Sync>(
             tries,
             gate,
         };
-        shift.work(rt, alloc, seat, first);
+        shift.work(rt, seat, first);
     };
     thread::for_each_mut(rt, seats, workers, &worker);
 }
@@ -173,15 +171,15 @@ pub fn run_workers<L: Naming + Send + Sync, G: Gate + Sync, R: Threads + Wait + 
 ) -> Result<Vec<Reply>, WorkersFault>
     requires few { (1 ≤ length seats.old) × (length seats.old ≤ MAX_SEATS) }
     requires valid { (1 ≤ tries) × (tries ≤ MAX_TRIES) }
-    ensures answers { IfOk result (λ replies. AllAnswer (Answers (G.shuts gate.now) tries L.opening) (map arc_value jobs.now) replies.items) }
+    ensures allowed { IfOk result (λ replies. AreReplies (IsReply (G.shuts gate.now) tries L.opening) (map arc_value jobs.now) replies.items) }
     ensures total { IfOk result (λ replies. sum_by (λ s. s.accepted) seats.new ≡ sum_by (λ s. s.accepted) seats.old + sum_by receipts_in replies.items) }
     ensures in_turn { IfOk result (λ replies. (k : ℕ) (d : Seat L) → k < length seats.old → InTurn (IsSubmitted (G.shuts gate.now) tries L.opening L.parts)
-        (position (slice_index_or seats.old k d).accepted (slice_index_or seats.old k d).viewer.seen) (position (slice_index_or seats.new k d).accepted (slice_index_or seats.new k d).viewer.seen)
+        (position (slice_index_or seats.old k d).accepted (slice_index_or seats.old k d).seen) (position (slice_index_or seats.new k d).accepted (slice_index_or seats.new k d).seen)
         (every (length seats.old) k (map arc_value jobs.now)) (every (length seats.old) k replies.items)) }
     ensures shares { IfOk result (λ replies. map (λ s. s.accepted) seats.new ≡ shares_after (length seats.old) 0 (map (λ s. s.accepted) seats.old) replies.items) }
-    ensures grown { (k : ℕ) (d : Seat L) → k < length seats.old → HasGrown (position (slice_index_or seats.old k d).accepted (slice_index_or seats.old k d).viewer.seen) (position (slice_index_or seats.new k d).accepted (slice_index_or seats.new k d).viewer.seen) }
+    ensures grown { (k : ℕ) (d : Seat L) → k < length seats.old → HasGrown (position (slice_index_or seats.old k d).accepted (slice_index_or seats.old k d).seen) (position (slice_index_or seats.new k d).accepted (slice_index_or seats.new k d).seen) }
 {
-    work_all(rt, alloc, desk, seats, jobs, tries, gate);
+    work_all(rt, desk, seats, jobs, tries, gate);
     let mut queues = collect(alloc, seats)?;
     let replies = in_order(alloc, &mut queues, jobs)?;
     Ok(replies)

@@ -49,46 +49,46 @@ module _ (bytes : List ℕ) (d e : Data) (a : value_in bytes ≡ Ok d) (b : valu
     same_definitions = ap (λ (r : Rows). definitions_of false r.patterns) same_rows
 
 -- bytes represent only one document or have only one first fault
-pub one_answer : (mode : Mode) (bytes : List ℕ) (r s : Result Document DocumentFault) → IsDocument mode bytes r → IsDocument mode bytes s → r ≡ s
-one_answer mode bytes _ _ (IsDocument.no_value h) (IsDocument.no_value g) = cc
-one_answer mode bytes _ _ (IsDocument.no_value h) (IsDocument.no_rows e b q) = cc
-one_answer mode bytes _ _ (IsDocument.no_value h) (IsDocument.no_definitions e more b q y) = cc
-one_answer mode bytes _ _ (IsDocument.no_value h) (IsDocument.not_admitted e more rules b q y z) = cc
-one_answer mode bytes _ _ (IsDocument.no_value h) (IsDocument.whole e more rules b q y z w) = cc
-one_answer mode bytes _ _ (IsDocument.no_rows d a p) (IsDocument.no_value g) = cc
-one_answer mode bytes _ _ (IsDocument.no_rows d a p) (IsDocument.no_rows e b q) = let v : d ≡ e = same_value bytes d e a b in cc
-one_answer mode bytes _ _ (IsDocument.no_rows d a p) (IsDocument.no_definitions e more b q y) = let v : d ≡ e = same_value bytes d e a b in cc
-one_answer mode bytes _ _ (IsDocument.no_rows d a p) (IsDocument.not_admitted e more rules b q y z) = let v : d ≡ e = same_value bytes d e a b in cc
-one_answer mode bytes _ _ (IsDocument.no_rows d a p) (IsDocument.whole e more rules b q y z w) = let v : d ≡ e = same_value bytes d e a b in cc
-one_answer mode bytes _ _ (IsDocument.no_definitions d rows a p x) (IsDocument.no_value g) = cc
-one_answer mode bytes _ _ (IsDocument.no_definitions d rows a p x) (IsDocument.no_rows e b q) = let v : d ≡ e = same_value bytes d e a b in cc
-one_answer mode bytes _ _ (IsDocument.no_definitions d rows a p x) (IsDocument.no_definitions e more b q y) =
+pub one_result : (mode : Mode) (bytes : List ℕ) (r s : Result Document DocumentFault) → IsDocument mode bytes r → IsDocument mode bytes s → r ≡ s
+one_result mode bytes _ _ (IsDocument.no_value h) (IsDocument.no_value g) = cc
+one_result mode bytes _ _ (IsDocument.no_value h) (IsDocument.no_rows e b q) = cc
+one_result mode bytes _ _ (IsDocument.no_value h) (IsDocument.no_definitions e more b q y) = cc
+one_result mode bytes _ _ (IsDocument.no_value h) (IsDocument.not_admitted e more rules b q y z) = cc
+one_result mode bytes _ _ (IsDocument.no_value h) (IsDocument.whole e more rules b q y z w) = cc
+one_result mode bytes _ _ (IsDocument.no_rows d a p) (IsDocument.no_value g) = cc
+one_result mode bytes _ _ (IsDocument.no_rows d a p) (IsDocument.no_rows e b q) = let v : d ≡ e = same_value bytes d e a b in cc
+one_result mode bytes _ _ (IsDocument.no_rows d a p) (IsDocument.no_definitions e more b q y) = let v : d ≡ e = same_value bytes d e a b in cc
+one_result mode bytes _ _ (IsDocument.no_rows d a p) (IsDocument.not_admitted e more rules b q y z) = let v : d ≡ e = same_value bytes d e a b in cc
+one_result mode bytes _ _ (IsDocument.no_rows d a p) (IsDocument.whole e more rules b q y z w) = let v : d ≡ e = same_value bytes d e a b in cc
+one_result mode bytes _ _ (IsDocument.no_definitions d rows a p x) (IsDocument.no_value g) = cc
+one_result mode bytes _ _ (IsDocument.no_definitions d rows a p x) (IsDocument.no_rows e b q) = let v : d ≡ e = same_value bytes d e a b in cc
+one_result mode bytes _ _ (IsDocument.no_definitions d rows a p x) (IsDocument.no_definitions e more b q y) =
     let v = same_definitions bytes d e a b rows more p q in cc
-one_answer mode bytes _ _ (IsDocument.no_definitions d rows a p x) (IsDocument.not_admitted e more rules b q y z) =
+one_result mode bytes _ _ (IsDocument.no_definitions d rows a p x) (IsDocument.not_admitted e more rules b q y z) =
     let v = same_definitions bytes d e a b rows more p q in cc
-one_answer mode bytes _ _ (IsDocument.no_definitions d rows a p x) (IsDocument.whole e more rules b q y z w) =
+one_result mode bytes _ _ (IsDocument.no_definitions d rows a p x) (IsDocument.whole e more rules b q y z w) =
     let v = same_definitions bytes d e a b rows more p q in cc
-one_answer mode bytes _ _ (IsDocument.not_admitted d rows rules a p x u) (IsDocument.no_value g) = cc
-one_answer mode bytes _ _ (IsDocument.not_admitted d rows rules a p x u) (IsDocument.no_rows e b q) = let v : d ≡ e = same_value bytes d e a b in cc
-one_answer mode bytes _ _ (IsDocument.not_admitted d rows rules a p x u) (IsDocument.no_definitions e more b q y) =
+one_result mode bytes _ _ (IsDocument.not_admitted d rows rules a p x u) (IsDocument.no_value g) = cc
+one_result mode bytes _ _ (IsDocument.not_admitted d rows rules a p x u) (IsDocument.no_rows e b q) = let v : d ≡ e = same_value bytes d e a b in cc
+one_result mode bytes _ _ (IsDocument.not_admitted d rows rules a p x u) (IsDocument.no_definitions e more b q y) =
     let v = same_definitions bytes d e a b rows more p q in cc
-one_answer mode bytes _ _ (IsDocument.not_admitted {e = f} d rows rules a p x u) (IsDocument.not_admitted {e = g} e more others b q y z) =
+one_result mode bytes _ _ (IsDocument.not_admitted {e = f} d rows rules a p x u) (IsDocument.not_admitted {e = g} e more others b q y z) =
     let v = same_definitions bytes d e a b rows more p q in
     let same : others ≡ rules = cc in
     let once = admitted_once rules (Err f) (Err g) u (subst (λ k. IsAdmitted k (Err g)) same z) in cc
-one_answer mode bytes _ _ (IsDocument.not_admitted {e = f} d rows rules a p x u) (IsDocument.whole e more others b q y z w) =
+one_result mode bytes _ _ (IsDocument.not_admitted {e = f} d rows rules a p x u) (IsDocument.whole e more others b q y z w) =
     let v = same_definitions bytes d e a b rows more p q in
     let same : others ≡ rules = cc in
     let once = admitted_once rules (Err f) (Ok rules) u (subst (λ k. IsAdmitted k (Ok k)) same z) in cc
-one_answer mode bytes _ _ (IsDocument.whole d rows rules a p x u t) (IsDocument.no_value g) = cc
-one_answer mode bytes _ _ (IsDocument.whole d rows rules a p x u t) (IsDocument.no_rows e b q) = let v : d ≡ e = same_value bytes d e a b in cc
-one_answer mode bytes _ _ (IsDocument.whole d rows rules a p x u t) (IsDocument.no_definitions e more b q y) =
+one_result mode bytes _ _ (IsDocument.whole d rows rules a p x u t) (IsDocument.no_value g) = cc
+one_result mode bytes _ _ (IsDocument.whole d rows rules a p x u t) (IsDocument.no_rows e b q) = let v : d ≡ e = same_value bytes d e a b in cc
+one_result mode bytes _ _ (IsDocument.whole d rows rules a p x u t) (IsDocument.no_definitions e more b q y) =
     let v = same_definitions bytes d e a b rows more p q in cc
-one_answer mode bytes _ _ (IsDocument.whole d rows rules a p x u t) (IsDocument.not_admitted {e = g} e more others b q y z) =
+one_result mode bytes _ _ (IsDocument.whole d rows rules a p x u t) (IsDocument.not_admitted {e = g} e more others b q y z) =
     let v = same_definitions bytes d e a b rows more p q in
     let same : others ≡ rules = cc in
     let once = admitted_once rules (Ok rules) (Err g) u (subst (λ k. IsAdmitted k (Err g)) same z) in cc
-one_answer mode bytes _ _ (IsDocument.whole d rows rules a p x u t) (IsDocument.whole e more others b q y z w) =
+one_result mode bytes _ _ (IsDocument.whole d rows rules a p x u t) (IsDocument.whole e more others b q y z w) =
     let v = same_definitions bytes d e a b rows more p q in
     let same : rules ≡ others = cc in
     let ways : rows ≡ more = same_rows bytes d e a b rows more p q in

@@ -1,4 +1,4 @@
--- One statement by itself: bytes that are read for definitions that are there already.
+-- One statement alone: bytes that are read for definitions that are there already.
 use Rattle.std.specs.Prelude.{ℕ, List, Result, false}
 use Rattle.sno_pattern.specs.Definitions.{Definitions}
 use Rattle.sno_statement.specs.Statement.{Statement}

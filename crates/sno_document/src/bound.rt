@@ -21,6 +21,17 @@ use sno_statement::Statement;
 use std::alloc::{AllocError, Global};
 use std::sync::Arc;
 
+/// What names mean in a statement: the first are those of the definitions, and after them comes one for each of the texts.
+#[derive(Clone, Copy)]
+pub struct Bound<'b> {
+    /// The definitions.
+    pub rules: &'b Arc<Rules>,
+    /// The names of the definitions, in their order, and after them one for each of the texts.
+    pub names: &'b Names,
+    /// The texts.
+    pub texts: &'b [Text],
+}
+
 /// The text that a name represents, by its number: the first `defined` names are of definitions.
 fn bound_text(defined: usize, texts: &[Text], number: usize) -> Option<&Text>
     ensures { option_map (λ t. t.now) result ≡ bound_text defined texts.now number }
@@ -127,14 +138,17 @@ fn bound_parts(
 /// The object of statement number `number`, if it has one, with the texts that its names represent.
 fn bound_object(
     alloc: Global,
-    rules: &Rules,
-    names: &Names,
-    texts: &[Text],
+    bound: Bound<'_>,
     number: usize,
     text: Option<&str>,
 ) -> Result<Option<Object>, DocumentFault>
-    ensures { Gives (λ o. o) result (bound_object_row rules.now names.now texts.now number (option_map (λ s. s.now) text.entry)) }
+    ensures { Gives (λ o. o) result (bound_object_row (arc_value bound.entry.rules.now) bound.entry.names.now bound.entry.texts.now number (option_map (λ s. s.now) text.entry)) }
 {
+    let Bound {
+        rules,
+        names,
+        texts,
+    } = bound;
     let Some(object) = object(alloc, rules.names(), number, text)? else {
         return Ok(None);
     };
@@ -146,16 +160,19 @@ fn bound_object(
 /// The pattern of statement number `number`, with the texts that names represent. Its references are to definitions.
 fn bound_pattern(
     alloc: Global,
-    rules: &Rules,
-    names: &Names,
-    texts: &[Text],
+    bound: Bound<'_>,
     number: usize,
     text: &str,
 ) -> Result<Pattern, DocumentFault>
-    requires bound { IsBound rules.now.names names.now texts.now }
-    ensures read { Gives tree_of result (bound_pattern_row rules.now names.now texts.now number text.now) }
-    ensures covered { IfOk result (λ p. IsTrue (refs_below (length rules.now.bodies) (tree_of p))) }
+    requires bound { IsBound (arc_value bound.rules.now).names bound.names.now bound.texts.now }
+    ensures read { Gives tree_of result (bound_pattern_row (arc_value bound.entry.rules.now) bound.entry.names.now bound.entry.texts.now number text.now) }
+    ensures covered { IfOk result (λ p. IsTrue (refs_below (length (arc_value bound.entry.rules.now).bodies) (tree_of p))) }
 {
+    let Bound {
+        rules,
+        names,
+        texts,
+    } = bound;
     let mut pattern = read(alloc, false, names, number, text)?;
     let defined = rules.names().len();
     bind(alloc, &mut pattern, defined, texts)?;
@@ -166,21 +183,19 @@ fn bound_pattern(
 #[tactic(auto, unfolding(crate::specs::Bound::bound_usual_row))]
 fn bound_usual(
     alloc: Global,
-    rules: &Arc<Rules>,
-    names: &Names,
-    texts: &[Text],
+    bound: Bound<'_>,
     mode: Mode,
     number: usize,
     row: &StatementRow<'_>,
 ) -> Result<Statement, DocumentFault>
     requires number { number < 2 ^ 32 }
-    requires bound { IsBound (arc_value rules.now).names names.now texts.now }
-    ensures { Gives (λ s. s) result (bound_usual_row (arc_value rules.now) names.now texts.now mode number (statement_seen row.now)) }
+    requires bound { IsBound (arc_value bound.rules.now).names bound.names.now bound.texts.now }
+    ensures { Gives (λ s. s) result (bound_usual_row (arc_value bound.entry.rules.now) bound.entry.names.now bound.entry.texts.now mode number (statement_seen row.now)) }
 {
     let name = text_name(alloc, number, row.text)?;
-    let pattern = bound_pattern(alloc, rules, names, texts, number, row.pattern)?;
-    let object = bound_object(alloc, rules, names, texts, number, row.object)?;
-    let rules = Arc::try_clone(rules)?;
+    let pattern = bound_pattern(alloc, bound, number, row.pattern)?;
+    let object = bound_object(alloc, bound, number, row.object)?;
+    let rules = Arc::try_clone(bound.rules)?;
     let anchored = row.anchored.unwrap_or(mode.anchor);
     Ok(Statement::new(number as u32, rules, pattern, object, name, anchored))
 }
@@ -189,19 +204,17 @@ fn bound_usual(
 #[tactic(auto, unfolding(crate::specs::Bound::bound_row))]
 fn bound_statement(
     alloc: Global,
-    rules: &Arc<Rules>,
-    names: &Names,
-    texts: &[Text],
+    bound: Bound<'_>,
     mode: Mode,
     number: usize,
     row: &StatementRow<'_>,
 ) -> Result<Statement, DocumentFault>
     requires number { number < 2 ^ 32 }
     requires limit { IsLimit mode.trials }
-    requires bound { IsBound (arc_value rules.now).names names.now texts.now }
-    ensures { Gives (λ s. s) result (bound_row (arc_value rules.now) names.now texts.now mode number (statement_seen row.now)) }
+    requires bound { IsBound (arc_value bound.rules.now).names bound.names.now bound.texts.now }
+    ensures { Gives (λ s. s) result (bound_row (arc_value bound.entry.rules.now) bound.entry.names.now bound.entry.texts.now mode number (statement_seen row.now)) }
 {
-    let usual = bound_usual(alloc, rules, names, texts, mode, number, row)?;
+    let usual = bound_usual(alloc, bound, mode, number, row)?;
     let repeat = repeat(number, has_object(&usual), row.repeat)?;
     let all = for_all(number, repeat, row.all)?;
     let limited = usual.limited(mode.trials);
@@ -213,30 +226,27 @@ fn bound_statement(
 }
 
 /// Returns the statement that the JSON of the bytes is, as [`read_statement`](crate::read_statement) does, in which some names
-/// represent texts. `names` has the names of the definitions, in their order, and after them one for each of the `texts`. Such a
-/// name is in the pattern as that of a definition is, plain or starred, and is a literal with the text's characters there. In
+/// represent texts. Such a name is in the pattern as that of a definition is, plain or starred, and is a literal with the text's characters there. In
 /// the object it is that literal too. No target of an assignment may have such a name.
 ///
-/// The statement's definitions are `rules` alone, and its pattern and its object hold copies of the texts.
+/// The statement's definitions are those of `bound` alone, and its pattern and its object hold copies of the texts.
 ///
 /// Refused as `read_statement` is, with the same faults in the same order.
 pub fn read_bound_statement(
     alloc: Global,
-    rules: &Arc<Rules>,
-    names: &Names,
-    texts: &[Text],
+    bound: Bound<'_>,
     mode: Mode,
     number: u32,
     bytes: &[u8],
 ) -> Result<Statement, DocumentFault>
     requires limit { IsLimit mode.trials }
-    requires bound { IsBound (arc_value rules.now).names names.now texts.now }
-    ensures { Gives (λ s. s) result (bound_statement_in (arc_value rules.now) names.now texts.now mode number bytes.now) }
+    requires bound { IsBound (arc_value bound.rules.now).names bound.names.now bound.texts.now }
+    ensures { Gives (λ s. s) result (bound_statement_in (arc_value bound.entry.rules.now) bound.entry.names.now bound.entry.texts.now mode number bytes.now) }
 {
     let mut scratch = Scratch::new(alloc);
     let value = value_in(alloc, bytes, &mut scratch)?;
     let row = statement_row(&value)?;
     drop(value);
-    let statement = bound_statement(alloc, rules, names, texts, mode, number as usize, &row)?;
+    let statement = bound_statement(alloc, bound, mode, number as usize, &row)?;
     Ok(statement)
 }

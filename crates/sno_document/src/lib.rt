@@ -2,9 +2,9 @@
 //! is not a document.
 //!
 //! [`read_document`] takes the bytes to a [`Document`], whose texts are in a book, or to the first fault of the bytes,
-//! by `IsDocument` of `specs/Document.antt`. Bytes have only one such result ([`one_answer`]). `DocumentFault::Memory` is a
+//! by `IsDocument` of `specs/Document.antt`. Bytes have only one such result ([`one_result`]). `DocumentFault::Memory` is a
 //! further result. [`read_rules`] reads statements for files, whose literals may have any bytes (`IsRules` of `specs/Rules.antt`).
-//! [`read_statement`] reads one statement by itself, for definitions that are there (`specs/Single.antt`), and
+//! [`read_statement`] reads one statement alone, for definitions that are there (`specs/Single.antt`), and
 //! [`read_bound_statement`] one in which names represent texts (`specs/Bound.antt`).
 //!
 //! | File | What it does |
@@ -15,7 +15,7 @@
 //! | `last_patterns` | one pattern for statements in a row that are written alike |
 //! | `patterns` | a pattern, in the characters that it may have |
 //! | `rules`, `file_statements`, `file_rules` | statements that are read for files |
-//! | `single`, `bound` | one statement by itself; one in which names represent texts |
+//! | `single`, `bound` | one statement alone; one in which names represent texts |
 //! | `rounds` | how often a statement is to be repeated |
 //! | `laws` | what follows from the definitions |
 //!
@@ -42,12 +42,12 @@ mod statements;
 mod texts;
 mod trees;
 
-pub use bound::read_bound_statement;
+pub use bound::{Bound, read_bound_statement};
 pub use document_rows::StatementRow;
 pub use documents::{Document, MAX_DOCUMENT, read_document};
 pub use faults::DocumentFault;
 pub use file_rules::FileRules;
-pub use laws::one_answer;
+pub use laws::one_result;
 pub use modes::Mode;
 pub use rules::{read_rules, rules_of_rows};
 pub use single::read_statement;

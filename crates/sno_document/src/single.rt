@@ -1,4 +1,4 @@
-//! One statement by itself.
+//! One statement alone.
 ghost use Rattle.std.specs.Prelude.{◌≡◌};
 ghost use Rattle.std.specs.Arc.{arc_value};
 ghost use Rattle.sno_statement.specs.Statement.{IsLimit};

@@ -10,14 +10,13 @@ use crate::past::Past;
 use crate::records::{record_in, record_line};
 use crate::replies::{put_noted, put_reply, too_long};
 use crate::sought::{Shown, reply_here};
-use sno_desk::{Desk, Naming, Seat, SubmitFault};
+use sno_desk::{Naming, Seat, SubmitFault};
 use sno_document::{Mode, Rules};
 use sno_listing::Refusal;
-use sno_serve::{Asked, Intake, Next, line_in, refusal_in, submit};
+use sno_serve::{Asked, AtDesk, Intake, Next, line_in, refusal_in, submit};
 use sno_statement::Statement;
 use sno_store::{Lines, LinesIter, Store};
 use sqlite_disk::Disk;
-use std::alloc::Global;
 use std::io::{Read, Write};
 use std::sync::{Arc, Wait};
 
@@ -59,9 +58,7 @@ impl<D: Disk + Drop, I: Read + Drop, W: Write + Drop> Keeper<D, I, W> {
     /// Replies to a line. The record of its entry, if it has one, and the reply wait for the disk.
     fn reply<L: Naming, R: Wait>(
         &mut self,
-        rt: &R,
-        alloc: Global,
-        desk: &Desk<L>,
+        at: &AtDesk<'_, L, R>,
         seat: &mut Seat<L>,
         line: &[u8],
         waiting: &mut Waiting,
@@ -69,14 +66,14 @@ impl<D: Disk + Drop, I: Read + Drop, W: Write + Drop> Keeper<D, I, W> {
         ensures noted { OnOk result (HasNoted waiting.old.records waiting.new.records seat.old.accepted seat.new.accepted) }
         ensures same { self.new.store ≡ self.old.store }
     {
-        let mut read = line_in(alloc, &self.rules, self.mode, self.number, line)?;
-        let ignored = read.take_ignored(alloc);
+        let mut read = line_in(at.alloc, &self.rules, self.mode, self.number, line)?;
+        let ignored = read.take_ignored(at.alloc);
         if matches!(&read.asked, Asked::Perform(_) | Asked::PerformAt(_, _)) {
             self.number = self.number.saturating_add(1);
         }
         let before = seat.accepted();
-        let Shown { reply, refused } = reply_here(rt, alloc, desk, seat, &self.past, read, TRIES)?;
-        put_noted(alloc, &mut waiting.replies, &reply, ignored)?;
+        let Shown { reply, refused } = reply_here(at, seat, &self.past, read, TRIES)?;
+        put_noted(at.alloc, &mut waiting.replies, &reply, ignored)?;
         if let Some(refused) = refused {
             self.refused.push(refused)?;
         }
@@ -86,7 +83,7 @@ impl<D: Disk + Drop, I: Read + Drop, W: Write + Drop> Keeper<D, I, W> {
         let Ok(text) = str::from_utf8(line) else {
             return Err(DurableFault::Read);
         };
-        let record = record_line(alloc, text, reply)?;
+        let record = record_line(at.alloc, text, reply)?;
         waiting.records.push(&record)?;
         Ok(())
     }
@@ -94,24 +91,22 @@ impl<D: Disk + Drop, I: Read + Drop, W: Write + Drop> Keeper<D, I, W> {
     /// Takes a line and replies to it. Returns whether there may be more.
     fn take<L: Naming, R: Wait>(
         &mut self,
-        rt: &R,
-        alloc: Global,
-        desk: &Desk<L>,
+        at: &AtDesk<'_, L, R>,
         seat: &mut Seat<L>,
         waiting: &mut Waiting,
     ) -> Result<bool, DurableFault>
         ensures noted { OnOk result (HasNoted waiting.old.records waiting.new.records seat.old.accepted seat.new.accepted) }
         ensures same { self.new.store ≡ self.old.store }
     {
-        match self.intake.next(alloc)? {
+        match self.intake.next(at.alloc)? {
             Next::End => Ok(false),
             Next::TooLong => {
-                let reply = too_long(alloc)?;
-                put_reply(alloc, &mut waiting.replies, &reply)?;
+                let reply = too_long(at.alloc)?;
+                put_reply(at.alloc, &mut waiting.replies, &reply)?;
                 Ok(true)
             }
             Next::Line(line) => {
-                self.reply(rt, alloc, desk, seat, &line, waiting)?;
+                self.reply(at, seat, &line, waiting)?;
                 Ok(true)
             }
         }
@@ -120,9 +115,7 @@ impl<D: Disk + Drop, I: Read + Drop, W: Write + Drop> Keeper<D, I, W> {
     /// Takes a line, and those after it that were read already, as many as share one wait. Returns whether there may be more.
     fn gather<L: Naming, R: Wait>(
         &mut self,
-        rt: &R,
-        alloc: Global,
-        desk: &Desk<L>,
+        at: &AtDesk<'_, L, R>,
         seat: &mut Seat<L>,
         waiting: &mut Waiting,
     ) -> Result<bool, DurableFault>
@@ -130,7 +123,7 @@ impl<D: Disk + Drop, I: Read + Drop, W: Write + Drop> Keeper<D, I, W> {
         ensures same { self.new.store ≡ self.old.store }
     {
         for _ in 0..MAX_LINES {
-            if !self.take(rt, alloc, desk, seat, waiting)? {
+            if !self.take(at, seat, waiting)? {
                 return Ok(false);
             }
             if !self.intake.has_line() || waiting.replies.len() >= MAX_WAITING {
@@ -155,19 +148,17 @@ impl<D: Disk + Drop, I: Read + Drop, W: Write + Drop> Keeper<D, I, W> {
     /// Returns whether there may be more lines.
     fn turn<L: Naming, R: Wait>(
         &mut self,
-        rt: &R,
-        alloc: Global,
-        desk: &Desk<L>,
+        at: &AtDesk<'_, L, R>,
         seat: &mut Seat<L>,
     ) -> Result<bool, DurableFault>
         ensures kept { OnOk result (HasKept self.old.store self.new.store seat.old.accepted seat.new.accepted) }
         ensures clean { OnOk result (IsTrue (is_clean self.new.store) → IsTrue (is_clean self.old.store)) }
     {
         let mut waiting = Waiting {
-            records: Lines::new(alloc),
-            replies: Vec::new(alloc),
+            records: Lines::new(at.alloc),
+            replies: Vec::new(at.alloc),
         };
-        let more = self.gather(rt, alloc, desk, seat, &mut waiting)?;
+        let more = self.gather(at, seat, &mut waiting)?;
         self.store.put(&waiting.records)?;
         self.show(&waiting)?;
         Ok(more)
@@ -177,9 +168,7 @@ impl<D: Disk + Drop, I: Read + Drop, W: Write + Drop> Keeper<D, I, W> {
     /// lines.
     pub(crate) fn serve<L: Naming, R: Wait>(
         &mut self,
-        rt: &R,
-        alloc: Global,
-        desk: &Desk<L>,
+        at: &AtDesk<'_, L, R>,
         seat: &mut Seat<L>,
     ) -> Result<bool, DurableFault>
         ensures kept { OnOk result (HasKept self.old.store self.new.store seat.old.accepted seat.new.accepted) }
@@ -188,7 +177,7 @@ impl<D: Disk + Drop, I: Read + Drop, W: Write + Drop> Keeper<D, I, W> {
             if seat.accepted() >= self.most {
                 return Ok(true);
             }
-            if !self.turn(rt, alloc, desk, seat)? {
+            if !self.turn(at, seat)? {
                 return Ok(false);
             }
         }
@@ -200,9 +189,7 @@ impl<D: Disk + Drop, I: Read + Drop, W: Write + Drop> Keeper<D, I, W> {
     /// Refused: `Memory`, if one of them ran out of memory: the next time it might be accepted.
     pub(crate) fn begin<L: Naming, R: Wait>(
         &mut self,
-        rt: &R,
-        alloc: Global,
-        desk: &Desk<L>,
+        at: &AtDesk<'_, L, R>,
         seat: &mut Seat<L>,
         statements: &[Arc<Statement>],
     ) -> Result<(), DurableFault>
@@ -211,7 +198,7 @@ impl<D: Disk + Drop, I: Read + Drop, W: Write + Drop> Keeper<D, I, W> {
         for statement in statements {
             let number = statement.number();
             let shared = Arc::try_clone(statement)?;
-            let reply = submit(rt, alloc, desk, seat, shared, TRIES);
+            let reply = submit(at.rt, at.alloc, at.desk, seat, shared, TRIES);
             if matches!(&reply, Err(SubmitFault::Memory) | Err(SubmitFault::Stopped)) {
                 return Err(DurableFault::Memory);
             }
@@ -225,9 +212,7 @@ impl<D: Disk + Drop, I: Read + Drop, W: Write + Drop> Keeper<D, I, W> {
     /// Performs the statements of these records again.
     pub(crate) fn replay_all<L: Naming, R: Wait>(
         &mut self,
-        rt: &R,
-        alloc: Global,
-        desk: &Desk<L>,
+        at: &AtDesk<'_, L, R>,
         seat: &mut Seat<L>,
         records: LinesIter<'_>,
     ) -> Result<(), DurableFault>
@@ -237,7 +222,7 @@ impl<D: Disk + Drop, I: Read + Drop, W: Write + Drop> Keeper<D, I, W> {
         let mut place: u64 = 1;
         for record in records {
             place = place.saturating_add(1);
-            self.replay(rt, alloc, desk, seat, record, place)?;
+            self.replay(at, seat, record, place)?;
         }
         Ok(())
     }
@@ -247,9 +232,7 @@ impl<D: Disk + Drop, I: Read + Drop, W: Write + Drop> Keeper<D, I, W> {
     /// Refused: `Record` if the line isn't a record; `Outcome` if the statement isn't accepted with the same reply.
     fn replay<L: Naming, R: Wait>(
         &mut self,
-        rt: &R,
-        alloc: Global,
-        desk: &Desk<L>,
+        at: &AtDesk<'_, L, R>,
         seat: &mut Seat<L>,
         stored: &[u8],
         place: u64,
@@ -257,17 +240,17 @@ impl<D: Disk + Drop, I: Read + Drop, W: Write + Drop> Keeper<D, I, W> {
         ensures again { OnOk result (seat.new.accepted ≡ seat.old.accepted + 1) }
         ensures same { self.new.store ≡ self.old.store }
     {
-        let Some(record) = record_in(alloc, stored)? else {
+        let Some(record) = record_in(at.alloc, stored)? else {
             return Err(DurableFault::Record(place));
         };
         let line = record.line.as_bytes();
-        let read = line_in(alloc, &self.rules, self.mode, record.number, line)?;
+        let read = line_in(at.alloc, &self.rules, self.mode, record.number, line)?;
         let before = seat.accepted();
-        let Shown { reply, .. } = reply_here(rt, alloc, desk, seat, &self.past, read, TRIES)?;
+        let Shown { reply, .. } = reply_here(at, seat, &self.past, read, TRIES)?;
         if seat.accepted() == before {
             return Err(DurableFault::Outcome(place));
         }
-        let again = record_line(alloc, &record.line, reply)?;
+        let again = record_line(at.alloc, &record.line, reply)?;
         if again.as_slice() != stored {
             return Err(DurableFault::Outcome(place));
         }

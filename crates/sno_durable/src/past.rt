@@ -22,7 +22,7 @@ pub(crate) struct Past {
     pub(crate) versions: Value,
 }
 
-/// A number that is so much higher.
+/// The sum of the two numbers, or the highest number if they are more than that.
 pub(crate) fn higher(by: u64, number: u64) -> u64
     ensures { result ≡ higher by number }
 {
@@ -32,7 +32,7 @@ pub(crate) fn higher(by: u64, number: u64) -> u64
     }
 }
 
-/// A number that is so much lower; if there is none, the highest one, which no text has as its version.
+/// The number less `by`; if that is below 0, the highest number, which no text has as its version.
 pub(crate) fn lower(by: u64, number: u64) -> u64
     ensures { result ≡ lower by number }
 {
@@ -58,7 +58,7 @@ pub(crate) fn with_further(
     }
 }
 
-/// An object whose member of this name, if it is a whole number, is so much higher.
+/// An object whose member of this name, if it is a whole number, is higher by `by`.
 fn raised(alloc: Global, object: Value, key: &str, by: u64) -> Result<Value, AllocError>
     ensures { IfOk result (λ v. view v ≡ raised key.now by (view object)) }
 {
@@ -170,8 +170,8 @@ impl Past {
         Ok(shown)
     }
 
-    /// A reply about a text that had this version, as a client is shown it: indices and versions go on from what came before. So also a
-    /// listing, and what is about no text.
+    /// A reply about a text that had this version, as a client is shown it: indices and versions go on from what came before. A
+    /// reply that isn't about one text, and a listing, are shown in that way with the version 0.
     pub(crate) fn shown(
         &self,
         alloc: Global,

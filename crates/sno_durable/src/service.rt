@@ -1,9 +1,10 @@
 //! A service over a store, from its start to its end.
-ghost use Rattle.std.specs.Prelude.{◌≡◌, ◌≤◌, [], true, IfOk};
+ghost use Rattle.std.specs.Prelude.{◌≡◌, ◌≤◌, [], true, IfErr, IfOk};
 ghost use Rattle.sno_book.specs.Books.{view_of};
 ghost use Rattle.sno_book.specs.Views.{IsValid};
 ghost use Rattle.sno_statement.specs.Statement.{IsLimit};
 ghost use Rattle.sno_document.specs.Reads.{IsReady};
+ghost use Rattle.sno_durable.specs.declared.faults.DurableFault.TheVariants.{Memory};
 
 use crate::DurableFault;
 use crate::keeper::Keeper;
@@ -13,7 +14,7 @@ use sno_book::Book;
 use sno_desk::{Blank, Desk, Naming, Seat, SubmitFault, close};
 use sno_document::{Document, DocumentFault, Mode, read_document};
 use sno_listing::Refusal;
-use sno_serve::Intake;
+use sno_serve::{AtDesk, Intake};
 use sno_statement::{MAX_TRIALS, Statement, USUAL_TRIALS};
 use sno_store::{Lines, Store};
 use sqlite_disk::Disk;
@@ -43,10 +44,15 @@ pub struct Client<I: Read, W: Write> {
 }
 
 impl<I: Read + Drop, W: Write + Drop> Client<I, W> {
-    /// The client whose lines come from this reader, and who is written the replies. Refused only if memory runs out.
-    pub fn new(alloc: Global, reader: I, writer: W) -> Result<Client<I, W>, DurableFault> {
-        let intake = Intake::new(alloc, reader)?;
-        Ok(Client { intake, writer })
+    /// The client whose lines come from this reader, and whose replies go to this writer. Refused only if memory runs out.
+    pub fn new(alloc: Global, reader: I, writer: W) -> Result<Client<I, W>, DurableFault>
+        ensures writer { IfOk result (λ c. c.writer ≡ writer) }
+        ensures memory { IfErr result (λ e. e ≡ Memory) }
+    {
+        match Intake::new(alloc, reader) {
+            Ok(intake) => Ok(Client { intake, writer }),
+            Err(_) => Err(DurableFault::Memory),
+        }
     }
 }
 
@@ -150,25 +156,30 @@ fn begin_store<D: Disk>(
     Ok(())
 }
 
+/// What is performed before the first line: the document's statements, and those of the records among the store's lines.
+#[derive(Drop)]
+struct Earlier<'a> {
+    statements: &'a [Arc<Statement>],
+    lines: Lines,
+}
+
 /// Works at the only seat: performs the statements of the document and of the records, then replies to lines until there are
 /// no more.
 fn at_seat<L: Naming, D: Disk + Drop, I: Read + Drop, W: Write + Drop, R: Wait>(
-    rt: &R,
-    alloc: Global,
-    desk: &Desk<L>,
+    at: &AtDesk<'_, L, R>,
     seat: &mut Seat<L>,
     keeper: &mut Keeper<D, I, W>,
-    statements: &[Arc<Statement>],
-    lines: Lines,
+    earlier: Earlier<'_>,
 ) -> Result<Ended, DurableFault> {
-    keeper.begin(rt, alloc, desk, seat, statements)?;
+    let Earlier { statements, lines } = earlier;
+    keeper.begin(at, seat, statements)?;
     let first = seat.accepted();
     let mut records = lines.iter();
     let _origin = records.next();
-    keeper.replay_all(rt, alloc, desk, seat, records)?;
+    keeper.replay_all(at, seat, records)?;
     // The lines may take much memory, and a service may go on for long.
     drop(lines);
-    let more = keeper.serve(rt, alloc, desk, seat)?;
+    let more = keeper.serve(at, seat)?;
     Ok(Ended { first, more })
 }
 
@@ -179,8 +190,7 @@ fn at_named_desk<L: Naming, D: Disk + Drop, I: Read + Drop, W: Write + Drop, R: 
     blank: Blank,
     book: Book,
     keeper: &mut Keeper<D, I, W>,
-    statements: &[Arc<Statement>],
-    lines: Lines,
+    earlier: Earlier<'_>,
 ) -> Result<(Book, Result<Ended, DurableFault>), DurableFault>
     requires name { (blank.ledger.name ≡ L.name) × (blank.ledger.parts ≡ L.parts) }
     requires histories { (blank.history ≡ record { history = L.book; entries = [] }) × (blank.attempts.history ≡ L.tries) }
@@ -194,8 +204,13 @@ fn at_named_desk<L: Naming, D: Disk + Drop, I: Read + Drop, W: Write + Drop, R: 
         Ok(made) => made,
         Err(_) => return Err(DurableFault::Desk),
     };
+    let at = AtDesk {
+        rt,
+        alloc,
+        desk: &desk,
+    };
     let ended = match seats.first_mut() {
-        Some(seat) => at_seat(rt, alloc, &desk, seat, keeper, statements, lines),
+        Some(seat) => at_seat(&at, seat, keeper, earlier),
         None => Err(DurableFault::Desk),
     };
     match close(rt, desk, seats) {
@@ -213,7 +228,7 @@ fn beginning(alloc: Global, origin: &Origin, statements: u32) -> Result<(Past, u
 
 /// Serves the document of a store: performs its statements and those of its records again, then replies to each line of the
 /// client, until there are no more, or the desk has as many entries as are given as the most. A line is that of
-/// [`sno_serve::line_in`], and its reply that of [`sno_serve::answer`]; if the store goes on from others, their indices and
+/// [`sno_serve::line_in`], and its reply that of [`sno_serve::reply_to`]; if the store goes on from others, their indices and
 /// versions go on, too. `lines` are those that the store had when it was opened. If it had none, the store is made of the document
 /// that is given.
 ///
@@ -283,14 +298,17 @@ pub fn serve_durably<D: Disk + Drop, I: Read + Drop, W: Write + Drop, R: Wait>(
         refused: Vec::new(alloc),
     };
     let blank = Blank::new(1);
+    let earlier = Earlier {
+        statements: &statements,
+        lines,
+    };
     let (book, ended) = at_named_desk::<Brand, D, I, W, R>(
         rt,
         alloc,
         blank,
         book,
         &mut keeper,
-        &statements,
-        lines,
+        earlier,
     )?;
     Ok(left_by(keeper, origin, book, ended))
 }

@@ -8,10 +8,10 @@ ghost use Rattle.sno_durable.specs.Sought.{IsRepliedOn, asked_here, gone_reply, 
 
 use crate::past::{Past, lower, with_further};
 use serde_json::{Map, Value, put};
-use sno_desk::{Desk, Naming, Seat};
+use sno_desk::{Naming, Seat};
 use sno_listing::{Refusal, text_name_value};
 use sno_pattern::TextName;
-use sno_serve::{Answered, Asked, Excerpt, Line, answer};
+use sno_serve::{Asked, AtDesk, Excerpt, Line, Replied, reply_to};
 use std::alloc::{AllocError, Global};
 use std::sync::Wait;
 
@@ -85,21 +85,20 @@ fn gone_reply(alloc: Global, id: Option<Value>, entries: u64) -> Result<Value, A
     }
 }
 
-/// Does what a line asks for at a seat, as [`sno_serve::answer`] does, with numbers that go on from what came before: indices of
+/// Does what a line asks for at a seat, as [`sno_serve::reply_to`] does, with numbers that go on from what came before: indices of
 /// entries and versions of texts. `tries` is from 1 to 1,000.
 pub(crate) fn reply_here<L: Naming, R: Wait>(
-    rt: &R,
-    alloc: Global,
-    desk: &Desk<L>,
+    at: &AtDesk<'_, L, R>,
     seat: &mut Seat<L>,
     past: &Past,
     line: Line,
     tries: u32,
 ) -> Result<Shown, AllocError>
     requires { (1 ≤ tries) × (tries ≤ MAX_TRIES) }
-    ensures replied { IfOk result (λ a. IsRepliedOn past.now.entries (view past.now.versions) tries L.opening seat.old.viewer.seen seat.new.viewer.seen (option_map view line.id) line.asked (view a.reply) a.refused) }
+    ensures replied { IfOk result (λ a. IsRepliedOn past.now.entries (view past.now.versions) tries L.opening seat.old.seen seat.new.seen (option_map view line.id) line.asked (view a.reply) a.refused) }
     ensures counted { IfOk result (λ a. (seat.new.accepted ≡ seat.old.accepted) ⊎ (seat.new.accepted ≡ seat.old.accepted + 1)) }
 {
+    let AtDesk { rt, alloc, desk } = *at;
     let Line { id, asked, ignored } = line;
     let version = version_asked(alloc, past, &asked)?;
     let Some(asked) = asked_here(past.entries, version, asked) else {
@@ -110,7 +109,7 @@ pub(crate) fn reply_here<L: Naming, R: Wait>(
         });
     };
     let here = Line { id, asked, ignored };
-    let Answered { reply, refused } = answer(rt, alloc, desk, seat, here, tries)?;
+    let Replied { reply, refused } = reply_to(rt, alloc, desk, seat, here, tries)?;
     let reply = past.shown(alloc, reply, version)?;
     Ok(Shown { reply, refused })
 }

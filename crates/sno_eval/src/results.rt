@@ -10,6 +10,13 @@ use crate::leaves::leaf;
 use sno_pattern::{Event, Pattern, Rules, Text};
 use std::alloc::{AllocError, Global};
 
+// The rounds of `ARBNO` that are left: its part, and how many there are at most.
+#[derive(Clone, Copy)]
+struct Rounds<'p> {
+    part: &'p Pattern,
+    count: usize,
+}
+
 // What the pattern does from a cursor, at most `depth` references deep.
 #[cycle(results)]
 #[tactic(auto, unfolding(sno_pattern::specs::Results::results_of))]
@@ -39,7 +46,11 @@ pub fn results(
         }
         Pattern::Arbno(part) => {
             let left = text.bytes().len() - c;
-            repeat(alloc, text, rules, depth, part, left + 1, c)
+            let all = Rounds {
+                part,
+                count: left + 1,
+            };
+            repeat(alloc, text, rules, depth, all, c)
         }
         Pattern::Cond(part, name) => {
             let events = results(alloc, text, rules, depth, part, c)?;
@@ -109,7 +120,7 @@ fn follow(
     Ok(all)
 }
 
-// What at most `count` rounds of the pattern do. First comes no round; then each round that took a character, with all that
+// What these rounds do. First comes no round; then each round that took a character, with all that
 // follows it before the next alternative of the round.
 #[cycle(results)]
 fn repeat(
@@ -117,26 +128,29 @@ fn repeat(
     text: &Text,
     rules: &Rules,
     depth: u128,
-    part: &Pattern,
-    count: usize,
+    left: Rounds<'_>,
     c: usize,
 ) -> Result<Vec<Event>, AllocError>
     requires { c ≤ length text.now }
-    ensures { IfOk result (λ v. v.items ≡ rounds (results text.now rules.now.bodies depth (tree_of part.now)) count c) }
+    ensures { IfOk result (λ v. v.items ≡ rounds (results text.now rules.now.bodies depth (tree_of left.entry.part.now)) left.entry.count c) }
 {
     let mut all = Vec::new(alloc);
-    if count == 0 {
+    if left.count == 0 {
         return Ok(all);
     }
     push_end(alloc, &mut all, c)?;
-    let once = results(alloc, text, rules, depth, part, c)?;
+    let once = results(alloc, text, rules, depth, left.part, c)?;
     for event in once.as_slice() {
         match event {
             Event::Try => all.push(Event::Try)?,
             Event::Set(assign) => all.push(Event::Set(*assign))?,
             Event::End(end, conds) => {
                 if c < *end {
-                    let later = repeat(alloc, text, rules, depth, part, count - 1, *end)?;
+                    let rest = Rounds {
+                        part: left.part,
+                        count: left.count - 1,
+                    };
+                    let later = repeat(alloc, text, rules, depth, rest, *end)?;
                     if add_after(alloc, conds, &later, &mut all)? {
                         return Ok(all);
                     }

@@ -1,5 +1,5 @@
 -- Files of the system: nothing is claimed of what they hold, so each list of results will do.
-use Rattle.std.proofs.Common.{arith, ◌≡◌, ℕ, List, [], ◌∷◌, length, Result, Ok, Err, refl}
+use Rattle.std.proofs.Common.{arith, ◌≡◌, List, [], ◌∷◌, length, Ok, Err}
 use Rattle.sno_edit.specs.Batches.{AreReplaced, Written}
 use Rattle.sno_edit.specs.declared.folders.NewText.{NewText}
 

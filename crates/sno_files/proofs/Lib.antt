@@ -1,1 +1,3 @@
 pub mod FolderLemmas
+mod ListLemmas
+pub mod EndLemmas

@@ -1,3 +1,5 @@
 pub mod Limits
 pub mod InThreads
 pub mod Editing
+pub mod Lists
+pub mod Texts

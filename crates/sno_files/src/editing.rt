@@ -1,7 +1,9 @@
 //! Files, edited by rules.
+ghost use Rattle.std.specs.Prelude.{◌<◌, ◌≤◌, length, map, IfOk};
 ghost use Rattle.sno_edit.specs.Files.{IsFileEnd};
 ghost use Rattle.sno_edit.specs.Rules.{rules_seen};
-ghost use Rattle.sno_files.specs.Editing.{IsEditedFile, any_bytes};
+ghost use Rattle.sno_files.specs.Editing.{AreFirstEnds, IsEditedFile, any_bytes};
+ghost use Rattle.sno_files.specs.declared.editing.TheConstants.{HELD};
 
 use crate::held::HeldFiles;
 use crate::new_files::Writing;
@@ -107,23 +109,27 @@ pub fn edit_one<R: Files<File = File>>(
     }
 }
 
-/// Edits the first of these files together, and returns what became of each.
+/// Edits the first of these files together, up to 64 of them, and returns what became of each.
 fn edit_held<R: Files<File = File>>(
     rt: &R,
     alloc: Global,
     rules: &EditRules,
     writing: Writing<'_>,
     paths: &[&str],
-) -> Result<Vec<Result<Done, FileFault>>, AllocError> {
+) -> Result<Vec<Result<Done, FileFault>>, AllocError>
+    ensures ends { IfOk result (λ ends. AreFirstEnds (rules_seen rules.now) (map (λ p. p.now) paths.now) ends.items) }
+    ensures most { IfOk result (λ ends. length ends.items ≤ HELD) }
+    ensures some { IfOk result (λ ends. 0 < length paths.now → 0 < length ends.items) }
+{
     let mut held = HeldFiles::of(rt, alloc, writing, paths, HELD)?;
-    let (files, _) = paths.split_at(held.len().min(paths.len()));
+    let (files, _) = paths.split_at(held.len());
     let ends = edit_files(alloc, &mut held, rules, files);
     ends
 }
 
-/// Edits the first of these files by the rules, up to 64 of them, and returns what became of each. They are held together while they
-/// are edited, so that one wait for the disk may serve several. A file that another program changes meanwhile is edited anew, and
-/// one for which there was no room once more, after the others.
+/// Edits the first of these files by the rules, up to 64 of them, and returns what became of each, in their order. Of the first file
+/// there is always a report. They are held together while they are edited, so that one wait for the disk may serve several. A
+/// file that another program changes meanwhile is edited anew, and one for which there was no room once more, after the others.
 ///
 /// Of one file the refusals are those of [`edit_one`]. Refused only if out of memory. Then files may have been edited.
 pub fn edit_some<R: Files<File = File>>(
@@ -132,11 +138,15 @@ pub fn edit_some<R: Files<File = File>>(
     rules: &EditRules,
     writing: Writing<'_>,
     paths: &[&str],
-) -> Result<Vec<Result<Done, FileFault>>, AllocError> {
+) -> Result<Vec<Result<Done, FileFault>>, AllocError>
+    ensures ends { IfOk result (λ ends. AreFirstEnds (rules_seen rules.now) (map (λ p. p.now) paths.now) ends.items) }
+    ensures most { IfOk result (λ ends. length ends.items ≤ HELD) }
+    ensures some { IfOk result (λ ends. 0 < length paths.now → 0 < length ends.items) }
+{
     let mut ends = edit_held(rt, alloc, rules, writing, paths)?;
-    for (path, end) in paths.iter().zip(ends.iter_mut()) {
-        if is_left(end) {
-            *end = edit_one(rt, alloc, rules, writing, path);
+    for place in 0..ends.len() {
+        if is_left(&ends[place]) {
+            ends[place] = edit_one(rt, alloc, rules, writing, paths[place]);
         }
     }
     Ok(ends)

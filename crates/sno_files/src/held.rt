@@ -1,9 +1,9 @@
 //! Files that are held while they are edited.
-ghost use Rattle.std.specs.Prelude.{◌≡◌, ◌≤◌, ◌<◌, ◌+◌, length, vec_len, vec_capacity, OnOk};
+ghost use Rattle.std.specs.Prelude.{◌≡◌, ◌≤◌, ◌<◌, ◌+◌, length, vec_len, vec_capacity, is_some, true, IfOk, OnOk};
 
 use crate::new_files::{Writing, put_in_place, stage, write_fault};
 use crate::overtaken::OVERTAKEN;
-use crate::reading::{bytes_of, open_regular};
+use crate::reading::{bytes_of, not_too_long, open_regular, read_fault};
 use crate::synced::{replace_synced, replace_together};
 use sno_edit::{Folder, NewText, ReadFault, WriteFault};
 use std::alloc::{AllocError, Global};
@@ -63,7 +63,9 @@ fn target_of<R: Files>(rt: &R, alloc: Global, path: &str) -> io::Result<String> 
 
 /// Locks a file, and returns whether another run does not hold it. If `waits`, that is waited for. A file system without locks
 /// has no other run hold it.
-fn lock(file: &File, waits: bool) -> bool {
+fn lock(file: &File, waits: bool) -> bool
+    ensures { waits ≡ true → result ≡ true }
+{
     if waits {
         let _without_locks = file.lock();
         return true;
@@ -77,7 +79,9 @@ fn hold_once<'p, R: Files<File = File>>(
     alloc: Global,
     path: &'p str,
     waits: bool,
-) -> io::Result<Option<HeldFile<'p>>> {
+) -> io::Result<Option<HeldFile<'p>>>
+    ensures { IfOk result (λ held. waits ≡ true → is_some held ≡ true) }
+{
     let file = open_regular(rt, path)?;
     if !lock(&file, waits) {
         return Ok(None);
@@ -99,7 +103,9 @@ fn hold<'p, R: Files<File = File>>(
     alloc: Global,
     path: &'p str,
     waits: bool,
-) -> io::Result<Option<HeldFile<'p>>> {
+) -> io::Result<Option<HeldFile<'p>>>
+    ensures { IfOk result (λ held. waits ≡ true → is_some held ≡ true) }
+{
     for _ in 0..OPENINGS {
         match hold_once(rt, alloc, path, waits)? {
             None => return Ok(None),
@@ -123,7 +129,9 @@ fn held_at<'p, R: Files<File = File>>(
     alloc: Global,
     path: &'p str,
     waits: bool,
-) -> Option<Slot<'p>> {
+) -> Option<Slot<'p>>
+    ensures { waits ≡ true → is_some result ≡ true }
+{
     match hold(rt, alloc, path, waits) {
         Ok(Some(file)) => Some(Slot {
             path,
@@ -154,10 +162,13 @@ impl<'a, R: Files<File = File>> HeldFiles<'a, R> {
         writing: Writing<'a>,
         paths: &[&'a str],
         most: usize,
-    ) -> Result<HeldFiles<'a, R>, AllocError> {
+    ) -> Result<HeldFiles<'a, R>, AllocError>
+        ensures few { IfOk result (λ held. (length held.slots.items ≤ length paths.now) × (length held.slots.items ≤ most)) }
+        ensures some { IfOk result (λ held. 0 < most → 0 < length paths.now → 0 < length held.slots.items) }
+    {
         let mut slots = Vec::new(alloc);
-        for path in paths.iter().take(most) {
-            let Some(held) = held_at(rt, alloc, path, slots.is_empty()) else {
+        for place in 0..most.min(paths.len()) {
+            let Some(held) = held_at(rt, alloc, paths[place], place == 0) else {
                 break;
             };
             slots.push(held)?;
@@ -166,7 +177,9 @@ impl<'a, R: Files<File = File>> HeldFiles<'a, R> {
     }
 
     /// How many paths there are.
-    pub(crate) fn len(&self) -> usize {
+    pub(crate) fn len(&self) -> usize
+        ensures { result ≡ length self.now.slots.items }
+    {
         self.slots.len()
     }
 
@@ -181,7 +194,7 @@ impl<'a, R: Files<File = File>> HeldFiles<'a, R> {
     /// The bytes of the file that is held for this path, or only the first ones if there are more than `most`: then one more.
     fn bytes(&self, alloc: Global, path: &str, most: usize) -> io::Result<Vec<u8>> {
         let held = self.file(path).map_err(io::Error::from)?;
-        bytes_of(alloc, &held.file, most)
+        bytes_of(alloc, &held.file, &held.old, most)
     }
 
     /// Puts a new file with these bytes in place of the one that is held for this path.
@@ -237,16 +250,8 @@ impl<R: Files<File = File>> Folder for HeldFiles<'_, R> {
 
     fn read(&self, alloc: Global, path: &str, most: usize) -> Result<Vec<u8>, ReadFault> {
         match self.bytes(alloc, path, most) {
-            Ok(bytes) => {
-                if bytes.len() > most {
-                    return Err(ReadFault::TooLong);
-                }
-                Ok(bytes)
-            }
-            Err(e) => match e.kind() {
-                ErrorKind::OutOfMemory => Err(ReadFault::Memory),
-                kind => Err(ReadFault::Failed(kind)),
-            },
+            Ok(bytes) => not_too_long(bytes, most),
+            Err(e) => Err(read_fault(e)),
         }
     }
 

@@ -12,10 +12,12 @@
 //! | File | What it does |
 //! |---|---|
 //! | `names` | names of files, and patterns of them as `*.c` |
-//! | `trees` | `Paths`: the files that are named, and those in folders |
+//! | `trees` | `Listed`: the files that are named, and those in folders |
+//! | `texts` | which files are text |
+//! | `paths` | `Paths`: the files that are named, and the texts in folders |
 //! | `repeats` | paths that lead to a file that another path leads to |
 //! | `lists` | lists of paths |
-//! | `reading` | `ReadOnly`: files that are only read |
+//! | `reading` | `ReadOnly`, `text_bytes`: files that are only read |
 //! | `one_text` | `OneText`: a text that is in no file |
 //! | `relative` | paths of files from the current folder |
 //! | `held` | `HeldFiles`: files that are held while they are edited |
@@ -35,11 +37,13 @@ mod names;
 mod new_files;
 mod one_text;
 mod overtaken;
+mod paths;
 mod reading;
 mod reasons;
 mod relative;
 mod repeats;
 mod synced;
+mod texts;
 mod trees;
 
 pub use editing::{EditedFile, edit_one, edit_some, edit_with_text};
@@ -48,7 +52,9 @@ pub use lists::{ListFault, paths_in};
 pub use new_files::Writing;
 pub use one_text::OneText;
 pub use overtaken::lacks_room;
-pub use reading::ReadOnly;
+pub use paths::Paths;
+pub use reading::{ReadOnly, text_bytes};
 pub use reasons::Reason;
 pub use relative::path_from_here;
-pub use trees::Paths;
+pub use texts::is_text;
+pub use trees::{Listed, Part};

@@ -3,38 +3,38 @@ ghost use Rattle.std.specs.Prelude.{◌<◌};
 
 use crate::in_threads::{Place, places_of, side_by_side};
 use crate::names::is_named;
-use crate::repeats::without_repeats;
+use crate::paths::{Paths, lent};
 use std::alloc::{AllocError, Global};
 use std::fs::{File, Metadata};
-use std::io::{ErrorKind, Read, Write};
+use std::io::{ErrorKind, Write};
 use std::rt::Files;
 use std::thread::Threads;
 use std::{fs, io};
 
-/// How many bytes of a file are looked at to know whether it is text.
-const LOOKED_AT: usize = 8_192;
-
-/// The files that are named, and those in the folders that are named.
+/// Files that were named one after the other, or the files of one folder.
 #[derive(Drop)]
-pub struct Paths {
-    /// Their paths: those of a folder in order, where the folder was named.
+pub struct Part {
+    /// Their paths: those of a folder in order.
     pub files: Vec<String>,
-    /// How many files of folders were left out since they are no text.
-    pub not_text: usize,
-    /// The folders that could not be read, with the reason.
-    pub unread: Vec<(String, ErrorKind)>,
+    /// Whether they are of a folder. Then those among them that are not text are to be left out.
+    pub in_folder: bool,
 }
 
-/// Whether a file has no NUL in its first bytes. One that can't be read counts as text: what is wrong with it is found later.
-fn is_text<R: Files>(rt: &R, path: &str) -> bool {
-    let mut piece = [0; LOOKED_AT];
-    let Ok(mut file) = fs::open(rt, path) else {
-        return true;
-    };
-    match file.read(&mut piece) {
-        Ok(count) => !piece[..count].iter().any(|byte| *byte == 0),
-        Err(_) => true,
+impl Part {
+    /// The paths of the files, in order. Refused only if memory runs out.
+    pub fn lent(&self, alloc: Global) -> Result<Vec<&str>, AllocError> {
+        let paths = lent(alloc, &self.files)?;
+        Ok(paths)
     }
+}
+
+/// The files that are named, and those in the folders that are named. Nothing was read of them.
+#[derive(Drop)]
+pub struct Listed {
+    /// The files, in the order in which they and their folders were named.
+    pub parts: Vec<Part>,
+    /// The folders that could not be read, with the reason.
+    pub unread: Vec<(String, ErrorKind)>,
 }
 
 /// What is in a folder: the paths of its folders, and those of its files with a wanted name. Names that begin with a dot are left
@@ -65,20 +65,6 @@ fn is_file<R: Files>(rt: &R, path: &str, metadata: &Metadata) -> bool {
     }
 }
 
-/// Looks at each of these files in threads, and says at its place whether it is text.
-fn look_at<'f, R: Files<File = File, Dir: Send> + Threads + Sync>(
-    rt: &R,
-    alloc: Global,
-    threads: usize,
-    files: &'f [String],
-) -> Result<Vec<Place<'f, bool>>, AllocError>
-    requires { 0 < threads }
-{
-    let mut places = places_of(alloc, files)?;
-    side_by_side(rt, threads, &mut places, &|path: &str| is_text(rt, path));
-    Ok(places)
-}
-
 fn list_folder<R: Files + AllocGlobal + Clone + Drop>(
     rt: &R,
     alloc: Global,
@@ -106,7 +92,104 @@ fn list_folder<R: Files + AllocGlobal + Clone + Drop>(
     Ok(found)
 }
 
-impl Paths {
+/// Adds what is in a folder. Returns why it can't be read, if it can't.
+fn put_inside<R: Files + AllocGlobal + Clone + Drop>(
+    rt: &R,
+    alloc: Global,
+    folder: &str,
+    names: &[&str],
+    found: &mut Inside,
+) -> Result<Option<ErrorKind>, AllocError> {
+    match list_folder(rt, alloc, folder, names) {
+        Ok(mut inside) => {
+            found.folders.append(&mut inside.folders)?;
+            found.files.append(&mut inside.files)?;
+            Ok(None)
+        }
+        Err(e) => match e.kind() {
+            ErrorKind::OutOfMemory => Err(AllocError),
+            kind => Ok(Some(kind)),
+        },
+    }
+}
+
+/// How many folders are listed before others are in threads, so that there is work for each.
+const AHEAD: usize = 16;
+
+/// What was found below a folder: the files, in no order, and the folders that could not be read.
+#[derive(Drop)]
+struct Below {
+    files: Vec<String>,
+    unread: Vec<(String, ErrorKind)>,
+}
+
+/// Lists at most this many of the folders in `inside`, and of those in them. What was found is added to it.
+fn list_some<R: Files + AllocGlobal + Clone + Drop>(
+    rt: &R,
+    alloc: Global,
+    names: &[&str],
+    most: u64,
+    inside: &mut Inside,
+    unread: &mut Vec<(String, ErrorKind)>,
+) -> Result<(), AllocError> {
+    for _ in 0..most {
+        let Some(folder) = inside.folders.pop() else {
+            break;
+        };
+        if let Some(kind) = put_inside(rt, alloc, folder.as_str(), names, inside)? {
+            unread.push((folder, kind))?;
+        }
+    }
+    Ok(())
+}
+
+/// What is in this folder and no other yet.
+fn only_folder(alloc: Global, folder: &str) -> Result<Inside, AllocError> {
+    let mut folders = Vec::new(alloc);
+    folders.push(String::from_str(alloc, folder)?)?;
+    Ok(Inside {
+        folders,
+        files: Vec::new(alloc),
+    })
+}
+
+/// Lists a folder and all that are in it, at any depth.
+fn list_below<R: Files + AllocGlobal + Clone + Drop>(
+    rt: &R,
+    alloc: Global,
+    folder: &str,
+    names: &[&str],
+) -> Result<Below, AllocError> {
+    let mut inside = only_folder(alloc, folder)?;
+    let mut unread = Vec::new(alloc);
+    list_some(rt, alloc, names, u64::MAX, &mut inside, &mut unread)?;
+    Ok(Below {
+        files: inside.files,
+        unread,
+    })
+}
+
+/// Lists each of these folders and all that are in it, in at most `threads` threads.
+fn list_each<'f, R: Files<File = File, Dir: Send> + AllocGlobal + Clone + Drop + Threads + Sync>(
+    rt: &R,
+    alloc: Global,
+    names: &[&str],
+    threads: usize,
+    folders: &'f [String],
+) -> Result<Vec<Place<'f, Result<Below, AllocError>>>, AllocError>
+    requires { 0 < threads }
+{
+    let mut places = places_of(alloc, folders)?;
+    side_by_side(
+        rt,
+        threads,
+        &mut places,
+        &|path: &str| list_below(rt, alloc, path, names),
+    );
+    Ok(places)
+}
+
+impl Listed {
     /// Writes a line for each folder that could not be read. If a line can't be written, the others are.
     pub fn report_unread<E: Write>(&self, errors: &mut E) {
         for (folder, kind) in &self.unread {
@@ -114,123 +197,121 @@ impl Paths {
         }
     }
 
-    /// The paths of the files, in order. Refused only if memory runs out.
-    pub fn lent(&self, alloc: Global) -> Result<Vec<&str>, AllocError> {
-        let mut paths = Vec::with_capacity(alloc, self.files.len())?;
-        for file in &self.files {
-            paths.push(file.as_str())?;
-        }
-        Ok(paths)
+    /// How many files there are.
+    pub fn count(&self) -> usize {
+        self.parts.iter().fold(
+            0_usize,
+            |count, part| count.saturating_add(part.files.len()),
+        )
     }
 
-    /// Adds this file of a folder if it is text.
-    fn put_file(&mut self, alloc: Global, path: &str, is_text: bool) -> Result<(), AllocError> {
-        if is_text {
-            let file = String::from_str(alloc, path)?;
-            self.files.push(file)?;
-        } else {
-            self.not_text = self.not_text.saturating_add(1);
+    /// Adds a file that was named.
+    fn put_named(&mut self, alloc: Global, path: &str) -> Result<(), AllocError> {
+        let path = String::from_str(alloc, path)?;
+        if self.parts.last().is_none_or(|part| part.in_folder) {
+            self.parts.push(Part {
+                files: Vec::new(alloc),
+                in_folder: false,
+            })?;
         }
-        Ok(())
-    }
-
-    /// Adds the files of a folder that are text.
-    fn put_files<R: Files<File = File, Dir: Send> + Threads + Sync>(
-        &mut self,
-        rt: &R,
-        alloc: Global,
-        threads: usize,
-        files: &[String],
-    ) -> Result<(), AllocError>
-        requires { 0 < threads }
-    {
-        let looked_at = look_at(rt, alloc, threads, files)?;
-        for place in &looked_at {
-            self.put_file(alloc, place.path, place.result.unwrap_or(true))?;
+        if let Some(part) = self.parts.last_mut() {
+            part.files.push(path)?;
         }
         Ok(())
     }
 
-    /// Adds the files in a folder, at any depth, in the order of their paths.
-    fn put_folder<R: Files<File = File, Dir: Send> + Threads + AllocGlobal + Clone + Drop + Sync>(
+    /// Adds what was found below folders: the files to `files`.
+    fn put_each(
+        &mut self,
+        places: Vec<Place<'_, Result<Below, AllocError>>>,
+        files: &mut Vec<String>,
+    ) -> Result<(), AllocError> {
+        for place in places {
+            let Some(below) = place.result else {
+                return Err(AllocError);
+            };
+            let mut below = below?;
+            files.append(&mut below.files)?;
+            self.unread.append(&mut below.unread)?;
+        }
+        Ok(())
+    }
+
+    /// Adds the files in a folder, at any depth, in the order of their paths. Its folders are listed in at most `threads` threads.
+    fn put_folder<R: Files<File = File, Dir: Send> + AllocGlobal + Clone + Drop + Threads + Sync>(
         &mut self,
         rt: &R,
         alloc: Global,
-        threads: usize,
         folder: &str,
         names: &[&str],
+        threads: usize,
     ) -> Result<(), AllocError>
         requires { 0 < threads }
     {
-        let mut folders = Vec::new(alloc);
-        let mut files = Vec::new(alloc);
-        folders.push(String::from_str(alloc, folder)?)?;
-        for _ in 0..u64::MAX {
-            let Some(folder) = folders.pop() else {
-                break;
-            };
-            match list_folder(rt, alloc, folder.as_str(), names) {
-                Ok(mut found) => {
-                    folders.append(&mut found.folders)?;
-                    files.append(&mut found.files)?;
-                }
-                Err(e) if e.kind() == ErrorKind::OutOfMemory => return Err(AllocError),
-                Err(e) => self.unread.push((folder, e.kind()))?,
-            }
-        }
+        let mut inside = only_folder(alloc, folder)?;
+        list_some(
+            rt,
+            alloc,
+            names,
+            AHEAD as u64,
+            &mut inside,
+            &mut self.unread,
+        )?;
+        let mut files = inside.files;
+        let places = list_each(rt, alloc, names, threads, &inside.folders)?;
+        self.put_each(places, &mut files)?;
         files.sort()?;
-        self.put_files(rt, alloc, threads, &files)
+        self.parts.push(Part {
+            files,
+            in_folder: true,
+        })?;
+        Ok(())
     }
 
     /// The files at these paths, and in the folders among them. Of files in folders only those count whose name is like one of
     /// `names`, if there are any; in those `*` means any characters and `?` one.
     ///
-    /// Left out of a folder are names that begin with a dot, links to folders, and files with a NUL in their first 8,192 bytes, which
-    /// are counted. A folder that can't be read is noted. A path of nothing is kept: what is wrong with it is found later.
-    ///
-    /// The files of a folder are looked at in at most `threads` threads. Refused only if memory runs out.
-    pub fn at<R: Files<File = File, Dir: Send> + Threads + AllocGlobal + Clone + Drop + Sync>(
+    /// Left out of a folder are names that begin with a dot, and links to folders. A folder that can't be read is noted. A path of
+    /// nothing is kept: what is wrong with it is found later. Folders are listed in at most `threads` threads. Refused only if memory
+    /// runs out.
+    pub fn at<R: Files<File = File, Dir: Send> + AllocGlobal + Clone + Drop + Threads + Sync>(
         rt: &R,
         alloc: Global,
-        threads: usize,
         paths: &[&str],
         names: &[&str],
-    ) -> Result<Paths, AllocError>
+        threads: usize,
+    ) -> Result<Listed, AllocError>
         requires { 0 < threads }
     {
-        let mut found = Paths {
-            files: Vec::new(alloc),
-            not_text: 0,
+        let mut listed = Listed {
+            parts: Vec::new(alloc),
             unread: Vec::new(alloc),
         };
         for path in paths {
             match rt.metadata(path) {
-                Ok(metadata) if metadata.is_dir() => {
-                    found.put_folder(rt, alloc, threads, path, names)?;
-                }
-                _ => found.files.push(String::from_str(alloc, path)?)?,
+                Ok(metadata) if metadata.is_dir() => listed.put_folder(
+                    rt, alloc, path, names, threads,
+                )?,
+                _ => listed.put_named(alloc, path)?,
             }
         }
-        Ok(found)
+        Ok(listed)
     }
 
-    /// The same files without those paths that lead to the file of an earlier one: through a symbolic link, another spelling, or a
-    /// name that is given twice. Names of one file that are hard links are kept.
-    ///
-    /// The paths are followed in at most `threads` threads. Refused only if memory runs out.
-    pub fn without_repeats<R: Files<File = File, Dir: Send> + Threads + Sync>(
-        self,
+    /// Takes the files without those of folders that are not text: those with a NUL in their first 8,192 bytes, which are counted. They
+    /// are looked at in at most `threads` threads. One that can't be read counts as text. Refused only if memory runs out.
+    pub fn take_texts<R: Files<File = File, Dir: Send> + Threads + Sync>(
+        &mut self,
         rt: &R,
         alloc: Global,
         threads: usize,
     ) -> Result<Paths, AllocError>
         requires { 0 < threads }
     {
-        let kept = without_repeats(rt, alloc, threads, &self.files)?;
-        Ok(Paths {
-            files: kept,
-            not_text: self.not_text,
-            unread: self.unread,
-        })
+        let mut paths = Paths::new(alloc);
+        for part in self.parts.iter_mut() {
+            paths.put(rt, alloc, threads, part)?;
+        }
+        Ok(paths)
     }
 }

@@ -5,6 +5,7 @@ ghost use Rattle.std.specs.List.{flat_map};
 ghost use Rattle.sno_pattern.specs.Ends.{part};
 ghost use Rattle.sno_statement.specs.Spans.{value_lent};
 ghost use Rattle.sno_find.specs.Json.{bindings_json, finding_json, head_json, hex_digit, json_byte, json_string, key, number_member, object_json, places_json, separator, text_json, value_json, variable_json, variables_json};
+ghost use Rattle.sno_find.specs.declared.json.TheConstants.{BASE};
 
 use crate::Finding;
 use crate::lines::{back, front, put_number, put_text};
@@ -12,8 +13,11 @@ use sno_pattern::{ByteText, Name};
 use sno_statement::{ByteBindings, SpanValue};
 use std::alloc::{AllocError, Global};
 
+/// The base of hexadecimal digits.
+const BASE: u8 = 16;
+
 fn hex_digit(digit: u8) -> u8
-    requires { digit < 16 }
+    requires { digit < BASE }
     ensures { result ≡ hex_digit digit }
 {
     if digit < 10 { digit + 48 } else { digit + 87 }

@@ -31,7 +31,7 @@ impl Collector {
         }
     }
 
-    /// Whether there are so many findings that no nearest names are to be sought for more.
+    /// Whether there are too many findings for nearest names to be sought for more.
     pub fn has_many(&self) -> bool {
         self.errors.len() >= MANY || self.warnings.len() >= MANY
     }

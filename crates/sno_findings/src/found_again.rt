@@ -8,7 +8,7 @@ use sno_read::{ByteObject, BytePart};
 /// How many parts of the patterns are looked at: definitions that name one another could give far more.
 const MOST_PARTS: u32 = 10_000;
 
-/// Whether the literal stands in a quoted part of the object.
+/// Whether the literal is in a quoted part of the object.
 fn has_literal(object: &ByteObject, sought: &[u8]) -> bool {
     if sought.is_empty() {
         return true;

@@ -219,7 +219,7 @@ pub fn warn_of_literals(
     warn_of_escape(findings, whose, escape)
 }
 
-/// Whether the object has what the pattern seeks; in its first part if the match is anchored, since that stands in front.
+/// Whether the object has what the pattern seeks; in its first part if the match is anchored, since that comes first.
 fn finds_itself_again(pattern: &Pattern, anchored: bool, object: &ByteObject) -> bool {
     let parts = object.parts();
     let parts = match parts.get(..1) {

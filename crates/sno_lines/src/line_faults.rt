@@ -31,26 +31,36 @@ pub struct LineMistake<'l> {
     pub advice: String,
 }
 
+/// A line with its number among the definitions or among the rules, from 1.
+#[derive(Clone, Copy)]
+struct NumberedLine<'l> {
+    /// Whether it is a rule.
+    is_rule: bool,
+    /// Its number.
+    number: usize,
+    /// The line as it is given.
+    given: &'l GivenLine<'l>,
+}
+
 /// What a line is called in a fault.
 fn called(is_rule: bool) -> &'static str {
     if is_rule { "rule" } else { "definition" }
 }
 
-/// The fault of the line with this number, with the characters around its place and what is wanted there.
+/// The fault of a line, with the characters around its place and what is wanted there.
 fn pointed<'l, F: Display + Drop>(
     alloc: Global,
-    is_rule: bool,
-    number: usize,
-    line: &'l GivenLine<'l>,
+    line: NumberedLine<'l>,
     fault: F,
     place: usize,
     wanted: &str,
 ) -> Result<LineMistake<'l>, AllocError> {
-    let called = called(is_rule);
+    let called = called(line.is_rule);
+    let number = line.number;
     Ok(LineMistake {
-        source: line.source,
+        source: line.given.source,
         fault: format!(in alloc; "{called} {number}: {fault}")?,
-        excerpt: Some(around(alloc, &line.text, 0, place)?),
+        excerpt: Some(around(alloc, &line.given.text, 0, place)?),
         advice: String::from_str(alloc, wanted)?,
     })
 }
@@ -82,7 +92,12 @@ pub(crate) fn fault_of_line<'l>(
         LineFault::UnknownField(place) => (place, FIELDS),
         LineFault::NoEqualsSign => (line.text.len(), DEFINITION),
     };
-    pointed(alloc, is_rule, number, line, fault, place, wanted)
+    let line = NumberedLine {
+        is_rule,
+        number,
+        given: line,
+    };
+    pointed(alloc, line, fault, place, wanted)
 }
 
 /// How many characters come before the place of a fault of a set, and what is wanted there.
@@ -117,9 +132,14 @@ pub(crate) fn fault_of_spelling<'l>(
 ) -> Result<LineMistake<'l>, AllocError> {
     let (place, wanted) = place_and_advice(&fault);
     let place = begin.saturating_add(place);
+    let line = NumberedLine {
+        is_rule,
+        number,
+        given: line,
+    };
     match fault {
         SpellingFault::Memory => Err(AllocError),
-        _ => pointed(alloc, is_rule, number, line, fault, place, wanted),
+        _ => pointed(alloc, line, fault, place, wanted),
     }
 }
 

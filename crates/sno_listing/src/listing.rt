@@ -12,6 +12,7 @@ ghost use Rattle.sno_book.specs.Views.{state_of};
 ghost use Rattle.sno_book.specs.Books.{view_of};
 ghost use Rattle.sno_listing.specs.History.{history_of};
 ghost use Rattle.sno_listing.specs.Listing.{hex_digit, is_plain, escaped_character, escaped_text, text_line, value_words, binding_line, indented, match_lines, after_line, done_lines, entry_label, entry_subject, entry_lines, entries_from, tries_words, reason_words, refused_line, count_line, listing};
+ghost use Rattle.sno_listing.specs.declared.listing.TheConstants.{BASE};
 
 use crate::{Reason, Refusal};
 use itoa::Buffer;
@@ -34,8 +35,11 @@ fn put_number(out: &mut Vec<u8>, number: u64) -> Result<(), AllocError>
     put(out, digits.format(number).as_bytes())
 }
 
+// The base of hexadecimal digits.
+const BASE: u8 = 16;
+
 fn hex_digit(digit: u8) -> u8
-    requires { digit < 16 }
+    requires { digit < BASE }
     ensures { result ≡ hex_digit digit }
 {
     if digit < 10 {

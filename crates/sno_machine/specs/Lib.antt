@@ -1,6 +1,6 @@
 pub mod Trails
 pub mod Progress
-pub mod Told
+pub mod Noted
 pub mod Meaning
 pub mod Steps
 pub mod Leaves

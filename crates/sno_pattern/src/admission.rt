@@ -76,7 +76,7 @@ fn find_unguarded(
     pattern: &Pattern,
     found: &mut Vec<usize>,
 ) -> Result<bool, AllocError>
-    ensures answer { IfOk result (λ b. b ≡ takes_by marks.now (tree_of pattern.now)) }
+    ensures value { IfOk result (λ b. b ≡ takes_by marks.now (tree_of pattern.now)) }
     ensures found { IfOk result (λ b. found.new.items ≡ found.old.items ++ unguarded_by marks.now (tree_of pattern.now)) }
 {
     match pattern {

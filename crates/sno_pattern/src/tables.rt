@@ -4,6 +4,10 @@ ghost use Rattle.std.specs.Char.{is_ascii};
 ghost use Rattle.std.specs.List.{list_all};
 ghost use Rattle.sno_pattern.specs.Classes.{has};
 ghost use Rattle.sno_pattern.specs.Tables.{IsTableOf, is_set, table_has};
+ghost use Rattle.sno_pattern.specs.declared.tables.TheConstants.{WORD_BITS};
+
+// How many bits a word has.
+const WORD_BITS: u8 = 64;
 
 // A bit for each byte, 64 in a word. The bits of bytes above 127 are 0.
 #[derive(Clone, Copy)]
@@ -33,11 +37,11 @@ impl Table {
 
 // The bits of the 64 characters from the first on.
 fn word_of(members: &[u8], first: u8) -> u64
-    ensures { (place : ℕ) → place < 64 → is_set result place ≡ has members.now (first + place) }
+    ensures { (place : ℕ) → place < WORD_BITS → is_set result place ≡ has members.now (first + place) }
 {
     let mut word: u64 = 0;
     for member in members {
-        if first <= *member && *member - first < 64 {
+        if first <= *member && *member - first < WORD_BITS {
             let place = *member - first;
             word |= 1 << place;
         }
@@ -49,7 +53,7 @@ fn word_of(members: &[u8], first: u8) -> u64
 #[inline(always)]
 #[tactic(auto, using(std::proofs::lemmas::Nat::Bits::shr_and_one))]
 fn is_set(word: u64, place: u8) -> bool
-    requires { place < 64 }
+    requires { place < WORD_BITS }
     ensures { result ≡ is_set word place }
 {
     (word >> place) & 1 == 1

@@ -13,7 +13,7 @@ abbrev shown : List Entry → List Entry
 shown log = []
 
 abbrev moved : List Entry → List Entry → ℕ → Type 0
-moved before after answer = Unit {0}
+moved before after result = Unit {0}
 
 -- if the word is the number that was seen, the entry is added to what was seen; otherwise nothing is added, and all is
 -- seen

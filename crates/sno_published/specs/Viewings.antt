@@ -11,7 +11,7 @@ use Rattle.sno_published.specs.Tables.{text_at}
 use Rattle.sno_published.specs.declared.faults.ViewFault.{ViewFault}
 use Rattle.sno_published.specs.declared.faults.ViewFault.TheVariants.{Ended, Older, Memory}
 
--- the entries that were shown when it entered last, and those that it has seen or was told of
+-- the entries that were shown when it entered last, and those that it has seen or was shown
 pub record Viewing : Type 0 where
   pub shown : List Entry
   pub seen : List Entry
@@ -20,7 +20,7 @@ pub record Viewing : Type 0 where
 abbrev pub viewing_code : Coded Viewing
 viewing_code = code_by (List Entry × List Entry) (coded× (coded_list entry_code) (coded_list entry_code)) (λ v. (v.shown, v.seen)) (λ p. record { shown = p.0; seen = p.1 }) (λ _. refl)
 
--- `Ended` and `Older`: nothing more was seen, and `Older` comes only to a viewer that was told of more than it had
+-- `Ended` and `Older`: nothing more was seen, and `Older` comes only to a viewer that was shown more than it had
 -- found shown. `Memory`: all that is shown was seen
 abbrev pub IsCause : ViewFault → Viewing → Viewing → Type 0
 IsCause Ended before after = after.seen ≡ before.seen

@@ -7,8 +7,8 @@ pub enum ViewFault {
     /// The screen has ended.
     #[error("the screen has ended")]
     Ended,
-    /// The screen shows less than the viewer was told of. No legal run meets this.
-    #[error("the screen shows less than was told")]
+    /// The screen shows less than the viewer has seen. No legal run meets this.
+    #[error("the screen shows less than was seen")]
     Older,
     /// Out of memory.
     #[error("out of memory")]

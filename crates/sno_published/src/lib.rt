@@ -4,7 +4,7 @@
 //! A [`Screen`] shows a [`Table`] of texts. The owner of the screen publishes one entry after the other. Each entry is
 //! shown at once with all that it changes. A [`Viewer`] reads the table in any thread. It takes no lock and waits for
 //! nobody, and what it sees never goes back. The entries after which it sees the texts begin with all entries that it
-//! has seen before or was told of.
+//! has seen before or was shown.
 //!
 //! # How it is kept
 //!
@@ -31,9 +31,9 @@
 //! - **A view never goes back.** By the rule over the two copies (`src/view_rule.rt`, `specs/ViewRule.antt`), what each
 //!   reader has seen begins what is shown. On `Ok` [`Viewer::enter`] and [`Viewer::text`] (`src/viewers.rt`,
 //!   `specs/Viewings.antt`) leave a view that is what is shown, and that begins with the old one. [`Viewer::learn`]
-//!   tells a viewer what a table shows. [`Viewer::is_level`] returns whether it has seen just that, and
+//!   lets a viewer learn what a table shows. [`Viewer::is_level`] returns whether it has seen just that, and
 //!   [`Viewer::is_within`] whether all that it has seen is shown there.
-//! - **`Older` and `Memory` have their causes.** `Older` comes only to a viewer that was told of more than it had
+//! - **`Older` and `Memory` have their causes.** `Older` comes only to a viewer that was shown more than it had
 //!   found shown itself. `Memory` comes only after what is shown was seen. For `Ended` no cause is promised.
 //!
 //! # How to begin

@@ -21,7 +21,7 @@ impl Rule<Entry, u64> for CountRule {
 
     ghost keeps = { λ names log. ftrue };
 
-    ghost moves = { λ ask before after answer. Unit {0} };
+    ghost moves = { λ ask before after result. Unit {0} };
 }
 
 /// The number of a history's entries.
@@ -33,7 +33,7 @@ pub struct NoGain;
 impl Gain<Entry, u64> for NoGain {
     ghost use base.Fml.{ftrue};
 
-    ghost after = { λ names about answer. ftrue };
+    ghost after = { λ names about result. ftrue };
 }
 
 /// The step that adds an entry.

@@ -162,7 +162,7 @@ impl<L: Naming> Screen<L> {
         self.table().front().count()
     }
 
-    /// Returns a viewer of this screen, which is told what is shown.
+    /// Returns a viewer of this screen, which shows what the screen has.
     ///
     /// Refused only if each place for a reader is taken, or the opening or what is shown has as many owners as it may
     /// have.

@@ -21,7 +21,7 @@ use std::marker::Model;
 use std::sync::Arc;
 
 /// A reader of what one screen shows, which never waits. By its type what it has seen is a legal beginning of the
-/// screen's history, for which the opening has room. Contracts see the entries that it has seen or was told of.
+/// screen's history, for which the opening has room. Contracts see the entries that it has seen or was shown.
 #[derive(Drop)]
 pub struct Viewer<L: Naming> {
     opening: Arc<Opening>,
@@ -145,7 +145,7 @@ impl<L: Naming> Viewer<L> {
         Ok(share)
     }
 
-    /// How many entries the viewer has seen or was told of.
+    /// How many entries the viewer has seen or was shown.
     pub fn seen(&self) -> u64
         ensures seen { result ≡ length self.now.seen }
         ensures legal { Legal (start L.opening) self.now.seen }
@@ -156,7 +156,7 @@ impl<L: Naming> Viewer<L> {
 
     /// Sees what is shown. It waits for nobody and takes no memory.
     ///
-    /// Refused: `Ended`; `Older`, only if the viewer was told of more than it had found shown itself. What it has seen
+    /// Refused: `Ended`; `Older`, only if the viewer was shown more than it had found shown itself. What it has seen
     /// is unchanged then.
     pub fn enter(&mut self) -> Result<(), ViewFault>
         ensures begins { IsPrefix self.old.seen self.new.seen }
@@ -226,11 +226,11 @@ impl<L: Naming> Viewer<L> {
         found.map_err(|_| ViewFault::Memory)
     }
 
-    /// Is told what a table of its own desk shows. From now on the longer of the two lists is what it has seen. It
+    /// Learns what a table of its own desk shows. From now on the longer of the two lists is what it has seen. It
     /// waits for nobody and takes no memory.
     pub fn learn(&mut self, table: &Table<L>)
         ensures begins { IsPrefix self.old.seen self.new.seen }
-        ensures told { IsPrefix table.now self.new.seen }
+        ensures learnt { IsPrefix table.now self.new.seen }
         ensures one { (self.new.seen ≡ self.old.seen) ⊎ (self.new.seen ≡ table.now) }
     {
         let _ = go_on(&mut self.front, table);
@@ -260,7 +260,7 @@ impl<L: Naming> Viewer<L> {
     }
 }
 
-/// A viewer that sees through this reader, which has seen nothing yet, and is told what a table shows.
+/// A viewer that sees through this reader, which has seen nothing yet, and learns what a table shows.
 pub(crate) fn viewer_of<L: Naming>(
     reader: Reader<Table<L>, SeenEntries, ViewRule<L>>,
     table: &Table<L>,

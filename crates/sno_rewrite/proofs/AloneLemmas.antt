@@ -18,15 +18,15 @@ use Rattle.sno_book.specs.States.{State, VersionedText}
 use Rattle.sno_book.proofs.Standing.{is_nowhere}
 use Rattle.sno_book.proofs.Steps.{replay_snoc}
 use Rattle.sno_published.proofs.Prefixes.{prefix_length, prefix_shorter, prefix_trans, prefix_whole}
-use Rattle.sno_desk.specs.Answers.{Answer, HasRisen, IsRefusedOn}
-use Rattle.sno_desk.specs.Seen.{IsTold}
+use Rattle.sno_desk.specs.Replies.{Reply, HasRisen, IsRefusedOn}
+use Rattle.sno_desk.specs.Seen.{IsInView}
 use Rattle.sno_desk.specs.Turns.{InTurn, IsSubmitted, Position, every, position}
 use Rattle.sno_desk.specs.declared.faults.SubmitFault.TheVariants as submit
 use Rattle.sno_listing.specs.History.{History, history_of}
 use Rattle.sno_listing.specs.declared.refusals.Reason.{Reason}
 use Rattle.sno_listing.specs.declared.refusals.Reason.TheVariants as reason
 use Rattle.sno_listing.specs.declared.refusals.Refusal.{Refusal}
-use Rattle.sno_rewrite.specs.Owners.{IsAlone, Lists, answer_in}
+use Rattle.sno_rewrite.specs.Owners.{IsAlone, Lists, result_in}
 use Rattle.sno_rewrite.specs.Serial.{accept, advance, reason_of, run, run_from}
 use Rattle.sno_rewrite.specs.Shared.{refusal_of, refusals}
 use Rattle.sno_rewrite.proofs.ReplyLemmas.{found_there}
@@ -42,14 +42,14 @@ same_entry : (e : Entry) (version : ℕ) → version ≡ e.version → record { 
 same_entry e version same = (λ i. record { statement = e.statement; version = same i; outcome = e.outcome })
 
 module _ (tries : ℕ) (opening : Opening) (journal : List Entry) where
-  abbrev Submitted : Position → Position → Statement → Answer → Type 0
+  abbrev Submitted : Position → Position → Statement → Reply → Type 0
   Submitted = IsSubmitted (λ _ _. ⊥) tries opening 1
 
   abbrev so_far : List Entry → List Refusal → History
   so_far seen refused = record { state = replay (start opening) seen; journal = seen; refused = refused }
 
   -- the worker has seen no more entries than it accepted
-  seen_few : (before after : Position) (jobs : List Statement) (replies : List Answer) → InTurn Submitted before after jobs replies → Begins after.seen journal → length journal ≡ after.accepted
+  seen_few : (before after : Position) (jobs : List Statement) (replies : List Reply) → InTurn Submitted before after jobs replies → Begins after.seen journal → length journal ≡ after.accepted
       → length before.seen ≤ before.accepted
   seen_few before after [] [] a begins counted =
       let few = prefix_length after.seen journal begins in
@@ -66,7 +66,7 @@ module _ (tries : ℕ) (opening : Opening) (journal : List Entry) where
       let same : a.0.accepted ≡ before.accepted + 0 = a.1.counted in omega (arith, more, rest, same)
 
   -- and no fewer
-  seen_many : (before mid : Position) (s : Statement) (r : Answer) → Submitted before mid s r → before.accepted ≤ length before.seen → mid.accepted ≤ length mid.seen
+  seen_many : (before mid : Position) (s : Statement) (r : Reply) → Submitted before mid s r → before.accepted ≤ length before.seen → mid.accepted ≤ length mid.seen
   seen_many before mid s (Ok receipt) a low =
       let told = a.at.1 in
       let many = told.many in
@@ -79,7 +79,7 @@ module _ (tries : ℕ) (opening : Opening) (journal : List Entry) where
       let counted : mid.accepted ≡ before.accepted + 0 = a.counted in omega (arith, low, more, counted)
 
   -- an accepted statement is the entry of which the worker was told
-  advances_told : (before mid : List Entry) (s : Statement) (receipt : Receipt) (refused : List Refusal) → receipt.entry.statement ≡ s → Begins before mid → (told : IsTold opening mid receipt)
+  advances_told : (before mid : List Entry) (s : Statement) (receipt : Receipt) (refused : List Refusal) → receipt.entry.statement ≡ s → Begins before mid → (told : IsInView opening mid receipt)
       → length before ≡ receipt.index → length mid ≡ receipt.index + 1 → advance (so_far before refused) s ≡ Some (so_far mid refused)
   advances_told before mid s receipt refused says begins told at_first at_last =
       let front = told.front in
@@ -123,19 +123,19 @@ module _ (tries : ℕ) (opening : Opening) (journal : List Entry) where
       let version : seen ≡ now = ap (λ (x : VersionedText). x.version) one in
       let higher : seen < now = h.higher in absurd (omega (arith, version, higher))
 
-  advances : (before mid : Position) (s : Statement) (r : Answer) (b : Option Reason) (refused : List Refusal) → Submitted before mid s r → length before.seen ≡ before.accepted
-      → length mid.seen ≡ mid.accepted → answer_in r ≡ Some b → advance (so_far before.seen refused) s ≡ Some (so_far mid.seen (refused ++ refusal_of s b))
+  advances : (before mid : Position) (s : Statement) (r : Reply) (b : Option Reason) (refused : List Refusal) → Submitted before mid s r → length before.seen ≡ before.accepted
+      → length mid.seen ≡ mid.accepted → result_in r ≡ Some b → advance (so_far before.seen refused) s ≡ Some (so_far mid.seen (refused ++ refusal_of s b))
   advances before mid s (Ok receipt) b refused a at_first at_last given =
       let is : None ≡ b = cc in
       let alone : receipt.index ≡ before.accepted = a.follows.alone refl in
       let counted : mid.accepted ≡ before.accepted + 1 = a.counted in
-      let told = advances_told before.seen mid.seen s receipt refused a.answers.1 a.begins a.at.1 (omega (arith, at_first, alone)) (omega (arith, at_last, alone, counted)) in
+      let told = advances_told before.seen mid.seen s receipt refused a.allowed.1 a.begins a.at.1 (omega (arith, at_first, alone)) (omega (arith, at_last, alone, counted)) in
       told ∙ ap (λ (l : List Refusal). Some (so_far mid.seen l)) (sym (append-nil refused)) ∙ ap (λ (o : Option Reason). Some (so_far mid.seen (refused ++ refusal_of s o))) is
   advances before mid s (Err submit.NoText) b refused a at_first at_last given =
       let is : Some reason.NoText ≡ b = cc in
       let counted : mid.accepted ≡ before.accepted + 0 = a.counted in
       let same = prefix_whole before.seen mid.seen a.begins (omega (arith, at_first, at_last, counted)) in
-      advances_nowhere before.seen mid.seen s refused same a.answers.0 ∙ ap (λ (o : Option Reason). Some (so_far mid.seen (refused ++ refusal_of s o))) is
+      advances_nowhere before.seen mid.seen s refused same a.allowed.0 ∙ ap (λ (o : Option Reason). Some (so_far mid.seen (refused ++ refusal_of s o))) is
   advances before mid s (Err submit.TextTooLong) b refused a at_first at_last given =
       let is : Some reason.TextTooLong ≡ b = cc in
       let counted : mid.accepted ≡ before.accepted + 0 = a.counted in
@@ -155,34 +155,34 @@ module _ (tries : ℕ) (opening : Opening) (journal : List Entry) where
   advances before mid s (Err submit.Memory) b refused a at_first at_last given = absurd cc
 
   -- from what the worker had seen at a statement's turn to the whole journal
-  runs : (before after : Position) (jobs : List Statement) (replies : List Answer) (answers : List (Option Reason)) (refused : List Refusal) → InTurn Submitted before after jobs replies
-      → Begins after.seen journal → length journal ≡ after.accepted → before.accepted ≤ length before.seen → map answer_in replies ≡ map Some answers
-      → run (so_far before.seen refused) jobs ≡ Some (so_far journal (refused ++ refusals jobs answers))
+  runs : (before after : Position) (jobs : List Statement) (replies : List Reply) (results : List (Option Reason)) (refused : List Refusal) → InTurn Submitted before after jobs replies
+      → Begins after.seen journal → length journal ≡ after.accepted → before.accepted ≤ length before.seen → map result_in replies ≡ map Some results
+      → run (so_far before.seen refused) jobs ≡ Some (so_far journal (refused ++ refusals jobs results))
   runs before after [] [] [] refused a begins counted low given =
       let there : Begins before.seen journal = subst (λ (p : Position). Begins p.seen journal) (sym a) begins in
       let accepted = ap (λ (p : Position). p.accepted) a in
       let whole : before.seen ≡ journal = prefix_whole before.seen journal there (omega (arith, low, counted, accepted)) in
       ap (λ (l : List Entry). Some (so_far l refused)) whole ∙ ap (λ (l : List Refusal). Some (so_far journal l)) (sym (append-nil refused))
-  runs before after [] [] (b ∷ answers) refused a begins counted low given = absurd cc
-  runs before after [] (r ∷ replies) answers refused a begins counted low given = absurd a
-  runs before after (s ∷ jobs) [] answers refused a begins counted low given = absurd a
+  runs before after [] [] (b ∷ results) refused a begins counted low given = absurd cc
+  runs before after [] (r ∷ replies) results refused a begins counted low given = absurd a
+  runs before after (s ∷ jobs) [] results refused a begins counted low given = absurd a
   runs before after (s ∷ jobs) (r ∷ replies) [] refused a begins counted low given = absurd cc
-  runs before after (s ∷ jobs) (r ∷ replies) (b ∷ answers) refused a begins counted low given =
-      let first : answer_in r ≡ Some b = cc in
-      let rest : map answer_in replies ≡ map Some answers = cc in
+  runs before after (s ∷ jobs) (r ∷ replies) (b ∷ results) refused a begins counted low given =
+      let first : result_in r ≡ Some b = cc in
+      let rest : map result_in replies ≡ map Some results = cc in
       let few = seen_few before after (s ∷ jobs) (r ∷ replies) a begins counted in
       let few_then = seen_few a.0 after jobs replies a.2 begins counted in
       let low_then = seen_many before a.0 s r a.1 low in
       let advanced = advances before a.0 s r b refused a.1 (omega (arith, few, low)) (omega (arith, few_then, low_then)) first in
       run_more (so_far before.seen refused) (so_far a.0.seen (refused ++ refusal_of s b)) s jobs advanced
-      ∙ runs a.0 after jobs replies answers (refused ++ refusal_of s b) a.2 begins counted low_then rest
-      ∙ ap (λ (l : List Refusal). Some (so_far journal l)) (append_assoc refused (refusal_of s b) (refusals jobs answers))
+      ∙ runs a.0 after jobs replies results (refused ++ refusal_of s b) a.2 begins counted low_then rest
+      ∙ ap (λ (l : List Refusal). Some (so_far journal l)) (append_assoc refused (refusal_of s b) (refusals jobs results))
 
 -- what one worker did is the serial run of the statements, from the book's opening
-pub alone_runs : (tries : ℕ) (book : Book) (statements : List Statement) (replies : List Answer) (refused : List Refusal) → IsAlone tries (view_of book) statements replies → Lists statements replies refused
+pub alone_runs : (tries : ℕ) (book : Book) (statements : List Statement) (replies : List Reply) (refused : List Refusal) → IsAlone tries (view_of book) statements replies → Lists statements replies refused
     → run_from book.opening statements ≡ Some (history_of (view_of book) refused)
 alone_runs tries book statements replies refused alone lists =
-    runs tries book.opening book.journal (position 0 []) alone.after statements replies lists.answers [] alone.in_turn alone.begins alone.counted (omega arith) lists.given
+    runs tries book.opening book.journal (position 0 []) alone.after statements replies lists.results [] alone.in_turn alone.begins alone.counted (omega arith) lists.given
     ∙ ap (λ (l : List Refusal). Some (history_of (view_of book) l)) (sym lists.listed)
 
 -- the places of the only worker are all places
@@ -191,7 +191,7 @@ every_one [] = refl
 every_one (x ∷ xs) = ap (λ l. x ∷ l) (every_one xs)
 
 -- if there is one seat, which began with nothing, it is alone
-pub alone_of : {X : Type 0} (share : X → ℕ) (view : X → List Entry) (tries : ℕ) (opening its : Opening) (parts : ℕ) (journal : List Entry) (jobs : List Statement) (replies : List Answer) (old new : List X)
+pub alone_of : {X : Type 0} (share : X → ℕ) (view : X → List Entry) (tries : ℕ) (opening its : Opening) (parts : ℕ) (journal : List Entry) (jobs : List Statement) (replies : List Reply) (old new : List X)
     → its ≡ opening → length old ≡ 1 → parts ≡ 1 → length new ≡ 1 → All (λ x. (share x ≡ 0) × (view x ≡ [])) old
     → ((k : ℕ) (d : X) → k < length old → InTurn (IsSubmitted (λ _ _. ⊥) tries opening parts) (position (share (get_or old k d)) (view (get_or old k d))) (position (share (get_or new k d)) (view (get_or new k d)))
     (every (length old) k jobs) (every (length old) k replies))
@@ -205,7 +205,7 @@ alone_of share view tries opening its parts journal jobs replies (x ∷ []) (y �
     let after = position (share y) (view y) in
     let mine = subst (λ (n : ℕ). InTurn (IsSubmitted (λ _ _. ⊥) tries opening n) (position (share x) (view x)) after (every 1 0 jobs) (every 1 0 replies)) single (turns 0 x (omega arith)) in
     let of_jobs = subst (λ (l : List Statement). InTurn (IsSubmitted (λ _ _. ⊥) tries opening 1) (position (share x) (view x)) after l (every 1 0 replies)) (every_one jobs) mine in
-    let of_all = subst (λ (l : List Answer). InTurn (IsSubmitted (λ _ _. ⊥) tries opening 1) (position (share x) (view x)) after jobs l) (every_one replies) of_jobs in
+    let of_all = subst (λ (l : List Reply). InTurn (IsSubmitted (λ _ _. ⊥) tries opening 1) (position (share x) (view x)) after jobs l) (every_one replies) of_jobs in
     let from_none = subst (λ (p : Position). InTurn (IsSubmitted (λ _ _. ⊥) tries opening 1) p after jobs replies) (λ i. position (fresh.0 i) (fresh.1 i)) of_all in
     let total = sum_by-cons share y [] in
     let alone : IsAlone tries (record { opening = opening; journal = journal }) jobs replies

@@ -12,7 +12,7 @@ use Rattle.clap.specs.Words.{App, IsAmong, ReadsOne, Row, Text, fault_of, is_sim
 use Rattle.clap.specs.declared.error.kind.ErrorKind.{ErrorKind}
 use Rattle.clap.specs.declared.error.kind.ErrorKind.TheVariants.{OutOfMemory}
 use Rattle.clap.proofs.OnLiterals.{clap_on_literals}
-use Rattle.sno_rewrite.specs.CommandLine.{AreRefused, IsAnswer, IsChecked, Tells, faults, is_numeral, number_of_text, option_rows, options_in, plain_options, program, shared_program}
+use Rattle.sno_rewrite.specs.CommandLine.{AreRefused, IsParsed, IsChecked, IsFaultOf, faults, is_numeral, number_of_text, option_rows, options_in, plain_options, program, shared_program}
 use Rattle.sno_rewrite.specs.declared.options.Options.{Options}
 use Rattle.sno_rewrite.specs.declared.command_line.OptionsFault.{OptionsFault}
 use Rattle.sno_rewrite.specs.declared.command_line.OptionsFault.TheVariants.{Help, Usage, Memory}
@@ -86,23 +86,23 @@ flag_read G None r parses none value = ap (λ (x : Option Bool). unwrap_or x fal
 flag_read G (Some t) r parses none value = flag_as_read G t r (parses t) (value t refl)
 
 -- what is returned for a fault is right for the arguments that have it
-pub fault_answer : (words : List Text) (kind : ErrorKind) (fault : OptionsFault) → (kind ≡ OutOfMemory) ⊎ IsAmong kind (faults words) → Tells kind fault
-    → IsAnswer words (Err fault)
-fault_answer words kind (Help text) (inl memory) (inl help) = cc
-fault_answer words kind (Help text) (inl memory) (inr version) = cc
-fault_answer words kind (Help text) (inr among) (inl help) = inl (subst (λ (k : ErrorKind). IsAmong k (faults words)) help among)
-fault_answer words kind (Help text) (inr among) (inr version) = inr (subst (λ (k : ErrorKind). IsAmong k (faults words)) version among)
-fault_answer words kind (Usage text) (inl memory) tells = absurd (tells.2 memory)
-fault_answer words kind (Usage text) (inr among) tells = AreRefused.unread kind among tells.0 tells.1
-fault_answer words kind Memory h tells = tt
+pub fault_result : (words : List Text) (kind : ErrorKind) (fault : OptionsFault) → (kind ≡ OutOfMemory) ⊎ IsAmong kind (faults words) → IsFaultOf kind fault
+    → IsParsed words (Err fault)
+fault_result words kind (Help text) (inl memory) (inl help) = cc
+fault_result words kind (Help text) (inl memory) (inr version) = cc
+fault_result words kind (Help text) (inr among) (inl help) = inl (subst (λ (k : ErrorKind). IsAmong k (faults words)) help among)
+fault_result words kind (Help text) (inr among) (inr version) = inr (subst (λ (k : ErrorKind). IsAmong k (faults words)) version among)
+fault_result words kind (Usage text) (inl memory) tells = absurd (tells.2 memory)
+fault_result words kind (Usage text) (inr among) tells = AreRefused.unread kind among tells.0 tells.1
+fault_result words kind Memory h tells = tt
 
 plain_given : options_in (option_rows []) ≡ plain_options
 unfolding option_rows program shared_program clap_on_literals
 plain_given = refl
 
 -- no arguments give the plain options
-pub plain_answer : (words : List (String Global)) (rows : List Row) (options : Options) (result : Result Options OptionsFault) → rows ≡ option_rows (map string_bytes words)
+pub plain_result : (words : List (String Global)) (rows : List Row) (options : Options) (result : Result Options OptionsFault) → rows ≡ option_rows (map string_bytes words)
     → options ≡ options_in rows → IsChecked options result → words ≡ [] → IfOk result (λ o. o ≡ plain_options)
-plain_answer words rows options (Ok o) are given checked none =
+plain_result words rows options (Ok o) are given checked none =
     checked.0 ∙ given ∙ ap options_in (are ∙ ap (λ (w : List (String Global)). option_rows (map string_bytes w)) none) ∙ plain_given
-plain_answer words rows options (Err e) are given checked none = tt
+plain_result words rows options (Err e) are given checked none = tt

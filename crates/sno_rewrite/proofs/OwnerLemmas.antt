@@ -15,12 +15,12 @@ use Rattle.sno_book.specs.Proposals.{Receipt}
 use Rattle.sno_book.specs.Views.{View}
 use Rattle.sno_published.proofs.Prefixes.{prefix_trans}
 use mathlib.Core.List.{IsPrefix as Begins}
-use Rattle.sno_desk.specs.Answers.{Answers}
-use Rattle.sno_desk.specs.Turns.{AllAnswer}
+use Rattle.sno_desk.specs.Replies.{IsReply}
+use Rattle.sno_desk.specs.Turns.{AreReplies}
 use Rattle.sno_desk.specs.declared.faults.SubmitFault.{SubmitFault}
 use Rattle.sno_listing.specs.declared.refusals.Reason.{Reason}
-use Rattle.sno_desk.specs.Seen.{IsTold}
-use Rattle.sno_rewrite.specs.Owners.{AreInTurn, IsAnsweredWithin, IsReceipt, Owns, answer_in, reason_in}
+use Rattle.sno_desk.specs.Seen.{IsInView}
+use Rattle.sno_rewrite.specs.Owners.{AreInTurn, IsReplyWithin, IsReceipt, Owns, result_in, reason_in}
 use Rattle.sno_rewrite.specs.Shared.{IsOrder}
 
 -- an element that is set is at its place, and all else is as it was
@@ -112,7 +112,7 @@ fill (Some p ∷ owners) h = let more = fill owners (All-tail (λ (o : Option �
 
 -- a receipt at a place is for the statement at that place
 pub receipt_for : (shuts : ℕ → ℕ → Type 0) (tries : ℕ) (opening : Opening) (statements : List Statement) (replies : List (Result Receipt SubmitFault))
-    → AllAnswer (Answers shuts tries opening) statements replies → (p : ℕ) (r : Receipt) → slice_get replies p ≡ Some (Ok r)
+    → AreReplies (IsReply shuts tries opening) statements replies → (p : ℕ) (r : Receipt) → slice_get replies p ≡ Some (Ok r)
     → slice_get statements p ≡ Some r.entry.statement
 receipt_for shuts tries opening [] [] h p r there = cc
 receipt_for shuts tries opening [] (x ∷ replies) h p r there = absurd h
@@ -128,12 +128,12 @@ entry_after [] more e = refl
 entry_after (x ∷ front) more e = entry_after front more e
 
 -- a receipt's entry is the journal's at its index
-entry_in : (v : View) (after : List Entry) (receipt : Receipt) → IsTold v.opening after receipt → Begins after v.journal → slice_get v.journal receipt.index ≡ Some receipt.entry
+entry_in : (v : View) (after : List Entry) (receipt : Receipt) → IsInView v.opening after receipt → Begins after v.journal → slice_get v.journal receipt.index ≡ Some receipt.entry
 entry_in v after receipt told begins =
     let whole = prefix_trans (told.front ++ receipt.entry ∷ []) after v.journal told.begins begins in
     ap (slice_get v.journal) (sym told.many) ∙ ap (λ (l : List Entry). slice_get l (length told.front)) (sym whole.1) ∙ entry_after told.front whole.0 receipt.entry
 
-entry_for : (tries : ℕ) (v : View) (statements : List Statement) (replies : List (Result Receipt SubmitFault)) → AllAnswer (IsAnsweredWithin tries v) statements replies
+entry_for : (tries : ℕ) (v : View) (statements : List Statement) (replies : List (Result Receipt SubmitFault)) → AreReplies (IsReplyWithin tries v) statements replies
     → (p : ℕ) (r : Receipt) → slice_get replies p ≡ Some (Ok r) → slice_get v.journal r.index ≡ Some r.entry
 entry_for tries v [] [] h p r there = cc
 entry_for tries v [] (x ∷ replies) h p r there = absurd h
@@ -150,17 +150,17 @@ refused_in : (o : Option Reason) → option_map Some o ≡ Some None → ⊥
 refused_in None h = cc
 refused_in (Some reason) h = cc
 
-accepted_in : (r : Result Receipt SubmitFault) → answer_in r ≡ Some None → (receipt : Receipt) × (r ≡ Ok receipt)
+accepted_in : (r : Result Receipt SubmitFault) → result_in r ≡ Some None → (receipt : Receipt) × (r ≡ Ok receipt)
 accepted_in (Ok receipt) h = (receipt, refl)
 accepted_in (Err e) h = absurd (refused_in (reason_in e) h)
 
-accepted_at : (replies : List (Result Receipt SubmitFault)) (p : ℕ) → slice_get (map answer_in replies) p ≡ Some (Some None)
+accepted_at : (replies : List (Result Receipt SubmitFault)) (p : ℕ) → slice_get (map result_in replies) p ≡ Some (Some None)
     → (receipt : Receipt) × (slice_get replies p ≡ Some (Ok receipt))
 accepted_at [] p h = absurd (cc)
-accepted_at (r ∷ replies) zero h = let e : answer_in r ≡ Some None = cc in let a = accepted_in r e in (a.0, ap Some a.1)
+accepted_at (r ∷ replies) zero h = let e : result_in r ≡ Some None = cc in let a = accepted_in r e in (a.0, ap Some a.1)
 accepted_at (r ∷ replies) (suc p) h = accepted_at replies p h
 
--- the answer at a place is what the reply there says
+-- the result at a place is what the reply there says
 inner : (o : Option (Option Reason)) → option_map Some o ≡ Some (Some None) → o ≡ Some None
 inner None h = absurd (cc)
 inner (Some a) h = let e : a ≡ None = cc in ap Some e
@@ -177,19 +177,19 @@ order_at (x ∷ order) (suc k) p h = order_at order k p h
 
 -- if each entry is owned, the owners are the order of the statements
 module _ (shuts : ℕ → ℕ → Type 0) (tries : ℕ) (opening : Opening) (statements : List Statement) (replies : List (Result Receipt SubmitFault)) (journal : List Entry)
-    (owners : List (Option ℕ)) (answered : AllAnswer (Answers shuts tries opening) statements replies)
-    (there : AllAnswer (IsAnsweredWithin tries (record { opening = opening; journal = journal })) statements replies) (owns : Owns (length journal) replies (length replies) owners)
-    (filled : Filled owners) (answers : List (Option Reason)) (given : map answer_in replies ≡ map Some answers) (workers : ℕ) (turns : AreInTurn workers replies) where
+    (owners : List (Option ℕ)) (allowed : AreReplies (IsReply shuts tries opening) statements replies)
+    (there : AreReplies (IsReplyWithin tries (record { opening = opening; journal = journal })) statements replies) (owns : Owns (length journal) replies (length replies) owners)
+    (filled : Filled owners) (results : List (Option Reason)) (given : map result_in replies ≡ map Some results) (workers : ℕ) (turns : AreInTurn workers replies) where
   owned : (k p : ℕ) → slice_get filled.order k ≡ Some p → slice_get owners k ≡ Some (Some p)
   owned k p h = ap (λ (l : List (Option ℕ)). slice_get l k) filled.filled ∙ filled_at filled.order k p h
 
   its : (k p : ℕ) → slice_get filled.order k ≡ Some p → IsReceipt replies k p
   its k p h = (owns.backed k p (owned k p h)).1
 
-  said : (p : ℕ) → slice_get (map answer_in replies) p ≡ option_map Some (slice_get answers p)
-  said p = ap (λ (l : List (Option (Option Reason))). slice_get l p) given ∙ slice_get-map Some answers p
+  said : (p : ℕ) → slice_get (map result_in replies) p ≡ option_map Some (slice_get results p)
+  said p = ap (λ (l : List (Option (Option Reason))). slice_get l p) given ∙ slice_get-map Some results p
 
-  pub in_order : IsOrder workers statements answers journal filled.order
+  pub in_order : IsOrder workers statements results journal filled.order
   in_order = record {
     as_many = sym (length-map filled.order Some) ∙ sym (ap length filled.filled) ∙ owns.as_many;
     once = λ j k p h g.
@@ -199,10 +199,10 @@ module _ (shuts : ℕ → ℕ → Type 0) (tries : ℕ) (opening : Opening) (sta
         sym one.indexed ∙ ap (λ (r : Receipt). r.index) same ∙ other.indexed;
     statement = λ k p h.
         let one = its k p h in
-        ap (option_map (λ (e : Entry). e.statement)) (ap (slice_get journal) (sym one.indexed) ∙ entry_for tries (record { opening = opening; journal = journal }) statements replies there p one.receipt one.there) ∙ sym (receipt_for shuts tries opening statements replies answered p one.receipt one.there);
+        ap (option_map (λ (e : Entry). e.statement)) (ap (slice_get journal) (sym one.indexed) ∙ entry_for tries (record { opening = opening; journal = journal }) statements replies there p one.receipt one.there) ∙ sym (receipt_for shuts tries opening statements replies allowed p one.receipt one.there);
     accepted = λ k p h.
         let one = its k p h in
-        inner (slice_get answers p) (sym (said p) ∙ slice_get-map answer_in replies p ∙ ap (option_map answer_in) one.there);
+        inner (slice_get results p) (sym (said p) ∙ slice_get-map result_in replies p ∙ ap (option_map result_in) one.there);
     all = λ p h.
         let a = accepted_at replies p (said p ∙ ap (option_map Some) h) in
         let inside = slice_get_within replies p (Ok a.0) a.1 in

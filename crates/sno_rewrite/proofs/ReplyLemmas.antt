@@ -22,16 +22,16 @@ use Rattle.sno_book.proofs.Rising.{versions_only_rise}
 use Rattle.sno_book.proofs.Standing.{is_named, is_nowhere, standing}
 use Rattle.sno_published.specs.Tables.{text_after}
 use Rattle.sno_published.proofs.Prefixes.{prefix_trans}
-use Rattle.sno_desk.specs.Answers.{Answers, HasRisen, IsRefusedOn}
-use Rattle.sno_desk.specs.Turns.{AllAnswer}
+use Rattle.sno_desk.specs.Replies.{IsReply, HasRisen, IsRefusedOn}
+use Rattle.sno_desk.specs.Turns.{AreReplies}
 use Rattle.sno_desk.specs.declared.faults.SubmitFault.{SubmitFault}
 use Rattle.sno_desk.specs.declared.faults.SubmitFault.TheVariants as submit
 use Rattle.sno_listing.specs.History.{history_of}
-use Rattle.sno_rewrite.specs.Owners.{AreInTurn, IsAnsweredWithin, IsListed, Lists, Owns, answer_in}
+use Rattle.sno_rewrite.specs.Owners.{AreInTurn, IsReplyWithin, IsListed, Lists, Owns, result_in}
 use Rattle.sno_document.specs.Document.{Document}
 use Rattle.sno_document.specs.Document.{room}
 use Rattle.sno_rewrite.specs.Serial.{opening_in, run_from}
-use Rattle.sno_rewrite.specs.Shared.{AreAnswers, IsOvertaken, IsRefusedThen, IsShared, MayAnswer, Settles, refusal_of, refusals}
+use Rattle.sno_rewrite.specs.Shared.{AreAllowed, IsOvertaken, IsRefusedThen, IsShared, IsAllowed, Settles, refusal_of, refusals}
 use Rattle.sno_listing.specs.declared.refusals.Reason.{Reason}
 use Rattle.sno_listing.specs.declared.refusals.Reason.TheVariants as reason
 use Rattle.sno_listing.specs.declared.refusals.Refusal.{Refusal}
@@ -39,22 +39,22 @@ use Rattle.sno_rewrite.proofs.OwnerLemmas.{fill, in_order}
 
 -- there are as many replies as statements
 pub as_many : (A : Statement → Result Receipt SubmitFault → Type 0) (statements : List Statement) (replies : List (Result Receipt SubmitFault))
-    → AllAnswer A statements replies → length statements ≡ length replies
+    → AreReplies A statements replies → length statements ≡ length replies
 as_many A [] [] h = refl
 as_many A [] (r ∷ replies) h = absurd h
 as_many A (s ∷ statements) [] h = absurd h
 as_many A (s ∷ statements) (r ∷ replies) h = ap suc (as_many A statements replies h.1)
 
 -- the reply at a place is for the statement there
-pub answer_at : (A : Statement → Result Receipt SubmitFault → Type 0) (statements : List Statement) (replies : List (Result Receipt SubmitFault))
-    → AllAnswer A statements replies → (p : ℕ) (s : Statement) (r : Result Receipt SubmitFault) → slice_get statements p ≡ Some s → slice_get replies p ≡ Some r
+pub result_at : (A : Statement → Result Receipt SubmitFault → Type 0) (statements : List Statement) (replies : List (Result Receipt SubmitFault))
+    → AreReplies A statements replies → (p : ℕ) (s : Statement) (r : Result Receipt SubmitFault) → slice_get statements p ≡ Some s → slice_get replies p ≡ Some r
     → A s r
-answer_at A [] [] h p s r e f = absurd (cc)
-answer_at A [] (y ∷ replies) h p s r e f = absurd h
-answer_at A (x ∷ statements) [] h p s r e f = absurd h
-answer_at A (x ∷ statements) (y ∷ replies) h zero s r e f =
+result_at A [] [] h p s r e f = absurd (cc)
+result_at A [] (y ∷ replies) h p s r e f = absurd h
+result_at A (x ∷ statements) [] h p s r e f = absurd h
+result_at A (x ∷ statements) (y ∷ replies) h zero s r e f =
     let d : x ≡ s = cc in let g : y ≡ r = cc in subst (λ t. A s t) g (subst (λ t. A t y) d h.0)
-answer_at A (x ∷ statements) (y ∷ replies) h (suc p) s r e f = answer_at A statements replies h.1 p s r e f
+result_at A (x ∷ statements) (y ∷ replies) h (suc p) s r e f = result_at A statements replies h.1 p s r e f
 
 -- the element at a place, seen by a view
 pub seen_at : {X Y : Type 0} (view : X → Y) (xs : List X) (i : ℕ) (x : X) (y : Y) → i < length xs → x ≡ get_or xs i x → y ≡ view x
@@ -70,18 +70,18 @@ map_more : {X Y : Type 0} (f : X → Y) (xs : List X) (x : X) → map f (xs ++ x
 map_more f [] x = refl
 map_more f (y ∷ xs) x = ap (λ l. f y ∷ l) (map_more f xs x)
 
-refusals_more : (statements : List Statement) (answers : List (Option Reason)) (s : Statement) (a : Option Reason) → length answers ≡ length statements
-    → refusals (statements ++ s ∷ []) (answers ++ a ∷ []) ≡ refusals statements answers ++ refusal_of s a
+refusals_more : (statements : List Statement) (results : List (Option Reason)) (s : Statement) (a : Option Reason) → length results ≡ length statements
+    → refusals (statements ++ s ∷ []) (results ++ a ∷ []) ≡ refusals statements results ++ refusal_of s a
 refusals_more [] [] s a e = append-nil (refusal_of s a)
-refusals_more [] (b ∷ answers) s a e = absurd (omega arith)
+refusals_more [] (b ∷ results) s a e = absurd (omega arith)
 refusals_more (x ∷ statements) [] s a e = absurd (omega arith)
-refusals_more (x ∷ statements) (b ∷ answers) s a e =
-    ap (λ (l : List Refusal). refusal_of x b ++ l) (refusals_more statements answers s a (omega arith))
-    ∙ sym (append_assoc (refusal_of x b) (refusals statements answers) (refusal_of s a))
+refusals_more (x ∷ statements) (b ∷ results) s a e =
+    ap (λ (l : List Refusal). refusal_of x b ++ l) (refusals_more statements results s a (omega arith))
+    ∙ sym (append_assoc (refusal_of x b) (refusals statements results) (refusal_of s a))
 
 -- before all replies nothing is listed
 pub lists_none : Lists [] [] []
-lists_none = record { answers = []; as_many = refl; given = refl; listed = refl }
+lists_none = record { results = []; as_many = refl; given = refl; listed = refl }
 
 -- one reply more
 pub lists_more : (statements : List Statement) (replies : List (Result Receipt SubmitFault)) (i : ℕ) (s : Statement) (r : Result Receipt SubmitFault) (old new : List Refusal)
@@ -90,18 +90,18 @@ pub lists_more : (statements : List Statement) (replies : List (Result Receipt S
 lists_more statements replies i s r old new before there replied more =
     let first = take_at statements i s there in
     let second = take_at replies i r replied in
-    let given : map answer_in (take (suc i) replies) ≡ map Some (before.answers ++ more.answer ∷ [])
-    = ap (map answer_in) second ∙ map_more answer_in (take i replies) r ∙ (λ j. before.given j ++ more.given j ∷ []) ∙ sym (map_more Some before.answers more.answer) in
+    let given : map result_in (take (suc i) replies) ≡ map Some (before.results ++ more.result ∷ [])
+    = ap (map result_in) second ∙ map_more result_in (take i replies) r ∙ (λ j. before.given j ++ more.given j ∷ []) ∙ sym (map_more Some before.results more.result) in
     let even = before.as_many in
-    let grown = length-append before.answers (more.answer ∷ []) in
+    let grown = length-append before.results (more.result ∷ []) in
     let past = ap length first ∙ length-append (take i statements) (s ∷ []) in
     record {
-      answers = before.answers ++ more.answer ∷ [];
+      results = before.results ++ more.result ∷ [];
       as_many = omega (arith, even, grown, past);
       given = given;
-      listed = more.listed ∙ ap (λ (l : List Refusal). l ++ refusal_of s more.answer) before.listed
-          ∙ sym (refusals_more (take i statements) before.answers s more.answer before.as_many)
-          ∙ ap (λ (l : List Statement). refusals l (before.answers ++ more.answer ∷ [])) (sym first);
+      listed = more.listed ∙ ap (λ (l : List Refusal). l ++ refusal_of s more.result) before.listed
+          ∙ sym (refusals_more (take i statements) before.results s more.result before.as_many)
+          ∙ ap (λ (l : List Statement). refusals l (before.results ++ more.result ∷ [])) (sym first);
     }
 
 -- after the last reply all refusals are listed
@@ -111,7 +111,7 @@ lists_all statements replies i refused past even h =
     subst (λ l. Lists l replies refused) (take_all i statements past)
     (subst (λ l. Lists (take i statements) l refused) (take_all i replies even) h)
 
--- ---- each answer is allowed
+-- ---- each result is allowed
 
 -- `find` returns the text at the place of the name after these entries
 pub found_there : (opening : Opening) (entries : List Entry) (name : List ℕ) (place : ℕ) (held : VersionedText) → place_in opening name ≡ Some place → text_after opening entries place ≡ Some held
@@ -161,61 +161,61 @@ overtaken tries v s before after seen now begins h =
     }
 
 -- what a reply says of its statement is allowed
-may_answer : (shuts : ℕ → ℕ → Type 0) (tries : ℕ) (book : Book) (s : Statement) (r : Result Receipt SubmitFault) (a : Option Reason) → Answers shuts tries book.opening s r
-    → IsAnsweredWithin tries (view_of book) s r → answer_in r ≡ Some a → MayAnswer tries (view_of book) s a
-may_answer shuts tries book s (Ok receipt) a h w e =
-    let is : None ≡ a = cc in subst (λ (x : Option Reason). MayAnswer tries (view_of book) s x) is (is_named book s.text h.0, tt)
-may_answer shuts tries book s (Err submit.NoText) a h w e =
-    let is : Some reason.NoText ≡ a = cc in subst (λ (x : Option Reason). MayAnswer tries (view_of book) s x) is (is_nowhere book s.text h.0, tt)
-may_answer shuts tries book s (Err submit.TextTooLong) a h w e =
+is_allowed : (shuts : ℕ → ℕ → Type 0) (tries : ℕ) (book : Book) (s : Statement) (r : Result Receipt SubmitFault) (a : Option Reason) → IsReply shuts tries book.opening s r
+    → IsReplyWithin tries (view_of book) s r → result_in r ≡ Some a → IsAllowed tries (view_of book) s a
+is_allowed shuts tries book s (Ok receipt) a h w e =
+    let is : None ≡ a = cc in subst (λ (x : Option Reason). IsAllowed tries (view_of book) s x) is (is_named book s.text h.0, tt)
+is_allowed shuts tries book s (Err submit.NoText) a h w e =
+    let is : Some reason.NoText ≡ a = cc in subst (λ (x : Option Reason). IsAllowed tries (view_of book) s x) is (is_nowhere book s.text h.0, tt)
+is_allowed shuts tries book s (Err submit.TextTooLong) a h w e =
     let is : Some reason.TextTooLong ≡ a = cc in
-    subst (λ (x : Option Reason). MayAnswer tries (view_of book) s x) is
+    subst (λ (x : Option Reason). IsAllowed tries (view_of book) s x) is
     (is_named book s.text h.0, refused_then (view_of book) s statement.TextTooLong w.after w.begins w.at)
-may_answer shuts tries book s (Err submit.TooManyTrials) a h w e =
+is_allowed shuts tries book s (Err submit.TooManyTrials) a h w e =
     let is : Some reason.TooManyTrials ≡ a = cc in
-    subst (λ (x : Option Reason). MayAnswer tries (view_of book) s x) is
+    subst (λ (x : Option Reason). IsAllowed tries (view_of book) s x) is
     (is_named book s.text h.0, refused_then (view_of book) s statement.TooManyTrials w.after w.begins w.at)
-may_answer shuts tries book s (Err (submit.TriesSpent seen now)) a h w e =
+is_allowed shuts tries book s (Err (submit.TriesSpent seen now)) a h w e =
     let is : Some (reason.TriesSpent seen now) ≡ a = cc in
-    subst (λ (x : Option Reason). MayAnswer tries (view_of book) s x) is
+    subst (λ (x : Option Reason). IsAllowed tries (view_of book) s x) is
     (is_named book s.text h.0, overtaken tries (view_of book) s w.before w.after seen now w.begins w.at)
-may_answer shuts tries book s (Err submit.GateShut) a h w e = absurd cc
-may_answer shuts tries book s (Err submit.Stopped) a h w e = absurd cc
-may_answer shuts tries book s (Err submit.Full) a h w e = absurd cc
-may_answer shuts tries book s (Err submit.Memory) a h w e = absurd cc
+is_allowed shuts tries book s (Err submit.GateShut) a h w e = absurd cc
+is_allowed shuts tries book s (Err submit.Stopped) a h w e = absurd cc
+is_allowed shuts tries book s (Err submit.Full) a h w e = absurd cc
+is_allowed shuts tries book s (Err submit.Memory) a h w e = absurd cc
 
-are_answers : (shuts : ℕ → ℕ → Type 0) (tries : ℕ) (book : Book) (statements : List Statement) (replies : List (Result Receipt SubmitFault)) (answers : List (Option Reason))
-    → AllAnswer (Answers shuts tries book.opening) statements replies → AllAnswer (IsAnsweredWithin tries (view_of book)) statements replies → map answer_in replies ≡ map Some answers
-    → AreAnswers tries (view_of book) statements answers
-are_answers shuts tries book [] [] [] h w e = tt
-are_answers shuts tries book [] [] (a ∷ answers) h w e = absurd cc
-are_answers shuts tries book [] (r ∷ replies) answers h w e = absurd h
-are_answers shuts tries book (s ∷ statements) [] answers h w e = absurd h
-are_answers shuts tries book (s ∷ statements) (r ∷ replies) [] h w e = absurd cc
-are_answers shuts tries book (s ∷ statements) (r ∷ replies) (a ∷ answers) h w e =
-    let first : answer_in r ≡ Some a = cc in
-    let rest : map answer_in replies ≡ map Some answers = cc in
-    (may_answer shuts tries book s r a h.0 w.0 first, are_answers shuts tries book statements replies answers h.1 w.1 rest)
+are_allowed : (shuts : ℕ → ℕ → Type 0) (tries : ℕ) (book : Book) (statements : List Statement) (replies : List (Result Receipt SubmitFault)) (results : List (Option Reason))
+    → AreReplies (IsReply shuts tries book.opening) statements replies → AreReplies (IsReplyWithin tries (view_of book)) statements replies → map result_in replies ≡ map Some results
+    → AreAllowed tries (view_of book) statements results
+are_allowed shuts tries book [] [] [] h w e = tt
+are_allowed shuts tries book [] [] (a ∷ results) h w e = absurd cc
+are_allowed shuts tries book [] (r ∷ replies) results h w e = absurd h
+are_allowed shuts tries book (s ∷ statements) [] results h w e = absurd h
+are_allowed shuts tries book (s ∷ statements) (r ∷ replies) [] h w e = absurd cc
+are_allowed shuts tries book (s ∷ statements) (r ∷ replies) (a ∷ results) h w e =
+    let first : result_in r ≡ Some a = cc in
+    let rest : map result_in replies ≡ map Some results = cc in
+    (is_allowed shuts tries book s r a h.0 w.0 first, are_allowed shuts tries book statements replies results h.1 w.1 rest)
 
 -- there are as many replies as statements, as the program has them
 pub replied : (shuts : ℕ → ℕ → Type 0) (tries : ℕ) (opening : Opening) (statements : List (Arc Statement Global)) (replies : List (Result Receipt SubmitFault))
-    → AllAnswer (Answers shuts tries opening) (map arc_value statements) replies → length replies ≡ length statements
-replied shuts tries opening statements replies h = sym (as_many (Answers shuts tries opening) (map arc_value statements) replies h) ∙ length-map statements arc_value
+    → AreReplies (IsReply shuts tries opening) (map arc_value statements) replies → length replies ≡ length statements
+replied shuts tries opening statements replies h = sym (as_many (IsReply shuts tries opening) (map arc_value statements) replies h) ∙ length-map statements arc_value
 
 -- what is listed with a book whose entries are all owned
 pub settles : (shuts : ℕ → ℕ → Type 0) (tries : ℕ) (book : Book) (statements : List Statement) (replies : List (Result Receipt SubmitFault))
-    (owners : List (Option ℕ)) (refused : List Refusal) → AllAnswer (Answers shuts tries book.opening) statements replies
-    → AllAnswer (IsAnsweredWithin tries (view_of book)) statements replies
+    (owners : List (Option ℕ)) (refused : List Refusal) → AreReplies (IsReply shuts tries book.opening) statements replies
+    → AreReplies (IsReplyWithin tries (view_of book)) statements replies
     → Owns (length book.journal) replies (length replies) owners → All (λ o. IsSome o) owners → Lists statements replies refused
     → (workers : ℕ) → AreInTurn workers replies → Settles workers tries book.opening statements (history_of (view_of book) refused)
-settles shuts tries book statements replies owners refused answered within owns all lists workers turns =
+settles shuts tries book statements replies owners refused allowed within owns all lists workers turns =
     let filled = fill owners all in
     record {
-      answers = lists.answers;
-      answered = are_answers shuts tries book statements replies lists.answers answered within lists.given;
+      results = lists.results;
+      allowed = are_allowed shuts tries book statements replies lists.results allowed within lists.given;
       refused = lists.listed;
       order = filled.order;
-      ordered = in_order shuts tries book.opening statements replies book.journal owners answered within owns filled lists.answers lists.given workers turns;
+      ordered = in_order shuts tries book.opening statements replies book.journal owners allowed within owns filled lists.results lists.given workers turns;
     }
 
 -- what is settled with a valid book that began with the document's texts

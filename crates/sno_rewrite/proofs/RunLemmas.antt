@@ -4,7 +4,7 @@ use Rattle.sno_document.specs.Document.{Document, IsDocument}
 use Rattle.sno_document.specs.declared.faults.DocumentFault.{DocumentFault}
 use Rattle.sno_document.specs.declared.faults.DocumentFault.TheVariants as document
 use Rattle.sno_document.specs.declared.modes.Mode.{Mode}
-use Rattle.sno_document.proofs.DocumentLaw.{one_answer}
+use Rattle.sno_document.proofs.DocumentLaw.{one_result}
 use Rattle.sno_rewrite.specs.Faults.{IsFirstFault, run_fault}
 use Rattle.sno_rewrite.specs.Runs.{FailsBy, FailsShared, IsOwn}
 use Rattle.sno_rewrite.specs.declared.faults.RunFault.{RunFault}
@@ -17,7 +17,7 @@ err_of P (Err f) e is h = subst P (sym is) h
 
 -- a document has no first fault
 never_first : (mode : Mode) (bytes : List ℕ) (e : RunFault) (d : Document) → IsDocument mode bytes (Ok d) → IsFirstFault mode bytes e → ⊥
-never_first mode bytes (run.Document e) d found h = let both = one_answer mode bytes _ _ h found in cc
+never_first mode bytes (run.Document e) d found h = let both = one_result mode bytes _ _ h found in cc
 never_first mode bytes e d found h = absurd h
 
 module _ (mode : Mode) (bytes : List ℕ) where
@@ -29,7 +29,7 @@ module _ (mode : Mode) (bytes : List ℕ) where
   -- if the bytes are a document, a fault of the reading is that memory ran out
   only_memory : (e : DocumentFault) (d : Document) → (e ≢ document.Memory → IsDocument mode bytes (Err e)) → IsDocument mode bytes (Ok d) → run_fault e ≡ run.Memory
   only_memory document.Memory d h found = refl
-  only_memory e d h found = absurd (let both = one_answer mode bytes _ _ (h (λ is. cc)) found in cc)
+  only_memory e d h found = absurd (let both = one_result mode bytes _ _ (h (λ is. cc)) found in cc)
 
   -- the exit of a `?` after the reading
   pub read_fails : {X : Type 0} (result : Result X RunFault) (e : DocumentFault) → IsErrAnd result (λ f. f ≡ run_fault e)

@@ -78,16 +78,16 @@ pub run_more : (h g : History) (s : Statement) (statements : List Statement) →
 run_more h g s statements advanced = ap (option_and_then (λ (x : History). run x statements)) advanced
 
 -- a result other than out of memory is entered or refused
-answer_settled : (h : History) (s : Statement) (version : ℕ) (answer : Result Outcome StatementFault) → IsNotMemory answer → (g : History) × (settle h s version answer ≡ Some g)
-answer_settled h s version (Ok done) answered = (accept h (record { statement = s; version = version; outcome = done }), refl)
-answer_settled h s version (Err fault.TextTooLong) answered = (refuse h s TextTooLong, refl)
-answer_settled h s version (Err fault.Memory) answered = absurd answered
-answer_settled h s version (Err fault.TooManyTrials) answered = (refuse h s TooManyTrials, refl)
+settled_result : (h : History) (s : Statement) (version : ℕ) (result : Result Outcome StatementFault) → IsNotMemory result → (g : History) × (settle h s version result ≡ Some g)
+settled_result h s version (Ok done) allowed = (accept h (record { statement = s; version = version; outcome = done }), refl)
+settled_result h s version (Err fault.TextTooLong) allowed = (refuse h s TextTooLong, refl)
+settled_result h s version (Err fault.Memory) allowed = absurd allowed
+settled_result h s version (Err fault.TooManyTrials) allowed = (refuse h s TooManyTrials, refl)
 
 -- by its definition, performing a statement never runs out of memory
 perform_settled : (h : History) (s : Statement) (held : Option VersionedText) → (g : History) × (perform_on h s held ≡ Some g)
 perform_settled h s None = (refuse h s NoText, refl)
-perform_settled h s (Some held) = answer_settled h s held.version (perform s held.text) (of_perform s held.text)
+perform_settled h s (Some held) = settled_result h s held.version (perform s held.text) (of_perform s held.text)
 
 advance_settled : (h : History) (s : Statement) → (g : History) × (advance h s ≡ Some g)
 unfolding advance

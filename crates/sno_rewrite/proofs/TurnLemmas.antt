@@ -7,8 +7,8 @@ use Rattle.sno_book.specs.Entries.{Entry}
 use Rattle.sno_book.specs.Openings.{Opening}
 use Rattle.sno_book.specs.Proposals.{Receipt}
 use Rattle.sno_published.proofs.Prefixes.{prefix_length}
-use Rattle.sno_desk.specs.Answers.{Answer, AnswersAt}
-use Rattle.sno_desk.specs.Seen.{IsTold}
+use Rattle.sno_desk.specs.Replies.{Reply, IsReplyAt}
+use Rattle.sno_desk.specs.Seen.{IsInView}
 use Rattle.sno_desk.specs.Turns.{InTurn, IsSubmitted, Position, every, position}
 use Rattle.sno_rewrite.specs.Owners.{AreInTurn}
 
@@ -53,26 +53,26 @@ first_of (x ∷ xs) k h = x
 
 module _ (shuts : ℕ → ℕ → Type 0) (tries : ℕ) (opening : Opening) (seats : ℕ) where
   -- a receipt's entry is among those that its seat has seen
-  told_inside : (seen : List Entry) (receipt : Receipt) → IsTold opening seen receipt → receipt.index < length seen
+  told_inside : (seen : List Entry) (receipt : Receipt) → IsInView opening seen receipt → receipt.index < length seen
   told_inside seen receipt told =
       let many = told.many in
       let grown = length-append told.front (receipt.entry ∷ []) in
       let inside = prefix_length (told.front ++ receipt.entry ∷ []) seen told.begins in omega (arith, many, grown, inside)
 
   -- and comes after all that the seat had seen before
-  index_after : (before after : Position) (jobs : List Statement) (replies : List Answer) → InTurn (IsSubmitted shuts tries opening seats) before after jobs replies
+  index_after : (before after : Position) (jobs : List Statement) (replies : List Reply) → InTurn (IsSubmitted shuts tries opening seats) before after jobs replies
       → (turn : ℕ) (receipt : Receipt) → slice_get replies turn ≡ Some (Ok receipt) → length before.seen ≤ receipt.index
   index_after before after [] [] a turn receipt h = absurd cc
   index_after before after [] (x ∷ replies) a turn receipt h = absurd a
   index_after before after (s ∷ jobs) [] a turn receipt h = absurd a
   index_after before after (s ∷ jobs) (x ∷ replies) a zero receipt h =
-      let is : x ≡ Ok receipt = cc in (subst (λ (y : Answer). AnswersAt tries opening before.seen a.0.seen s y) is a.1.at).0
+      let is : x ≡ Ok receipt = cc in (subst (λ (y : Reply). IsReplyAt tries opening before.seen a.0.seen s y) is a.1.at).0
   index_after before after (s ∷ jobs) (x ∷ replies) a (suc turn) receipt h =
       let more = prefix_length before.seen a.0.seen a.1.begins in
       let rest = index_after a.0 after jobs replies a.2 turn receipt h in omega (arith, more, rest)
 
   -- so the later of two has the higher index
-  rises : (before after : Position) (jobs : List Statement) (replies : List Answer) → InTurn (IsSubmitted shuts tries opening seats) before after jobs replies
+  rises : (before after : Position) (jobs : List Statement) (replies : List Reply) → InTurn (IsSubmitted shuts tries opening seats) before after jobs replies
       → (turn later at : ℕ) (one other : Receipt) → at ≡ turn + suc later → slice_get replies turn ≡ Some (Ok one) → slice_get replies at ≡ Some (Ok other) → one.index < other.index
   rises before after [] [] a turn later at one other e h g = absurd cc
   rises before after [] (x ∷ replies) a turn later at one other e h g = absurd a
@@ -80,7 +80,7 @@ module _ (shuts : ℕ → ℕ → Type 0) (tries : ℕ) (opening : Opening) (sea
   rises before after (s ∷ jobs) (x ∷ replies) a zero later zero one other e h g = absurd (omega arith)
   rises before after (s ∷ jobs) (x ∷ replies) a zero later (suc at) one other e h g =
       let is : x ≡ Ok one = cc in
-      let told = (subst (λ (y : Answer). AnswersAt tries opening before.seen a.0.seen s y) is a.1.at).1 in
+      let told = (subst (λ (y : Reply). IsReplyAt tries opening before.seen a.0.seen s y) is a.1.at).1 in
       let low = told_inside a.0.seen one told in
       let high = index_after a.0 after jobs replies a.2 at other g in omega (arith, low, high)
   rises before after (s ∷ jobs) (x ∷ replies) a (suc turn) later zero one other e h g = absurd (omega arith)
@@ -88,7 +88,7 @@ module _ (shuts : ℕ → ℕ → Type 0) (tries : ℕ) (opening : Opening) (sea
 
   -- ---- the receipts of all seats
 
-  pub turns_all : {X : Type 0} (share : X → ℕ) (view : X → List Entry) (jobs : List Statement) (replies : List Answer) (old new : List X) → 1 ≤ length old
+  pub turns_all : {X : Type 0} (share : X → ℕ) (view : X → List Entry) (jobs : List Statement) (replies : List Reply) (old new : List X) → 1 ≤ length old
       → ((k : ℕ) (d : X) → k < length old → InTurn (IsSubmitted shuts tries opening seats) (position (share (get_or old k d)) (view (get_or old k d))) (position (share (get_or new k d)) (view (get_or new k d)))
       (every (length old) k jobs) (every (length old) k replies))
       → AreInTurn (length old) replies

@@ -1,5 +1,5 @@
 -- The command line: five options, in any order, each at most once.
-use Rattle.std.specs.Prelude.{◌≡◌, ◌≢◌, ◌⊎◌, ℕ, Bool, true, false, ◌&&◌, List, [], ◌∷◌, length, nat_lt, nat_le, Option, Some, None, Result, Ok, Err, unwrap_or, option_and_then, if◌then◌else◌, codes, pos}
+use Rattle.std.specs.Prelude.{◌≡◌, ◌≢◌, ◌⊎◌, ◌^◌, ℕ, Bool, true, false, ◌&&◌, List, [], ◌∷◌, length, nat_lt, nat_le, Option, Some, None, Result, Ok, Err, unwrap_or, option_and_then, if◌then◌else◌, codes, pos}
 use Rattle.std.specs.List.{list_all}
 use Rattle.std.specs.Option.{option_map_or}
 use Rattle.std.specs.Char.{digit_value}
@@ -52,7 +52,7 @@ abbrev pub is_numeral : Text → Bool
 is_numeral ds = nat_lt 0 (length ds) && list_all (λ d. nat_lt (digit_value d) 10) ds
 
 abbrev pub number_of_text : Text → Option ℕ
-number_of_text ds = if is_numeral ds && nat_lt (digits_value 10 ds) 4294967296 then Some (digits_value 10 ds) else None
+number_of_text ds = if is_numeral ds && nat_lt (digits_value 10 ds) (2 ^ 32) then Some (digits_value 10 ds) else None
 
 -- the number that a text writes, with or without a leading plus sign
 abbrev pub number_in : Text → List Row → Option ℕ
@@ -95,17 +95,17 @@ pub data AreRefused (words : List Text) : Type 0 where
 
 -- What is returned for arguments: the options that they give; help or the version, if they ask for it; the usage, if
 -- they are refused; or out of memory.
-abbrev pub IsAnswer : List Text → Result Options OptionsFault → Type 0
-IsAnswer words (Ok o) = (faults words ≡ []) × (o ≡ options_in (option_rows words)) × (are_valid o ≡ true)
-IsAnswer words (Err (Help text)) = IsAmong DisplayHelp (faults words) ⊎ IsAmong DisplayVersion (faults words)
-IsAnswer words (Err (Usage text)) = AreRefused words
-IsAnswer words (Err Memory) = Unit {0}
+abbrev pub IsParsed : List Text → Result Options OptionsFault → Type 0
+IsParsed words (Ok o) = (faults words ≡ []) × (o ≡ options_in (option_rows words)) × (are_valid o ≡ true)
+IsParsed words (Err (Help text)) = IsAmong DisplayHelp (faults words) ⊎ IsAmong DisplayVersion (faults words)
+IsParsed words (Err (Usage text)) = AreRefused words
+IsParsed words (Err Memory) = Unit {0}
 
 -- a fault of `clap` is reported by its text: help or the version, or another
-abbrev pub Tells : ErrorKind → OptionsFault → Type 0
-Tells kind (Help text) = IsAsked kind
-Tells kind (Usage text) = (kind ≢ DisplayHelp) × (kind ≢ DisplayVersion) × (kind ≢ OutOfMemory)
-Tells kind Memory = Unit {0}
+abbrev pub IsFaultOf : ErrorKind → OptionsFault → Type 0
+IsFaultOf kind (Help text) = IsAsked kind
+IsFaultOf kind (Usage text) = (kind ≢ DisplayHelp) × (kind ≢ DisplayVersion) × (kind ≢ OutOfMemory)
+IsFaultOf kind Memory = Unit {0}
 
 -- options within their limits are returned as they are, and others are refused
 abbrev pub IsChecked : Options → Result Options OptionsFault → Type 0

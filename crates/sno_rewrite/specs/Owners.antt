@@ -6,7 +6,7 @@ use Rattle.sno_statement.specs.Statement.{Statement}
 use Rattle.sno_book.specs.Entries.{Entry}
 use Rattle.sno_book.specs.Proposals.{Receipt}
 use Rattle.sno_book.specs.Views.{View}
-use Rattle.sno_desk.specs.Answers.{AnswersAt}
+use Rattle.sno_desk.specs.Replies.{IsReplyAt}
 use Rattle.sno_desk.specs.Turns.{InTurn, IsSubmitted, Position, position}
 use Rattle.sno_desk.specs.declared.faults.SubmitFault.{SubmitFault}
 use Rattle.sno_desk.specs.declared.faults.SubmitFault.TheVariants as submit
@@ -32,12 +32,12 @@ pub record Owns (entries : ℕ) (replies : List (Result Receipt SubmitFault)) (b
 
 -- the reply is one of a submit that began and ended at points of the journal: when the entries `before` had been
 -- accepted, and when the entries `after` had
-pub record IsAnsweredWithin (tries : ℕ) (v : View) (s : Statement) (reply : Result Receipt SubmitFault) : Type 0 where
+pub record IsReplyWithin (tries : ℕ) (v : View) (s : Statement) (reply : Result Receipt SubmitFault) : Type 0 where
   pub before : List Entry
   pub after : List Entry
   pub grown : Begins before after
   pub begins : Begins after v.journal
-  pub at : AnswersAt tries v.opening before after s reply
+  pub at : IsReplyAt tries v.opening before after s reply
 
 -- two receipts whose places differ by a multiple of the number of workers are one worker's; the later one has the
 -- higher index
@@ -65,9 +65,9 @@ reason_in submit.Full = None
 reason_in submit.Memory = None
 
 -- what a reply says of its statement: that it is accepted, that it is refused for a reason, or nothing
-abbrev pub answer_in : Result Receipt SubmitFault → Option (Option Reason)
-answer_in (Ok receipt) = Some None
-answer_in (Err fault) = option_map Some (reason_in fault)
+abbrev pub result_in : Result Receipt SubmitFault → Option (Option Reason)
+result_in (Ok receipt) = Some None
+result_in (Err fault) = option_map Some (reason_in fault)
 
 -- an entry doesn't belong to one receipt, or a reply is not one of a legal run; or memory ran out
 abbrev pub IsAuditOrMemory : RunFault → Type 0
@@ -77,18 +77,18 @@ IsAuditOrMemory e = (e ≡ fault.Audit) ⊎ (e ≡ fault.Memory)
 abbrev pub IsUnsettled : RunFault → Type 0
 IsUnsettled e = (e ≡ fault.Stopped) ⊎ IsAuditOrMemory e
 
--- the replies to these statements are answers, and the refusals among them are listed
+-- the replies to these statements have results, and the refusals among them are listed
 pub record Lists (statements : List Statement) (replies : List (Result Receipt SubmitFault)) (refused : List Refusal) : Type 0 where
-  pub answers : List (Option Reason)
-  pub as_many : length answers ≡ length statements
-  pub given : map answer_in replies ≡ map Some answers
-  pub listed : refused ≡ refusals statements answers
+  pub results : List (Option Reason)
+  pub as_many : length results ≡ length statements
+  pub given : map result_in replies ≡ map Some results
+  pub listed : refused ≡ refusals statements results
 
--- one reply more: it is an answer, and is listed after the others if it is a refusal
+-- one reply more: it has a result, and is listed after the others if it is a refusal
 pub record IsListed (s : Statement) (reply : Result Receipt SubmitFault) (old new : List Refusal) : Type 0 where
-  pub answer : Option Reason
-  pub given : answer_in reply ≡ Some answer
-  pub listed : new ≡ old ++ refusal_of s answer
+  pub result : Option Reason
+  pub given : result_in reply ≡ Some result
+  pub listed : new ≡ old ++ refusal_of s result
 
 -- whether memory ran out for a statement
 abbrev pub is_short : Result Receipt SubmitFault → Bool

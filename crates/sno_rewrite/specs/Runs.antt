@@ -47,7 +47,7 @@ pub record IsRun (options : Options) (bytes : List ℕ) (before after : Option (
   pub refused : ℕ
   pub reported : Reports options.workers options bytes lines refused
   pub written : Appends before after lines
-  pub told : status ≡ status_of_run refused
+  pub said : status ≡ status_of_run refused
 
 -- a beginning of the listing was written after what the writer held
 pub record IsBegun (options : Options) (bytes : List ℕ) (before after : Option (List ℕ)) : Type 0 where

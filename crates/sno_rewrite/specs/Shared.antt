@@ -73,14 +73,14 @@ HasCause tries v s (Some NoText) = Unit {0}
 HasCause tries v s None = Unit {0}
 
 -- a statement without a reason is accepted
-abbrev pub MayAnswer : ℕ → View → Statement → Option Reason → Type 0
-MayAnswer tries v s answer = IsNoTextIfMissing (state_of v) s answer × HasCause tries v s answer
+abbrev pub IsAllowed : ℕ → View → Statement → Option Reason → Type 0
+IsAllowed tries v s result = IsNoTextIfMissing (state_of v) s result × HasCause tries v s result
 
 -- each statement is accepted, or refused for a reason that is allowed
-abbrev pub AreAnswers : ℕ → View → List Statement → List (Option Reason) → Type 0
-AreAnswers tries v [] [] = Unit {0}
-AreAnswers tries v (s ∷ statements) (a ∷ answers) = MayAnswer tries v s a × AreAnswers tries v statements answers
-AreAnswers tries v _ _ = ⊥
+abbrev pub AreAllowed : ℕ → View → List Statement → List (Option Reason) → Type 0
+AreAllowed tries v [] [] = Unit {0}
+AreAllowed tries v (s ∷ statements) (a ∷ results) = IsAllowed tries v s a × AreAllowed tries v statements results
+AreAllowed tries v _ _ = ⊥
 
 -- a reason is listed with the statement's number
 abbrev pub refusal_of : Statement → Option Reason → List Refusal
@@ -89,29 +89,29 @@ refusal_of s (Some reason) = record { number = s.number; reason = reason } ∷ [
 
 -- the refused statements, in the document's order
 abbrev pub refusals : List Statement → List (Option Reason) → List Refusal
-refusals (s ∷ statements) (a ∷ answers) = refusal_of s a ++ refusals statements answers
+refusals (s ∷ statements) (a ∷ results) = refusal_of s a ++ refusals statements results
 refusals _ _ = []
 
 -- to which statement each entry of the journal belongs, by its place in the document. Each entry has a place, no two
 -- have the same, the entry's statement is at that place, and the places are those of the accepted statements.
 -- Statements whose places differ by a multiple of the number of workers are one worker's, and are in the journal in the
 -- document's order
-pub record IsOrder (workers : ℕ) (statements : List Statement) (answers : List (Option Reason)) (journal : List Entry) (order : List ℕ) : Type 0 where
+pub record IsOrder (workers : ℕ) (statements : List Statement) (results : List (Option Reason)) (journal : List Entry) (order : List ℕ) : Type 0 where
   pub as_many : length order ≡ length journal
   pub once : (j k p : ℕ) → slice_get order j ≡ Some p → slice_get order k ≡ Some p → j ≡ k
   pub statement : (k p : ℕ) → slice_get order k ≡ Some p → option_map (λ e. e.statement) (slice_get journal k) ≡ slice_get statements p
-  pub accepted : (k p : ℕ) → slice_get order k ≡ Some p → slice_get answers p ≡ Some None
-  pub all : (p : ℕ) → slice_get answers p ≡ Some None → (k : ℕ) × (slice_get order k ≡ Some p)
+  pub accepted : (k p : ℕ) → slice_get order k ≡ Some p → slice_get results p ≡ Some None
+  pub all : (p : ℕ) → slice_get results p ≡ Some None → (k : ℕ) × (slice_get order k ≡ Some p)
   pub in_turn : (j k p later : ℕ) → slice_get order j ≡ Some p → slice_get order k ≡ Some (p + (later + 1) * workers) → j < k
 
 -- the journal, which follows this opening, has each statement once, except the refused ones, which are listed with
 -- their reasons
 pub record Settles (workers tries : ℕ) (opening : Opening) (statements : List Statement) (h : History) : Type 0 where
-  pub answers : List (Option Reason)
-  pub answered : AreAnswers tries (record { opening = opening; journal = h.journal }) statements answers
-  pub refused : h.refused ≡ refusals statements answers
+  pub results : List (Option Reason)
+  pub allowed : AreAllowed tries (record { opening = opening; journal = h.journal }) statements results
+  pub refused : h.refused ≡ refusals statements results
   pub order : List ℕ
-  pub ordered : IsOrder workers statements answers h.journal order
+  pub ordered : IsOrder workers statements results h.journal order
 
 -- a history that a shared run of the document may have. The journal is legal from the document's texts, and the texts
 -- are those of its replay. The journal has each statement that isn't refused. One worker does what the serial run does

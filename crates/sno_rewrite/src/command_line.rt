@@ -1,7 +1,7 @@
 //! The options of the program, from its command-line arguments.
 ghost use Rattle.std.specs.Prelude.{◌≡◌, [], map, false, Some, IfOk, string_bytes};
 ghost use Rattle.clap.specs.Words.{app_of, FailsBy, found_of, kind_of, rows_of, rule_of};
-ghost use Rattle.sno_rewrite.specs.CommandLine.{are_valid, bare_program, faults, flag, flag_in, IsAnswer, IsChecked, is_up_to, number_in, numeric, numeric_or, option_rows, options_in, plain_options, program, shared_program, Tells};
+ghost use Rattle.sno_rewrite.specs.CommandLine.{are_valid, bare_program, faults, flag, flag_in, IsParsed, IsChecked, is_up_to, number_in, numeric, numeric_or, option_rows, options_in, plain_options, program, shared_program, IsFaultOf};
 ghost use Rattle.sno_rewrite.specs.Runs.{AreInLimits};
 
 use crate::Options;
@@ -160,7 +160,7 @@ fn are_valid(options: &Options) -> bool
 /// The fault of an error of `clap`, with `clap`'s own text: `Help` if help or the version was asked for, `Memory` if memory ran out
 /// before or now, and otherwise `Usage`.
 pub fn fault_of_error(alloc: Global, error: &Error) -> OptionsFault
-    ensures { Tells (kind_of error.now) result }
+    ensures { IsFaultOf (kind_of error.now) result }
 {
     let Ok(text) = format!(in alloc; "{error}") else {
         return OptionsFault::Memory;
@@ -202,7 +202,7 @@ fn check_limits(alloc: Global, options: Options) -> Result<Options, OptionsFault
 /// - `Memory`.
 pub fn options_of(alloc: Global, words: &[String]) -> Result<Options, OptionsFault>
     // The options are those of the arguments, within their limits. Otherwise the refusal has its cause.
-    ensures answer { IsAnswer (map string_bytes words.now) result }
+    ensures parsed { IsParsed (map string_bytes words.now) result }
     // Workers, tries and trials are within their limits.
     ensures limits { IfOk result (λ o. AreInLimits o) }
     // Without arguments these are the options.

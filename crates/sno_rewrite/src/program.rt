@@ -4,7 +4,7 @@ ghost use Rattle.std.specs.IoError.{error_kind};
 ghost use Rattle.std.specs.Vec.Iter.{into_iter_items};
 ghost use Rattle.sno_document.specs.declared.documents.TheConstants.{MAX_DOCUMENT};
 ghost use Rattle.sno_rewrite.specs.Faults.{status};
-ghost use Rattle.sno_rewrite.specs.CommandLine.{IsAnswer};
+ghost use Rattle.sno_rewrite.specs.CommandLine.{IsParsed};
 ghost use Rattle.sno_rewrite.specs.Program.{EndsBy, IsWordsFault, RunsTo, status_by};
 ghost use Rattle.sno_rewrite.specs.Runs.{AreInLimits};
 ghost use Rattle.sno_rewrite.specs.Streams.{TakesAtMost};
@@ -47,7 +47,7 @@ fn fault_of_words(alloc: Global, error: &io::Error) -> OptionsFault
 
 /// The options that the program's arguments give. The first argument is its name.
 fn options_after_name(alloc: Global, words: io::Result<Args>) -> Result<Options, OptionsFault>
-    ensures answer { MatchResult words (λ all. IsAnswer (map string_bytes (drop 1 (into_iter_items all))) result) (λ e. IsErrAnd result (IsWordsFault (error_kind e))) }
+    ensures parsed { MatchResult words (λ all. IsParsed (map string_bytes (drop 1 (into_iter_items all))) result) (λ e. IsErrAnd result (IsWordsFault (error_kind e))) }
     ensures limits { IfOk result (λ o. AreInLimits o) }
 {
     let words = words.map_err(|error| fault_of_words(alloc, &error))?;
@@ -104,9 +104,9 @@ pub fn run_program<T: Threads + Wait + Sync, R: Read, W: Write, E: Write>(
 ) -> u8
     // If the arguments give options, the run with these ends by the status. Otherwise their fault does, and nothing is
     // read.
-    ensures ends { (answer : Result Options OptionsFault)
-        × MatchResult words (λ all. IsAnswer (map string_bytes (drop 1 (into_iter_items all))) answer) (λ e. IsErrAnd answer (IsWordsFault (error_kind e)))
-        × MatchResult answer
+    ensures ends { (parsed : Result Options OptionsFault)
+        × MatchResult words (λ all. IsParsed (map string_bytes (drop 1 (into_iter_items all))) parsed) (λ e. IsErrAnd parsed (IsWordsFault (error_kind e)))
+        × MatchResult parsed
         (λ options. (outcome : Result ℕ RunFault) × (result ≡ status_by outcome) × IfOk outcome (λ _. errors.new ≡ errors.old)
         × RunsTo options (R.remaining reader.old) writer.old writer.new (W.contents writer.old) (W.contents writer.new) outcome)
         (λ fault. (reader.new ≡ reader.old)

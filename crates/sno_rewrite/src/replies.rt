@@ -3,10 +3,10 @@ ghost use Rattle.std.specs.Prelude.{◌≡◌, ◌<◌, ◌+◌, ℕ, length, ma
 ghost use Rattle.std.specs.List.{list_any};
 ghost use Rattle.std.specs.Arc.{arc_value};
 ghost use Rattle.sno_book.specs.Books.{view_of};
-ghost use Rattle.sno_desk.specs.Answers.{Answers};
-ghost use Rattle.sno_desk.specs.Turns.{AllAnswer};
+ghost use Rattle.sno_desk.specs.Replies.{IsReply};
+ghost use Rattle.sno_desk.specs.Turns.{AreReplies};
 ghost use Rattle.sno_rewrite.specs.Histories.{history_seen};
-ghost use Rattle.sno_rewrite.specs.Owners.{AreInTurn, IsAlone, IsAnsweredWithin, IsAuditOrMemory, IsListed, IsUnsettled, Lists, is_short, is_stopped, reason_in};
+ghost use Rattle.sno_rewrite.specs.Owners.{AreInTurn, IsAlone, IsReplyWithin, IsAuditOrMemory, IsListed, IsUnsettled, Lists, is_short, is_stopped, reason_in};
 ghost use Rattle.sno_rewrite.specs.Serial.{run_from};
 ghost use Rattle.sno_rewrite.specs.Shared.{Settles};
 ghost use Rattle.sno_rewrite.specs.declared.faults.RunFault.TheVariants.{Audit as AuditFailed, Memory as MemoryRefused, Stopped as StoppedThere};
@@ -105,8 +105,8 @@ pub(crate) fn settle_replies(
     replies: &[Reply],
     tries: u32,
 ) -> Result<BookWithRefusals, RunFault>
-    requires answers { AllAnswer (Answers (λ _ _. ⊥) tries book.opening) (map arc_value statements.now) replies.now }
-    requires within { AllAnswer (IsAnsweredWithin tries (view_of book)) (map arc_value statements.now) replies.now }
+    requires allowed { AreReplies (IsReply (λ _ _. ⊥) tries book.opening) (map arc_value statements.now) replies.now }
+    requires within { AreReplies (IsReplyWithin tries (view_of book)) (map arc_value statements.now) replies.now }
     ensures book { IfOk result (λ p. p.book ≡ book) }
     ensures settles { IfOk result (λ p. (workers : ℕ) → AreInTurn workers replies.now → Settles workers tries book.opening (map arc_value statements.now) (history_seen p)) }
     ensures alone { IfOk result (λ p. IsAlone tries (view_of book) (map arc_value statements.now) replies.now → run_from book.opening (map arc_value statements.now) ≡ Some (history_seen p)) }

@@ -43,8 +43,8 @@ pub struct Report {
 enum After {
     /// Its caller goes on, so the run frees what it held.
     Caller,
-    /// The process ends, which frees all memory at once. To free each text, statement and entry first would be the fifth part of
-    /// a run's work, to no end.
+    /// The process ends, which frees all memory at once. To free each text, statement and entry first costs a fifth of a
+    /// run for nothing.
     End,
 }
 

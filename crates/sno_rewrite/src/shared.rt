@@ -4,13 +4,13 @@ ghost use Rattle.std.specs.Arc.{arc_value};
 ghost use Rattle.std.specs.List.{All};
 ghost use Rattle.sno_book.specs.Views.{IsValid};
 ghost use Rattle.sno_book.specs.Books.{view_of};
-ghost use Rattle.sno_desk.specs.Answers.{Answers};
-ghost use Rattle.sno_desk.specs.Turns.{AllAnswer};
+ghost use Rattle.sno_desk.specs.Replies.{IsReply};
+ghost use Rattle.sno_desk.specs.Turns.{AreReplies};
 ghost use Rattle.sno_desk.specs.declared.desk.TheConstants.{MAX_TRIES};
 ghost use Rattle.sno_rewrite.specs.declared.options.TheConstants.{MAX_WORKERS};
 ghost use Rattle.sno_rewrite.specs.Histories.{history_seen};
 ghost use Rattle.sno_document.specs.Reads.{document_seen, IsReady};
-ghost use Rattle.sno_rewrite.specs.Owners.{AreInTurn, IsAlone, IsAnsweredWithin};
+ghost use Rattle.sno_rewrite.specs.Owners.{AreInTurn, IsAlone, IsReplyWithin};
 ghost use Rattle.sno_rewrite.specs.Runs.{IsOwn};
 ghost use Rattle.sno_rewrite.specs.Shared.{IsShared};
 
@@ -44,7 +44,7 @@ fn open_desk<L: Naming, R: Wait>(
     requires empty { book.journal ≡ [] }
     ensures opening { IfOk result (λ d. arc_value d.0.opening ≡ book.opening) }
     ensures count { IfOk result (λ d. length d.1.items ≡ workers) }
-    ensures none { IfOk result (λ d. All (λ s. (s.accepted ≡ 0) × (s.viewer.seen ≡ [])) d.1.items) }
+    ensures none { IfOk result (λ d. All (λ s. (s.accepted ≡ 0) × (s.seen ≡ [])) d.1.items) }
     ensures fault { IfErr result IsOwn }
 {
     match Desk::new(rt, alloc, blank, book, workers) {
@@ -66,12 +66,12 @@ fn work<L: Naming + Send + Sync, R: Threads + Wait + Sync>(
     requires opening { arc_value desk.opening ≡ L.opening }
     requires all { length seats.items ≡ L.parts }
     requires few { (1 ≤ length seats.items) × (length seats.items ≤ MAX_WORKERS) }
-    requires none { All (λ s. (s.accepted ≡ 0) × (s.viewer.seen ≡ [])) seats.items }
+    requires none { All (λ s. (s.accepted ≡ 0) × (s.seen ≡ [])) seats.items }
     requires tries { (1 ≤ tries) × (tries ≤ MAX_TRIES) }
     ensures opening { IfOk result (λ r. r.0.opening ≡ arc_value desk.opening) }
     ensures valid { IfOk result (λ r. IsValid (view_of r.0)) }
-    ensures answers { IfOk result (λ r. AllAnswer (Answers (λ _ _. ⊥) tries r.0.opening) (map arc_value statements.now) r.1.items) }
-    ensures within { IfOk result (λ r. AllAnswer (IsAnsweredWithin tries (view_of r.0)) (map arc_value statements.now) r.1.items) }
+    ensures allowed { IfOk result (λ r. AreReplies (IsReply (λ _ _. ⊥) tries r.0.opening) (map arc_value statements.now) r.1.items) }
+    ensures within { IfOk result (λ r. AreReplies (IsReplyWithin tries (view_of r.0)) (map arc_value statements.now) r.1.items) }
     ensures in_turn { IfOk result (λ r. AreInTurn (length seats.items) r.1.items) }
     ensures alone { IfOk result (λ r. length seats.items ≡ 1 → IsAlone tries (view_of r.0) (map arc_value statements.now) r.1.items) }
     ensures fault { IfErr result IsOwn }

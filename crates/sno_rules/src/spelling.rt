@@ -157,21 +157,28 @@ fn call_of(piece: &[u8], after: &[u8]) -> Option<SetWord>
     }
 }
 
+/// The word of a call, with how many characters come before it.
+#[derive(Clone, Copy)]
+struct PlacedWord {
+    word: SetWord,
+    place: usize,
+}
+
 /// Spells a call of this word. `after` is what comes after the word.
 fn put_call<'t>(
     alloc: Global,
     names: &[SetName<'t>],
     total: usize,
     spelling: &mut Spelling,
-    place: usize,
-    word: SetWord,
+    call: PlacedWord,
     after: &'t [u8],
 ) -> Result<&'t [u8], SpellingFault>
     requires some { 0 < length after.now }
     requires within { length after.now ≤ total }
-    ensures step { GivesCall names.now total (spelling_seen spelling.old) (spelling_seen spelling.new) place word after.now result }
+    ensures step { GivesCall names.now total (spelling_seen spelling.old) (spelling_seen spelling.new) call.place call.word after.now result }
     ensures shorter { IfOk result (λ rest. length rest.now < length after.now) }
 {
+    let PlacedWord { word, place } = call;
     let (_, inside) = after.split_at(1);
     let (members, rest) = joined(alloc, names, total, inside)?;
     let Some((_, rest)) = rest.split_first() else {
@@ -219,7 +226,8 @@ fn step<'t>(
     let place = total - text.len();
     let (piece, after) = text.split_at(piece_len(text));
     if let Some(word) = call_of(piece, after) {
-        let rest = put_call(alloc, names, total, spelling, place, word, after)?;
+        let call = PlacedWord { word, place };
+        let rest = put_call(alloc, names, total, spelling, call, after)?;
         return Ok(rest);
     }
     put_piece(alloc, spelling, place, piece, literal_of(names, piece))?;

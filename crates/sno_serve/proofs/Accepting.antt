@@ -6,7 +6,7 @@ use Rattle.sno_statement.specs.Statement.{Statement}
 use Rattle.sno_book.specs.Entries.{Entry}
 use Rattle.sno_book.specs.Openings.{Opening}
 use Rattle.sno_published.proofs.Prefixes.{prefix_length, prefix_self, prefix_trans}
-use Rattle.sno_desk.specs.Answers.{Answer, Answers, AnswersAt, receipts_in}
+use Rattle.sno_desk.specs.Replies.{Reply, IsReply, IsReplyAt, receipts_in}
 use Rattle.sno_desk.specs.Turns.{Position, position}
 use Rattle.sno_serve.specs.Accepted.{Accepts, AsksFor, HasAccepted, HasLooked, HasServed, HasTaken, IsGiven}
 use Rattle.sno_serve.specs.Asked.{asked_in}
@@ -76,13 +76,13 @@ taken_wider may wide wider first after (inr (entry, accepted)) = inr (
 )
 
 -- a submit takes at most one statement
-pub taken : (tries : ℕ) (opening : Opening) (count counted : ℕ) (before after : List Entry) (s : Statement) (answer : Answer) → Answers (λ _ _. ⊥) tries opening s answer
-    → AnswersAt tries opening before after s answer → Begins before after → counted ≡ count + receipts_in answer
+pub taken : (tries : ℕ) (opening : Opening) (count counted : ℕ) (before after : List Entry) (s : Statement) (returned : Reply) → IsReply (λ _ _. ⊥) tries opening s returned
+    → IsReplyAt tries opening before after s returned → Begins before after → counted ≡ count + receipts_in returned
     → HasTaken (λ t. t ≡ s) (position count before) (position counted after)
-taken tries opening count counted before after s (Ok receipt) answers at begins risen = inr (
+taken tries opening count counted before after s (Ok receipt) allowed at begins risen = inr (
   receipt.entry,
   record {
-    asked = answers.1;
+    asked = allowed.1;
     front = at.1.front;
     begins = begins;
     later = let index : length at.1.front ≡ receipt.index = at.1.many in let later : length before ≤ receipt.index = at.0 in omega (arith, index, later);
@@ -90,7 +90,7 @@ taken tries opening count counted before after s (Ok receipt) answers at begins 
     counted = risen;
   },
 )
-taken tries opening count counted before after s (Err fault) answers at begins risen = inl (record { begins = begins; same = omega (arith, risen) })
+taken tries opening count counted before after s (Err fault) allowed at begins risen = inl (record { begins = begins; same = omega (arith, risen) })
 
 -- one attempt at a version takes at most one statement
 pub taken_at : (opening : Opening) (count counted : ℕ) (before after : List Entry) (s : Statement) (version : ℕ) (gave : AtResult) → IsResultAt opening before after s version gave

@@ -19,7 +19,7 @@ use Rattle.sno_desk.specs.declared.faults.SnapshotFault.{SnapshotFault}
 use Rattle.sno_desk.specs.declared.faults.SnapshotFault.TheVariants as snapshot
 use Rattle.sno_desk.specs.Faults.{of_snapshot, of_statement}
 use Rattle.sno_desk.specs.Receipts.{IsCause, IsFor}
-use Rattle.sno_desk.specs.Seen.{GivesSeen, IsSeen, IsTold, view_after}
+use Rattle.sno_desk.specs.Seen.{GivesSeen, IsSeen, IsInView, view_after}
 use Rattle.sno_desk.proofs.Attempts.{IsProposed, committed_at, committed_no_text, has_place, performed_at}
 use Rattle.sno_desk.proofs.Causes.{explained}
 use Rattle.sno_serve.specs.AtVersion.{AtResult, IsResultAt, Refuses, at_commit}
@@ -64,7 +64,7 @@ committed_refuses (commit.Changed was now) opening before seen after s version p
 
 -- the commit was accepted
 pub committed : (opening : Opening) (before seen after : List Entry) (s : Statement) (version : ℕ) (p : Proposal) (r : Receipt) → p.version ≡ version → IsProposed opening seen s p
-    → length before ≤ r.index → IsFor r p → IsTold opening after r → IsResultAt opening before after s version (Ok r)
+    → length before ≤ r.index → IsFor r p → IsInView opening after r → IsResultAt opening before after s version (Ok r)
 committed opening before seen after s version p r at_version made later for shown = record {
   statement = ap (λ (e : Entry). e.statement) for.entry ∙ made.statement;
   at_version = ap (λ (e : Entry). e.version) for.entry ∙ at_version;

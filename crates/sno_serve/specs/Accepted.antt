@@ -6,7 +6,7 @@ use Rattle.sno_pattern.specs.Definitions.{Definitions}
 use Rattle.sno_statement.specs.Statement.{Statement}
 use Rattle.sno_book.specs.Entries.{Entry}
 use Rattle.sno_document.specs.declared.modes.Mode.{Mode}
-use Rattle.sno_desk.specs.Answers.{Answer, receipts_in}
+use Rattle.sno_desk.specs.Replies.{Reply, receipts_in}
 use Rattle.sno_desk.specs.Turns.{Position}
 use Rattle.sno_serve.specs.Asked.{asked_in}
 use Rattle.sno_serve.specs.Replies.{submit_reply, at_reply}
@@ -16,9 +16,9 @@ use Rattle.sno_serve.specs.declared.asked.Asked.TheVariants as asks
 
 -- the reply to a statement is that of a submit's result, and the seat's count has risen by the number of its receipts
 pub record IsCountedOnce (before after : ℕ) (id : Option Data) (d : Data) : Type 0 where
-  pub answer : Answer
-  pub reply : d ≡ submit_reply id answer
-  pub counted : after ≡ before + receipts_in answer
+  pub returned : Reply
+  pub reply : d ≡ submit_reply id returned
+  pub counted : after ≡ before + receipts_in returned
 
 -- the same for a statement at one version of its text
 pub record IsCountedAt (before after : ℕ) (id : Option Data) (d : Data) : Type 0 where

@@ -5,9 +5,9 @@ use Rattle.sno_statement.specs.declared.outcomes.StatementFault.TheVariants as s
 use Rattle.sno_book.specs.Entries.{Entry}
 use Rattle.sno_book.specs.Openings.{Opening, place_in}
 use Rattle.sno_book.specs.Proposals.{Receipt}
-use Rattle.sno_desk.specs.Answers.{IsPerformedOn, IsRefusedOn}
+use Rattle.sno_desk.specs.Replies.{IsPerformedOn, IsRefusedOn}
 use Rattle.sno_desk.specs.Faults.{of_commit}
-use Rattle.sno_desk.specs.Seen.{HasVersion, IsTold}
+use Rattle.sno_desk.specs.Seen.{HasVersion, IsInView}
 use Rattle.sno_desk.specs.declared.faults.CommitFault.{CommitFault}
 use Rattle.sno_desk.specs.declared.faults.CommitFault.TheVariants as commit
 use Rattle.sno_desk.specs.declared.faults.SubmitFault.{SubmitFault}
@@ -34,7 +34,7 @@ pub record IsAcceptedAt (opening : Opening) (before after : List Entry) (s : Sta
   pub statement : receipt.entry.statement ≡ s
   pub at_version : receipt.entry.version ≡ version
   pub later : length before ≤ receipt.index
-  pub shown : IsTold opening after receipt
+  pub shown : IsInView opening after receipt
 
 -- after all that the seat has seen the text of the statement's name has this version, which is another one
 pub record IsChanged (opening : Opening) (after : List Entry) (s : Statement) (version now : ℕ) : Type 0 where

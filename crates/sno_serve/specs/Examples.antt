@@ -1,6 +1,6 @@
 -- Limits, written out: another number is refused here.
 use Rattle.std.specs.Prelude.{◌≡◌, refl}
-use Rattle.sno_serve.specs.declared.answers.TheConstants.{MAX_INDEX}
+use Rattle.sno_serve.specs.declared.at_seat.TheConstants.{MAX_INDEX}
 use Rattle.sno_serve.specs.declared.intake.TheConstants.{MAX_LINE}
 
 -- the index past which no journal has an entry

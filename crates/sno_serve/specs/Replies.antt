@@ -11,7 +11,7 @@ use Rattle.sno_listing.specs.JsonListing.{array_of, count, text_members, done_me
 use Rattle.sno_listing.specs.declared.refusals.Reason.{Reason}
 use Rattle.sno_listing.specs.declared.refusals.Reason.TheVariants as reason
 use Rattle.sno_listing.specs.declared.refusals.Refusal.{Refusal}
-use Rattle.sno_desk.specs.Answers.{Answer, Answers, AnswersAt}
+use Rattle.sno_desk.specs.Replies.{Reply, IsReply, IsReplyAt}
 use Rattle.sno_desk.specs.Proposed.{GivesProposed}
 use Rattle.sno_desk.specs.Seen.{GivesSeen}
 use Rattle.sno_desk.specs.declared.faults.SnapshotFault.{SnapshotFault}
@@ -22,7 +22,7 @@ use Rattle.sno_serve.specs.Excerpts.{excerpt_of}
 use Rattle.sno_serve.specs.Versions.{GivesAll, text_at_version}
 use Rattle.sno_serve.specs.AtVersion.{AtResult, IsResultAt}
 use Rattle.sno_serve.specs.declared.at_version.AtFault.TheVariants as at
-use Rattle.sno_serve.specs.declared.answers.TheConstants.{MAX_INDEX}
+use Rattle.sno_serve.specs.declared.at_seat.TheConstants.{MAX_INDEX}
 use Rattle.sno_serve.specs.declared.asked.Asked.{Asked}
 use Rattle.sno_serve.specs.declared.asked.Asked.TheVariants as asks
 
@@ -57,7 +57,7 @@ submit_words submit.Full = reason_words reason.Full
 submit_words submit.Memory = codes "out of memory"
 
 -- the reply to a statement: its entry, as the listing has it, or the reason why it was refused
-abbrev pub submit_reply : Option Data → Answer → Data
+abbrev pub submit_reply : Option Data → Reply → Data
 submit_reply id (Ok receipt) = with_id id (done_members receipt.index receipt.entry receipt.entry.outcome)
 submit_reply id (Err fault) = word_reply id (codes "reason") (submit_words fault)
 
@@ -136,7 +136,7 @@ refusal_by s None = None
 refusal_by s (Some r) = Some (record { number = s; reason = r })
 
 -- what the listing has of a refused statement with this number
-abbrev pub refusal_in : ℕ → Answer → Option Refusal
+abbrev pub refusal_in : ℕ → Reply → Option Refusal
 refusal_in s (Ok receipt) = None
 refusal_in s (Err fault) = refusal_by s (reason_in fault)
 
@@ -152,11 +152,11 @@ capped n = if nat_lt n MAX_INDEX then n else MAX_INDEX
 
 -- a submit by the seat, with its reply and what the listing has of its refusal
 pub record IsPerformed (tries : ℕ) (opening : Opening) (before after : List Entry) (id : Option Data) (s : Statement) (d : Data) (refused : Option Refusal) : Type 0 where
-  pub answer : Answer
-  pub answers : Answers (λ _ _. ⊥) tries opening s answer
-  pub at : AnswersAt tries opening before after s answer
-  pub reply : d ≡ submit_reply id answer
-  pub refusal : refused ≡ refusal_in s.number answer
+  pub returned : Reply
+  pub allowed : IsReply (λ _ _. ⊥) tries opening s returned
+  pub at : IsReplyAt tries opening before after s returned
+  pub reply : d ≡ submit_reply id returned
+  pub refusal : refused ≡ refusal_in s.number returned
 
 -- one attempt by the seat at a version of the text, with its reply and what the listing has of its refusal
 pub record IsPerformedAt (opening : Opening) (before after : List Entry) (id : Option Data) (s : Statement) (version : ℕ) (d : Data) (refused : Option Refusal) : Type 0 where

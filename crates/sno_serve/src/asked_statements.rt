@@ -12,10 +12,22 @@ ghost use Rattle.sno_serve.specs.Binds.{bound_in, optional_seen};
 use crate::binds::{Bound, bound_in};
 use crate::{Asked, LineFault};
 use serde_json::Value;
-use sno_document::{DocumentFault, Mode, Rules, Statement, read_bound_statement, read_statement};
+use sno_document::{
+    Bound as BoundNames, DocumentFault, Mode, Rules, Statement, read_bound_statement,
+    read_statement,
+};
 use sno_statement::MAX_TRIALS;
 use std::alloc::{AllocError, Global};
 use std::sync::Arc;
+
+/// What a statement is read from: a line, the number that it is to have, and what its names and its limit are by.
+#[derive(Drop)]
+struct Source<'a> {
+    rules: &'a Arc<Rules>,
+    mode: Mode,
+    number: u32,
+    line: &'a [u8],
+}
 
 /// A statement is to be performed, at the version that the member is if there is one.
 fn asks_at(version: Option<&Value>, statement: Statement) -> Asked
@@ -43,19 +55,27 @@ fn asks_done(check: bool, version: Option<&Value>, statement: Statement) -> Aske
 /// The statement that the line is, in which names may represent texts, or its fault.
 fn statement_by(
     alloc: Global,
-    rules: &Arc<Rules>,
-    mode: Mode,
-    number: u32,
-    line: &[u8],
+    source: &Source<'_>,
     bound: &Option<Bound>,
 ) -> Result<Result<Statement, DocumentFault>, AllocError>
-    requires limit { IsLimit mode.trials }
-    requires bound { IfSome bound.now (λ b. IsBound (arc_value rules.now).names b.names b.texts.items) }
-    ensures { IfOk result (λ s. s ≡ statement_by (arc_value rules.now) mode number line.now (optional_seen bound.now)) }
+    requires limit { IsLimit source.now.mode.trials }
+    requires bound { IfSome bound.now (λ b. IsBound (arc_value source.now.rules.now).names b.names b.texts.items) }
+    ensures { IfOk result (λ s. s ≡ statement_by (arc_value source.now.rules.now) source.now.mode source.now.number source.now.line.now (optional_seen bound.now)) }
 {
+    let Source {
+        rules,
+        mode,
+        number,
+        line,
+    } = *source;
     let read = match bound {
         Some(Bound { names, texts }) => {
-            read_bound_statement(alloc, rules, names, texts, mode, number, line)
+            let names = BoundNames {
+                rules,
+                names,
+                texts,
+            };
+            read_bound_statement(alloc, names, mode, number, line)
         }
         None => read_statement(alloc, rules, mode, number, line),
     };
@@ -97,22 +117,19 @@ fn flag_in(member: Option<&Value>) -> Result<bool, LineFault>
 /// A statement with these texts is to be performed or tried.
 fn asks_bound(
     alloc: Global,
-    rules: &Arc<Rules>,
-    mode: Mode,
-    number: u32,
-    line: &[u8],
+    source: &Source<'_>,
     value: &Value,
     bound: &Option<Bound>,
 ) -> Result<Asked, AllocError>
-    requires limit { IsLimit mode.trials }
-    requires bound { IfSome bound.now (λ b. IsBound (arc_value rules.now).names b.names b.texts.items) }
-    ensures { IfOk result (λ a. a ≡ asks_checked (arc_value rules.now) mode number line.now (optional_seen bound.now) (get (codes "if_version") (view value.now)) (flag_in (get (codes "check") (view value.now)))) }
+    requires limit { IsLimit source.now.mode.trials }
+    requires bound { IfSome bound.now (λ b. IsBound (arc_value source.now.rules.now).names b.names b.texts.items) }
+    ensures { IfOk result (λ a. a ≡ asks_checked (arc_value source.now.rules.now) source.now.mode source.now.number source.now.line.now (optional_seen bound.now) (get (codes "if_version") (view value.now)) (flag_in (get (codes "check") (view value.now)))) }
 {
     let check = match flag_in(value.get("check")) {
         Ok(check) => check,
         Err(fault) => return Ok(Asked::Fault(fault)),
     };
-    match statement_by(alloc, rules, mode, number, line, bound)? {
+    match statement_by(alloc, source, bound)? {
         Ok(statement) => Ok(asks_done(check, value.get("if_version"), statement)),
         Err(fault) => Ok(Asked::Fault(LineFault::Document(fault))),
     }
@@ -135,9 +152,14 @@ pub(crate) fn asks_statement(
         Err(fault) => return Ok(Asked::Fault(fault)),
     };
     let anchor = mode.anchor;
-    let mode = Mode { anchor, trials };
+    let source = Source {
+        rules,
+        mode: Mode { anchor, trials },
+        number,
+        line,
+    };
     match bound_in(alloc, rules.names(), value.get("bind"))? {
-        Ok(bound) => asks_bound(alloc, rules, mode, number, line, value, &bound),
+        Ok(bound) => asks_bound(alloc, &source, value, &bound),
         Err(fault) => Ok(Asked::Fault(LineFault::Bind(fault))),
     }
 }

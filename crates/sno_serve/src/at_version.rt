@@ -68,8 +68,8 @@ pub(crate) fn submit_at<L: Naming, R: Wait>(
     statement: &Arc<Statement>,
     version: u64,
 ) -> Result<Receipt, AtFault>
-    ensures result { IsResultAt L.opening seat.old.viewer.seen seat.new.viewer.seen (arc_value statement.now) version result }
-    ensures begins { Begins seat.old.viewer.seen seat.new.viewer.seen }
+    ensures result { IsResultAt L.opening seat.old.seen seat.new.seen (arc_value statement.now) version result }
+    ensures begins { Begins seat.old.seen seat.new.seen }
     ensures counted { seat.new.accepted ≡ seat.old.accepted + receipts_at result }
 {
     let snapshot = seat.snapshot(statement.text())?;

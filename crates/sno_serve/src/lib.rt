@@ -1,6 +1,6 @@
 //! A desk that is served over streams: a JSON value a line, and a JSON object a line in reply.
 //!
-//! [`line_in`] reads one line, [`answer`] returns its reply, and [`serve`] reads lines until there are no more and writes the replies. What a
+//! [`line_in`] reads one line, [`reply_to`] returns its reply, and [`serve`] reads lines until there are no more and writes the replies. What a
 //! line asks for is said by `asked_in` of `specs/Asked.antt`, and the replies by `specs/Replies.antt`.
 //!
 //! | File | What it does |
@@ -8,7 +8,8 @@
 //! | `asked`, `asked_statements` | what a line asks for |
 //! | `binds` | the texts that names represent in one statement |
 //! | `replies` | the JSON of each reply |
-//! | `answers` | a line with its reply, at a seat |
+//! | `at_seat` | a line with its reply, at a seat |
+//! | `at_desk` | what a call at a desk takes |
 //! | `at_version` | a statement that is accepted only at one version of its text |
 //! | `versions` | texts at one moment, and as they were at a version; a statement that is only tried |
 //! | `excerpt` | which entries a line asks for |
@@ -18,9 +19,10 @@
 //! | `faults` | why a service ended early, and why a line can't be read |
 #![tactic(auto)]
 
-mod answers;
 mod asked;
 mod asked_statements;
+mod at_desk;
+mod at_seat;
 mod at_version;
 mod binds;
 mod excerpt;
@@ -32,13 +34,14 @@ mod replies;
 mod service;
 mod versions;
 
-pub use answers::{Answered, answer, refusal_in, submit};
 pub use asked::{Asked, Line, line_in};
+pub use at_desk::AtDesk;
+pub use at_seat::{Replied, refusal_in, reply_to, submit};
 pub use excerpt::Excerpt;
 pub use faults::{BindFault, LineFault, ServeFault};
 pub use ignored::with_ignored;
 pub use intake::{Intake, MAX_LINE, Next};
-pub use service::{Served, serve};
+pub use service::{Served, Terms, serve};
 pub use sno_desk::{Desk, Entry, Naming, Seat};
 pub use sno_document::{Document, Mode, Rules};
 pub use sno_listing::{Reason, Refusal};

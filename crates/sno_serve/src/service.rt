@@ -6,7 +6,6 @@ ghost use Rattle.sno_book.specs.Books.{view_of};
 ghost use Rattle.sno_book.specs.Views.{IsValid};
 ghost use Rattle.sno_statement.specs.Statement.{IsLimit};
 ghost use Rattle.sno_document.specs.Reads.{IsReady};
-ghost use Rattle.std.specs.Thread.{IsSend, IsSync};
 ghost use Rattle.std.specs.Arc.{arc_value};
 ghost use Rattle.sno_desk.specs.declared.desk.TheConstants.{MAX_SEATS, MAX_TRIES};
 ghost use Rattle.sno_desk.specs.Turns.{position};
@@ -15,15 +14,15 @@ ghost use Rattle.sno_serve.specs.Asked.{asked_in};
 ghost use Rattle.sno_serve.specs.Accepted.{HasServed, IsGiven};
 ghost use Rattle.sno_serve.specs.declared.faults.ServeFault.TheVariants.{Desk as Failed, Memory};
 
-use crate::answers::{refusal_in, submit};
+use crate::at_seat::{refusal_in, submit};
 use crate::ignored::with_ignored;
 use crate::intake::{Intake, Next};
 use crate::outlet::Outlet;
 use crate::replies::error_reply;
-use crate::{Answered, Asked, Line, ServeFault, answer, line_in};
+use crate::{Asked, Line, Replied, ServeFault, line_in, reply_to};
 use serde_json::Value;
 use sno_book::Book;
-use sno_desk::{AtDeskFault, Desk, DeskWork, Naming, Seat, at_desk};
+use sno_desk::{AtDeskFault, Desk, DeskWork, Naming, Seat, at_desk, may_cross};
 use sno_document::{Document, Mode, Rules};
 use sno_listing::Refusal;
 use sno_statement::Statement;
@@ -78,7 +77,7 @@ impl<I: Read + Drop, W: Write + Drop> Service<I, W> {
         desk: &Desk<L>,
         seat: &mut Seat<L>,
     ) -> Result<(), AllocError>
-        ensures served { HasServed (IsGiven (arc_value self.now.rules) (map arc_value self.now.statements.items) self.now.mode) (position seat.old.accepted seat.old.viewer.seen) (position seat.new.accepted seat.new.viewer.seen) }
+        ensures served { HasServed (IsGiven (arc_value self.now.rules) (map arc_value self.now.statements.items) self.now.mode) (position seat.old.accepted seat.old.seen) (position seat.new.accepted seat.new.seen) }
     {
         for statement in &self.statements {
             let number = statement.number();
@@ -98,7 +97,7 @@ impl<I: Read + Drop, W: Write + Drop> Service<I, W> {
         desk: &Desk<L>,
         seat: &mut Seat<L>,
     ) -> Result<Next, ServeFault>
-        ensures served { HasServed (IsGiven (arc_value self.now.rules) (map arc_value self.now.statements.items) self.now.mode) (position seat.old.accepted seat.old.viewer.seen) (position seat.new.accepted seat.new.viewer.seen) }
+        ensures served { HasServed (IsGiven (arc_value self.now.rules) (map arc_value self.now.statements.items) self.now.mode) (position seat.old.accepted seat.old.seen) (position seat.new.accepted seat.new.seen) }
     {
         let mut intake = self.intake.lock(rt);
         if !intake.is_begun {
@@ -134,11 +133,11 @@ impl<I: Read + Drop, W: Write + Drop> Service<I, W> {
         seat: &mut Seat<L>,
         line: &[u8],
     ) -> Result<(), AllocError>
-        ensures served { HasServed (IsGiven (arc_value self.now.rules) (map arc_value self.now.statements.items) self.now.mode) (position seat.old.accepted seat.old.viewer.seen) (position seat.new.accepted seat.new.viewer.seen) }
+        ensures served { HasServed (IsGiven (arc_value self.now.rules) (map arc_value self.now.statements.items) self.now.mode) (position seat.old.accepted seat.old.seen) (position seat.new.accepted seat.new.seen) }
     {
         let mut line = self.read(rt, alloc, line)?;
         let ignored = line.take_ignored(alloc);
-        let Answered { reply, refused } = answer(rt, alloc, desk, seat, line, self.tries)?;
+        let Replied { reply, refused } = reply_to(rt, alloc, desk, seat, line, self.tries)?;
         let reply = with_ignored(alloc, reply, ignored)?;
         let bytes = line_of(alloc, &reply)?;
         let mut outlet = self.outlet.lock(rt);
@@ -164,7 +163,7 @@ impl<I: Read + Drop, W: Write + Drop> Service<I, W> {
         desk: &Desk<L>,
         seat: &mut Seat<L>,
     ) -> Result<bool, ServeFault>
-        ensures served { HasServed (IsGiven (arc_value self.now.rules) (map arc_value self.now.statements.items) self.now.mode) (position seat.old.accepted seat.old.viewer.seen) (position seat.new.accepted seat.new.viewer.seen) }
+        ensures served { HasServed (IsGiven (arc_value self.now.rules) (map arc_value self.now.statements.items) self.now.mode) (position seat.old.accepted seat.old.seen) (position seat.new.accepted seat.new.seen) }
     {
         match self.next(rt, alloc, desk, seat)? {
             Next::End => Ok(false),
@@ -205,11 +204,16 @@ impl<I: Read + Drop, W: Write + Drop> DeskWork for Service<I, W> {
     }
 }
 
-/// A value of this type may go to another thread, and be shared there.
-fn may_cross<T: Send + Sync>()
-    ensures sends { IsSend T.row }
-    ensures shares { IsSync T.row }
-{}
+/// How a document is served.
+#[derive(Clone, Copy)]
+pub struct Terms {
+    /// Whether matches are anchored if a statement doesn't say so, and how many trials each may take.
+    pub mode: Mode,
+    /// How many seats take lines, 1 to 16.
+    pub seats: usize,
+    /// How often a seat may try a statement, 1 to 1,000.
+    pub tries: u32,
+}
 
 /// Serves a document: performs its statements, then replies to each line of the reader by a line of the writer, until there
 /// are no more. From 1 to 16 seats take lines as they come, each in a thread of its own. A statement takes the number after
@@ -225,20 +229,18 @@ pub fn serve<I: Read + Send + Drop, W: Write + Send + Drop, R: Threads + Wait + 
     rt: &R,
     alloc: Global,
     document: Document,
-    mode: Mode,
-    seats: usize,
-    tries: u32,
+    terms: Terms,
     reader: I,
     writer: W,
 ) -> Result<Served, ServeFault>
-    requires limit { IsLimit mode.trials }
-    requires few { (1 ≤ seats) × (seats ≤ MAX_SEATS) }
-    requires valid { (1 ≤ tries) × (tries ≤ MAX_TRIES) }
+    requires limit { IsLimit terms.mode.trials }
+    requires few { (1 ≤ terms.seats) × (terms.seats ≤ MAX_SEATS) }
+    requires valid { (1 ≤ terms.tries) × (terms.tries ≤ MAX_TRIES) }
     requires ready { IsReady document }
     ensures opening { IfOk result (λ s. s.book.opening ≡ document.book.opening) }
     ensures valid { IfOk result (λ s. IsValid (view_of s.book)) }
-    ensures worked { IfOk result (λ s. HasWorkedAt (λ before after. Begins before.seen after.seen) seats s.book.journal) }
-    ensures given { IfOk result (λ s. HasWorkedAt (HasServed (IsGiven (arc_value document.rules) (map arc_value document.statements.items) mode)) seats s.book.journal) }
+    ensures worked { IfOk result (λ s. HasWorkedAt (λ before after. Begins before.seen after.seen) terms.seats s.book.journal) }
+    ensures given { IfOk result (λ s. HasWorkedAt (HasServed (IsGiven (arc_value document.rules) (map arc_value document.statements.items) terms.mode)) terms.seats s.book.journal) }
     ensures rising { IfOk result (λ s. IsNonDecreasingBy (λ r. r.number) s.refused.items) }
     ensures refused { IfErr result (λ e. (e ≡ Memory) ⊎ (e ≡ Failed)) }
 {
@@ -254,13 +256,13 @@ pub fn serve<I: Read + Send + Drop, W: Write + Send + Drop, R: Threads + Wait + 
     let service = Service {
         rules,
         statements,
-        mode,
-        tries,
+        mode: terms.mode,
+        tries: terms.tries,
         numbers: Mutex::new(first),
         intake: Mutex::new(Intake::new(alloc, reader)?),
         outlet: Mutex::new(Outlet::new(alloc, writer)),
     };
-    let book = match at_desk(rt, alloc, book, seats, &service) {
+    let book = match at_desk(rt, alloc, book, terms.seats, &service) {
         Ok(book) => book,
         Err((AtDeskFault::Desk(_), _)) | Err((AtDeskFault::Close(_), _)) => {
             return Err(ServeFault::Desk);

@@ -8,9 +8,10 @@ ghost use Rattle.sno_book.specs.Openings.{names_in, place_in};
 ghost use Rattle.sno_serve.specs.Replies.{IsListed, IsTried, read_at_reply, word_reply};
 ghost use Rattle.sno_serve.specs.Versions.{given_by, opened_at, replaced_at, text_at_version};
 
+use crate::at_desk::AtDesk;
 use crate::replies::{check_reply, look_reason, read_at_reply, reason_reply, texts_reply};
 use serde_json::Value;
-use sno_desk::{Desk, Entry, Naming, Opening, Seat, SinceFault, Statement, Text, TextName};
+use sno_desk::{Entry, Naming, Opening, Seat, SinceFault, Statement, Text, TextName};
 use std::alloc::{AllocError, Global};
 use std::sync::{Arc, Wait};
 
@@ -66,18 +67,17 @@ fn text_at<'t>(
 
 /// Reads a text as it was at a version. The time grows with the journal.
 pub(crate) fn look_at<L: Naming, R: Wait>(
-    rt: &R,
-    alloc: Global,
-    desk: &Desk<L>,
+    at: &AtDesk<'_, L, R>,
     seat: &mut Seat<L>,
     id: Option<Value>,
     name: &TextName,
     version: u64,
 ) -> Result<Value, AllocError>
-    ensures looked { IfOk result (λ v. (view v ≡ read_at_reply (option_map view id) name.now version (place_in L.opening name.now) (text_at_version L.opening seat.new.viewer.seen name.now version)) ⊎ (view v ≡ word_reply (option_map view id) (codes "reason") (codes "stopped"))) }
+    ensures looked { IfOk result (λ v. (view v ≡ read_at_reply (option_map view id) name.now version (place_in L.opening name.now) (text_at_version L.opening seat.new.seen name.now version)) ⊎ (view v ≡ word_reply (option_map view id) (codes "reason") (codes "stopped"))) }
     ensures same { seat.new.accepted ≡ seat.old.accepted }
-    ensures begins { Begins seat.old.viewer.seen seat.new.viewer.seen }
+    ensures begins { Begins seat.old.seen seat.new.seen }
 {
+    let AtDesk { rt, alloc, desk } = *at;
     let opening = seat.opening()?;
     match desk.since(rt, seat, 0) {
         Ok(entries) => {
@@ -111,9 +111,9 @@ pub(crate) fn list_texts<L: Naming>(
     seat: &mut Seat<L>,
     id: Option<Value>,
 ) -> Result<Value, AllocError>
-    ensures listed { IfOk result (λ v. IsListed L.opening seat.new.viewer.seen (option_map view id) (view v)) }
+    ensures listed { IfOk result (λ v. IsListed L.opening seat.new.seen (option_map view id) (view v)) }
     ensures same { seat.new.accepted ≡ seat.old.accepted }
-    ensures begins { Begins seat.old.viewer.seen seat.new.viewer.seen }
+    ensures begins { Begins seat.old.seen seat.new.seen }
 {
     let opening = seat.opening()?;
     let names = names_of(alloc, &opening)?;
@@ -136,9 +136,9 @@ pub(crate) fn try_out<L: Naming>(
     id: Option<Value>,
     statement: Statement,
 ) -> Result<Value, AllocError>
-    ensures tried { IfOk result (λ v. IsTried L.opening seat.new.viewer.seen (option_map view id) statement (view v)) }
+    ensures tried { IfOk result (λ v. IsTried L.opening seat.new.seen (option_map view id) statement (view v)) }
     ensures same { seat.new.accepted ≡ seat.old.accepted }
-    ensures begins { Begins seat.old.viewer.seen seat.new.viewer.seen }
+    ensures begins { Begins seat.old.seen seat.new.seen }
 {
     let statement = Arc::new(alloc, statement)?;
     let gave = seat.propose(alloc, &statement);

@@ -174,8 +174,8 @@ fn match_in<'t>(
     })
 }
 
-/// The first match of a statement in the content of a file, whether or not the statement is for all matches; `None` if there is
-/// none. It is sought as the statement's first round is. The code is that of the statement's pattern, compiled with its definitions.
+/// The first match of a statement in the content of a file, whether or not the statement is for all matches; `None` if nothing
+/// matches. It is sought as the statement's first round is. The code is that of the statement's pattern, compiled with its definitions.
 ///
 /// Refused:
 /// - `TooManyTrials` exactly if the match takes more than `trials` trials, unless one of the others comes first;

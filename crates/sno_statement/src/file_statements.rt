@@ -34,7 +34,7 @@ impl Model for FileStatement {
     ghost invariant = { λ s. (s.search.object ≡ None) × (s.search.repeat ≡ None) × IfSome s.repeat (λ r. IsRepeat s.object r) × IsOneWay s.repeat s.search.all };
 }
 
-/// A part of an object as one whose literals are texts; `None` if its literal is none.
+/// A part of an object as one whose literals are texts; `None` if its literal is not a text.
 fn plain_part(alloc: Global, part: &BytePart) -> Result<Option<Part>, AllocError>
     ensures { IfOk result (λ plain. MatchOption plain (is_plain (part_of part.now) ≡ false) (λ p. (is_plain (part_of part.now) ≡ true) × (p ≡ part_of part.now))) }
 {
@@ -47,7 +47,7 @@ fn plain_part(alloc: Global, part: &BytePart) -> Result<Option<Part>, AllocError
     }
 }
 
-/// The parts of an object as those whose literals are texts; `None` if a literal is none.
+/// The parts of an object as those whose literals are texts; `None` if a literal is not a text.
 fn plain_parts(alloc: Global, parts: &[BytePart]) -> Result<Option<Vec<Part>>, AllocError>
     ensures { IfOk result (λ plain. MatchOption plain (list_all is_plain (map part_of parts.now) ≡ false) (λ v. v.items ≡ map part_of parts.now)) }
 {
@@ -90,7 +90,7 @@ impl FileStatement {
     /// memory and is never refused.
     ///
     /// `search` has no object of its own, and so isn't repeated. Its limit of trials counts only if it is performed alone:
-    /// [`rewrite`](crate::rewrite) is passed its own.
+    /// [`rewrite`](crate::rewrite) takes a limit of its own.
     pub fn new(search: Statement, object: Option<ByteObject>) -> FileStatement
         requires { search.object ≡ None }
         ensures { result ≡ with_object search object }
@@ -102,7 +102,7 @@ impl FileStatement {
         }
     }
 
-    /// The same statement, for files. Its object's literals are copied. Refused only if out of memory.
+    /// A statement for texts as one for files. Its object's literals are copied. Refused only if out of memory.
     pub fn of(alloc: Global, statement: Statement) -> Result<FileStatement, AllocError>
         ensures { IfOk result (λ s. s ≡ statement) }
     {

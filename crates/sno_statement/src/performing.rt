@@ -117,7 +117,7 @@ fn new_text(
     let Some(length) = new_length(subject, hit.start, hit.end, parts, &lent) else {
         return Err(StatementFault::TextTooLong);
     };
-    let characters = replace(alloc, subject, hit.start, hit.end, parts, &lent, length)?;
+    let characters = replace(alloc, subject, hit, parts, &lent, length)?;
     Ok(Arc::new(alloc, text_of(characters))?)
 }
 

@@ -32,6 +32,23 @@ pub struct Rewritten {
     pub after: Option<Arc<ByteText>>,
 }
 
+/// A statement with an object, its code, and how many trials the match of each round may take.
+#[derive(Clone, Copy)]
+struct Rounds<'c, 'a> {
+    code: &'c Code<'a>,
+    statement: &'c FileStatement,
+    object: &'c ByteObject,
+    trials: u32,
+}
+
+/// A match in the bytes that were searched, with what its search assigned at once.
+#[derive(Clone, Copy)]
+struct FoundIn<'f> {
+    subject: &'f [u8],
+    sets: &'f Assigns,
+    hit: &'f Hit,
+}
+
 /// The text of these bytes. They are no more than a text can have.
 fn text_of(bytes: Vec<u8>) -> ByteText
     requires { length bytes.items ≤ MAX_BYTES }
@@ -89,24 +106,27 @@ fn finish(
     }
 }
 
-/// One round of a statement with an object: the new text, or `None` if the round failed. The code is that of the statement's
-/// pattern.
+/// One round: the new text, or `None` if the round failed. The code is that of the statement's pattern.
 fn round<'a>(
     alloc: Global,
-    code: &Code<'a>,
+    rounds: Rounds<'_, 'a>,
     workspace: &mut Workspace<'a>,
-    statement: &FileStatement,
-    object: &ByteObject,
     subject: &ByteText,
-    trials: u32,
 ) -> Result<Option<ByteText>, FileStatementFault>
-    requires code { IsCodeOf code.now statement.now }
-    requires object { statement.now.object ≡ Some object.now }
-    ensures { GivesRound result (perform_once_within MAX_BYTES (with_limit statement.now trials) subject.now) }
+    requires code { IsCodeOf rounds.code.now rounds.statement.now }
+    requires object { rounds.statement.now.object ≡ Some rounds.object.now }
+    ensures { GivesRound result (perform_once_within MAX_BYTES (with_limit rounds.entry.statement.now rounds.entry.trials) subject.now) }
 {
-    let anchored = statement.search().anchored();
-    let found = first_in(alloc, code, workspace, subject, anchored, trials)?;
-    let after = finish(alloc, object, subject, &found);
+    let anchored = rounds.statement.search().anchored();
+    let found = first_in(
+        alloc,
+        rounds.code,
+        workspace,
+        subject,
+        anchored,
+        rounds.trials,
+    )?;
+    let after = finish(alloc, rounds.object, subject, &found);
     workspace.give_back(found);
     after
 }
@@ -155,24 +175,21 @@ fn left_by(
 /// are held at a time, beside the subject.
 fn rewrite_rounds(
     alloc: Global,
-    code: &Code<'_>,
-    statement: &FileStatement,
-    object: &ByteObject,
+    rounds: Rounds<'_, '_>,
     subject: &ByteText,
-    trials: u32,
     times: u32,
 ) -> Result<Rewritten, FileStatementFault>
-    requires code { IsCodeOf code.now statement.now }
-    requires object { statement.now.object ≡ Some object.now }
+    requires code { IsCodeOf rounds.code.now rounds.statement.now }
+    requires object { rounds.statement.now.object ≡ Some rounds.object.now }
     requires some { 1 ≤ times }
-    ensures rewritten { GivesRewritten result (rewriting (perform_times_within MAX_BYTES (with_limit statement.now trials) (Some times) subject.now)) }
+    ensures rewritten { GivesRewritten result (rewriting (perform_times_within MAX_BYTES (with_limit rounds.entry.statement.now rounds.entry.trials) (Some times) subject.now)) }
     ensures few { IfOk result (λ r. r.matches < 2 ^ 32) }
 {
     let mut workspace = Workspace::bounded(alloc, MAX_KEPT);
     let mut last = None;
     for matches in 0..times {
         let text = latest(&last, subject);
-        match round(alloc, code, &mut workspace, statement, object, text, trials)? {
+        match round(alloc, rounds, &mut workspace, text)? {
             None => return left_by(alloc, matches, last),
             Some(next) => last = Some(next),
         }
@@ -233,20 +250,19 @@ fn with_match(
 /// Adds what lies between a cursor and the match of a search, and the object's value for it; `None` if the text is too long then.
 fn with_hit(
     alloc: Global,
-    subject: &[u8],
     text: Option<Vec<u8>>,
     cursor: usize,
     object: &ByteObject,
     one: &mut Assigned,
-    sets: &Assigns,
-    hit: &Hit,
+    found: FoundIn<'_>,
 ) -> Result<Option<Vec<u8>>, AllocError>
-    requires subject { length subject.now ≤ MAX_BYTES }
-    requires lies { SetsLie subject.now sets.now }
+    requires subject { length found.subject.now ≤ MAX_BYTES }
+    requires lies { SetsLie found.subject.now found.sets.now }
     requires text { IfSome text (λ v. length v.items ≤ MAX_BYTES) }
-    ensures added { IfOk result (λ new. MatchOption text (new ≡ None) (λ v. MatchOption new (MAX_BYTES < length ((v.items ++ part subject.now cursor hit.now.start) ++ value_of (match_by subject.now sets.now hit.now).bindings object.now)) (λ w. w.items ≡ (v.items ++ part subject.now cursor hit.now.start) ++ value_of (match_by subject.now sets.now hit.now).bindings object.now))) }
+    ensures added { IfOk result (λ new. MatchOption text (new ≡ None) (λ v. MatchOption new (MAX_BYTES < length ((v.items ++ part found.entry.subject.now cursor found.entry.hit.now.start) ++ value_of (match_by found.entry.subject.now found.entry.sets.now found.entry.hit.now).bindings object.now)) (λ w. w.items ≡ (v.items ++ part found.entry.subject.now cursor found.entry.hit.now.start) ++ value_of (match_by found.entry.subject.now found.entry.sets.now found.entry.hit.now).bindings object.now))) }
     ensures short { IfOk result (λ new. IfSome new (λ v. length v.items ≤ MAX_BYTES)) }
 {
+    let FoundIn { subject, sets, hit } = found;
     one.replace(alloc, subject, sets.as_slice(), hit.conds.as_slice())?;
     let values = Spans::of(subject, one.as_slice());
     let kept = between(subject, cursor, hit.start);
@@ -309,7 +325,12 @@ fn replace_left(
     let mut cursor = 0;
     let mut matches = 0;
     while let Some((sets, hit)) = pass.next_in_file(alloc)? {
-        text = with_hit(alloc, subject, text, cursor, object, &mut one, &sets, &hit)?;
+        let found = FoundIn {
+            subject,
+            sets: &sets,
+            hit: &hit,
+        };
+        text = with_hit(alloc, text, cursor, object, &mut one, found)?;
         cursor = hit.end;
         matches += 1;
         pass.give_back(sets, hit);
@@ -405,7 +426,13 @@ pub fn rewrite(
         None => match_once(alloc, &code, statement, subject, trials),
         Some(object) => {
             let times = rounds_of(statement);
-            rewrite_rounds(alloc, &code, statement, object, subject, trials, times)
+            let rounds = Rounds {
+                code: &code,
+                statement,
+                object,
+                trials,
+            };
+            rewrite_rounds(alloc, rounds, subject, times)
         }
     }
 }

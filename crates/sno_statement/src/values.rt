@@ -11,7 +11,7 @@ ghost use Rattle.sno_pattern.specs.declared.texts.TheConstants.{MAX_TEXT};
 
 use crate::match_lists::Matches;
 use crate::{BindingsRef, DatumRef};
-use sno_pattern::{Name, Text};
+use sno_pattern::{Hit, Name, Text};
 use sno_read::Part;
 use std::alloc::{AllocError, Global};
 
@@ -139,25 +139,23 @@ pub(crate) fn put_parts(
     Ok(())
 }
 
-/// The characters in which the object's value replaces the part between two cursors. If `length` is their number, their
-/// memory is taken at once.
+/// The characters in which the object's value replaces a match. If `length` is their number, their memory is taken at once.
 #[tactic(auto, using(crate::proofs::Ascii::ascii_append, crate::proofs::Ascii::ascii_take, crate::proofs::Ascii::ascii_drop))]
 pub(crate) fn replace(
     alloc: Global,
     subject: &Text,
-    start: usize,
-    end: usize,
+    hit: &Hit,
     parts: &[Part],
     bindings: &BindingsRef<'_>,
     length: usize,
 ) -> Result<Vec<u8>, AllocError>
-    ensures value { IfOk result (λ v. v.items ≡ new_text subject.now start end (value_of bindings.now parts.now)) }
+    ensures value { IfOk result (λ v. v.items ≡ new_text subject.now hit.now.start hit.now.end (value_of bindings.now parts.now)) }
     ensures ascii { IfOk result (λ v. IsTrue (list_all is_ascii v.items)) }
 {
     let mut out = Vec::with_capacity(alloc, length)?;
-    out.extend_from_slice(front(subject.bytes(), start))?;
+    out.extend_from_slice(front(subject.bytes(), hit.start))?;
     put_parts(alloc, parts, bindings, &mut out)?;
-    out.extend_from_slice(back(subject.bytes(), end))?;
+    out.extend_from_slice(back(subject.bytes(), hit.end))?;
     Ok(out)
 }
 

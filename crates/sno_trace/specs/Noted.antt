@@ -147,7 +147,7 @@ noted_definition t bodies (suc k) i c = noted_body (noted_of t (noted_definition
 abbrev pub noted : List ℕ → List Tree → ℕ → Tree → ℕ → List Noted
 noted t bodies k p c = noted_of t (noted_definition t bodies k) k p c
 
--- the first n trials with what comes between them; Stop in the place of a further one
+-- the first n trials with what comes between them; Stop instead of a further one
 abbrev pub upto : ℕ → List Noted → List Noted
 upto n [] = []
 upto zero (Try x ∷ l) = Stop ∷ []

@@ -61,7 +61,7 @@ until_ended ((s, End e a) ∷ l) = (s, End e a) ∷ []
 until_ended ((s, Halt) ∷ l) = (s, Halt) ∷ []
 until_ended ((s, Stop) ∷ l) = (s, Stop) ∷ []
 
--- the first n trials with what comes between them; Stop in the place of a further one
+-- the first n trials with what comes between them; Stop instead of a further one
 abbrev pub first_shown : ℕ → List Shown → List Shown
 first_shown n [] = []
 first_shown zero ((s, Try x) ∷ l) = (s, Stop) ∷ []

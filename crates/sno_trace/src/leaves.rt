@@ -12,6 +12,14 @@ use sno_pattern::{Assign, Name, Pattern, What};
 use sno_primitives::{first_balanced, leaf_end};
 use std::alloc::{AllocError, Global};
 
+// A leaf that is met at a cursor. `below` more references may be nested.
+#[derive(Clone, Copy)]
+struct Met<'a> {
+    leaf: &'a Pattern,
+    cursor: usize,
+    below: u128,
+}
+
 // What a pattern without parts does from a cursor, within a limit of trials. `below` more references may be nested.
 #[inline(never)]
 #[tactic(auto, unfolding(crate::specs::Noted::noted_of))]
@@ -31,6 +39,11 @@ pub fn leaf<'a>(
         let stopped = one_stop(alloc)?;
         return Ok(stopped);
     }
+    let met = Met {
+        leaf: pattern,
+        cursor: c,
+        below,
+    };
     match pattern {
         Pattern::Lit(_)
         | Pattern::Bytes(_)
@@ -43,13 +56,13 @@ pub fn leaf<'a>(
         | Pattern::NoneOf(_)
         | Pattern::Span(_)
         | Pattern::Break(_)
-        | Pattern::Rem => at_most_one(alloc, below, limit, pattern, c, leaf_end(text, pattern, c)),
-        Pattern::Arb => arb(alloc, text, below, limit, pattern, c),
-        Pattern::Bal => bal(alloc, text, below, limit, pattern, c),
-        Pattern::Fence => fence(alloc, below, limit, pattern, c),
-        Pattern::Abort => abort(alloc, below, limit, pattern, c),
-        Pattern::Fail => at_most_one(alloc, below, limit, pattern, c, None),
-        Pattern::At(name) => cursor(alloc, below, limit, pattern, *name, c),
+        | Pattern::Rem => at_most_one(alloc, limit, met, leaf_end(text, pattern, c)),
+        Pattern::Arb => arb(alloc, text, limit, met),
+        Pattern::Bal => bal(alloc, text, limit, met),
+        Pattern::Fence => fence(alloc, limit, met),
+        Pattern::Abort => abort(alloc, limit, met),
+        Pattern::Fail => at_most_one(alloc, limit, met, None),
+        Pattern::At(name) => cursor(alloc, limit, met, *name),
         Pattern::Arbno(_)
         | Pattern::Ref(_)
         | Pattern::Seq(_, _)
@@ -62,20 +75,18 @@ pub fn leaf<'a>(
 // Adds a trial of the leaf.
 fn push_trial<'a>(
     events: &mut Vec<Noted<'a>>,
-    below: u128,
-    pattern: &'a Pattern,
-    c: usize,
+    met: Met<'a>,
     end: Option<usize>,
     again: bool,
 ) -> Result<(), AllocError>
-    ensures { OnOk result (events.new.items ≡ events.old.items ++ tried below (tree_of pattern.now) c end again ∷ []) }
+    ensures { OnOk result (events.new.items ≡ events.old.items ++ tried met.entry.below (tree_of met.entry.leaf.now) met.entry.cursor end again ∷ []) }
 {
     events.push(Noted::Try(Trial {
-        leaf: Leaf::of(pattern),
-        cursor: c,
+        leaf: Leaf::of(met.leaf),
+        cursor: met.cursor,
         end,
         again,
-        below,
+        below: met.below,
     }))?;
     Ok(())
 }
@@ -84,15 +95,13 @@ fn push_trial<'a>(
 fn push_tried<'a>(
     alloc: Global,
     events: &mut Vec<Noted<'a>>,
-    below: u128,
-    pattern: &'a Pattern,
-    c: usize,
+    met: Met<'a>,
     end: usize,
     again: bool,
 ) -> Result<(), AllocError>
-    ensures { OnOk result (events.new.items ≡ events.old.items ++ tried below (tree_of pattern.now) c (Some end) again ∷ NotedEvent.End end [] ∷ []) }
+    ensures { OnOk result (events.new.items ≡ events.old.items ++ tried met.entry.below (tree_of met.entry.leaf.now) met.entry.cursor (Some end) again ∷ NotedEvent.End end [] ∷ []) }
 {
-    push_trial(events, below, pattern, c, Some(end), again)?;
+    push_trial(events, met, Some(end), again)?;
     push_end(alloc, events, end)?;
     Ok(())
 }
@@ -100,17 +109,15 @@ fn push_tried<'a>(
 // What a leaf does that has at most one end.
 fn at_most_one<'a>(
     alloc: Global,
-    below: u128,
     limit: usize,
-    pattern: &'a Pattern,
-    c: usize,
+    met: Met<'a>,
     end: Option<usize>,
 ) -> Result<Vec<Noted<'a>>, AllocError>
     requires { 0 < limit }
-    ensures { IfOk result (λ v. v.items ≡ upto limit (noted_ends below (tree_of pattern.now) c (option_to_list end))) }
+    ensures { IfOk result (λ v. v.items ≡ upto limit (noted_ends met.entry.below (tree_of met.entry.leaf.now) met.entry.cursor (option_to_list end))) }
 {
     let mut events = Vec::new(alloc);
-    push_trial(&mut events, below, pattern, c, end, false)?;
+    push_trial(&mut events, met, end, false)?;
     if let Some(end) = end {
         push_end(alloc, &mut events, end)?;
     }
@@ -120,23 +127,21 @@ fn at_most_one<'a>(
 fn arb<'a>(
     alloc: Global,
     text: &[u8],
-    below: u128,
     limit: usize,
-    pattern: &'a Pattern,
-    c: usize,
+    met: Met<'a>,
 ) -> Result<Vec<Noted<'a>>, AllocError>
-    requires { c ≤ length text.now }
-    ensures { IfOk result (λ v. v.items ≡ upto limit (noted_ends below (tree_of pattern.now) c (arb_ends text.now c))) }
+    requires { met.cursor ≤ length text.now }
+    ensures { IfOk result (λ v. v.items ≡ upto limit (noted_ends met.entry.below (tree_of met.entry.leaf.now) met.entry.cursor (arb_ends text.now met.entry.cursor))) }
 {
     let mut events = Vec::new(alloc);
     let mut left = limit;
     let mut again = false;
-    for end in c..text.len() + 1 {
+    for end in met.cursor..text.len() + 1 {
         if left == 0 {
             events.push(Noted::Stop)?;
             return Ok(events);
         }
-        push_tried(alloc, &mut events, below, pattern, c, end, again)?;
+        push_tried(alloc, &mut events, met, end, again)?;
         left -= 1;
         again = true;
     }
@@ -146,19 +151,17 @@ fn arb<'a>(
 fn bal<'a>(
     alloc: Global,
     text: &[u8],
-    below: u128,
     limit: usize,
-    pattern: &'a Pattern,
-    c: usize,
+    met: Met<'a>,
 ) -> Result<Vec<Noted<'a>>, AllocError>
-    requires within { c ≤ length text.now }
+    requires within { met.cursor ≤ length text.now }
     requires some { 0 < limit }
-    ensures { IfOk result (λ v. v.items ≡ upto limit (noted_ends below (tree_of pattern.now) c (bal_ends text.now c))) }
+    ensures { IfOk result (λ v. v.items ≡ upto limit (noted_ends met.entry.below (tree_of met.entry.leaf.now) met.entry.cursor (bal_ends text.now met.entry.cursor))) }
 {
-    if first_balanced(text, c).is_none() {
-        return at_most_one(alloc, below, limit, pattern, c, None);
+    if first_balanced(text, met.cursor).is_none() {
+        return at_most_one(alloc, limit, met, None);
     }
-    let events = balanced(alloc, text, below, limit, pattern, c)?;
+    let events = balanced(alloc, text, limit, met)?;
     Ok(events)
 }
 
@@ -166,24 +169,22 @@ fn bal<'a>(
 fn balanced<'a>(
     alloc: Global,
     text: &[u8],
-    below: u128,
     limit: usize,
-    pattern: &'a Pattern,
-    c: usize,
+    met: Met<'a>,
 ) -> Result<Vec<Noted<'a>>, AllocError>
-    requires { c ≤ length text.now }
-    ensures { IfOk result (λ v. v.items ≡ upto limit (noted_tries below false (tree_of pattern.now) c (bal_ends text.now c))) }
+    requires { met.cursor ≤ length text.now }
+    ensures { IfOk result (λ v. v.items ≡ upto limit (noted_tries met.entry.below false (tree_of met.entry.leaf.now) met.entry.cursor (bal_ends text.now met.entry.cursor))) }
 {
     let mut events = Vec::new(alloc);
     let mut left = limit;
     let mut again = false;
-    let mut cursor = c;
+    let mut cursor = met.cursor;
     while let Some(end) = first_balanced(text, cursor) {
         if left == 0 {
             events.push(Noted::Stop)?;
             return Ok(events);
         }
-        push_tried(alloc, &mut events, below, pattern, c, end, again)?;
+        push_tried(alloc, &mut events, met, end, again)?;
         left -= 1;
         again = true;
         cursor = end;
@@ -191,55 +192,41 @@ fn balanced<'a>(
     Ok(events)
 }
 
-fn fence<'a>(
-    alloc: Global,
-    below: u128,
-    limit: usize,
-    pattern: &'a Pattern,
-    c: usize,
-) -> Result<Vec<Noted<'a>>, AllocError>
+fn fence<'a>(alloc: Global, limit: usize, met: Met<'a>) -> Result<Vec<Noted<'a>>, AllocError>
     requires { 0 < limit }
-    ensures { IfOk result (λ v. v.items ≡ upto limit (tried below (tree_of pattern.now) c (Some c) false ∷ NotedEvent.End c [] ∷ NotedEvent.Halt ∷ [])) }
+    ensures { IfOk result (λ v. v.items ≡ upto limit (tried met.entry.below (tree_of met.entry.leaf.now) met.entry.cursor (Some met.entry.cursor) false ∷ NotedEvent.End met.entry.cursor [] ∷ NotedEvent.Halt ∷ [])) }
 {
     let mut events = Vec::new(alloc);
-    push_tried(alloc, &mut events, below, pattern, c, c, false)?;
+    push_tried(alloc, &mut events, met, met.cursor, false)?;
     events.push(Noted::Halt)?;
     Ok(events)
 }
 
-fn abort<'a>(
-    alloc: Global,
-    below: u128,
-    limit: usize,
-    pattern: &'a Pattern,
-    c: usize,
-) -> Result<Vec<Noted<'a>>, AllocError>
+fn abort<'a>(alloc: Global, limit: usize, met: Met<'a>) -> Result<Vec<Noted<'a>>, AllocError>
     requires { 0 < limit }
-    ensures { IfOk result (λ v. v.items ≡ upto limit (tried below (tree_of pattern.now) c None false ∷ NotedEvent.Halt ∷ [])) }
+    ensures { IfOk result (λ v. v.items ≡ upto limit (tried met.entry.below (tree_of met.entry.leaf.now) met.entry.cursor None false ∷ NotedEvent.Halt ∷ [])) }
 {
     let mut events = Vec::new(alloc);
-    push_trial(&mut events, below, pattern, c, None, false)?;
+    push_trial(&mut events, met, None, false)?;
     events.push(Noted::Halt)?;
     Ok(events)
 }
 
 fn cursor<'a>(
     alloc: Global,
-    below: u128,
     limit: usize,
-    pattern: &'a Pattern,
+    met: Met<'a>,
     name: Name,
-    c: usize,
 ) -> Result<Vec<Noted<'a>>, AllocError>
     requires { 0 < limit }
-    ensures { IfOk result (λ v. v.items ≡ upto limit (tried below (tree_of pattern.now) c (Some c) false ∷ NotedEvent.Set (record { name = name; what = What.Cursor c }) ∷ NotedEvent.End c [] ∷ [])) }
+    ensures { IfOk result (λ v. v.items ≡ upto limit (tried met.entry.below (tree_of met.entry.leaf.now) met.entry.cursor (Some met.entry.cursor) false ∷ NotedEvent.Set (record { name = name; what = What.Cursor met.entry.cursor }) ∷ NotedEvent.End met.entry.cursor [] ∷ [])) }
 {
     let mut events = Vec::new(alloc);
-    push_trial(&mut events, below, pattern, c, Some(c), false)?;
+    push_trial(&mut events, met, Some(met.cursor), false)?;
     events.push(Noted::Set(Assign {
         name,
-        what: What::Cursor(c),
+        what: What::Cursor(met.cursor),
     }))?;
-    push_end(alloc, &mut events, c)?;
+    push_end(alloc, &mut events, met.cursor)?;
     Ok(events)
 }

@@ -56,5 +56,6 @@ pub use laws::{
 };
 pub use lines::{MAX_LINES, USUAL_LINES, lines_of};
 pub use pages::page_of;
+pub use scanning::Search;
 pub use spelling::pattern_text;
 pub use tracing::{MatchTrace, trace, trace_from};

@@ -13,9 +13,20 @@ ghost use Rattle.sno_trace.specs.declared.faults.TraceFault.TheVariants.{TooDeep
 use crate::events::Noted;
 use crate::faults::{MAX_DEPTH, TraceFault};
 use crate::lists::count_trials;
-use crate::walking::walk;
+use crate::walking::{Setting, walk};
 use sno_pattern::{Pattern, Rules, Text};
 use std::alloc::{AllocError, Global};
+
+/// A search: for which pattern, with which definitions, and from which cursor of the text on; if anchored, from that cursor alone.
+#[derive(Clone, Copy)]
+pub struct Search<'t, 'a> {
+    pub rules: &'a Rules,
+    pub pattern: &'a Pattern,
+    pub text: &'t Text,
+    pub anchored: bool,
+    /// The cursor, at most the text's length.
+    pub from: usize,
+}
 
 // Whether the match ends with this event, or what is shown of it.
 fn is_ending(event: &Noted<'_>) -> bool
@@ -63,26 +74,26 @@ fn last_start(text: &Text, anchored: bool, from: usize) -> usize
     if anchored { from } else { length }
 }
 
-// The events of the search from this cursor on, within the limit, each with its start.
+// The events of the search, within the limit, each with its start.
 pub fn scan<'a>(
     alloc: Global,
-    rules: &'a Rules,
-    pattern: &'a Pattern,
-    text: &Text,
-    anchored: bool,
-    from: usize,
+    search: Search<'_, 'a>,
     limit: usize,
 ) -> Result<Vec<(usize, Noted<'a>)>, TraceFault>
-    requires { from ≤ length text.now }
-    ensures shown { IfOk result (λ v. IsShownFrom text.now rules.now.bodies (tree_of pattern.now) anchored from limit v.items) }
-    ensures deep { IfErr result (λ e. e ≡ TooDeep → IsDeeperFrom text.now rules.now.bodies (tree_of pattern.now) anchored from MAX_DEPTH) }
+    requires { search.from ≤ length search.text.now }
+    ensures shown { IfOk result (λ v. IsShownFrom search.entry.text.now search.entry.rules.now.bodies (tree_of search.entry.pattern.now) search.entry.anchored search.entry.from limit v.items) }
+    ensures deep { IfErr result (λ e. e ≡ TooDeep → IsDeeperFrom search.entry.text.now search.entry.rules.now.bodies (tree_of search.entry.pattern.now) search.entry.anchored search.entry.from MAX_DEPTH) }
 {
-    let most = enough_depth(text, rules);
-    let last = last_start(text, anchored, from);
+    let setting = Setting {
+        text: search.text,
+        rules: search.rules,
+        depth: enough_depth(search.text, search.rules),
+    };
+    let last = last_start(search.text, search.anchored, search.from);
     let mut all = Vec::new(alloc);
     let mut left = limit;
-    for start in from..last + 1 {
-        let events = walk(alloc, text, rules, most, MAX_DEPTH, left, pattern, start)?;
+    for start in search.from..last + 1 {
+        let events = walk(alloc, &setting, MAX_DEPTH, left, search.pattern, start)?;
         if add_start(alloc, start, &events, &mut all)? {
             return Ok(all);
         }

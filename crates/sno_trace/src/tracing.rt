@@ -10,7 +10,7 @@ ghost use Rattle.sno_trace.specs.declared.faults.TraceFault.TheVariants.{TooDeep
 use crate::events::Noted;
 use crate::faults::{MAX_DEPTH, TraceFault};
 use crate::laws::{a_limit_is_used_up, what_is_shown_begins_the_match, what_is_shown_is_the_match};
-use crate::scanning::scan;
+use crate::scanning::{Search, scan};
 use sno_pattern::{Pattern, Rules, Text};
 use std::alloc::Global;
 
@@ -66,26 +66,22 @@ fn has_stop(events: &[(usize, Noted<'_>)]) -> bool
 // What is shown within the limit. Fewer trials are tried first, since a search mostly ends early.
 fn shown<'a>(
     alloc: Global,
-    rules: &'a Rules,
-    pattern: &'a Pattern,
-    text: &Text,
-    anchored: bool,
-    from: usize,
+    search: Search<'_, 'a>,
     limit: usize,
 ) -> Result<Vec<(usize, Noted<'a>)>, TraceFault>
-    requires { from ≤ length text.now }
-    ensures shown { IfOk result (λ v. IsShownFrom text.now rules.now.bodies (tree_of pattern.now) anchored from limit v.items) }
-    ensures deep { IfErr result (λ e. e ≡ TooDeep → IsDeeperFrom text.now rules.now.bodies (tree_of pattern.now) anchored from MAX_DEPTH) }
+    requires { search.from ≤ length search.text.now }
+    ensures shown { IfOk result (λ v. IsShownFrom search.entry.text.now search.entry.rules.now.bodies (tree_of search.entry.pattern.now) search.entry.anchored search.entry.from limit v.items) }
+    ensures deep { IfErr result (λ e. e ≡ TooDeep → IsDeeperFrom search.entry.text.now search.entry.rules.now.bodies (tree_of search.entry.pattern.now) search.entry.anchored search.entry.from MAX_DEPTH) }
 {
     let mut most = FEW;
     while most < limit {
-        let events = scan(alloc, rules, pattern, text, anchored, from, most)?;
+        let events = scan(alloc, search, most)?;
         if !has_stop(&events) {
             return Ok(events);
         }
         most = most.saturating_mul(2);
     }
-    let events = scan(alloc, rules, pattern, text, anchored, from, limit)?;
+    let events = scan(alloc, search, limit)?;
     Ok(events)
 }
 
@@ -123,7 +119,14 @@ pub fn trace<'a>(
     what_is_shown_is_the_match();
     a_limit_is_used_up();
     what_is_shown_begins_the_match();
-    let trace = trace_from(alloc, rules, pattern, text, anchored, 0, limit)?;
+    let search = Search {
+        rules,
+        pattern,
+        text,
+        anchored,
+        from: 0,
+    };
+    let trace = trace_from(alloc, search, limit)?;
     Ok(trace)
 }
 
@@ -133,25 +136,21 @@ pub fn trace<'a>(
 /// Refused as [`trace`] is, with `TooDeep` only for a start of this search.
 pub fn trace_from<'a>(
     alloc: Global,
-    rules: &'a Rules,
-    pattern: &'a Pattern,
-    text: &Text,
-    anchored: bool,
-    from: usize,
+    search: Search<'_, 'a>,
     limit: usize,
 ) -> Result<MatchTrace<'a>, TraceFault>
-    requires { from ≤ length text.now }
+    requires { search.from ≤ length search.text.now }
     // The noted events of the search, within the limit.
-    ensures shown { IfOk result (λ trace. IsShownFrom text.now rules.now.bodies (tree_of pattern.now) anchored from limit trace.events.items) }
+    ensures shown { IfOk result (λ trace. IsShownFrom search.entry.text.now search.entry.rules.now.bodies (tree_of search.entry.pattern.now) search.entry.anchored search.entry.from limit trace.events.items) }
     // If its trials fit, the trace is the search up to the event that ends it, with its outcome and its trials ..
-    ensures whole { IfOk result (λ trace. trials_from text.now rules.now.bodies (tree_of pattern.now) anchored from ≤ limit → IsWholeSearch text.now rules.now.bodies (tree_of pattern.now) anchored from trace.events.items) }
+    ensures whole { IfOk result (λ trace. trials_from search.entry.text.now search.entry.rules.now.bodies (tree_of search.entry.pattern.now) search.entry.anchored search.entry.from ≤ limit → IsWholeSearch search.entry.text.now search.entry.rules.now.bodies (tree_of search.entry.pattern.now) search.entry.anchored search.entry.from trace.events.items) }
     // .. and if they don't, it has as many as the limit.
-    ensures full { IfOk result (λ trace. limit < trials_from text.now rules.now.bodies (tree_of pattern.now) anchored from → trials_in (off (before_stop trace.events.items)) ≡ limit) }
+    ensures full { IfOk result (λ trace. limit < trials_from search.entry.text.now search.entry.rules.now.bodies (tree_of search.entry.pattern.now) search.entry.anchored search.entry.from → trials_in (off (before_stop trace.events.items)) ≡ limit) }
     // In any case it begins the search.
-    ensures front { IfOk result (λ trace. IsFrontFrom text.now rules.now.bodies (tree_of pattern.now) anchored from trace.events.items) }
+    ensures front { IfOk result (λ trace. IsFrontFrom search.entry.text.now search.entry.rules.now.bodies (tree_of search.entry.pattern.now) search.entry.anchored search.entry.from trace.events.items) }
     // It is refused as too deep only if the search is nested deeper than the most.
-    ensures deep { IfErr result (λ e. e ≡ TooDeep → IsDeeperFrom text.now rules.now.bodies (tree_of pattern.now) anchored from MAX_DEPTH) }
+    ensures deep { IfErr result (λ e. e ≡ TooDeep → IsDeeperFrom search.entry.text.now search.entry.rules.now.bodies (tree_of search.entry.pattern.now) search.entry.anchored search.entry.from MAX_DEPTH) }
 {
-    let events = shown(alloc, rules, pattern, text, anchored, from, limit)?;
+    let events = shown(alloc, search, limit)?;
     Ok(MatchTrace { events })
 }

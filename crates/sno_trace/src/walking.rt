@@ -16,62 +16,86 @@ use crate::lists::{
 use sno_pattern::{Pattern, Rules, Text};
 use std::alloc::Global;
 
-// What the pattern does from a cursor, at most `depth` references deep, up to `limit` trials. It is refused if it is nested deeper
-// than `room`. What it calls isn't inlined, so that a call takes little of the stack.
+// Where a pattern is walked: the text, the definitions, and how many references may be nested.
+#[derive(Clone, Copy)]
+pub(crate) struct Setting<'t, 'a> {
+    pub(crate) text: &'t Text,
+    pub(crate) rules: &'a Rules,
+    pub(crate) depth: u128,
+}
+
+// The rounds of `ARBNO` that are left: its part, and how many there are at most.
+#[derive(Clone, Copy)]
+struct Rounds<'a> {
+    part: &'a Pattern,
+    count: usize,
+}
+
+// What the pattern does from a cursor, up to `limit` trials. It is refused if it is nested deeper than `room`. What it calls isn't
+// inlined, so that a call takes little of the stack.
 #[cycle(walk)]
 #[tactic(auto, unfolding(crate::specs::Noted::noted_of))]
 pub fn walk<'a>(
     alloc: Global,
-    text: &Text,
-    rules: &'a Rules,
-    depth: u128,
+    setting: &Setting<'_, 'a>,
     room: usize,
     limit: usize,
     pattern: &'a Pattern,
     c: usize,
 ) -> Result<Vec<Noted<'a>>, TraceFault>
-    requires { c ≤ length text.now }
-    ensures done { IfOk result (λ v. v.items ≡ upto limit (noted text.now rules.now.bodies depth (tree_of pattern.now) c)) }
-    ensures deep { IfErr result (λ e. e ≡ TooDeep → Nests text.now rules.now.bodies room depth (tree_of pattern.now) c) }
+    requires { c ≤ length setting.now.text.now }
+    ensures done { IfOk result (λ v. v.items ≡ upto limit (noted setting.now.text.now setting.now.rules.now.bodies setting.now.depth (tree_of pattern.now) c)) }
+    ensures deep { IfErr result (λ e. e ≡ TooDeep → Nests setting.now.text.now setting.now.rules.now.bodies room setting.now.depth (tree_of pattern.now) c) }
 {
     let inside = deeper(room)?;
     match pattern {
         Pattern::Seq(left, right) => {
-            let first = walk(alloc, text, rules, depth, inside, limit, left, c)?;
-            let events = follow(alloc, text, rules, depth, inside, limit, &first, right)?;
+            let first = walk(alloc, setting, inside, limit, left, c)?;
+            let events = follow(alloc, setting, inside, limit, &first, right)?;
             Ok(events)
         }
         Pattern::Alt(left, right) => {
-            let mut events = walk(alloc, text, rules, depth, inside, limit, left, c)?;
+            let mut events = walk(alloc, setting, inside, limit, left, c)?;
             if !has_last(&events) {
                 let rest = limit - count_trials(&events);
-                let mut others = walk(alloc, text, rules, depth, inside, rest, right, c)?;
+                let mut others = walk(alloc, setting, inside, rest, right, c)?;
                 events.append(&mut others)?;
             }
             Ok(cut(events))
         }
         Pattern::Arbno(part) => {
-            let left = text.bytes().len() - c;
-            let events = repeat(alloc, text, rules, depth, room, limit, part, left + 1, c)?;
+            let left = setting.text.bytes().len() - c;
+            let rounds = Rounds {
+                part,
+                count: left + 1,
+            };
+            let events = repeat(alloc, setting, room, limit, rounds, c)?;
             Ok(events)
         }
         Pattern::Cond(part, name) => {
-            let inner = walk(alloc, text, rules, depth, inside, limit, part, c)?;
+            let inner = walk(alloc, setting, inside, limit, part, c)?;
             let events = assign_later(alloc, *name, c, &inner)?;
             Ok(events)
         }
         Pattern::Imm(part, name) => {
-            let inner = walk(alloc, text, rules, depth, inside, limit, part, c)?;
+            let inner = walk(alloc, setting, inside, limit, part, c)?;
             let events = assign_now(alloc, *name, c, &inner)?;
             Ok(events)
         }
         Pattern::Ref(number) => {
-            let inner = named(alloc, text, rules, depth, inside, limit, *number, c)?;
-            let events = within_definition(alloc, depth, *number, c, &inner)?;
+            let inner = named(alloc, setting, inside, limit, *number, c)?;
+            let events = within_definition(alloc, setting.depth, *number, c, &inner)?;
             Ok(events)
         }
         _ => {
-            let events = leaf(alloc, text.bytes(), depth, limit, pattern, c)?;
+            let events = leaf(
+                alloc,
+                setting.text.bytes(),
+                setting.depth,
+                limit,
+                pattern,
+                c,
+            )?;
             Ok(events)
         }
     }
@@ -82,25 +106,28 @@ pub fn walk<'a>(
 #[inline(never)]
 fn named<'a>(
     alloc: Global,
-    text: &Text,
-    rules: &'a Rules,
-    depth: u128,
+    setting: &Setting<'_, 'a>,
     room: usize,
     limit: usize,
     number: usize,
     c: usize,
 ) -> Result<Vec<Noted<'a>>, TraceFault>
-    requires { c ≤ length text.now }
-    ensures done { IfOk result (λ v. v.items ≡ upto limit (noted_definition text.now rules.now.bodies depth number c)) }
-    ensures deep { IfErr result (λ e. e ≡ TooDeep → Nests text.now rules.now.bodies (room + 1) depth (Ref number) c) }
+    requires { c ≤ length setting.now.text.now }
+    ensures done { IfOk result (λ v. v.items ≡ upto limit (noted_definition setting.now.text.now setting.now.rules.now.bodies setting.now.depth number c)) }
+    ensures deep { IfErr result (λ e. e ≡ TooDeep → Nests setting.now.text.now setting.now.rules.now.bodies (room + 1) setting.now.depth (Ref number) c) }
 {
-    if depth == 0 {
+    if setting.depth == 0 {
         return Ok(Vec::new(alloc));
     }
-    match rules.body(number) {
+    match setting.rules.body(number) {
         None => Ok(Vec::new(alloc)),
         Some(body) => {
-            let events = walk(alloc, text, rules, depth - 1, room, limit, body, c)?;
+            let below = Setting {
+                text: setting.text,
+                rules: setting.rules,
+                depth: setting.depth - 1,
+            };
+            let events = walk(alloc, &below, room, limit, body, c)?;
             Ok(events)
         }
     }
@@ -111,17 +138,15 @@ fn named<'a>(
 #[inline(never)]
 fn follow<'a>(
     alloc: Global,
-    text: &Text,
-    rules: &'a Rules,
-    depth: u128,
+    setting: &Setting<'_, 'a>,
     room: usize,
     limit: usize,
     first: &[Noted<'a>],
     pattern: &'a Pattern,
 ) -> Result<Vec<Noted<'a>>, TraceFault>
-    requires { AllEnds (Within text.now 0) (erase first.now) }
-    ensures done { IfOk result (λ v. v.items ≡ upto limit (go_on first.now (noted text.now rules.now.bodies depth (tree_of pattern.now)))) }
-    ensures deep { IfErr result (λ e. e ≡ TooDeep → (end : ℕ) × EndsAt first.now end × Nests text.now rules.now.bodies room depth (tree_of pattern.now) end) }
+    requires { AllEnds (Within setting.now.text.now 0) (erase first.now) }
+    ensures done { IfOk result (λ v. v.items ≡ upto limit (go_on first.now (noted setting.now.text.now setting.now.rules.now.bodies setting.now.depth (tree_of pattern.now)))) }
+    ensures deep { IfErr result (λ e. e ≡ TooDeep → (end : ℕ) × EndsAt first.now end × Nests setting.now.text.now setting.now.rules.now.bodies room setting.now.depth (tree_of pattern.now) end) }
 {
     let mut all = Vec::new(alloc);
     let mut left = limit;
@@ -138,7 +163,7 @@ fn follow<'a>(
             Noted::Set(assign) => push_set(&mut all, assign)?,
             Noted::Mark(mark) => push_mark(&mut all, mark)?,
             Noted::End(end, conds) => {
-                let later = walk(alloc, text, rules, depth, room, left, pattern, *end)?;
+                let later = walk(alloc, setting, room, left, pattern, *end)?;
                 if add_after(alloc, conds, &later, &mut all)? {
                     return Ok(all);
                 }
@@ -157,32 +182,29 @@ fn follow<'a>(
     Ok(all)
 }
 
-// What at most `count` rounds of the pattern do. First comes no round; then each round that took a character, with all that
+// What these rounds do. First comes no round; then each round that took a character, with all that
 // follows it before the next alternative of the round. A round that took none is marked as dropped.
 #[cycle(walk)]
 #[inline(never)]
 fn repeat<'a>(
     alloc: Global,
-    text: &Text,
-    rules: &'a Rules,
-    depth: u128,
+    setting: &Setting<'_, 'a>,
     room: usize,
     limit: usize,
-    part: &'a Pattern,
-    count: usize,
+    rounds: Rounds<'a>,
     c: usize,
 ) -> Result<Vec<Noted<'a>>, TraceFault>
-    requires { c ≤ length text.now }
-    ensures done { IfOk result (λ v. v.items ≡ upto limit (noted_rounds depth (noted text.now rules.now.bodies depth (tree_of part.now)) count c)) }
-    ensures deep { IfErr result (λ e. e ≡ TooDeep → Nests text.now rules.now.bodies room depth (Arbno (tree_of part.now)) c) }
+    requires { c ≤ length setting.now.text.now }
+    ensures done { IfOk result (λ v. v.items ≡ upto limit (noted_rounds setting.now.depth (noted setting.now.text.now setting.now.rules.now.bodies setting.now.depth (tree_of rounds.entry.part.now)) rounds.entry.count c)) }
+    ensures deep { IfErr result (λ e. e ≡ TooDeep → Nests setting.now.text.now setting.now.rules.now.bodies room setting.now.depth (Arbno (tree_of rounds.entry.part.now)) c) }
 {
     let mut all = Vec::new(alloc);
-    if count == 0 {
+    if rounds.count == 0 {
         return Ok(all);
     }
     let inside = deeper(room)?;
     push_end(alloc, &mut all, c)?;
-    let once = walk(alloc, text, rules, depth, inside, limit, part, c)?;
+    let once = walk(alloc, setting, inside, limit, rounds.part, c)?;
     let mut left = limit;
     for event in once.as_slice() {
         match event {
@@ -198,23 +220,17 @@ fn repeat<'a>(
             Noted::Mark(mark) => push_mark(&mut all, mark)?,
             Noted::End(end, conds) => {
                 if c < *end {
-                    let later = repeat(
-                        alloc,
-                        text,
-                        rules,
-                        depth,
-                        inside,
-                        left,
-                        part,
-                        count - 1,
-                        *end,
-                    )?;
+                    let rest = Rounds {
+                        part: rounds.part,
+                        count: rounds.count - 1,
+                    };
+                    let later = repeat(alloc, setting, inside, left, rest, *end)?;
                     if add_after(alloc, conds, &later, &mut all)? {
                         return Ok(all);
                     }
                     left -= count_trials(&later);
                 } else {
-                    push_null_round(&mut all, depth, *end)?;
+                    push_null_round(&mut all, setting.depth, *end)?;
                 }
             }
             Noted::Halt => {

@@ -17,7 +17,7 @@ pub enum NoTrace {
     #[error("error: '--from' is past the end of the text, which is cursor {0}")]
     NoCursor(usize),
     /// Calls would nest too deep.
-    #[error("too deep: with fewer --lines less is nested")]
+    #[error("nested too deeply; try a smaller --lines")]
     TooDeep,
     /// Out of memory.
     #[error("out of memory")]

@@ -7,7 +7,7 @@ use crate::searches::seek_match;
 use sno_machine::{MatchFault, SearchOutcome, Searched, compile};
 use sno_pattern::Text;
 use sno_statement::Statement;
-use sno_trace::{MatchTrace, Noted, TraceFault, lines_of, pattern_text, trace_from};
+use sno_trace::{MatchTrace, Noted, Search, TraceFault, lines_of, pattern_text, trace_from};
 use std::alloc::{AllocError, Global};
 use std::sync::Arc;
 
@@ -72,16 +72,14 @@ fn search_lines(
 {
     let is_refused = limit <= most;
     let trials = if is_refused { limit } else { most };
-    let found = trace_from(
-        alloc,
-        statement.rules(),
-        statement.pattern(),
+    let search = Search {
+        rules: statement.rules(),
+        pattern: statement.pattern(),
         text,
-        statement.anchored(),
-        starts.from,
-        trials as usize,
-    )?
-    .up_to(starts.to);
+        anchored: statement.anchored(),
+        from: starts.from,
+    };
+    let found = trace_from(alloc, search, trials as usize)?.up_to(starts.to);
     let lines = lines_of(
         alloc,
         statement.rules(),

@@ -174,7 +174,7 @@ fn propose_once(rt: &impl Abort, alloc: Global, task: Task) -> CallEnd {
     }
 }
 
-/// The caller's own statement stands, so the call can be made again.
+/// The caller's own statement is unchanged, so the call can be made again.
 #[test]
 fn a_statement_is_proposed(rt: HostRuntime) -> Result<(), Fail> {
     let alloc = rt.alloc();

@@ -1,4 +1,4 @@
-//! What a test tells of its calls, a line each, for `tests/refused_growths` to read.
+//! What a test writes of its calls, a line each, for `tests/refused_growths` to read.
 use std::fmt;
 use std::process::Abort;
 use std::test::Fail;
@@ -31,25 +31,25 @@ pub(crate) fn check_bytes(rt: &impl Abort, found: &[u8], expected: &[u8]) {
     assert_eq!(rt; found, expected);
 }
 
-/// Tells that all is made that the calls need.
+/// Writes that all is made that the calls need.
 pub(crate) fn tell_ready(rt: &impl Print) -> Result<(), Fail> {
     println!(rt; "ready")?;
     Ok(())
 }
 
-/// Tells what a call came to.
+/// Writes what a call came to.
 pub(crate) fn tell(rt: &impl Print, end: CallEnd) -> Result<(), Fail> {
     println!(rt; "{end}")?;
     Ok(())
 }
 
-/// Tells what a call came to each of two times.
+/// Writes what a call came to each of two times.
 pub(crate) fn tell_both(rt: &impl Print, ends: (CallEnd, CallEnd)) -> Result<(), Fail> {
     tell(rt, ends.0)?;
     tell(rt, ends.1)
 }
 
-/// Tells that all is made that the call needs, and what it comes to each of two times.
+/// Writes that all is made that the call needs, and what it comes to each of two times.
 pub(crate) fn tell_twice<F: Fn() -> CallEnd>(rt: &impl Print, call: F) -> Result<(), Fail>
     requires { F.IsAlwaysCallable call }
 {

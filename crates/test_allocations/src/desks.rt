@@ -79,7 +79,7 @@ trait Turn {
     ) -> Result<CallEnd, Fail>;
 }
 
-/// That the seat has accepted so many, and sees its text so.
+/// That the seat has accepted this many, and sees its text so.
 fn check_seat<L: Naming>(
     rt: &impl Abort,
     seat: &mut Seat<L>,
@@ -93,7 +93,7 @@ fn check_seat<L: Naming>(
     check_bytes(rt, snapshot.text.bytes(), text);
 }
 
-/// What stands after the call, as it came out.
+/// What there is after the call, as it came out.
 fn check_end<L: Naming>(
     rt: &impl Abort,
     seat: &mut Seat<L>,

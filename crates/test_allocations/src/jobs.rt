@@ -97,7 +97,7 @@ pub(crate) fn exchange_all(rt: &impl Abort, alloc: Global) -> Result<Statement, 
     Ok(replacing(rt, alloc, "T", pattern, "V '=' K ';'")?.for_all())
 }
 
-/// A key and its value, as they stand.
+/// A key and its value, as they are.
 const PAIR: &str = "BREAK('=') . K '=' REM . V";
 
 /// A key and its value change places, twice.

@@ -1,4 +1,4 @@
-//! Names and definitions made by hand.
+//! Names and definitions that a caller constructs.
 use crate::written::{check_eq, name_of, one_name, rules_of};
 use sno_pattern::{Name, Names, NamesFault, Pattern, Rules, RulesFault};
 use std::alloc::Global;
@@ -27,7 +27,7 @@ fn numbered_name(alloc: Global, number: usize) -> Result<Name, Fail> {
     name_of(letters.as_str())
 }
 
-// So many names: A0, A1 and so on.
+// This many names: A0, A1 and so on.
 fn numbered_names(alloc: Global, count: usize) -> Result<Vec<Name>, Fail> {
     let mut names = Vec::new(alloc);
     for number in 0..count {

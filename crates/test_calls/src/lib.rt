@@ -1,7 +1,7 @@
-//! Public calls of the crates below the book, each by itself, on what is made by hand.
+//! Public calls of the crates below the book, each alone, on what a caller constructs.
 //!
-//! The crate has no function to call. Its tests stand apart from the crates that they call, so that these are proved once, and not a second
-//! time with their tests. What patterns are read as, what comes of matches, and what a book accepts and refuses, is shown by the examples of
+//! The crate has no function to call. Its tests are apart from the crates that they call, so that these are proved once, and not a second
+//! time with their tests. What patterns are read as, the results of matches, and what a book accepts and refuses, is shown by the examples of
 //! `test_examples`, which need no code.
 //!
 //! - `src/admission.rt`: names, and which definitions are admitted.

@@ -6,7 +6,7 @@ use std::alloc::Global;
 use std::process::Abort;
 use std::test::Fail;
 
-/// A pattern as it is written: the first piece, the second and the last of them so many times, with the third between those two.
+/// A pattern as it is written: the first piece, the second and the last of them this many times, with the third between those two.
 #[derive(Clone, Copy)]
 struct Written(
     &'static str,

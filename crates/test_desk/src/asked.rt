@@ -1,10 +1,10 @@
-//! All that a gate is asked and told of one submit, in order, with the entries of another seat in between.
+//! All that a gate is asked and passed of one submit, in order, with the entries of another seat in between.
 ghost use Rattle.std.specs.Prelude.{◌≡◌, [], IfOk};
 
-use crate::answers::line_of;
 use crate::compare::check_eq;
 use crate::desks::{Work, at_desk};
 use crate::jobs::{Row, book, of_row, statement};
+use crate::submit_replies::line_of;
 use sno_book::Book;
 use sno_desk::{Desk, Gate, Naming, OpenGate, Reply, Seat};
 use sno_statement::Statement;
@@ -21,7 +21,7 @@ enum Event {
     Asked(u32, u32),
     /// The entry of the other seat has this index.
     Entry(usize),
-    /// It is told whether the statement with this number was accepted.
+    /// It is passed whether the statement with this number was accepted.
     Done(u32, bool),
 }
 

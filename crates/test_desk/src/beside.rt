@@ -1,4 +1,4 @@
-//! A seat that goes on reading in one thread while a submit on the same text stands at its gate in another.
+//! A seat that goes on reading in one thread while a submit on the same text waits at its gate in another.
 ghost use Rattle.std.specs.Prelude.{◌≡◌, []};
 ghost use Rattle.std.specs.Thread.{IsSend};
 ghost use Rattle.sno_book.specs.contracts.entries.Entry as EntryType;
@@ -22,7 +22,7 @@ use std::time::{Clock, Duration};
 /// How often the reader looks in a turn.
 const LOOKS: usize = 100;
 
-/// Holds the submit until the reader has read, and lets the reader know that it came and that it has its answer.
+/// Holds the submit until the reader has read, and lets the reader know that it came and that it has its reply.
 #[derive(Drop)]
 struct Held<'a, C: Clock> {
     clock: &'a C,
@@ -56,7 +56,7 @@ fn look<L: Naming>(seat: &mut Seat<L>, name: &TextName, first: u64) -> Option<u6
     Some(last)
 }
 
-/// Reads until the submit has its answer, and then for a last turn.
+/// Reads until the submit has its reply, and then for a last turn.
 fn look_on<L: Naming, C: Clock>(
     seat: &mut Seat<L>,
     name: &TextName,
@@ -77,7 +77,7 @@ fn look_on<L: Naming, C: Clock>(
 
 /// Who reads a text beside a submit.
 trait Reads {
-    /// Reads while the gate holds the submit, and goes on until after its answer. The last version of each part; none where a version went down.
+    /// Reads while the gate holds the submit, and goes on until after its reply. The last version of each part; none where a version went down.
     fn read<C: Clock>(&mut self, name: &TextName, gate: &Held<'_, C>) -> Option<(u64, u64)>;
 }
 
@@ -93,16 +93,23 @@ impl<L: Naming> Reads for Seat<L> {
     }
 }
 
-/// The job submitted in this thread while the reader reads in another: the versions that the reader saw, and whether the job was accepted.
+/// A job, with the name of its text.
+#[derive(Drop)]
+struct Named<'a> {
+    job: Arc<Statement>,
+    name: &'a TextName,
+}
+
+/// The job submitted in this thread while the reader reads its text in another: the versions that the reader saw, and whether the job was accepted.
 fn submit_beside<L: Naming, S: Reads + Send, R: Threads + Wait + Clock + Sync>(
     rt: &R,
     alloc: Global,
     desk: &Desk<L>,
     writer: &mut Seat<L>,
-    job: Arc<Statement>,
     reader: &mut S,
-    name: &TextName,
+    named: Named<'_>,
 ) -> (Option<(u64, u64)>, bool) {
+    let Named { job, name } = named;
     let gate = Held {
         clock: rt,
         came: Flag::new(),
@@ -140,7 +147,8 @@ fn use_seats<L: Naming + Send + Sync, R: Threads + Wait + Clock + Abort + Sync>(
     entries_may_cross();
     assert!(rt; seats.len() == 2);
     let (first, second) = seats.split_at_mut(1);
-    let seen = submit_beside(rt, alloc, desk, &mut first[0], job, &mut second[0], name);
+    let named = Named { job, name };
+    let seen = submit_beside(rt, alloc, desk, &mut first[0], &mut second[0], named);
     check_eq(rt, &seen, &(Some((0, 1)), true));
     check_eq(rt, &(second[0].accepted(), second[0].seen()), &(0, 1));
 }

@@ -1,4 +1,4 @@
-//! Seats that work by themselves: one overtakes another's proposal, adds entries between two of its own, and sees what nobody told it.
+//! Seats that work alone: one overtakes another's proposal, adds entries between two of its own, and sees what nobody showed it.
 ghost use Rattle.sno_book.specs.Views.{IsPrefix};
 ghost use Rattle.sno_desk.specs.Seen.{view_after};
 
@@ -16,12 +16,11 @@ use std::process::Abort;
 use std::sync::{Arc, Wait};
 use std::test::Fail;
 
-/// What three seats do at a desk, with these statements.
+/// What three seats do at a desk, with the statements and the memory of this value.
 trait Turns {
     fn take<L: Naming, R: Wait + Abort>(
         &self,
         rt: &R,
-        alloc: Global,
         desk: &Desk<L>,
         first: &mut Seat<L>,
         second: &mut Seat<L>,
@@ -79,7 +78,7 @@ fn check_overtaken<L: Naming, R: Wait + Abort>(
     seat: &mut Seat<L>,
     late: Proposal,
 )
-    requires { IsPrefix late.origin (view_after L.opening seat.old.viewer.seen) }
+    requires { IsPrefix late.origin (view_after L.opening seat.old.seen) }
 {
     let refused = desk.commit(rt, seat, late).err();
     let (fault, back) = refused.expect(rt, "it was overtaken");
@@ -94,7 +93,7 @@ fn check_fourth<L: Naming, R: Wait + Abort>(
     seat: &mut Seat<L>,
     late: Proposal,
 ) -> Result<(), Fail>
-    requires { IsPrefix late.origin (view_after L.opening seat.old.viewer.seen) }
+    requires { IsPrefix late.origin (view_after L.opening seat.old.seen) }
 {
     let receipt = desk.commit(rt, seat, late).map_err(|(fault, _)| fault)?;
     check_eq(rt, &receipt.index, &3);
@@ -123,9 +122,10 @@ fn check_seen<L: Naming>(
     Ok(())
 }
 
-/// The second seat proposes on a snapshot that is older than the first seat's entry, of which neither it nor the third seat was told.
+/// The second seat proposes on a snapshot that is older than the first seat's entry, which neither it nor the third seat was shown.
 #[derive(Drop)]
 struct Overtakes {
+    alloc: Global,
     late: Arc<Statement>,
     first: Arc<Statement>,
 }
@@ -134,15 +134,14 @@ impl Turns for Overtakes {
     fn take<L: Naming, R: Wait + Abort>(
         &self,
         rt: &R,
-        alloc: Global,
         desk: &Desk<L>,
         first: &mut Seat<L>,
         second: &mut Seat<L>,
         third: &mut Seat<L>,
     ) -> Result<(), Fail> {
-        let late = second.propose(alloc, &self.late)?;
+        let late = second.propose(self.alloc, &self.late)?;
         check_eq(rt, &late.version(), &0);
-        submit_first(rt, alloc, desk, first, &self.first, "x")?;
+        submit_first(rt, self.alloc, desk, first, &self.first, "x")?;
         check_counts(rt, first, 1, 1);
         check_counts(rt, second, 0, 0);
         check_counts(rt, third, 0, 0);
@@ -159,6 +158,7 @@ impl Turns for Overtakes {
 /// The second seat adds two entries between two of the first.
 #[derive(Drop)]
 struct Interleaves {
+    alloc: Global,
     first: Arc<Statement>,
     elsewhere: Arc<Statement>,
     unmatched: Arc<Statement>,
@@ -170,12 +170,19 @@ impl Interleaves {
     fn add_between<L: Naming, R: Wait + Abort>(
         &self,
         rt: &R,
-        alloc: Global,
         desk: &Desk<L>,
         seat: &mut Seat<L>,
     ) -> Result<(), Fail> {
-        check_eq(rt, &commit(rt, alloc, desk, seat, &self.elsewhere)?, &1);
-        check_eq(rt, &commit(rt, alloc, desk, seat, &self.unmatched)?, &2);
+        check_eq(
+            rt,
+            &commit(rt, self.alloc, desk, seat, &self.elsewhere)?,
+            &1,
+        );
+        check_eq(
+            rt,
+            &commit(rt, self.alloc, desk, seat, &self.unmatched)?,
+            &2,
+        );
         Ok(())
     }
 }
@@ -184,16 +191,15 @@ impl Turns for Interleaves {
     fn take<L: Naming, R: Wait + Abort>(
         &self,
         rt: &R,
-        alloc: Global,
         desk: &Desk<L>,
         first: &mut Seat<L>,
         second: &mut Seat<L>,
         _third: &mut Seat<L>,
     ) -> Result<(), Fail> {
-        check_eq(rt, &commit(rt, alloc, desk, first, &self.first)?, &0);
-        let late = first.propose(alloc, &self.again)?;
+        check_eq(rt, &commit(rt, self.alloc, desk, first, &self.first)?, &0);
+        let late = first.propose(self.alloc, &self.again)?;
         check_eq(rt, &late.version(), &1);
-        self.add_between(rt, alloc, desk, second)?;
+        self.add_between(rt, desk, second)?;
         check_fourth(rt, desk, first, late)?;
         check_counts(rt, first, 2, 4);
         check_counts(rt, second, 2, 3);
@@ -204,6 +210,7 @@ impl Turns for Interleaves {
 /// The first seat's statement fails, which is an entry that changes nothing; a text that isn't there no seat sees.
 #[derive(Drop)]
 struct Fails {
+    alloc: Global,
     unmatched: Arc<Statement>,
     elsewhere: TextName,
 }
@@ -212,13 +219,12 @@ impl Turns for Fails {
     fn take<L: Naming, R: Wait + Abort>(
         &self,
         rt: &R,
-        alloc: Global,
         desk: &Desk<L>,
         first: &mut Seat<L>,
         second: &mut Seat<L>,
         _third: &mut Seat<L>,
     ) -> Result<(), Fail> {
-        submit_failing(rt, alloc, desk, first, &self.unmatched)?;
+        submit_failing(rt, self.alloc, desk, first, &self.unmatched)?;
         check_seen(rt, first, self.unmatched.text(), "x", 0)?;
         let missing = second.snapshot(&self.elsewhere).err();
         check_eq(rt, &missing, &Some(SnapshotFault::NoText));
@@ -236,21 +242,15 @@ impl<T: Turns> Work for ByThree<'_, T> {
     fn work<L: Naming, R: Wait + Abort>(
         &self,
         rt: &R,
-        alloc: Global,
+        _alloc: Global,
         desk: &Desk<L>,
         seats: &mut [Seat<L>],
     ) -> Result<(), Fail> {
         assert!(rt; seats.len() == 3);
         let (first, others) = seats.split_at_mut(1);
         let (second, third) = others.split_at_mut(1);
-        self.0.take(
-            rt,
-            alloc,
-            desk,
-            &mut first[0],
-            &mut second[0],
-            &mut third[0],
-        )
+        self.0
+            .take(rt, desk, &mut first[0], &mut second[0], &mut third[0])
     }
 }
 
@@ -269,6 +269,7 @@ fn share<T: Turns, R: Wait + Abort>(
 fn an_overtaken_proposal_comes_back_and_each_seat_sees_why(rt: HostRuntime) -> Result<(), Fail> {
     let alloc = rt.alloc();
     let turns = Overtakes {
+        alloc,
         late: statement(&rt, alloc, 1, "T", "'x'", "'y'")?,
         first: statement(&rt, alloc, 2, "T", "'x'", "'z'")?,
     };
@@ -282,6 +283,7 @@ fn an_overtaken_proposal_comes_back_and_each_seat_sees_why(rt: HostRuntime) -> R
 /// The book of the four entries.
 fn interleave(rt: &(impl Wait + Abort), alloc: Global) -> Result<Book, Fail> {
     let turns = Interleaves {
+        alloc,
         first: statement(rt, alloc, 1, "T", "'x'", "'z'")?,
         elsewhere: statement(rt, alloc, 2, "U", "'u'", "'v'")?,
         unmatched: statement(rt, alloc, 3, "T", "'x'", "'w'")?,
@@ -307,6 +309,7 @@ fn a_seat_commits_at_a_later_version(rt: HostRuntime) -> Result<(), Fail> {
 fn a_failure_is_an_entry_and_changes_no_text(rt: HostRuntime) -> Result<(), Fail> {
     let alloc = rt.alloc();
     let turns = Fails {
+        alloc,
         unmatched: matching(&rt, alloc, 1, "T", "'q'")?,
         elsewhere: TextName::new(alloc, b"U".as_slice())?,
     };

@@ -1,6 +1,6 @@
 //! As many workers as a desk may have, all at work at once.
 use crate::compare::check_eq;
-use crate::day::{Day, run_day};
+use crate::day::{Day, Orders, run_day};
 use crate::flags::Flag;
 use crate::jobs::{book, matching};
 use sno_desk::Gate;
@@ -55,7 +55,12 @@ fn work<R: Threads + Wait + Clock + Abort + Sync>(rt: &R, alloc: Global) -> Resu
     };
     let jobs = jobs(rt, alloc)?;
     let book = book(alloc, &[("T", b"x")], 1_000_000)?;
-    run_day(rt, alloc, book, 16, jobs.as_slice(), 1, &gate)
+    let orders = Orders {
+        jobs: jobs.as_slice(),
+        tries: 1,
+        gate: &gate,
+    };
+    run_day(rt, alloc, book, 16, &orders)
 }
 
 #[test]

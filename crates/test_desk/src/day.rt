@@ -1,5 +1,6 @@
 //! A day at a desk: it is opened, its seats work through the jobs, and it is closed.
 ghost use Rattle.std.specs.Prelude.{◌≡◌, ◌≤◌, [], IfOk};
+ghost use Rattle.sno_desk.specs.declared.desk.TheConstants.{MAX_SEATS, MAX_TRIES};
 
 use crate::compare::check_eq;
 use crate::jobs::{Row, book, statements};
@@ -21,6 +22,14 @@ pub(crate) struct Day {
     pub shares: Vec<u64>,
 }
 
+/// What the seats are to do: these jobs, with this many tries for each, at this gate.
+#[derive(Drop)]
+pub(crate) struct Orders<'a, G: Gate> {
+    pub jobs: &'a [Arc<Statement>],
+    pub tries: u32,
+    pub gate: &'a G,
+}
+
 /// How many each seat has accepted.
 fn accepted<L: Naming>(alloc: Global, seats: &[Seat<L>]) -> Result<Vec<u64>, AllocError> {
     let mut shares = Vec::with_capacity(alloc, seats.len())?;
@@ -36,22 +45,21 @@ fn spend<L: Naming + Send + Sync, G: Gate + Sync, R: Threads + Wait + Sync>(
     blank: Blank,
     book: Book,
     seats: usize,
-    jobs: &[Arc<Statement>],
-    tries: u32,
-    gate: &G,
+    orders: &Orders<'_, G>,
 ) -> Result<Day, Fail>
     requires name { (blank.ledger.name ≡ L.name) × (blank.ledger.parts ≡ L.parts) }
     requires histories { (blank.history ≡ record { history = L.book; entries = [] }) × (blank.attempts.history ≡ L.tries) }
     requires opening { book.opening ≡ L.opening }
     requires one_each { blank.ledger.parts ≡ seats }
-    requires few { (1 ≤ seats) × (seats ≤ 16) }
+    requires few { (1 ≤ seats) × (seats ≤ MAX_SEATS) }
     requires empty { book.journal ≡ [] }
-    requires valid { (1 ≤ tries) × (tries ≤ 1000) }
+    requires valid { (1 ≤ orders.now.tries) × (orders.now.tries ≤ MAX_TRIES) }
 {
     let (desk, mut seats) = Desk::<L>::new(rt, alloc, blank, book, seats).map_err(|(
         fault,
         _,
     )| fault)?;
+    let Orders { jobs, tries, gate } = *orders;
     let replies = run_workers(rt, alloc, &desk, seats.as_mut_slice(), jobs, tries, gate);
     let shares = accepted(alloc, seats.as_slice());
     let book = close(rt, desk, seats).map_err(|(fault, _)| fault)?;
@@ -62,30 +70,20 @@ fn spend<L: Naming + Send + Sync, G: Gate + Sync, R: Threads + Wait + Sync>(
     })
 }
 
-/// A day of so many seats, with a ledger of its own.
+/// A day of this many seats, with a ledger of its own.
 pub(crate) fn run_day<G: Gate + Sync, R: Threads + Wait + Sync>(
     rt: &R,
     alloc: Global,
     book: Book,
     seats: usize,
-    jobs: &[Arc<Statement>],
-    tries: u32,
-    gate: &G,
+    orders: &Orders<'_, G>,
 ) -> Result<Day, Fail>
-    requires few { (1 ≤ seats) × (seats ≤ 16) }
+    requires few { (1 ≤ seats) × (seats ≤ MAX_SEATS) }
     requires empty { book.journal ≡ [] }
-    requires valid { (1 ≤ tries) × (tries ≤ 1000) }
+    requires valid { (1 ≤ orders.now.tries) × (orders.now.tries ≤ MAX_TRIES) }
 {
-    spend::<Brand, G, R>(
-        rt,
-        alloc,
-        Blank::new(seats as u64),
-        book,
-        seats,
-        jobs,
-        tries,
-        gate,
-    )
+    let blank = Blank::new(seats as u64);
+    spend::<Brand, G, R>(rt, alloc, blank, book, seats, orders)
 }
 
 /// A day on which workers at two seats do these jobs, as they are written, on these texts.
@@ -97,18 +95,15 @@ pub(crate) fn run_rows<G: Gate + Sync, R: Threads + Wait + Abort + Sync>(
     tries: u32,
     gate: &G,
 ) -> Result<Day, Fail>
-    requires { (1 ≤ tries) × (tries ≤ 1000) }
+    requires { (1 ≤ tries) × (tries ≤ MAX_TRIES) }
 {
     let jobs = statements(rt, alloc, rows)?;
-    run_day(
-        rt,
-        alloc,
-        book(alloc, texts, 1_000_000)?,
-        2,
-        jobs.as_slice(),
+    let orders = Orders {
+        jobs: jobs.as_slice(),
         tries,
         gate,
-    )
+    };
+    run_day(rt, alloc, book(alloc, texts, 1_000_000)?, 2, &orders)
 }
 
 /// Why the job was refused; none where it was accepted.
@@ -119,7 +114,7 @@ fn fault_of(reply: &Reply) -> Option<SubmitFault> {
     }
 }
 
-/// There are so many replies; the first job was refused for this, and the others were accepted.
+/// There are this many replies; the first job was refused for this, and the others were accepted.
 pub(crate) fn check_first_refused(
     rt: &impl Abort,
     replies: &[Reply],

@@ -1,5 +1,6 @@
 //! A desk at whose seats a test works itself: it is opened, the test does its work, and it is closed.
 ghost use Rattle.std.specs.Prelude.{◌≡◌, ◌≤◌, []};
+ghost use Rattle.sno_desk.specs.declared.desk.TheConstants.{MAX_SEATS};
 
 use sno_book::Book;
 use sno_desk::{Blank, Desk, Naming, Seat, close};
@@ -32,7 +33,7 @@ fn spend<L: Naming, W: Work, R: Wait + Abort>(
     requires histories { (blank.history ≡ record { history = L.book; entries = [] }) × (blank.attempts.history ≡ L.tries) }
     requires opening { book.opening ≡ L.opening }
     requires one_each { blank.ledger.parts ≡ seats }
-    requires few { (1 ≤ seats) × (seats ≤ 16) }
+    requires few { (1 ≤ seats) × (seats ≤ MAX_SEATS) }
     requires empty { book.journal ≡ [] }
 {
     let (desk, mut seats) = Desk::<L>::new(rt, alloc, blank, book, seats).map_err(|(
@@ -45,7 +46,7 @@ fn spend<L: Naming, W: Work, R: Wait + Abort>(
     Ok(closed?)
 }
 
-/// The work done at a desk of so many seats over this book, with a ledger of its own. The book, as it is closed.
+/// The work done at a desk of this many seats over this book, with a ledger of its own. The book, as it is closed.
 pub(crate) fn at_desk<W: Work, R: Wait + Abort>(
     rt: &R,
     alloc: Global,
@@ -53,7 +54,7 @@ pub(crate) fn at_desk<W: Work, R: Wait + Abort>(
     seats: usize,
     work: &W,
 ) -> Result<Book, Fail>
-    requires few { (1 ≤ seats) × (seats ≤ 16) }
+    requires few { (1 ≤ seats) × (seats ≤ MAX_SEATS) }
     requires empty { book.journal ≡ [] }
 {
     spend::<Brand, W, R>(rt, alloc, Blank::new(seats as u64), book, seats, work)

@@ -30,7 +30,7 @@ impl Flag {
         self.up.load(Ordering::SeqCst)
     }
 
-    /// Waits until the flag is up, but no longer than ten seconds; and answers whether it is.
+    /// Waits until the flag is up, but no longer than ten seconds; and returns whether it is.
     pub(crate) fn wait<C: Clock>(&self, clock: &C) -> bool {
         for _ in 0..TURNS {
             if self.is_up() {

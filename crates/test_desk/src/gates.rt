@@ -3,7 +3,7 @@ use sno_desk::Gate;
 use std::sync::Wait;
 use std::sync::atomic::{AtomicU32, Ordering};
 
-/// A gate that is shut for the statement with this number. It counts the answers that it is told: ones for the other statements, hundreds for this.
+/// A gate that is shut for the statement with this number. It counts the results that it is passed: ones for the other statements, hundreds for this.
 #[derive(Drop)]
 pub(crate) struct ShutFor {
     pub(crate) number: u32,
@@ -12,7 +12,7 @@ pub(crate) struct ShutFor {
 }
 
 impl ShutFor {
-    /// The gate, told no answer.
+    /// The gate, passed no result.
     pub(crate) fn new(number: u32) -> ShutFor {
         ShutFor {
             number,

@@ -1,5 +1,6 @@
 //! Books and statements for the tests.
 ghost use Rattle.std.specs.Prelude.{◌≡◌, ◌≤◌, [], IfOk};
+ghost use Rattle.sno_book.specs.declared.openings.TheConstants.{MAX_ENTRIES};
 
 use sno_book::Book;
 use sno_pattern::{Names, Rules, Text, TextName};
@@ -18,16 +19,26 @@ fn rules(rt: &impl Abort, alloc: Global) -> Result<Arc<Rules>, Fail> {
     Ok(Arc::new(alloc, Rules::admit(alloc, names, bodies)?)?)
 }
 
+/// The object that is written, if one is.
+fn object_of(alloc: Global, rules: &Rules, object: Option<&str>) -> Result<Option<Object>, Fail> {
+    match object {
+        None => Ok(None),
+        Some(object) => Ok(Some(read_object(alloc, rules.names(), object.as_bytes())?)),
+    }
+}
+
 /// The statement that is written.
 fn written(
     rt: &impl Abort,
     alloc: Global,
-    rules: Arc<Rules>,
     number: u32,
-    text: TextName,
+    text: &str,
     pattern: &str,
-    object: Option<Object>,
+    object: Option<&str>,
 ) -> Result<Arc<Statement>, Fail> {
+    let rules = rules(rt, alloc)?;
+    let text = TextName::new(alloc, text.as_bytes())?;
+    let object = object_of(alloc, &rules, object)?;
     let pattern = read_pattern(alloc, rules.names(), 0, pattern.as_bytes())?;
     assert!(rt; rules.covers(&pattern));
     let statement = Statement::new(number, rules, pattern, object, text, false);
@@ -43,10 +54,7 @@ pub(crate) fn statement(
     pattern: &str,
     object: &str,
 ) -> Result<Arc<Statement>, Fail> {
-    let rules = rules(rt, alloc)?;
-    let text = TextName::new(alloc, text.as_bytes())?;
-    let object = read_object(alloc, rules.names(), object.as_bytes())?;
-    written(rt, alloc, rules, number, text, pattern, Some(object))
+    written(rt, alloc, number, text, pattern, Some(object))
 }
 
 /// A statement that only matches.
@@ -57,9 +65,7 @@ pub(crate) fn matching(
     text: &str,
     pattern: &str,
 ) -> Result<Arc<Statement>, Fail> {
-    let rules = rules(rt, alloc)?;
-    let text = TextName::new(alloc, text.as_bytes())?;
-    written(rt, alloc, rules, number, text, pattern, None)
+    written(rt, alloc, number, text, pattern, None)
 }
 
 /// How a statement is written: its number, its text, its pattern, and its object if it has one.
@@ -67,10 +73,7 @@ pub(crate) type Row = (u32, &'static str, &'static str, Option<&'static str>);
 
 /// The statement of a row.
 pub(crate) fn of_row(rt: &impl Abort, alloc: Global, row: &Row) -> Result<Arc<Statement>, Fail> {
-    match row.3 {
-        Some(object) => statement(rt, alloc, row.0, row.1, row.2, object),
-        None => matching(rt, alloc, row.0, row.1, row.2),
-    }
+    written(rt, alloc, row.0, row.1, row.2, row.3)
 }
 
 /// The statements of these rows.
@@ -86,9 +89,9 @@ pub(crate) fn statements(
     Ok(jobs)
 }
 
-/// A book of these texts, each with its name, and room for so many entries.
+/// A book of these texts, each with its name, and room for this many entries.
 pub(crate) fn book(alloc: Global, texts: &[(&str, &[u8])], room: u32) -> Result<Book, Fail>
-    requires { room ≤ 1000000 }
+    requires { room ≤ MAX_ENTRIES }
     ensures { IfOk result (λ b. b.journal ≡ []) }
 {
     let mut rows = Vec::new(alloc);

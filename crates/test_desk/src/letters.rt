@@ -1,5 +1,6 @@
 //! Three texts of one letter each, replaced by three jobs of two seats; and the same with a gate that is shut for one of them.
 ghost use Rattle.std.specs.Prelude.{◌≤◌};
+ghost use Rattle.sno_desk.specs.declared.desk.TheConstants.{MAX_TRIES};
 
 use crate::compare::check_eq;
 use crate::day::{Day, check_first_refused, check_text, run_rows};
@@ -26,7 +27,7 @@ fn run_letters<G: Gate + Sync, R: Threads + Wait + Abort + Sync>(
     tries: u32,
     gate: &G,
 ) -> Result<Day, Fail>
-    requires { (1 ≤ tries) × (tries ≤ 1000) }
+    requires { (1 ≤ tries) × (tries ≤ MAX_TRIES) }
 {
     let texts: [(&str, &[u8]); 3] = [("A", b"a"), ("B", b"b"), ("C", b"c")];
     run_rows(rt, alloc, &texts, JOBS.as_slice(), tries, gate)

@@ -1,9 +1,7 @@
-//! Desks at work, tested: each answer of a submit, each event at its gate, tries that are overtaken, workers that overlap, sixteen of them at once, a reader beside a
+//! Desks at work, tested: each reply to a submit, each event at its gate, tries that are overtaken, workers that overlap, sixteen of them at once, a reader beside a
 //! submit, replies in order, shut gates, many seats over few texts, and what each fault prints.
 #![tactic(auto)]
 
-#[cfg(test)]
-mod answers;
 #[cfg(test)]
 mod asked;
 #[cfg(test)]
@@ -40,5 +38,7 @@ mod printing;
 mod soak;
 #[cfg(test)]
 mod spent;
+#[cfg(test)]
+mod submit_replies;
 #[cfg(test)]
 mod viewers;

@@ -1,5 +1,6 @@
 //! Two statements on one text, of which a gate holds one back until the other is accepted.
 ghost use Rattle.std.specs.Prelude.{◌≤◌};
+ghost use Rattle.sno_desk.specs.declared.desk.TheConstants.{MAX_TRIES};
 
 use crate::compare::check_eq;
 use crate::day::{Day, check_entry, check_first_refused, check_text, run_rows};
@@ -16,8 +17,8 @@ use std::test::Fail;
 use std::thread::Threads;
 use std::time::Clock;
 
-/// Holds statement 2 at attempt 1 until statement 1 has come to attempt 1, and statement 1 there until statement 2 has its answer. It notes what
-/// it is told: the attempts of statement 1, a digit each; and how many answers were receipts and how many refusals, ones for statement 1 and
+/// Holds statement 2 at attempt 1 until statement 1 has come to attempt 1, and statement 1 there until statement 2 has its reply. It notes what
+/// it is passed: the attempts of statement 1, a digit each; and how many replies were receipts and how many refusals, ones for statement 1 and
 /// hundreds for statement 2.
 #[derive(Drop)]
 struct Hold<'a, C: Clock> {
@@ -38,7 +39,7 @@ struct Notes {
 }
 
 impl<'a, C: Clock> Hold<'a, C> {
-    /// The gate, told nothing.
+    /// The gate, passed nothing.
     fn new(clock: &'a C) -> Hold<'a, C> {
         Hold {
             clock,
@@ -108,7 +109,7 @@ fn overlap<R: Threads + Wait + Clock + Abort + Sync>(
     alloc: Global,
     tries: u32,
 ) -> Result<(Day, Notes), Fail>
-    requires { (1 ≤ tries) × (tries ≤ 1000) }
+    requires { (1 ≤ tries) × (tries ≤ MAX_TRIES) }
 {
     let gate = Hold::new(rt);
     let day = run_rows(rt, alloc, &[("T", b"x")], JOBS.as_slice(), tries, &gate)?;

@@ -82,7 +82,7 @@ fn faults_of_books(rt: HostRuntime) -> Result<(), Fail> {
 #[test]
 fn faults_of_viewers(rt: HostRuntime) -> Result<(), Fail> {
     let alloc = rt.alloc();
-    let is_less = "the screen shows less than was told";
+    let is_less = "the screen shows less than was seen";
     check(&rt, alloc, &ViewFault::Ended, "the screen has ended")?;
     check(&rt, alloc, &ViewFault::Older, is_less)?;
     check(&rt, alloc, &ViewFault::Memory, "out of memory")?;

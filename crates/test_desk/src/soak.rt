@@ -2,7 +2,7 @@
 ghost use Rattle.std.specs.Prelude.{◌≡◌, [], IfOk};
 
 use crate::compare::check_eq;
-use crate::day::{Day, run_day};
+use crate::day::{Day, Orders, run_day};
 use crate::jobs::{book, statement};
 use sno_book::{Book, Receipt};
 use sno_desk::{OpenGate, Reply};
@@ -85,7 +85,12 @@ fn work<R: Threads + Wait + Abort + Sync>(
     alloc: Global,
     jobs: &[Arc<Statement>],
 ) -> Result<Day, Fail> {
-    run_day(rt, alloc, letters(alloc)?, 16, jobs, 1_000, &OpenGate)
+    let orders = Orders {
+        jobs,
+        tries: 1_000,
+        gate: &OpenGate,
+    };
+    run_day(rt, alloc, letters(alloc)?, 16, &orders)
 }
 
 /// Each text is as long as its rounds make it.

@@ -28,14 +28,14 @@ fn adding(rt: &impl Abort, alloc: Global) -> Result<Arc<Statement>, Fail> {
     statement(rt, alloc, 1, "T", "''", "'y'")
 }
 
-/// That statement on the text as it stands.
+/// That statement on the text as it is.
 fn added(rt: &impl Abort, alloc: Global, book: &Book) -> Result<Proposal, Fail>
     ensures { IfOk result (λ p. IsPrefix p.origin (view_of book.now)) }
 {
     proposal(alloc, book, &adding(rt, alloc)?)
 }
 
-/// The statement on the text as it stands.
+/// The statement on the text as it is.
 fn proposal(alloc: Global, book: &Book, job: &Arc<Statement>) -> Result<Proposal, Fail>
     ensures { IfOk result (λ p. IsPrefix p.origin (view_of book.now)) }
 {
@@ -79,7 +79,7 @@ fn receipt(rt: &impl Abort, alloc: Global) -> Result<Receipt, Fail> {
     Ok(book.commit(proposal).map_err(|(fault, _)| fault)?)
 }
 
-/// Two entries are added to a history, and a front of the time before is told of them.
+/// Two entries are added to a history, and a front of the time before is shown them.
 fn check_growth(rt: &impl Abort, entry: &Entry) {
     let mut history = History::new();
     let first = history.front().again();
@@ -198,7 +198,7 @@ fn a_viewer_sees_what_is_published(rt: HostRuntime) -> Result<(), Fail> {
     Ok(())
 }
 
-/// Reads so many times, and says whether no version was lower than the one before it.
+/// Reads this many times, and says whether no version was lower than the one before it.
 fn never_goes_back<L: Naming>(mut viewer: Viewer<L>, times: u32) -> bool {
     let mut last = 0;
     for _ in 0..times {

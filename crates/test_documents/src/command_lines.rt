@@ -6,14 +6,14 @@ use std::alloc::Global;
 use std::process::Abort;
 use std::test::Fail;
 
-fn answer_of(alloc: Global, line: &str) -> Result<Result<Options, OptionsFault>, Fail> {
+fn result_of(alloc: Global, line: &str) -> Result<Result<Options, OptionsFault>, Fail> {
     let words = words_of(alloc, line)?;
     Ok(options_of(alloc, &words))
 }
 
 // The text that refuses a line. `None` if the line is not refused.
 fn refusal_of(alloc: Global, line: &str) -> Result<Option<String>, Fail> {
-    match answer_of(alloc, line)? {
+    match result_of(alloc, line)? {
         Err(OptionsFault::Usage(text)) => Ok(Some(text)),
         _ => Ok(None),
     }
@@ -21,7 +21,7 @@ fn refusal_of(alloc: Global, line: &str) -> Result<Option<String>, Fail> {
 
 // The help that a line asks for. `None` if it doesn't ask for help.
 fn help_of(alloc: Global, line: &str) -> Result<Option<String>, Fail> {
-    match answer_of(alloc, line)? {
+    match result_of(alloc, line)? {
         Err(OptionsFault::Help(text)) => Ok(Some(text)),
         _ => Ok(None),
     }
@@ -87,7 +87,7 @@ static GIVEN: [(&'static str, Options); 10] = [
 ];
 
 fn check_given(rt: &(impl Abort + AllocGlobal), line: &str, options: &Options) -> Result<(), Fail> {
-    let given = answer_of(rt.alloc(), line)??;
+    let given = result_of(rt.alloc(), line)??;
     check_eq(rt, line, &given, options);
     Ok(())
 }

@@ -1,6 +1,6 @@
 //! Bytes that are not JSON, between a reader and a writer: nothing is written.
 use crate::compare::check_eq;
-use crate::runs::{PLAIN, THREE_STATEMENTS, answer_of};
+use crate::runs::{PLAIN, THREE_STATEMENTS, result_of};
 use sno_rewrite::{DocumentFault, RunFault, status_of};
 use std::alloc::Global;
 use std::process::Abort;
@@ -14,8 +14,8 @@ fn check_refused<R: Threads + Wait + Abort + AllocGlobal + Sync>(
     expected: DocumentFault,
 ) {
     let expected = RunFault::Document(expected);
-    let (answer, written) = answer_of(rt, document, &PLAIN);
-    let found = (answer, written.len());
+    let (returned, written) = result_of(rt, document, &PLAIN);
+    let found = (returned, written.len());
     assert!(rt; found == (Err(expected), 0), "for {document:?}: {found:?}");
     check_eq(rt, "the status", &status_of(&expected), &2);
 }

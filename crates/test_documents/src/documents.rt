@@ -263,8 +263,8 @@ static FAULTS: [(&'static str, &'static str); 33] = [
 
 // Why the document is refused.
 fn fault_of(alloc: Global, document: &str) -> Result<RunFault, Fail> {
-    let answer = run_serial(alloc, document.as_bytes(), &PLAIN);
-    Ok(answer.err().ok_or("accepted")?)
+    let returned = run_serial(alloc, document.as_bytes(), &PLAIN);
+    Ok(returned.err().ok_or("accepted")?)
 }
 
 fn check_faults(rt: &(impl Abort + AllocGlobal), rows: &[(&str, &str)]) -> Result<(), Fail> {
@@ -275,7 +275,7 @@ fn check_faults(rt: &(impl Abort + AllocGlobal), rows: &[(&str, &str)]) -> Resul
 }
 
 #[test]
-fn first_faults_are_answered(rt: HostRuntime) -> Result<(), Fail> {
+fn first_faults_are_reported(rt: HostRuntime) -> Result<(), Fail> {
     check_faults(&rt, &FAULTS)
 }
 

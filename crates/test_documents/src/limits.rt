@@ -1,6 +1,8 @@
 //! Runs of documents whose matches take more trials than they may.
 ghost use Rattle.std.specs.Prelude.{◌≤◌, IfSome};
 ghost use Rattle.sno_rewrite.specs.Runs.{AreInLimits};
+ghost use Rattle.sno_rewrite.specs.declared.options.TheConstants.{MAX_WORKERS};
+ghost use Rattle.sno_statement.specs.declared.statements.TheConstants.{MAX_TRIALS};
 
 use crate::runs::{PLAIN, check_written};
 use sno_rewrite::Options;
@@ -71,8 +73,8 @@ static LIMITED: [Limited; 8] = [
 ];
 
 fn options_of(trials: u32, workers: Option<u32>) -> Options
-    requires trials { (1 ≤ trials) × (trials ≤ 1000000000) }
-    requires workers { IfSome workers (λ n. (1 ≤ n) × (n ≤ 16)) }
+    requires trials { (1 ≤ trials) × (trials ≤ MAX_TRIALS) }
+    requires workers { IfSome workers (λ n. (1 ≤ n) × (n ≤ MAX_WORKERS)) }
     ensures { AreInLimits result }
 {
     Options {
@@ -87,7 +89,7 @@ fn check<R: Threads + Wait + Abort + AllocGlobal + Sync>(
     row: &Limited,
     workers: Option<u32>,
 ) -> Result<(), Fail>
-    requires { IfSome workers (λ n. (1 ≤ n) × (n ≤ 16)) }
+    requires { IfSome workers (λ n. (1 ≤ n) × (n ≤ MAX_WORKERS)) }
 {
     let Limited(document, trials, listing, status) = *row;
     let valid = 1 <= trials && trials <= 1_000_000_000;
@@ -101,7 +103,7 @@ fn check_all<R: Threads + Wait + Abort + AllocGlobal + Sync>(
     rows: &[Limited],
     workers: Option<u32>,
 ) -> Result<(), Fail>
-    requires { IfSome workers (λ n. (1 ≤ n) × (n ≤ 16)) }
+    requires { IfSome workers (λ n. (1 ≤ n) × (n ≤ MAX_WORKERS)) }
 {
     for row in rows {
         check(rt, row, workers)?;

@@ -33,7 +33,7 @@ pub(crate) fn words_of(alloc: Global, line: &str) -> Result<Vec<String>, Fail> {
 }
 
 /// The result of the run of what the reader gives, and what is written.
-pub(crate) fn answer_of<R: Threads + Wait + AllocGlobal + Sync, I: Read + Drop>(
+pub(crate) fn result_of<R: Threads + Wait + AllocGlobal + Sync, I: Read + Drop>(
     rt: &R,
     reader: I,
     options: &Options,
@@ -42,8 +42,8 @@ pub(crate) fn answer_of<R: Threads + Wait + AllocGlobal + Sync, I: Read + Drop>(
 {
     let mut reader = reader;
     let mut written = Vec::new(rt.alloc());
-    let answer = run(rt, rt.alloc(), &mut reader, &mut written, options);
-    (answer, written)
+    let returned = run(rt, rt.alloc(), &mut reader, &mut written, options);
+    (returned, written)
 }
 
 /// What the run of the document writes, and its status.
@@ -54,8 +54,8 @@ pub(crate) fn written<R: Threads + Wait + AllocGlobal + Sync>(
 ) -> Result<(Vec<u8>, u8), Fail>
     requires { AreInLimits options.now }
 {
-    let (answer, written) = answer_of(rt, document.as_bytes(), options);
-    Ok((written, answer?))
+    let (returned, written) = result_of(rt, document.as_bytes(), options);
+    Ok((written, returned?))
 }
 
 /// Checks that the run of the document writes this listing, and ends with this status.

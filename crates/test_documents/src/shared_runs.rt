@@ -1,9 +1,10 @@
 //! Runs with workers.
 ghost use Rattle.std.specs.Prelude.{◌≤◌, IfSome};
 ghost use Rattle.sno_rewrite.specs.Runs.{AreInLimits};
+ghost use Rattle.sno_rewrite.specs.declared.options.TheConstants.{MAX_WORKERS};
 
 use crate::compare::{check_eq, check_text};
-use crate::runs::{PLAIN, THREE_STATEMENTS, answer_of, written};
+use crate::runs::{PLAIN, THREE_STATEMENTS, result_of, written};
 use sno_rewrite::{DocumentFault, Options, Report, RunFault, run_serial, run_shared};
 use std::alloc::Global;
 use std::process::Abort;
@@ -30,7 +31,7 @@ const SECOND_FIRST: &str =
     "texts 1\nA 2 |aabb|\nentries 2\n0 statement 2 A 0 matched 1 2\n  -> |abb|\n1 statement 1 A 1 matched 0 1\n  -> |aabb|\nrefused 0\n";
 
 fn options_of(workers: Option<u32>) -> Options
-    requires { IfSome workers (λ n. (1 ≤ n) × (n ≤ 16)) }
+    requires { IfSome workers (λ n. (1 ≤ n) × (n ≤ MAX_WORKERS)) }
     ensures { AreInLimits result }
 {
     Options { workers, ..PLAIN }
@@ -42,7 +43,7 @@ fn shared<R: Threads + Wait + AllocGlobal + Sync>(
     document: &str,
     workers: Option<u32>,
 ) -> Result<Report, Fail>
-    requires { IfSome workers (λ n. (1 ≤ n) × (n ≤ 16)) }
+    requires { IfSome workers (λ n. (1 ≤ n) × (n ≤ MAX_WORKERS)) }
 {
     let options = options_of(workers);
     Ok(run_shared(rt, rt.alloc(), document.as_bytes(), &options)?)
@@ -118,7 +119,7 @@ fn check_order<R: Threads + Wait + Abort + AllocGlobal + Sync>(
     document: &str,
     workers: Option<u32>,
 ) -> Result<(), Fail>
-    requires { IfSome workers (λ n. (1 ≤ n) × (n ≤ 16)) }
+    requires { IfSome workers (λ n. (1 ≤ n) × (n ≤ MAX_WORKERS)) }
 {
     let serial = serial(rt.alloc(), document)?;
     let shared = shared(rt, document, workers)?;
@@ -138,12 +139,12 @@ fn one_worker_keeps_the_order(rt: HostRuntime) -> Result<(), Fail> {
 
 // A fault of the document is returned as without workers, and nothing is written.
 #[test]
-fn workers_answer_the_documents_fault(rt: HostRuntime) {
-    let (answer, written) = answer_of(&rt, b"[]".as_slice(), &options_of(Some(2)));
+fn workers_return_the_documents_fault(rt: HostRuntime) {
+    let (returned, written) = result_of(&rt, b"[]".as_slice(), &options_of(Some(2)));
     check_eq(
         &rt,
         "[]",
-        &answer,
+        &returned,
         &Err(RunFault::Document(DocumentFault::Shape)),
     );
     check_text(&rt, "[]", &written, "");

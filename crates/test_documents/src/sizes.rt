@@ -7,8 +7,8 @@ use std::process::Abort;
 use std::test::Fail;
 
 fn check(rt: &(impl Abort + AllocGlobal), size: usize, document: &str, expected: Option<RunFault>) {
-    let answer = run_serial(rt.alloc(), document.as_bytes(), &PLAIN).err();
-    check_eq(rt, "a document", &(size, answer), &(size, expected));
+    let returned = run_serial(rt.alloc(), document.as_bytes(), &PLAIN).err();
+    check_eq(rt, "a document", &(size, returned), &(size, expected));
 }
 
 // The character, `count` times.

@@ -89,7 +89,7 @@ const NEVER: usize = 1_000_000;
 // The result of a run, how many reads and writes there were, and what was taken.
 #[derive(Drop)]
 struct Outcome {
-    answer: Result<u8, RunFault>,
+    returned: Result<u8, RunFault>,
     reads: usize,
     writes: usize,
     taken: Vec<u8>,
@@ -101,9 +101,9 @@ fn outcome_of(
     mut reader: Pieces<'_>,
     mut writer: Taker,
 ) -> Outcome {
-    let answer = run(rt, rt.alloc(), &mut reader, &mut writer, &PLAIN);
+    let returned = run(rt, rt.alloc(), &mut reader, &mut writer, &PLAIN);
     Outcome {
-        answer,
+        returned,
         reads: reader.reads,
         writes: writer.writes,
         taken: writer.taken,
@@ -116,7 +116,7 @@ fn outcome_of(
 fn pieces_make_the_whole(rt: HostRuntime) {
     let reader = reader_of(DOCUMENT.as_bytes(), NEVER, ErrorKind::Other);
     let outcome = outcome_of(&rt, reader, writer_of(&rt, 1, NEVER));
-    check_eq(&rt, "pieces", &outcome.answer, &Ok(1));
+    check_eq(&rt, "pieces", &outcome.returned, &Ok(1));
     check_text(&rt, "pieces", &outcome.taken, LISTING);
 }
 
@@ -128,7 +128,7 @@ fn no_input_is_no_json(rt: HostRuntime) {
     check_eq(
         &rt,
         "no input",
-        &outcome.answer,
+        &outcome.returned,
         &Err(RunFault::Document(DocumentFault::NotJson)),
     );
     check_text(&rt, "no input", &outcome.taken, "");
@@ -143,7 +143,7 @@ fn check_read(
 ) {
     let reader = reader_of(DOCUMENT.as_bytes(), reads, kind);
     let outcome = outcome_of(rt, reader, writer_of(rt, 1_000, NEVER));
-    let found = (reads, outcome.answer, outcome.reads.checked_sub(reads));
+    let found = (reads, outcome.returned, outcome.reads.checked_sub(reads));
     check_eq(
         rt,
         "a failed read",
@@ -175,7 +175,7 @@ fn check_write(
     let found = (
         most,
         writes,
-        outcome.answer,
+        outcome.returned,
         outcome.writes.checked_sub(writes),
     );
     let expected = (most, writes, Err(RunFault::Write), Some(1));
@@ -199,7 +199,12 @@ fn a_write_that_fails_once_ends_the_run(rt: HostRuntime) {
 fn a_write_that_takes_nothing_ends_the_run(rt: HostRuntime) {
     let reader = reader_of(DOCUMENT.as_bytes(), NEVER, ErrorKind::Other);
     let outcome = outcome_of(&rt, reader, writer_of(&rt, 0, NEVER));
-    check_eq(&rt, "nothing taken", &outcome.answer, &Err(RunFault::Write));
+    check_eq(
+        &rt,
+        "nothing taken",
+        &outcome.returned,
+        &Err(RunFault::Write),
+    );
     check_eq(&rt, "nothing taken", &outcome.writes, &1);
 }
 
@@ -211,8 +216,8 @@ fn of_blanks(
     let blanks = vec![in rt.alloc(); b' '; length]?;
     let mut writer = writer_of(rt, 1_000, NEVER);
     let mut reader = blanks.as_slice();
-    let answer = run(rt, rt.alloc(), &mut reader, &mut writer, &PLAIN);
-    Ok((answer, reader.len()))
+    let returned = run(rt, rt.alloc(), &mut reader, &mut writer, &PLAIN);
+    Ok((returned, reader.len()))
 }
 
 fn check_blanks(

@@ -72,8 +72,8 @@ pub(crate) fn number(words: &str, before: &str, after: &str) -> Result<u32, Fail
 
 /// The replacement by this object, and the piece after it.
 fn replacement<'l>(pattern: &'l str, object: Quoted<'l>) -> Result<(Task<'l>, Quoted<'l>), Fail> {
-    let told = cut(object.after)?;
-    let task = match told.before {
+    let outcome = cut(object.after)?;
+    let task = match outcome.before {
         ": " => Task::Replace(pattern, object.inside),
         ", for all matches: " => Task::ReplaceAll(pattern, object.inside),
         words => Task::Repeat(
@@ -82,7 +82,7 @@ fn replacement<'l>(pattern: &'l str, object: Quoted<'l>) -> Result<(Task<'l>, Qu
             number(words, ", at most ", " times: ")?,
         ),
     };
-    Ok((task, told))
+    Ok((task, outcome))
 }
 
 /// How many times the text is written.
@@ -104,7 +104,7 @@ fn trials(words: &str) -> Result<Option<u32>, Fail> {
 /// The row of this text and this pattern.
 pub(crate) fn row<'l>(text: Quoted<'l>, pattern: Quoted<'l>) -> Result<Row<'l>, Fail> {
     let next = cut(pattern.after)?;
-    let (task, told) = match next.before {
+    let (task, outcome) = match next.before {
         ": " => (Task::Match(pattern.inside), next),
         ", anchored: " => (Task::MatchAnchored(pattern.inside), next),
         ", for all matches: " => (Task::MatchAll(pattern.inside), next),
@@ -118,7 +118,7 @@ pub(crate) fn row<'l>(text: Quoted<'l>, pattern: Quoted<'l>) -> Result<Row<'l>, 
         text: text.inside,
         times: times(pattern.before)?,
         task,
-        outcome: told.inside,
-        trials: trials(told.after)?,
+        outcome: outcome.inside,
+        trials: trials(outcome.after)?,
     })
 }

@@ -56,7 +56,7 @@ fn check_or_take(alloc: Global, shelf: &mut Shelf, line: &str) -> Result<bool, F
 fn check(rt: &(impl AllocGlobal + Eprint), shelf: &mut Shelf, line: &str) -> Result<bool, Fail> {
     let checked = check_or_take(rt.alloc(), shelf, line);
     if checked.is_err() {
-        let _told = eprintln!(rt; "{line}");
+        let _written = eprintln!(rt; "{line}");
     }
     checked
 }

@@ -384,6 +384,6 @@ fn characters_line(alloc: Global, characters: &str) -> Result<String, Fail> {
 }
 
 fn tell_characters(alloc: Global, characters: &[u8], line: &mut String) -> Result<(), Fail> {
-    let told = characters_line(alloc, str::from_utf8(characters)?)?;
-    Ok(line.push_str(told.as_str())?)
+    let line_of_characters = characters_line(alloc, str::from_utf8(characters)?)?;
+    Ok(line.push_str(line_of_characters.as_str())?)
 }

@@ -5,7 +5,7 @@ use sno_book::Book;
 use sno_desk::{Desk, DeskWork, Naming, Seat, at_desk};
 use sno_document::{Mode, Rules};
 use sno_pattern::{Names, Text, TextName};
-use sno_serve::{Reason, Refusal, answer as reply_to, line_in};
+use sno_serve::{Reason, Refusal, line_in, reply_to};
 use std::alloc::Global;
 use std::process::Abort;
 use std::sync::{Arc, Wait};

@@ -1,7 +1,7 @@
 //! A document that is served: each kind of line with its reply.
 
 use sno_document::{Mode, read_document};
-use sno_serve::{Entry, Reason, Refusal, serve};
+use sno_serve::{Entry, Reason, Refusal, Terms, serve};
 use std::process::Abort;
 use std::test::Fail;
 
@@ -89,18 +89,14 @@ fn lines_get_replies(rt: HostRuntime) -> Result<(), Fail> {
         wanted.push(b'\n')?;
     }
     let mut output = Vec::new(alloc);
-    let served = serve(
-        &rt,
-        alloc,
-        document,
+    let terms = Terms {
         mode,
-        1,
-        100,
-        input.as_slice(),
-        &mut output,
-    )
-    .ok()
-    .ok_or("served")?;
+        seats: 1,
+        tries: 100,
+    };
+    let served = serve(&rt, alloc, document, terms, input.as_slice(), &mut output)
+        .ok()
+        .ok_or("served")?;
     assert!(rt; served.fault.is_none());
     check_numbers(&rt, served.book.journal(), &[1, 2, 4, 6]);
     check_refused(&rt, &served.refused, &[3]);

@@ -1,6 +1,5 @@
 """Patterns that are read once. What is wanted was worked out by hand from docs/LANGUAGE.md."""
 
-import gc
 import random
 import threading
 import unittest
@@ -241,15 +240,6 @@ class Sharing(unittest.TestCase):
         for thread in threads:
             thread.join()
         self.assertEqual(wrong, [])
-
-    def test_handles_are_closed(self) -> None:
-        pattern = patterns.Pattern("'a'")
-        held = pattern._held("'a'")
-        close = held.close
-        self.assertTrue(close.alive)
-        del held, pattern
-        gc.collect()
-        self.assertFalse(close.alive)
 
 
 if __name__ == "__main__":

@@ -24,7 +24,7 @@ enum Wanted<'a> {
 }
 
 /// What a match has learnt of its text on the way, so that no walk over many characters is done again and again. The match has
-/// it in one place, and hands the text on beside it (`Subject`).
+/// it in one place, and passes the text on beside it (`Subject`).
 #[derive(Drop)]
 pub struct Learnt<'t, 'a> {
     text: &'t [u8],

@@ -11,7 +11,7 @@ const MANY: usize = 4_096;
 
 /// An immediate assignment whose name is still in the pattern. A name has room for 64 characters, so it is copied only into the result.
 #[derive(Clone, Copy)]
-pub struct Told<'a> {
+pub struct Noted<'a> {
     pub name: &'a Name,
     pub what: What,
 }
@@ -20,7 +20,7 @@ pub struct Told<'a> {
 /// left. A trial looks only at how many are left.
 #[derive(Drop)]
 pub struct Progress<'a> {
-    sets: Vec<Told<'a>>,
+    sets: Vec<Noted<'a>>,
     left: u32,
     limit: u32,
 }
@@ -28,11 +28,11 @@ pub struct Progress<'a> {
 impl<'a> Model for Progress<'a> {
     ghost use Rattle.std.specs.Prelude.{◌-◌, ◌≤◌, map};
     ghost use Rattle.sno_machine.specs.Progress.{Reached};
-    ghost use Rattle.sno_machine.specs.Told.{told_assign};
+    ghost use Rattle.sno_machine.specs.Noted.{noted_assign};
 
     ghost Value = { Reached };
 
-    ghost view = { λ s. record { sets = map told_assign s.sets.items; trials = s.limit - s.left; limit = s.limit } };
+    ghost view = { λ s. record { sets = map noted_assign s.sets.items; trials = s.limit - s.left; limit = s.limit } };
 
     ghost invariant = { λ s. s.left ≤ s.limit };
 }
@@ -57,7 +57,7 @@ impl<'a> Progress<'a> {
         if self.sets.len() == self.sets.capacity() {
             make_room(&mut self.sets)?;
         }
-        self.sets.push_reserved(Told { name, what });
+        self.sets.push_reserved(Noted { name, what });
         Ok(())
     }
 
@@ -91,10 +91,10 @@ impl<'a> Progress<'a> {
             return Ok(Vec::new(alloc));
         }
         let mut sets = Vec::with_capacity(alloc, self.sets.len())?;
-        for told in &self.sets {
+        for noted in &self.sets {
             sets.push_reserved(Assign {
-                name: *told.name,
-                what: told.what,
+                name: *noted.name,
+                what: noted.what,
             });
         }
         Ok(sets)
@@ -104,7 +104,7 @@ impl<'a> Progress<'a> {
 /// Makes room for 8 assignments at first; then for eight times as many as were done, and past `MANY` for twice as many.
 #[cold]
 #[inline(never)]
-fn make_room(sets: &mut Vec<Told>) -> Result<(), AllocError>
+fn make_room(sets: &mut Vec<Noted>) -> Result<(), AllocError>
     ensures same { sets.new.items ≡ sets.old.items }
     ensures room { OnOk result (vec_len sets.new < vec_capacity sets.new) }
 {

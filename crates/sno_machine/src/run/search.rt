@@ -9,6 +9,7 @@ ghost use Rattle.sno_machine.specs.Beginnings.{AreBeginnings, IsRunStart, cost};
 ghost use Rattle.sno_machine.specs.Code.{IsCompiled};
 ghost use Rattle.sno_machine.specs.Endings.{found_of, match_by, up_to, Overspent};
 ghost use Rattle.sno_machine.specs.declared.faults.MatchFault.TheVariants.{TooManyTrials};
+ghost use Rattle.sno_machine.specs.declared.starts.heads.TheConstants.{MAX_HEADS};
 
 use crate::compiling::nodes::Compiled;
 use crate::faults::MatchFault;
@@ -43,7 +44,7 @@ pub fn search<'a>(
     requires known { learnt.old ≡ text.now }
     requires compiled { IsCompiled code.now.rules.now.bodies (tree_of code.now.pattern.now) code.now.nodes }
     requires begin { AreBeginnings code.now.rules.now.bodies (tree_of code.now.pattern.now) code.now.beginnings }
-    requires cheap { cost code.now.beginnings ≤ 64 }
+    requires cheap { cost code.now.beginnings ≤ MAX_HEADS }
     requires run { IfSome code.now.run (IsRunStart code.now.rules.now.bodies (tree_of code.now.pattern.now)) }
     ensures found { IfOk result (λ s. s.found ≡ outcome_from text.now code.now.rules.now.bodies (tree_of code.now.pattern.now) anchored from) }
     ensures counted { IfOk result (λ s. s.trials ≡ trials_from text.now code.now.rules.now.bodies (tree_of code.now.pattern.now) anchored from) }
@@ -109,7 +110,7 @@ fn try_all<'a>(
 ) -> Result<Option<Hit>, MatchFault>
     requires compiled { IsCompiled code.now.rules.now.bodies (tree_of code.now.pattern.now) code.now.nodes }
     requires begin { AreBeginnings code.now.rules.now.bodies (tree_of code.now.pattern.now) code.now.beginnings }
-    requires cheap { cost code.now.beginnings ≤ 64 }
+    requires cheap { cost code.now.beginnings ≤ MAX_HEADS }
     requires run { IfSome code.now.run (IsRunStart code.now.rules.now.bodies (tree_of code.now.pattern.now)) }
     requires inside { from ≤ length text.now }
     requires short { length text.now ≤ MAX_BYTES }

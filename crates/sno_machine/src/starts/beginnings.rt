@@ -4,6 +4,7 @@ ghost use Rattle.std.specs.Option.{option_map};
 ghost use Rattle.sno_pattern.specs.Tree.{tree_of};
 ghost use Rattle.sno_pattern.specs.Beginnings.{first_literal};
 ghost use Rattle.sno_machine.specs.Beginnings.{AreBeginnings, AreHeadsOf, NoneBegin, cost};
+ghost use Rattle.sno_machine.specs.declared.starts.heads.TheConstants.{MAX_HEADS};
 
 use crate::starts::head_tables::HeadTable;
 use crate::starts::heads::{Head, heads_of};
@@ -33,7 +34,7 @@ impl<'a> Beginnings<'a> {
         pattern: &'a Pattern,
     ) -> Result<Beginnings<'a>, AllocError>
         ensures begin { IfOk result (AreBeginnings rules.now.bodies (tree_of pattern.now)) }
-        ensures few { IfOk result (λ beginnings. cost beginnings ≤ 64) }
+        ensures few { IfOk result (λ beginnings. cost beginnings ≤ MAX_HEADS) }
     {
         // for the proof
         a_missing_literal_costs_one_trial();

@@ -2,12 +2,13 @@
 ghost use Rattle.std.specs.Prelude.{◌≡◌, ◌+◌, ◌≤◌, true, [], ◌∷◌, ◌++◌, length, IfOk, IfSome};
 ghost use Rattle.sno_pattern.specs.Tree.{tree_of, trees};
 ghost use Rattle.sno_machine.specs.Beginnings.{first_part, AreHeads, Collected};
+ghost use Rattle.sno_machine.specs.declared.starts.heads.TheConstants.{MAX_HEADS};
 
 use sno_pattern::{Class, Pattern};
 use std::alloc::{AllocError, Global};
 
 // The most heads that are kept of a pattern: a start that is passed over costs at most this many trials.
-const MAX_HEADS: usize = 64;
+pub const MAX_HEADS: usize = 64;
 
 /// A leaf with which a match can begin, by its first character. The leaf doesn't match before another character or at
 /// the end of the text.
@@ -31,7 +32,7 @@ pub fn heads_of<'a>(
     pattern: &'a Pattern,
 ) -> Result<Option<Vec<Head<'a>>>, AllocError>
     ensures heads { IfOk result (λ found. IfSome found (λ heads. AreHeads (trees known.now) depth (tree_of pattern.now) heads.items)) }
-    ensures few { IfOk result (λ found. IfSome found (λ heads. length heads.items ≤ 64)) }
+    ensures few { IfOk result (λ found. IfSome found (λ heads. length heads.items ≤ MAX_HEADS)) }
 {
     let mut collector = Collector {
         known,

@@ -66,7 +66,7 @@ impl<'a> Needle<'a> {
         }
     }
 
-    /// Whether it is sought as bytes: one, two or three, or a set that was made of so many.
+    /// Whether it is sought as bytes: one, two or three, or a set that was made of as many.
     pub fn is_bytes(self) -> bool {
         match self {
             Needle::Byte(_) | Needle::Two(_, _) | Needle::Three(_, _, _) => true,

@@ -1,22 +1,17 @@
-"""Handles of the library: a pattern that was read once, and a text that is kept for searches."""
+"""Handles of the library, by ctypes: a pattern that was read once, and a text that is kept for searches."""
 
 from __future__ import annotations
 
 import ctypes
-import functools
-import os
 import threading
 import weakref
 from typing import Any, NamedTuple
 
-from ._library import load
-
-DONE, NOTHING, FAULT, BAD_LIMIT, NO_MEMORY, TOO_SHORT = range(6)
-TOO_MANY_TRIALS, TOO_LONG, PAST_END, HISTORY_TOO_LONG = 8, 9, 10, 11
+from ._refusals import DONE, NOTHING, PAST_END, TOO_SHORT, refusal
 
 _LINE_ROOM = 1024
 _NAME_ROOM = 64
-_FIRST_ROOM = 4096
+_SPARE_ROOM = 1024
 
 
 class _Handle(ctypes.Structure):
@@ -59,8 +54,8 @@ _buffer = ctypes.POINTER(ctypes.c_char)
 _handle = ctypes.POINTER(_Handle)
 
 
-@functools.cache
-def _functions(path: str) -> ctypes.CDLL:
+def functions(path: str) -> ctypes.CDLL:
+    """The functions of the shared object with this path."""
     loaded = ctypes.CDLL(path)
     for name, arguments in {
         "open_pattern": [_bytes, _size, _bytes, _size, _buffer, _size, ctypes.POINTER(_size), _handle],
@@ -74,15 +69,6 @@ def _functions(path: str) -> ctypes.CDLL:
         function.argtypes = arguments
         function.restype = None if name == "close" else ctypes.c_uint8
     return loaded
-
-
-class Refused(Exception):
-    """A status that is no result, with the lines of a fault."""
-
-    def __init__(self, status: int, lines: str = "") -> None:
-        super().__init__(status, lines)
-        self.status = status
-        self.lines = lines
 
 
 class _Held:
@@ -100,16 +86,18 @@ class HeldText(_Held):
 
     def __init__(self, functions: Any, content: bytes) -> None:
         super().__init__(functions)
+        self.length = len(content)
         status = functions.sno_handle_open_text(content, len(content), self.reference)
         if status != DONE:
-            raise Refused(status)
+            raise refusal(status, "", 0)
 
 
 class HeldPattern(_Held):
     """The pattern of a rule. One thread at a time uses it."""
 
-    def __init__(self, rule: str, definitions: str, library: str | os.PathLike[str] | None) -> None:
-        super().__init__(_functions(load(library).path))
+    def __init__(self, functions: Any, rule: str, definitions: str, trials: int) -> None:
+        super().__init__(functions)
+        self.trials = trials
         self.lock = threading.Lock()
         # What a call fills in; under the lock there is one call at a time.
         self.found = _FoundMatch()
@@ -125,24 +113,24 @@ class HeldPattern(_Held):
             self.reference,
         )  # fmt: skip
         if status != DONE:
-            raise Refused(status, line.raw[: length.value].decode(errors="replace"))
+            raise refusal(status, line[: length.value].decode(errors="replace"), trials)
 
     def text(self, content: bytes) -> HeldText:
         return HeldText(self.functions, content)
 
-    def next(self, text: HeldText, start: int, trials: int) -> Found | None:
+    def next(self, text: HeldText, start: int) -> Found | None:
         """The next match whose start is this cursor or lies past it."""
         with self.lock:
             found = self.found
             status = self.functions.sno_handle_next(
-                self.reference, text.reference, start, trials, self.found_reference
+                self.reference, text.reference, start, self.trials, self.found_reference
             )
             if status == DONE:
                 assignments = tuple([self._assignment(place) for place in range(found.assignments)])
                 return Found(found.start, found.end, found.next, assignments)
         if status in (NOTHING, PAST_END):
             return None
-        raise Refused(status)
+        raise refusal(status, "", self.trials)
 
     def _assignment(self, place: int) -> Assignment:
         one = self.one
@@ -150,24 +138,25 @@ class HeldPattern(_Held):
             self.reference, place, self.name, _NAME_ROOM, self.one_reference
         )
         if status != DONE:
-            raise Refused(status)
-        return Assignment(self.name.raw[: one.name_length].decode(), one.start, one.end, one.is_cursor)
+            raise refusal(status, "", self.trials)
+        return Assignment(self.name[: one.name_length].decode(), one.start, one.end, one.is_cursor)
 
-    def replace(self, text: HeldText, trials: int) -> tuple[bytes | None, int]:
+    def replace(self, text: HeldText) -> tuple[bytes | None, int]:
         """The new text, if there is one, and the number of matches."""
-        room = _FIRST_ROOM
+        # Mostly enough. If it isn't, a second run is needed.
+        room = 2 * text.length + _SPARE_ROOM
         done = _NewText()
         while True:
             buffer = ctypes.create_string_buffer(room)
             with self.lock:
                 status = self.functions.sno_handle_replace(
-                    self.reference, text.reference, trials, buffer, room, ctypes.byref(done)
+                    self.reference, text.reference, self.trials, buffer, room, ctypes.byref(done)
                 )
             if status != TOO_SHORT:
                 break
             room = done.length
         if status == DONE:
-            return buffer.raw[: done.length], done.matches
+            return buffer[: done.length], done.matches
         if status == NOTHING:
             return None, done.matches
-        raise Refused(status)
+        raise refusal(status, "", self.trials)

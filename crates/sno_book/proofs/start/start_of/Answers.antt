@@ -8,8 +8,8 @@ use Rattle.sno_book.specs.Starts.{contents}
 use Rattle.sno_book.proofs.TextRows.{repeated, not_added, rest_whole, first_same, contents_more}
 use Rattle.sno_book.proofs.start.start_of.Goals as goal
 
-pub returns-then-not-branch-clause-answer : goal.returns-then-not-branch-clause-answer
-returns-then-not-branch-clause-answer c =
+pub returns-then-not-branch-clause-result : goal.returns-then-not-branch-clause-result
+returns-then-not-branch-clause-result c =
     let so_far = texts_seen c.loop-name.named.entries in
     let first = repeat_from (names_in so_far) (length c.loop-name.named.entries) (names_in (into_iter_items c.loop-name.name-iterator)) in
     let short : nat_lt 1024 (length c.args.texts.items) ≡ false = le-ltb 1024 (length c.args.texts.items) (omega (arith, c.if-len-gt-MAX_TEXTS.false, c.len.ensures, c.args.texts.ok.0)) in

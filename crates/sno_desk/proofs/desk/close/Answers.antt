@@ -11,8 +11,8 @@ returns-then-not-has_all-clause-cause g c =
     let same : c.deref-2.result.now ≡ c.deref-3.result.now = c.is_same.ensures.0 c.if-not-is_same.false in (
       sym (c.deref-2.ensures ∙ c.opening.ensures) ∙ same ∙ c.deref-3.ensures,
       λ all.
-          let kept = subst (λ (b : Book). All (λ (s : Seat g.row.L.Denot). Begins s.viewer.seen b.journal) c.args.seats.items) c.into_book-book.ensures.book all in
-          let held = subst (λ (l : List (Seat g.row.L.Denot)). All (λ (s : Seat g.row.L.Denot). Begins s.viewer.seen c.into_inner-locked.result.journal) l) (sym c.deref.ensures.value) kept in
+          let kept = subst (λ (b : Book). All (λ (s : Seat g.row.L.Denot). Begins s.seen b.journal) c.args.seats.items) c.into_book-book.ensures.book all in
+          let held = subst (λ (l : List (Seat g.row.L.Denot)). All (λ (s : Seat g.row.L.Denot). Begins s.seen c.into_inner-locked.result.journal) l) (sym c.deref.ensures.value) kept in
           let wrong : false ≡ true = sym c.if-not-has_all.true ∙ c.has_all-has_all.ensures.1 held in
           absurd cc,
     )
@@ -20,5 +20,5 @@ returns-then-not-has_all-clause-cause g c =
 pub returns-clause-seen : goal.returns-clause-seen
 returns-clause-seen g c =
     let held = c.has_all-has_all.ensures.0 c.if-not-has_all.false in
-    let kept = subst (λ (l : List (Seat g.row.L.Denot)). All (λ (s : Seat g.row.L.Denot). Begins s.viewer.seen c.into_inner-locked.result.journal) l) c.deref.ensures.value held in
-    subst (λ (b : Book). All (λ (s : Seat g.row.L.Denot). Begins s.viewer.seen b.journal) c.args.seats.items) (sym c.into_book-book.ensures.book) kept
+    let kept = subst (λ (l : List (Seat g.row.L.Denot)). All (λ (s : Seat g.row.L.Denot). Begins s.seen c.into_inner-locked.result.journal) l) c.deref.ensures.value held in
+    subst (λ (b : Book). All (λ (s : Seat g.row.L.Denot). Begins s.seen b.journal) c.args.seats.items) (sym c.into_book-book.ensures.book) kept

@@ -10,9 +10,9 @@ loop-seat-preserved g c =
     let before : c.loop-seat.rest.parts + c.loop-seat._seat ≡ c.args.seats = c.loop-seat.invariant.0 in
     let many : length made ≡ c.loop-seat._seat = c.loop-seat.invariant.2 in
     let longer : length c.push.new.self.items ≡ length made + 1 = rw c.in-Ok.ensures.items (length-append made _) in
-    let new : (c.in_ok-seat.seat.accepted ≡ 0) × (c.in_ok-seat.seat.viewer.seen ≡ []) = (c.in_ok-seat.ensures.none.0, c.in_ok-seat.ensures.none.1 ∙ c.requires.first) in (
+    let new : (c.in_ok-seat.seat.accepted ≡ 0) × (c.in_ok-seat.seat.seen ≡ []) = (c.in_ok-seat.ensures.none.0, c.in_ok-seat.ensures.none.1 ∙ c.requires.first) in (
       omega (arith, rest, before),
       c.in_ok-seat.ensures.rest.1,
       omega (arith, longer, many),
-      rw c.in-Ok.ensures.items (All-push (λ s. (s.accepted ≡ 0) × (s.viewer.seen ≡ [])) made c.in_ok-seat.seat c.loop-seat.invariant.3 new),
+      rw c.in-Ok.ensures.items (All-push (λ s. (s.accepted ≡ 0) × (s.seen ≡ [])) made c.in_ok-seat.seat c.loop-seat.invariant.3 new),
     )

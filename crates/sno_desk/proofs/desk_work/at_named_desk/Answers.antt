@@ -17,10 +17,10 @@ returns-in-Ok-close-clause-worked g c =
     let many : length old ≡ c.args.seats = ap (λ (l : List (Seat g.row.L.Denot)). length l) same ∙ c.in-Ok.ensures.count in
     let as_many : length new ≡ c.args.seats = omega (arith, many) in
     let whole = restored made.len new (drop (length new) made.items) (omega (arith, many, as_many, c.in-Ok.ensures.count)) in
-    worked_at (λ (s : Seat g.row.L.Denot). s.accepted) (λ s. s.viewer.seen) (g.W.DeskWork.takes c.args.work.now) old new journal c.args.seats
+    worked_at (λ (s : Seat g.row.L.Denot). s.accepted) (λ s. s.seen) (g.W.DeskWork.takes c.args.work.now) old new journal c.args.seats
     many
     as_many
-    (subst (λ (l : List (Seat g.row.L.Denot)). All (λ s. (s.accepted ≡ 0) × (s.viewer.seen ≡ [])) l) (sym same) c.in-Ok.ensures.none)
+    (subst (λ (l : List (Seat g.row.L.Denot)). All (λ s. (s.accepted ≡ 0) × (s.seen ≡ [])) l) (sym same) c.in-Ok.ensures.none)
     c.work_each.ensures
-    (subst (λ (l : List (Seat g.row.L.Denot)). All (λ s. Begins s.viewer.seen journal) l) whole c.in-Ok-close.ensures.seen)
+    (subst (λ (l : List (Seat g.row.L.Denot)). All (λ s. Begins s.seen journal) l) whole c.in-Ok-close.ensures.seen)
     (c.in-Ok-close.ensures.counted ∙ ap (λ (l : List (Seat g.row.L.Denot)). sum_by (λ s. s.accepted) l) whole)

@@ -8,9 +8,8 @@ use Rattle.sno_book.specs.Views.{View}
 use Rattle.sno_book.specs.Openings.{Opening, place_in, start}
 use Rattle.sno_book.proofs.BookLaws.{free}
 use Rattle.sno_published.specs.Screens.{Screen}
-use Rattle.sno_published.specs.Viewings.{Viewing}
 use Rattle.sno_published.proofs.Prefixes.{prefix_self}
-use Rattle.sno_desk.proofs.Causes.{has_step, next_step, stands, told}
+use Rattle.sno_desk.proofs.Causes.{has_step, next_step, stands, in_view}
 use Rattle.sno_desk.proofs.locked.publish.Goals as goal
 
 pub publish-requires-clause-step : goal.publish-requires-clause-step
@@ -20,7 +19,7 @@ publish-requires-clause-step g c =
     next_step (view_of book) c.args.ready g.L.Naming.opening c.args.screen.now.shown c.entry.result.now step c.requires.opening c.requires.level.0 c.entry.ensures
 
 pub returns-in_default-clause-begins : goal.returns-in_default-clause-begins
-returns-in_default-clause-begins g c = prefix_self c.args.seat.now.viewer.seen
+returns-in_default-clause-begins g c = prefix_self c.args.seat.now.seen
 
 pub returns-clause-committed : goal.returns-clause-committed
 returns-clause-committed g c =
@@ -35,9 +34,9 @@ returns-clause-committed g c =
     subst (λ (l : List Entry). Legal (start g.L.Naming.opening) l) after (subst (λ (o : Opening). Legal (start o) c.finish-receipt.new.self.journal) opens c.journal-2.ensures.valid.legal) in
     let shown : c.table.result.now ≡ book.journal ++ given.entry ∷ [] = c.table.ensures ∙ ap (λ (s : Screen). s.shown) c.in-Ok.ensures.published ∙ ap (λ (l : List Entry). l ++ c.entry.result.now ∷ []) c.requires.level.0
     ∙ ap (λ (e : Entry). book.journal ++ e ∷ []) (c.entry.ensures ∙ sym accepted.entry) in
-    let begins : Begins (book.journal ++ given.entry ∷ []) c.count.new.self.viewer.seen =
-    subst (λ (v : Viewing). Begins (book.journal ++ given.entry ∷ []) v.seen) (sym c.count.ensures.viewer) (subst (λ (l : List Entry). Begins l c.learn.new.self.viewer.seen) shown c.learn.ensures.told) in
-    let level : length c.args.seat.now.viewer.seen ≡ length book.journal = ap length c.requires.level.1 in
+    let begins : Begins (book.journal ++ given.entry ∷ []) c.count.new.self.seen =
+    subst (λ (l : List Entry). Begins (book.journal ++ given.entry ∷ []) l) (sym c.count.ensures.seen) (subst (λ (l : List Entry). Begins l c.learn.new.self.seen) shown c.learn.ensures.learnt) in
+    let level : length c.args.seat.now.seen ≡ length book.journal = ap length c.requires.level.1 in
     let at_end : given.index ≡ length book.journal = accepted.index in
     let counted : c.count.new.self.accepted ≡ c.args.seat.now.accepted + 1 = c.count.ensures.accepted ∙ ap (λ (n : ℕ). n + 1) c.learn.ensures.accepted in
     record {
@@ -45,7 +44,7 @@ returns-clause-committed g c =
       index = stands (view_of book) (view_of c.finish-receipt.new.self) c.args.ready given g.L.Ledger.parts c.args.seat.now.accepted c.args.total.now.total
           accepted c.versions_count_entries.ensures c.requires.backed c.requires.alone c.requires.total c.requires.fits.room few;
       later = omega (arith, level, at_end);
-      told = told (view_of book) (view_of c.finish-receipt.new.self) c.args.ready given g.L.Naming.opening c.count.new.self.viewer.seen accepted c.requires.opening legal begins;
+      in_view = in_view (view_of book) (view_of c.finish-receipt.new.self) c.args.ready given g.L.Naming.opening c.count.new.self.seen accepted c.requires.opening legal begins;
       counted = counted;
     }
 

@@ -5,4 +5,4 @@ use Rattle.sno_desk.specs.declared.seats.Seat.{Seat}
 use Rattle.sno_desk.proofs.seats.are_within.Given as goal
 
 abbrev pub invariant-loop-seat : goal.invariant-loop-seat
-invariant-loop-seat g l = (k : ℕ) (d : Seat g.row.L.Denot) → k < l.seat-index → Begins (slice_index_or l.seats k d).viewer.seen l.table
+invariant-loop-seat g l = (k : ℕ) (d : Seat g.row.L.Denot) → k < l.seat-index → Begins (slice_index_or l.seats k d).seen l.table

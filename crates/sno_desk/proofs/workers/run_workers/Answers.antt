@@ -1,13 +1,12 @@
 use Rattle.std.proofs.Common.{◌≡◌, ℕ, length, map, subst, sym, arith}
-use Rattle.std.specs.Option.{option_map}
 use Rattle.std.specs.Arc.{arc_value}
 use Rattle.std.proofs.lemmas.List.{length-map}
 use Rattle.sno_desk.specs.Turns.{Deals, HasTurns}
-use Rattle.sno_desk.proofs.Turns.{Settles, grown_still, settled_answers, settled_turns, settled_shares, shares_total, taken_turns}
+use Rattle.sno_desk.proofs.Turns.{Settles, grown_still, settled_results, settled_turns, settled_shares, shares_total, taken_turns}
 use Rattle.sno_desk.proofs.workers.run_workers.Goals as goal
 use Rattle.sno_desk.proofs.workers.run_workers.Goals.{After-drop-queues-2}
 
-settles : (g : _) (c : After-drop-queues-2 g) → Settles (λ s. s.accepted) (λ s. s.viewer.seen) (λ s. option_map (λ q. q.items) s.replies) (λ q. q.items)
+settles : (g : _) (c : After-drop-queues-2 g) → Settles (λ s. s.accepted) (λ s. s.seen) (λ s. s.replies) (λ q. q.items)
     (g.G.Gate.shuts c.args.gate.now) c.args.tries g.L.Naming.opening g.L.Ledger.parts
     (map arc_value c.args.jobs.now) c.args.seats.now c.work_all.new.seats c.collect.new.seats c.in_ok-queues.queues.items c.in_ok-replies.replies.items
 settles g c =
@@ -33,11 +32,11 @@ in_order-requires-clause-turns g c =
     let many : length c.in_ok-queues.queues.items ≡ length c.args.seats.now = omega (arith, kept.as_many) in
     let P : ℕ → Type 0 = λ n. HasTurns n 0 (map (λ q. q.items) c.in_ok-queues.queues.items) (map arc_value c.args.jobs.now) in
     subst P (sym many)
-    (taken_turns (λ s. s.accepted) (λ s. s.viewer.seen) (λ s. option_map (λ q. q.items) s.replies) (λ q. q.items) (g.G.Gate.shuts c.args.gate.now) c.args.tries g.L.Naming.opening g.L.Ledger.parts
+    (taken_turns (λ s. s.accepted) (λ s. s.seen) (λ s. s.replies) (λ q. q.items) (g.G.Gate.shuts c.args.gate.now) c.args.tries g.L.Naming.opening g.L.Ledger.parts
     (map arc_value c.args.jobs.now) c.args.seats.now c.work_all.new.seats c.in_ok-queues.queues.items many c.work_all.ensures.worked (λ k d e h. kept.taken k d e (omega arith)))
 
-pub returns-clause-answers : goal.returns-clause-answers
-returns-clause-answers g c = settled_answers _ _ _ _ _ _ _ _ _ _ _ _ _ _ (settles g c)
+pub returns-clause-allowed : goal.returns-clause-allowed
+returns-clause-allowed g c = settled_results _ _ _ _ _ _ _ _ _ _ _ _ _ _ (settles g c)
 
 pub returns-clause-in_turn : goal.returns-clause-in_turn
 returns-clause-in_turn g c k d h = settled_turns _ _ _ _ _ _ _ _ _ _ _ _ _ _ (settles g c) k d h

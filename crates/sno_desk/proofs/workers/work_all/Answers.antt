@@ -7,7 +7,7 @@ use denote.Slice.{ShrSlice}
 use denote.Exit.{yes}
 use denote.Param.{param}
 use denote.Param.Send.{IsSend, IsSync, param_send, param_sync, arg_send, arg_sync, shr_sync, shr_slice_sync, sendable}
-use Rattle.std.proofs.Crossing.{sync, Arc-sync}
+use Rattle.std.proofs.Crossing.{Arc-sync}
 use Rattle.std.specs.contracts.sync.Arc as Arc
 use Rattle.std.specs.contracts.alloc.Global as Global
 use Rattle.std.specs.contracts.impls.GlobalAllocator.TheImpl.{ghosts}
@@ -73,9 +73,8 @@ for_each_mut-requires-sync-F g c κs within =
     ∷ ShrRef (named 9) κs.1.1.1.1.1.1.1.1.1.0 (UInt w32)
     ∷ ShrRef (named 10) κs.1.1.1.1.1.1.1.1.1.1.0 (param 1 g.row.G)
     ∷ ShrRef (named 11) κs.1.1.1.1.1.1.1.1.1.1.1.0 (param 2 g.row.R)
-    ∷ ShrRef (named 12) κs.1.1.1.1.1.1.1.1.1.1.1.1.0 Global.the_row
     ∷ [])
-    (shr_sync _ _ _ desk, (shr_slice_sync _ _ _ job, (search sendable, (search sendable, (shr_sync _ _ _ c.type_bounds.sync-G, (shr_sync _ _ _ c.type_bounds.sync-R, (shr_sync _ _ _ sync, tt)))))))
+    (shr_sync _ _ _ desk, (shr_slice_sync _ _ _ job, (search sendable, (search sendable, (shr_sync _ _ _ c.type_bounds.sync-G, (shr_sync _ _ _ c.type_bounds.sync-R, tt))))))
     in
     record { shared = closure.shared }
 
@@ -84,6 +83,6 @@ returns-clause-grown g c k d h =
     let at = (c.for_each_mut.ensures k d h).1 in
     let was = at.argument.now in
     let next = get_or c.for_each_mut.new.s k d in
-    let grown : HasGrown (position was.accepted was.viewer.seen) (position at.after_call.now.accepted at.after_call.now.viewer.seen) = at.call.1 in
-    subst (λ (s : Seat g.row.L.Denot). HasGrown (position s.accepted s.viewer.seen) (position next.accepted next.viewer.seen)) at.argument_is
-    (subst (λ (s : Seat g.row.L.Denot). HasGrown (position was.accepted was.viewer.seen) (position s.accepted s.viewer.seen)) at.left grown)
+    let grown : HasGrown (position was.accepted was.seen) (position at.after_call.now.accepted at.after_call.now.seen) = at.call.1 in
+    subst (λ (s : Seat g.row.L.Denot). HasGrown (position s.accepted s.seen) (position next.accepted next.seen)) at.argument_is
+    (subst (λ (s : Seat g.row.L.Denot). HasGrown (position was.accepted was.seen) (position s.accepted s.seen)) at.left grown)

@@ -64,47 +64,47 @@ named-returns-in-Some t c =
 
 pub repeat-results-requires : goal.repeat-results-requires
 repeat-results-requires t c = (
-  omega (arith, c.decreases, work_round (length c.args.text.now) c.args.rules.now.bodies c.args.depth (nodes (tree_of c.args.part.now)) 0 (c.args.count + 1) (omega arith)),
+  omega (arith, c.decreases, work_round (length c.args.text.now) c.args.rules.now.bodies c.args.depth (nodes (tree_of c.args.left.part.now)) 0 (c.args.left.count + 1) (omega arith)),
   c.requires,
 )
 
 pub repeat-loop-event-init : goal.repeat-loop-event-init
 repeat-loop-event-init t c =
     record {
-      added = rounds_begun (results c.args.text.now c.args.rules.now.bodies c.args.depth (tree_of c.args.part.now)) c.args.count c.args.c _ _ (omega arith)
+      added = rounds_begun (results c.args.text.now c.args.rules.now.bodies c.args.depth (tree_of c.args.left.part.now)) c.args.left.count c.args.c _ _ (omega arith)
           (c.in_ok-push_end.ensures ∙ ap (λ l. l ++ End c.args.c [] ∷ []) c.new-all.ensures.items) (c.as_slice-event-items.ensures.value ∙ c.in_ok-once.ensures);
-      inside = inside c.args.text.now c.args.rules.now.bodies c.args.depth (tree_of c.args.part.now) c.args.c _ _ c.requires c.as_slice-event-items.ensures.value c.in_ok-once.ensures;
+      inside = inside c.args.text.now c.args.rules.now.bodies c.args.depth (tree_of c.args.left.part.now) c.args.c _ _ c.requires c.as_slice-event-items.ensures.value c.in_ok-once.ensures;
     }
 
 pub repeat-repeat-requires : goal.repeat-repeat-requires
 repeat-repeat-requires t c = (
-  omega (arith, c.decreases, work_round (length c.args.text.now) c.args.rules.now.bodies c.args.depth (nodes (tree_of c.args.part.now)) (c.args.count - 1 + 1) (c.args.count + 1) (omega arith)),
+  omega (arith, c.decreases, work_round (length c.args.text.now) c.args.rules.now.bodies c.args.depth (nodes (tree_of c.args.left.part.now)) (c.args.left.count - 1 + 1) (c.args.left.count + 1) (omega arith)),
   (AllEnds-head (Within c.args.text.now 0) _ _ _ _ (left_at c.as_slice-event-items.result.now c.loop-event.event-index _ (End c.in-End.end c.in-End.conds) c.loop-event-test.true c.event-item.is c.in-End.is) c.loop-event.invariant.inside).1,
 )
 
 pub repeat-returns-then-branch : goal.repeat-returns-then-branch
 repeat-returns-then-branch t c =
-    go_on_last (next_round (results c.args.text.now c.args.rules.now.bodies c.args.depth (tree_of c.args.part.now)) c.args.count c.args.c) _ _ _ _ _ _ _ _ (left_at c.as_slice-event-items.result.now c.loop-event.event-index _ (End c.in-End.end c.in-End.conds) c.loop-event-test.true c.event-item.is c.in-End.is) (round_taken (results c.args.text.now c.args.rules.now.bodies c.args.depth (tree_of c.args.part.now)) c.args.count c.args.c c.in-End.end _ _ c.if-c-end.true c.deref.ensures.value c.in_ok-later-in-End.ensures)
+    go_on_last (next_round (results c.args.text.now c.args.rules.now.bodies c.args.depth (tree_of c.args.left.part.now)) c.args.left.count c.args.c) _ _ _ _ _ _ _ _ (left_at c.as_slice-event-items.result.now c.loop-event.event-index _ (End c.in-End.end c.in-End.conds) c.loop-event-test.true c.event-item.is c.in-End.is) (round_taken (results c.args.text.now c.args.rules.now.bodies c.args.depth (tree_of c.args.left.part.now)) c.args.left.count c.args.c c.in-End.end _ _ c.if-c-end.true c.deref.ensures.value c.in_ok-later-in-End.ensures)
     (sym c.if-branch.true ∙ c.in_ok-add_after-in-End.ensures.halted) c.in_ok-add_after-in-End.ensures.added c.loop-event.invariant.added
 
 pub repeat-loop-event-preserved : goal.repeat-loop-event-preserved
 repeat-loop-event-preserved t c =
     elim c.match-event.branch [
       | repeat-in-Try+in_ok-push-in-Try w ↦ record {
-        added = go_on_tried (next_round (results c.args.text.now c.args.rules.now.bodies c.args.depth (tree_of c.args.part.now)) c.args.count c.args.c) _ _ _ _ _ (left_at c.as_slice-event-items.result.now c.loop-event.event-index _ Try c.loop-event-test.true c.event-item.is w.in-Try.is) (ap (λ v. v.items) w.all-is ∙ w.in_ok-push-in-Try.ensures.items) c.loop-event.invariant.added;
+        added = go_on_tried (next_round (results c.args.text.now c.args.rules.now.bodies c.args.depth (tree_of c.args.left.part.now)) c.args.left.count c.args.c) _ _ _ _ _ (left_at c.as_slice-event-items.result.now c.loop-event.event-index _ Try c.loop-event-test.true c.event-item.is w.in-Try.is) (ap (λ v. v.items) w.all-is ∙ w.in_ok-push-in-Try.ensures.items) c.loop-event.invariant.added;
         inside = AllEnds-tail (Within c.args.text.now 0) _ _ _ (left_at c.as_slice-event-items.result.now c.loop-event.event-index _ Try c.loop-event-test.true c.event-item.is w.in-Try.is) c.loop-event.invariant.inside;
       }
       | repeat-in-Set+in_ok-push-in-Set w ↦ record {
-        added = go_on_set (next_round (results c.args.text.now c.args.rules.now.bodies c.args.depth (tree_of c.args.part.now)) c.args.count c.args.c) _ _ _ _ _ _ (left_at c.as_slice-event-items.result.now c.loop-event.event-index _ (Set w.in-Set.assign) c.loop-event-test.true c.event-item.is w.in-Set.is) (ap (λ v. v.items) w.all-is ∙ w.in_ok-push-in-Set.ensures.items) c.loop-event.invariant.added;
+        added = go_on_set (next_round (results c.args.text.now c.args.rules.now.bodies c.args.depth (tree_of c.args.left.part.now)) c.args.left.count c.args.c) _ _ _ _ _ _ (left_at c.as_slice-event-items.result.now c.loop-event.event-index _ (Set w.in-Set.assign) c.loop-event-test.true c.event-item.is w.in-Set.is) (ap (λ v. v.items) w.all-is ∙ w.in_ok-push-in-Set.ensures.items) c.loop-event.invariant.added;
         inside = AllEnds-tail (Within c.args.text.now 0) _ _ _ (left_at c.as_slice-event-items.result.now c.loop-event.event-index _ (Set w.in-Set.assign) c.loop-event-test.true c.event-item.is w.in-Set.is) c.loop-event.invariant.inside;
       }
       | repeat-in-End+then-c-end+in_ok-later-in-End+in_ok-add_after-in-End+else-branch w ↦ record {
-        added = go_on_end (next_round (results c.args.text.now c.args.rules.now.bodies c.args.depth (tree_of c.args.part.now)) c.args.count c.args.c) _ _ _ _ _ _ _ _ (left_at c.as_slice-event-items.result.now c.loop-event.event-index _ (End w.in-End.end w.in-End.conds) c.loop-event-test.true c.event-item.is w.in-End.is) (round_taken (results c.args.text.now c.args.rules.now.bodies c.args.depth (tree_of c.args.part.now)) c.args.count c.args.c w.in-End.end _ _ w.if-c-end.true w.deref.ensures.value w.in_ok-later-in-End.ensures)
+        added = go_on_end (next_round (results c.args.text.now c.args.rules.now.bodies c.args.depth (tree_of c.args.left.part.now)) c.args.left.count c.args.c) _ _ _ _ _ _ _ _ (left_at c.as_slice-event-items.result.now c.loop-event.event-index _ (End w.in-End.end w.in-End.conds) c.loop-event-test.true c.event-item.is w.in-End.is) (round_taken (results c.args.text.now c.args.rules.now.bodies c.args.depth (tree_of c.args.left.part.now)) c.args.left.count c.args.c w.in-End.end _ _ w.if-c-end.true w.deref.ensures.value w.in_ok-later-in-End.ensures)
             (sym w.if-branch.false ∙ w.in_ok-add_after-in-End.ensures.halted) (ap (λ v. v.items) w.all-is ∙ w.in_ok-add_after-in-End.ensures.added) c.loop-event.invariant.added;
         inside = AllEnds-tail (Within c.args.text.now 0) _ _ _ (left_at c.as_slice-event-items.result.now c.loop-event.event-index _ (End w.in-End.end w.in-End.conds) c.loop-event-test.true c.event-item.is w.in-End.is) c.loop-event.invariant.inside;
       }
       | repeat-in-End+else-c-end w ↦ record {
-        added = ap (λ v. v.items ++ go_on (drop (c.loop-event.event-index + 1) c.as_slice-event-items.result.now) (next_round (results c.args.text.now c.args.rules.now.bodies c.args.depth (tree_of c.args.part.now)) c.args.count c.args.c)) w.all-is ∙ go_on_none (next_round (results c.args.text.now c.args.rules.now.bodies c.args.depth (tree_of c.args.part.now)) c.args.count c.args.c) _ _ _ _ _ _ (left_at c.as_slice-event-items.result.now c.loop-event.event-index _ (End w.in-End.end w.in-End.conds) c.loop-event-test.true c.event-item.is w.in-End.is) (round_dropped (results c.args.text.now c.args.rules.now.bodies c.args.depth (tree_of c.args.part.now)) c.args.count c.args.c w.in-End.end w.if-c-end.false) c.loop-event.invariant.added;
+        added = ap (λ v. v.items ++ go_on (drop (c.loop-event.event-index + 1) c.as_slice-event-items.result.now) (next_round (results c.args.text.now c.args.rules.now.bodies c.args.depth (tree_of c.args.left.part.now)) c.args.left.count c.args.c)) w.all-is ∙ go_on_none (next_round (results c.args.text.now c.args.rules.now.bodies c.args.depth (tree_of c.args.left.part.now)) c.args.left.count c.args.c) _ _ _ _ _ _ (left_at c.as_slice-event-items.result.now c.loop-event.event-index _ (End w.in-End.end w.in-End.conds) c.loop-event-test.true c.event-item.is w.in-End.is) (round_dropped (results c.args.text.now c.args.rules.now.bodies c.args.depth (tree_of c.args.left.part.now)) c.args.left.count c.args.c w.in-End.end w.if-c-end.false) c.loop-event.invariant.added;
         inside = AllEnds-tail (Within c.args.text.now 0) _ _ _ (left_at c.as_slice-event-items.result.now c.loop-event.event-index _ (End w.in-End.end w.in-End.conds) c.loop-event-test.true c.event-item.is w.in-End.is) c.loop-event.invariant.inside;
       }
     ]

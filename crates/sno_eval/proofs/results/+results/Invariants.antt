@@ -18,7 +18,7 @@ abbrev pub decreases-follow : goal.decreases-follow
 decreases-follow l = work (length l.text.now) l.rules.now.bodies l.depth (nodes (tree_of l.pattern.now)) 1
 
 abbrev pub decreases-repeat : goal.decreases-repeat
-decreases-repeat l = work (length l.text.now) l.rules.now.bodies l.depth (nodes (tree_of l.part.now)) (l.count + 1)
+decreases-repeat l = work (length l.text.now) l.rules.now.bodies l.depth (nodes (tree_of l.left.part.now)) (l.left.count + 1)
 
 abbrev pub invariant-follow-loop-event : goal.invariant-follow-loop-event
 invariant-follow-loop-event l = record {
@@ -28,6 +28,6 @@ invariant-follow-loop-event l = record {
 
 abbrev pub invariant-repeat-loop-event : goal.invariant-repeat-loop-event
 invariant-repeat-loop-event l = record {
-  added : l.all.items ++ go_on (drop l.event-index l.event-items) (next_round (results l.text l.rules.bodies l.depth (tree_of l.part)) l.count l.c) ≡ rounds (results l.text l.rules.bodies l.depth (tree_of l.part)) l.count l.c;
+  added : l.all.items ++ go_on (drop l.event-index l.event-items) (next_round (results l.text l.rules.bodies l.depth (tree_of l.left.part.now)) l.left.count l.c) ≡ rounds (results l.text l.rules.bodies l.depth (tree_of l.left.part.now)) l.left.count l.c;
   inside : AllEnds (Within l.text 0) (drop l.event-index l.event-items);
 }

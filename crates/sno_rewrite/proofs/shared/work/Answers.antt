@@ -4,7 +4,7 @@ use Rattle.std.specs.Arc.{arc_value}
 use Rattle.std.specs.List.{All}
 use Rattle.std.specs.Prelude.{sum_by}
 use mathlib.Core.List.{IsPrefix as Begins}
-use Rattle.sno_desk.specs.Answers.{Answers}
+use Rattle.sno_desk.specs.Replies.{IsReply}
 use Rattle.sno_desk.specs.declared.seats.Seat.{Seat}
 use Rattle.sno_desk.proofs.Worked.{restored}
 use Rattle.sno_rewrite.specs.Owners.{AreInTurn}
@@ -16,18 +16,18 @@ use Rattle.sno_rewrite.proofs.shared.work.Goals as goal
 
 pub returns-in-Ok-close-clause-within : goal.returns-in-Ok-close-clause-within
 returns-in-Ok-close-clause-within g c =
-    let many = sym (as_many (Answers (λ _ _. ⊥) c.args.tries g.L.Naming.opening) (map arc_value c.args.statements.now) c.in-Ok.replies.items c.in-Ok.ensures.answers) in
+    let many = sym (as_many (IsReply (λ _ _. ⊥) c.args.tries g.L.Naming.opening) (map arc_value c.args.statements.now) c.in-Ok.replies.items c.in-Ok.ensures.allowed) in
     let new : List (Seat g.row.L.Denot) = c.run_workers.new.seats in
     let whole = restored c.args.seats.len new (drop (length new) c.args.seats.items) (omega arith) in
-    let seen = subst (λ (l : List (Seat g.row.L.Denot)). All (λ s. Begins s.viewer.seen c.in-Ok-close.book.journal) l) whole c.in-Ok-close.ensures.seen in
-    within_book (λ _ _. ⊥) c.args.tries g.L.Naming.opening c.in-Ok-close.book.opening g.L.Ledger.parts c.in-Ok-close.book.journal (λ s. s.accepted) (λ s. s.viewer.seen)
+    let seen = subst (λ (l : List (Seat g.row.L.Denot)). All (λ s. Begins s.seen c.in-Ok-close.book.journal) l) whole c.in-Ok-close.ensures.seen in
+    within_book (λ _ _. ⊥) c.args.tries g.L.Naming.opening c.in-Ok-close.book.opening g.L.Ledger.parts c.in-Ok-close.book.journal (λ s. s.accepted) (λ s. s.seen)
     (map arc_value c.args.statements.now) c.in-Ok.replies.items c.deref_mut.result.now new
     (c.in-Ok-close.ensures.opening ∙ c.requires.opening) (omega arith) (omega arith) many c.in-Ok.ensures.in_turn seen
 
 pub returns-in-Ok-close-clause-in_turn : goal.returns-in-Ok-close-clause-in_turn
 returns-in-Ok-close-clause-in_turn g c =
     let old = c.deref_mut.result.now in
-    let turns = turns_all (λ _ _. ⊥) c.args.tries g.L.Naming.opening g.L.Ledger.parts (λ s. s.accepted) (λ s. s.viewer.seen) (map arc_value c.args.statements.now) c.in-Ok.replies.items
+    let turns = turns_all (λ _ _. ⊥) c.args.tries g.L.Naming.opening g.L.Ledger.parts (λ s. s.accepted) (λ s. s.seen) (map arc_value c.args.statements.now) c.in-Ok.replies.items
     old c.run_workers.new.seats (omega arith) c.in-Ok.ensures.in_turn in
     subst (λ (n : ℕ). AreInTurn n c.in-Ok.replies.items) (omega arith) turns
 
@@ -37,9 +37,9 @@ returns-in-Ok-close-clause-alone g c = λ one.
     let new : List (Seat g.row.L.Denot) = c.run_workers.new.seats in
     let same : old ≡ c.args.seats.items = c.deref_mut.ensures.value in
     let whole = restored c.args.seats.len new (drop (length new) c.args.seats.items) (omega arith) in
-    let seen = subst (λ (l : List (Seat g.row.L.Denot)). All (λ s. Begins s.viewer.seen c.in-Ok-close.book.journal) l) whole c.in-Ok-close.ensures.seen in
-    let none = subst (λ (l : List (Seat g.row.L.Denot)). All (λ s. (s.accepted ≡ 0) × (s.viewer.seen ≡ [])) l) (sym same) c.requires.none in
+    let seen = subst (λ (l : List (Seat g.row.L.Denot)). All (λ s. Begins s.seen c.in-Ok-close.book.journal) l) whole c.in-Ok-close.ensures.seen in
+    let none = subst (λ (l : List (Seat g.row.L.Denot)). All (λ s. (s.accepted ≡ 0) × (s.seen ≡ [])) l) (sym same) c.requires.none in
     let counted = c.in-Ok-close.ensures.counted ∙ ap (λ (l : List (Seat g.row.L.Denot)). sum_by (λ s. s.accepted) l) whole in
-    alone_of (λ s. s.accepted) (λ s. s.viewer.seen) c.args.tries g.L.Naming.opening c.in-Ok-close.book.opening g.L.Ledger.parts c.in-Ok-close.book.journal
+    alone_of (λ s. s.accepted) (λ s. s.seen) c.args.tries g.L.Naming.opening c.in-Ok-close.book.opening g.L.Ledger.parts c.in-Ok-close.book.journal
     (map arc_value c.args.statements.now) c.in-Ok.replies.items old new
     (c.in-Ok-close.ensures.opening ∙ c.requires.opening) (omega arith) (omega arith) (omega arith) none c.in-Ok.ensures.in_turn seen counted

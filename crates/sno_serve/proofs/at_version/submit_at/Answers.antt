@@ -19,8 +19,8 @@ use Rattle.sno_serve.proofs.at_version.submit_at.Goals as goal
 pub returns-in_err-snapshot : goal.returns-in_err-snapshot
 returns-in_err-snapshot g c =
     let opening = g.L.Naming.opening in
-    let first = c.args.seat.now.viewer.seen in
-    let seen = c.snapshot.new.self.viewer.seen in
+    let first = c.args.seat.now.seen in
+    let seen = c.snapshot.new.self.seen in
     let s = arc_value c.args.statement.now in
     let name = c.text.ensures ∙ ap (λ (t : Statement). t.text) c.deref.ensures in
     let fault = c.in_err-snapshot.field-0.0 in
@@ -36,8 +36,8 @@ returns-in_err-snapshot g c =
 pub returns-then-is_other : goal.returns-then-is_other
 returns-then-is_other g c =
     let opening = g.L.Naming.opening in
-    let first = c.args.seat.now.viewer.seen in
-    let seen = c.snapshot.new.self.viewer.seen in
+    let first = c.args.seat.now.seen in
+    let seen = c.snapshot.new.self.seen in
     let s = arc_value c.args.statement.now in
     let name = c.text.ensures ∙ ap (λ (t : Statement). t.text) c.deref.ensures in
     let there = subst (λ (n : List ℕ). IsSeen opening seen n c.in_ok-snapshot.snapshot) name c.in_ok-snapshot.ensures.gives in
@@ -52,8 +52,8 @@ returns-then-is_other g c =
 pub returns-in_err-shared : goal.returns-in_err-shared
 returns-in_err-shared g c =
     let opening = g.L.Naming.opening in
-    let first = c.args.seat.now.viewer.seen in
-    let seen = c.snapshot.new.self.viewer.seen in
+    let first = c.args.seat.now.seen in
+    let seen = c.snapshot.new.self.seen in
     let s = arc_value c.args.statement.now in
     let name = c.text.ensures ∙ ap (λ (t : Statement). t.text) c.deref.ensures in
     let there = subst (λ (n : List ℕ). IsSeen opening seen n c.in_ok-snapshot.snapshot) name c.in_ok-snapshot.ensures.gives in
@@ -69,8 +69,8 @@ returns-in_err-shared g c =
 pub returns-in_err-proposal : goal.returns-in_err-proposal
 returns-in_err-proposal g c =
     let opening = g.L.Naming.opening in
-    let first = c.args.seat.now.viewer.seen in
-    let seen = c.snapshot.new.self.viewer.seen in
+    let first = c.args.seat.now.seen in
+    let seen = c.snapshot.new.self.seen in
     let s = arc_value c.args.statement.now in
     let name = c.text.ensures ∙ ap (λ (t : Statement). t.text) c.deref.ensures in
     let there = subst (λ (n : List ℕ). IsSeen opening seen n c.in_ok-snapshot.snapshot) name c.in_ok-snapshot.ensures.gives in
@@ -88,8 +88,8 @@ returns-in_err-proposal g c =
 pub commit-requires : goal.commit-requires
 commit-requires g c =
     let opening = g.L.Naming.opening in
-    let first = c.args.seat.now.viewer.seen in
-    let seen = c.snapshot.new.self.viewer.seen in
+    let first = c.args.seat.now.seen in
+    let seen = c.snapshot.new.self.seen in
     let s = arc_value c.args.statement.now in
     let name = c.text.ensures ∙ ap (λ (t : Statement). t.text) c.deref.ensures in
     let made = proposed_on opening seen s (arc_value c.in_ok-shared.shared) c.text.result.now c.in_ok-snapshot.snapshot c.in_ok-proposal.proposal name c.in_ok-shared.ensures
@@ -99,18 +99,18 @@ commit-requires g c =
 pub returns-in-Ok : goal.returns-in-Ok
 returns-in-Ok g c =
     let opening = g.L.Naming.opening in
-    let first = c.args.seat.now.viewer.seen in
-    let seen = c.snapshot.new.self.viewer.seen in
+    let first = c.args.seat.now.seen in
+    let seen = c.snapshot.new.self.seen in
     let s = arc_value c.args.statement.now in
     let name = c.text.ensures ∙ ap (λ (t : Statement). t.text) c.deref.ensures in
-    let after = c.commit.new.seat.viewer.seen in
+    let after = c.commit.new.seat.seen in
     let made = proposed_on opening seen s (arc_value c.in_ok-shared.shared) c.text.result.now c.in_ok-snapshot.snapshot c.in_ok-proposal.proposal name c.in_ok-shared.ensures
     c.in_ok-snapshot.ensures.gives c.in_ok-proposal.ensures in
     let level = ap (λ (x : Snapshot). x.version) (sym c.snapshot-2.view_is) in
     let more = prefix_length first seen c.snapshot.ensures.begins in
     let later : length first ≤ c.in-Ok.receipt.index = omega (arith, more, c.in-Ok.ensures.later) in
     record {
-      result = committed opening first seen after s c.args.version c.in_ok-proposal.proposal c.in-Ok.receipt (c.in_ok-proposal.ensures.version ∙ level ∙ c.if-is_other.false) made later c.in-Ok.ensures.receipt c.in-Ok.ensures.told;
+      result = committed opening first seen after s c.args.version c.in_ok-proposal.proposal c.in-Ok.receipt (c.in_ok-proposal.ensures.version ∙ level ∙ c.if-is_other.false) made later c.in-Ok.ensures.receipt c.in-Ok.ensures.in_view;
       begins = prefix_trans first seen after c.snapshot.ensures.begins c.commit.ensures.begins;
       counted = omega (arith, c.snapshot.ensures.same, c.in-Ok.ensures.counted);
     }
@@ -118,11 +118,11 @@ returns-in-Ok g c =
 pub returns : goal.returns
 returns g c =
     let opening = g.L.Naming.opening in
-    let first = c.args.seat.now.viewer.seen in
-    let seen = c.snapshot.new.self.viewer.seen in
+    let first = c.args.seat.now.seen in
+    let seen = c.snapshot.new.self.seen in
     let s = arc_value c.args.statement.now in
     let name = c.text.ensures ∙ ap (λ (t : Statement). t.text) c.deref.ensures in
-    let after = c.commit.new.seat.viewer.seen in
+    let after = c.commit.new.seat.seen in
     let made = proposed_on opening seen s (arc_value c.in_ok-shared.shared) c.text.result.now c.in_ok-snapshot.snapshot c.in_ok-proposal.proposal name c.in_ok-shared.ensures
     c.in_ok-snapshot.ensures.gives c.in_ok-proposal.ensures in
     let level = ap (λ (x : Snapshot). x.version) (sym c.snapshot-2.view_is) in

@@ -10,7 +10,7 @@ use Rattle.sno_statement.proofs.rewriting.rewrite_rounds.Goals as goal
 
 pub returns-in_err-round-clause-rewritten : goal.returns-in_err-round-clause-rewritten
 returns-in_err-round-clause-rewritten c =
-    let s = with_limit c.args.statement.now c.args.trials in
+    let s = with_limit c.args.rounds.statement.now c.args.rounds.trials in
     let t = c.args.subject.now in
     let m = c.loop-matches.matches in
     let fault = c.in_err-round.field-0.0 in
@@ -21,7 +21,7 @@ returns-in_err-round-clause-rewritten c =
 
 pub returns-in-None-clause-rewritten : goal.returns-in-None-clause-rewritten
 returns-in-None-clause-rewritten c =
-    let s = with_limit c.args.statement.now c.args.trials in
+    let s = with_limit c.args.rounds.statement.now c.args.rounds.trials in
     let t = c.args.subject.now in
     let m = c.loop-matches.matches in
     let round = subst (λ (z : List ℕ). GivesRound (Ok c.in_ok-round.field-0) (perform_once_within MAX_BYTES s z)) c.latest-text.ensures c.in_ok-round.ensures in
@@ -31,7 +31,7 @@ returns-in-None-clause-rewritten c =
 
 pub loop-matches-preserved : goal.loop-matches-preserved
 loop-matches-preserved c =
-    let s = with_limit c.args.statement.now c.args.trials in
+    let s = with_limit c.args.rounds.statement.now c.args.rounds.trials in
     let t = c.args.subject.now in
     let m = c.loop-matches.matches in
     let next = c.in-Some.next in
@@ -48,7 +48,7 @@ loop-matches-preserved c =
 
 pub returns-clause-rewritten : goal.returns-clause-rewritten
 returns-clause-rewritten c =
-    let s = with_limit c.args.statement.now c.args.trials in
+    let s = with_limit c.args.rounds.statement.now c.args.rounds.trials in
     let t = c.args.subject.now in
     let m = c.loop-matches.matches in
     let last = c.loop-matches.last in

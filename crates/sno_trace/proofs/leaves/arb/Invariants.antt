@@ -8,4 +8,4 @@ use Rattle.sno_trace.proofs.leaves.arb.Given as goal
 
 abbrev pub invariant-loop-end : goal.invariant-loop-end
 invariant-loop-end l =
-    l.events.items ++ upto l.left (noted_tries l.below l.again (tree_of l.pattern) l.c (up_to l.end (length l.text))) ≡ upto l.limit (noted_ends l.below (tree_of l.pattern) l.c (arb_ends l.text l.c))
+    l.events.items ++ upto l.left (noted_tries l.met.below l.again (tree_of l.met.leaf.now) l.met.cursor (up_to l.end (length l.text))) ≡ upto l.limit (noted_ends l.met.below (tree_of l.met.leaf.now) l.met.cursor (arb_ends l.text l.met.cursor))

@@ -7,7 +7,7 @@ use Rattle.sno_trace.proofs.leaves.balanced.Given as goal
 
 abbrev pub invariant-loop-end : goal.invariant-loop-end
 invariant-loop-end l = record {
-  added : l.events.items ++ upto l.left (noted_tries l.below l.again (tree_of l.pattern) l.c (bal_ends l.text l.cursor)) ≡ upto l.limit (noted_tries l.below false (tree_of l.pattern) l.c (bal_ends l.text l.c));
+  added : l.events.items ++ upto l.left (noted_tries l.met.below l.again (tree_of l.met.leaf.now) l.met.cursor (bal_ends l.text l.cursor)) ≡ upto l.limit (noted_tries l.met.below false (tree_of l.met.leaf.now) l.met.cursor (bal_ends l.text l.met.cursor));
   within : l.cursor ≤ length l.text;
 }
 

@@ -9,5 +9,5 @@ use Rattle.sno_trace.proofs.scanning.scan.Given as goal
 
 abbrev pub invariant-loop-start : goal.invariant-loop-start
 invariant-loop-start l =
-    l.all.items ++ first_shown l.left (until_ended (flat_map (shown_from l.text l.rules.bodies l.most (tree_of l.pattern)) (up_to l.start l.last)))
-    ≡ first_shown l.limit (noted_search l.text l.rules.bodies (enough_depth l.text l.rules.bodies) (tree_of l.pattern) l.anchored l.from)
+    l.all.items ++ first_shown l.left (until_ended (flat_map (shown_from l.search.text.now l.search.rules.now.bodies l.setting.depth (tree_of l.search.pattern.now)) (up_to l.start l.last)))
+    ≡ first_shown l.limit (noted_search l.search.text.now l.search.rules.now.bodies (enough_depth l.search.text.now l.search.rules.now.bodies) (tree_of l.search.pattern.now) l.search.anchored l.search.from)

@@ -16,126 +16,126 @@ use Rattle.sno_trace.proofs.walking.+walk.Goals.{walk-then-not-has_last+in_ok-ot
 
 pub follow-walk-requires : goal.follow-walk-requires
 follow-walk-requires t c = (
-  omega (arith, c.decreases, work_round (length c.args.text.now) c.args.rules.now.bodies c.args.depth (nodes (tree_of c.args.pattern.now)) 0 1 (omega arith)),
-  (AllEnds-head (Within c.args.text.now 0) _ _ _ _ (left_at c.args.first.now c.loop-event.event-index _ (End c.in-End.end c.in-End.conds) c.loop-event-test.true c.event-item.is c.in-End.is) c.loop-event.invariant.inside).1,
+  omega (arith, c.decreases, work_round (length c.args.setting.now.text.now) c.args.setting.now.rules.now.bodies c.args.setting.now.depth (nodes (tree_of c.args.pattern.now)) 0 1 (omega arith)),
+  (AllEnds-head (Within c.args.setting.now.text.now 0) _ _ _ _ (left_at c.args.first.now c.loop-event.event-index _ (End c.in-End.end c.in-End.conds) c.loop-event-test.true c.event-item.is c.in-End.is) c.loop-event.invariant.inside).1,
 )
 
 pub follow-returns-then-branch-clause-done : goal.follow-returns-then-branch-clause-done
 follow-returns-then-branch-clause-done t c =
-    go_on_last (noted c.args.text.now c.args.rules.now.bodies c.args.depth (tree_of c.args.pattern.now)) _ c.loop-event.left _ _ _ _ _ _ _ (left_at c.args.first.now c.loop-event.event-index _ (End c.in-End.end c.in-End.conds) c.loop-event-test.true c.event-item.is c.in-End.is) (c.deref.ensures.value ∙ c.in_ok-later-in-End.ensures.done)
+    go_on_last (noted c.args.setting.now.text.now c.args.setting.now.rules.now.bodies c.args.setting.now.depth (tree_of c.args.pattern.now)) _ c.loop-event.left _ _ _ _ _ _ _ (left_at c.args.first.now c.loop-event.event-index _ (End c.in-End.end c.in-End.conds) c.loop-event-test.true c.event-item.is c.in-End.is) (c.deref.ensures.value ∙ c.in_ok-later-in-End.ensures.done)
     (sym c.if-branch.true ∙ c.in_ok-add_after-in-End.ensures.ended) c.in_ok-add_after-in-End.ensures.added c.loop-event.invariant.added
 
 pub follow-overflow_sub-left-in-End : goal.follow-overflow_sub-left-in-End
 follow-overflow_sub-left-in-End t c =
-    omega (arith, few_trials c.loop-event.left ((noted c.args.text.now c.args.rules.now.bodies c.args.depth (tree_of c.args.pattern.now)) c.in-End.end), c.count_trials-left.ensures.value, ap trials_of (c.deref-in-End.ensures.value ∙ c.in_ok-later-in-End.ensures.done))
+    omega (arith, few_trials c.loop-event.left ((noted c.args.setting.now.text.now c.args.setting.now.rules.now.bodies c.args.setting.now.depth (tree_of c.args.pattern.now)) c.in-End.end), c.count_trials-left.ensures.value, ap trials_of (c.deref-in-End.ensures.value ∙ c.in_ok-later-in-End.ensures.done))
 
 pub follow-loop-event-preserved : goal.follow-loop-event-preserved
 follow-loop-event-preserved t c =
     elim c.match-event.branch [
       | follow-in-Try+else-left-eq0+in_ok-push_try-in-Try w ↦ record {
-        added = go_on_tried (noted c.args.text.now c.args.rules.now.bodies c.args.depth (tree_of c.args.pattern.now)) _ c.loop-event.left _ _ _ _ _ _ (left_at c.args.first.now c.loop-event.event-index _ (Try w.in-Try.trial) c.loop-event-test.true c.event-item.is w.in-Try.is) (omega (arith, w.if-left-eq0.false)) w.left-is
+        added = go_on_tried (noted c.args.setting.now.text.now c.args.setting.now.rules.now.bodies c.args.setting.now.depth (tree_of c.args.pattern.now)) _ c.loop-event.left _ _ _ _ _ _ (left_at c.args.first.now c.loop-event.event-index _ (Try w.in-Try.trial) c.loop-event-test.true c.event-item.is w.in-Try.is) (omega (arith, w.if-left-eq0.false)) w.left-is
             (ap (λ v. v.items) w.all-is ∙ w.in_ok-push_try-in-Try.ensures) c.loop-event.invariant.added;
-        inside = AllEnds-tail (Within c.args.text.now 0) _ _ _ (left_at c.args.first.now c.loop-event.event-index _ (Try w.in-Try.trial) c.loop-event-test.true c.event-item.is w.in-Try.is) c.loop-event.invariant.inside;
+        inside = AllEnds-tail (Within c.args.setting.now.text.now 0) _ _ _ (left_at c.args.first.now c.loop-event.event-index _ (Try w.in-Try.trial) c.loop-event-test.true c.event-item.is w.in-Try.is) c.loop-event.invariant.inside;
       }
       | follow-in-Set+in_ok-push_set-in-Set w ↦ record {
-        added = ap (λ j. c.match-event.all.items ++ upto j (go_on (drop (c.loop-event.event-index + 1) c.args.first.now) (noted c.args.text.now c.args.rules.now.bodies c.args.depth (tree_of c.args.pattern.now)))) w.left-is
-            ∙ go_on_set (noted c.args.text.now c.args.rules.now.bodies c.args.depth (tree_of c.args.pattern.now)) _ c.loop-event.left _ _ _ _ _ (left_at c.args.first.now c.loop-event.event-index _ (Set w.in-Set.assign) c.loop-event-test.true c.event-item.is w.in-Set.is) (ap (λ v. v.items) w.all-is ∙ w.in_ok-push_set-in-Set.ensures) c.loop-event.invariant.added;
-        inside = AllEnds-tail (Within c.args.text.now 0) _ _ _ (left_at c.args.first.now c.loop-event.event-index _ (Set w.in-Set.assign) c.loop-event-test.true c.event-item.is w.in-Set.is) c.loop-event.invariant.inside;
+        added = ap (λ j. c.match-event.all.items ++ upto j (go_on (drop (c.loop-event.event-index + 1) c.args.first.now) (noted c.args.setting.now.text.now c.args.setting.now.rules.now.bodies c.args.setting.now.depth (tree_of c.args.pattern.now)))) w.left-is
+            ∙ go_on_set (noted c.args.setting.now.text.now c.args.setting.now.rules.now.bodies c.args.setting.now.depth (tree_of c.args.pattern.now)) _ c.loop-event.left _ _ _ _ _ (left_at c.args.first.now c.loop-event.event-index _ (Set w.in-Set.assign) c.loop-event-test.true c.event-item.is w.in-Set.is) (ap (λ v. v.items) w.all-is ∙ w.in_ok-push_set-in-Set.ensures) c.loop-event.invariant.added;
+        inside = AllEnds-tail (Within c.args.setting.now.text.now 0) _ _ _ (left_at c.args.first.now c.loop-event.event-index _ (Set w.in-Set.assign) c.loop-event-test.true c.event-item.is w.in-Set.is) c.loop-event.invariant.inside;
       }
       | follow-in-Mark+in_ok-push_mark-in-Mark w ↦ record {
-        added = ap (λ j. c.match-event.all.items ++ upto j (go_on (drop (c.loop-event.event-index + 1) c.args.first.now) (noted c.args.text.now c.args.rules.now.bodies c.args.depth (tree_of c.args.pattern.now)))) w.left-is
-            ∙ go_on_mark (noted c.args.text.now c.args.rules.now.bodies c.args.depth (tree_of c.args.pattern.now)) _ c.loop-event.left _ _ _ _ _ (left_at c.args.first.now c.loop-event.event-index _ (Mark w.in-Mark.mark) c.loop-event-test.true c.event-item.is w.in-Mark.is) (ap (λ v. v.items) w.all-is ∙ w.in_ok-push_mark-in-Mark.ensures) c.loop-event.invariant.added;
-        inside = AllEnds-tail (Within c.args.text.now 0) _ _ _ (left_at c.args.first.now c.loop-event.event-index _ (Mark w.in-Mark.mark) c.loop-event-test.true c.event-item.is w.in-Mark.is) c.loop-event.invariant.inside;
+        added = ap (λ j. c.match-event.all.items ++ upto j (go_on (drop (c.loop-event.event-index + 1) c.args.first.now) (noted c.args.setting.now.text.now c.args.setting.now.rules.now.bodies c.args.setting.now.depth (tree_of c.args.pattern.now)))) w.left-is
+            ∙ go_on_mark (noted c.args.setting.now.text.now c.args.setting.now.rules.now.bodies c.args.setting.now.depth (tree_of c.args.pattern.now)) _ c.loop-event.left _ _ _ _ _ (left_at c.args.first.now c.loop-event.event-index _ (Mark w.in-Mark.mark) c.loop-event-test.true c.event-item.is w.in-Mark.is) (ap (λ v. v.items) w.all-is ∙ w.in_ok-push_mark-in-Mark.ensures) c.loop-event.invariant.added;
+        inside = AllEnds-tail (Within c.args.setting.now.text.now 0) _ _ _ (left_at c.args.first.now c.loop-event.event-index _ (Mark w.in-Mark.mark) c.loop-event-test.true c.event-item.is w.in-Mark.is) c.loop-event.invariant.inside;
       }
       | follow-in-End+in_ok-later-in-End+in_ok-add_after-in-End+else-branch w ↦ record {
-        added = go_on_end (noted c.args.text.now c.args.rules.now.bodies c.args.depth (tree_of c.args.pattern.now)) _ c.loop-event.left _ _ _ _ _ _ _ _ (left_at c.args.first.now c.loop-event.event-index _ (End w.in-End.end w.in-End.conds) c.loop-event-test.true c.event-item.is w.in-End.is) (w.deref.ensures.value ∙ w.in_ok-later-in-End.ensures.done)
+        added = go_on_end (noted c.args.setting.now.text.now c.args.setting.now.rules.now.bodies c.args.setting.now.depth (tree_of c.args.pattern.now)) _ c.loop-event.left _ _ _ _ _ _ _ _ (left_at c.args.first.now c.loop-event.event-index _ (End w.in-End.end w.in-End.conds) c.loop-event-test.true c.event-item.is w.in-End.is) (w.deref.ensures.value ∙ w.in_ok-later-in-End.ensures.done)
             (sym w.if-branch.false ∙ w.in_ok-add_after-in-End.ensures.ended)
             (w.left-is ∙ ap (λ j. c.loop-event.left - j) (w.count_trials-left.ensures.value ∙ ap trials_of (w.deref-in-End.ensures.value ∙ sym w.deref.ensures.value)))
             (ap (λ v. v.items) w.all-is ∙ w.in_ok-add_after-in-End.ensures.added) c.loop-event.invariant.added;
-        inside = AllEnds-tail (Within c.args.text.now 0) _ _ _ (left_at c.args.first.now c.loop-event.event-index _ (End w.in-End.end w.in-End.conds) c.loop-event-test.true c.event-item.is w.in-End.is) c.loop-event.invariant.inside;
+        inside = AllEnds-tail (Within c.args.setting.now.text.now 0) _ _ _ (left_at c.args.first.now c.loop-event.event-index _ (End w.in-End.end w.in-End.conds) c.loop-event-test.true c.event-item.is w.in-End.is) c.loop-event.invariant.inside;
       }
     ]
 
-pub named-returns-then-depth-eq0-clause-done : goal.named-returns-then-depth-eq0-clause-done
-named-returns-then-depth-eq0-clause-done t c =
-    named_no_more c.args.text.now c.args.rules.now.bodies c.args.depth c.args.limit c.args.number c.args.c _ c.new.ensures.items c.if-depth-eq0.true
+pub named-returns-then-setting-eq0-clause-done : goal.named-returns-then-setting-eq0-clause-done
+named-returns-then-setting-eq0-clause-done t c =
+    named_no_more c.args.setting.now.text.now c.args.setting.now.rules.now.bodies c.args.setting.now.depth c.args.limit c.args.number c.args.c _ c.new.ensures.items c.if-setting-eq0.true
 
 pub named-walk-requires : goal.named-walk-requires
 named-walk-requires t c = (
-  omega (arith, c.decreases, work_body (length c.args.text.now) c.args.rules.now.bodies c.args.depth c.args.number (tree_of c.in-Some.body.now) c.in-Some.ensures (omega arith)),
+  omega (arith, c.decreases, work_body (length c.args.setting.now.text.now) c.args.setting.now.rules.now.bodies c.args.setting.now.depth c.args.number (tree_of c.in-Some.body.now) c.in-Some.ensures (omega arith)),
   c.requires,
 )
 
 pub named-returns-in-None-clause-done : goal.named-returns-in-None-clause-done
 named-returns-in-None-clause-done t c =
-    named_missing c.args.text.now c.args.rules.now.bodies c.args.depth c.args.limit c.args.number c.args.c _ c.new-in-None.ensures.items c.in-None.ensures
+    named_missing c.args.setting.now.text.now c.args.setting.now.rules.now.bodies c.args.setting.now.depth c.args.limit c.args.number c.args.c _ c.new-in-None.ensures.items c.in-None.ensures
 
 pub named-returns-in_ok-events-in-Some-clause-done : goal.named-returns-in_ok-events-in-Some-clause-done
 named-returns-in_ok-events-in-Some-clause-done t c =
-    named_does c.args.text.now c.args.rules.now.bodies c.args.depth c.args.limit c.args.number c.args.c (tree_of c.in-Some.body.now) _ (omega arith) c.in-Some.ensures c.in_ok-events-in-Some.ensures.done
+    named_does c.args.setting.now.text.now c.args.setting.now.rules.now.bodies c.args.setting.now.depth c.args.limit c.args.number c.args.c (tree_of c.in-Some.body.now) _ (omega arith) c.in-Some.ensures c.in_ok-events-in-Some.ensures.done
 
 pub named-returns-in_err-events-in-Some-clause-deep : goal.named-returns-in_err-events-in-Some-clause-deep
 named-returns-in_err-events-in-Some-clause-deep t c =
-    passed_on _ _ _ c.from_residual.ensures.1 (λ is. in_body c.args.text.now c.args.rules.now.bodies c.args.room c.args.depth c.args.number c.args.c (tree_of c.in-Some.body.now) (omega arith) c.in-Some.ensures (c.in_err-events-in-Some.ensures.deep is))
+    passed_on _ _ _ c.from_residual.ensures.1 (λ is. in_body c.args.setting.now.text.now c.args.setting.now.rules.now.bodies c.args.room c.args.setting.now.depth c.args.number c.args.c (tree_of c.in-Some.body.now) (omega arith) c.in-Some.ensures (c.in_err-events-in-Some.ensures.deep is))
 
 pub repeat-walk-requires : goal.repeat-walk-requires
 repeat-walk-requires t c = (
-  omega (arith, c.decreases, work_round (length c.args.text.now) c.args.rules.now.bodies c.args.depth (nodes (tree_of c.args.part.now)) 0 (c.args.count + 1) (omega arith)),
+  omega (arith, c.decreases, work_round (length c.args.setting.now.text.now) c.args.setting.now.rules.now.bodies c.args.setting.now.depth (nodes (tree_of c.args.rounds.part.now)) 0 (c.args.rounds.count + 1) (omega arith)),
   c.requires,
 )
 
 pub repeat-loop-event-init : goal.repeat-loop-event-init
 repeat-loop-event-init t c =
     record {
-      added = rounds_begun c.args.limit c.args.depth (noted c.args.text.now c.args.rules.now.bodies c.args.depth (tree_of c.args.part.now)) c.args.count c.args.c _ _ (omega arith)
+      added = rounds_begun c.args.limit c.args.setting.now.depth (noted c.args.setting.now.text.now c.args.setting.now.rules.now.bodies c.args.setting.now.depth (tree_of c.args.rounds.part.now)) c.args.rounds.count c.args.c _ _ (omega arith)
           (c.in_ok-push_end.ensures ∙ ap (λ l. l ++ End c.args.c [] ∷ []) c.new-all.ensures.items) (c.as_slice-event-items.ensures.value ∙ c.in_ok-once.ensures.done);
-      inside = inside c.args.text.now c.args.rules.now.bodies c.args.depth c.args.limit (tree_of c.args.part.now) c.args.c _ _ c.requires c.as_slice-event-items.ensures.value c.in_ok-once.ensures.done;
+      inside = inside c.args.setting.now.text.now c.args.setting.now.rules.now.bodies c.args.setting.now.depth c.args.limit (tree_of c.args.rounds.part.now) c.args.c _ _ c.requires c.as_slice-event-items.ensures.value c.in_ok-once.ensures.done;
     }
 
 pub repeat-repeat-requires : goal.repeat-repeat-requires
 repeat-repeat-requires t c = (
-  omega (arith, c.decreases, work_round (length c.args.text.now) c.args.rules.now.bodies c.args.depth (nodes (tree_of c.args.part.now)) (c.args.count - 1 + 1) (c.args.count + 1) (omega arith)),
-  (AllEnds-head (Within c.args.text.now 0) _ _ _ _ (left_at c.as_slice-event-items.result.now c.loop-event.event-index _ (End c.in-End.end c.in-End.conds) c.loop-event-test.true c.event-item.is c.in-End.is) c.loop-event.invariant.inside).1,
+  omega (arith, c.decreases, work_round (length c.args.setting.now.text.now) c.args.setting.now.rules.now.bodies c.args.setting.now.depth (nodes (tree_of c.args.rounds.part.now)) (c.args.rounds.count - 1 + 1) (c.args.rounds.count + 1) (omega arith)),
+  (AllEnds-head (Within c.args.setting.now.text.now 0) _ _ _ _ (left_at c.as_slice-event-items.result.now c.loop-event.event-index _ (End c.in-End.end c.in-End.conds) c.loop-event-test.true c.event-item.is c.in-End.is) c.loop-event.invariant.inside).1,
 )
 
 pub repeat-returns-then-branch-clause-done : goal.repeat-returns-then-branch-clause-done
 repeat-returns-then-branch-clause-done t c =
-    go_on_last (next_round c.args.depth (noted c.args.text.now c.args.rules.now.bodies c.args.depth (tree_of c.args.part.now)) c.args.count c.args.c) _ c.loop-event.left _ _ _ _ _ _ _ (left_at c.as_slice-event-items.result.now c.loop-event.event-index _ (End c.in-End.end c.in-End.conds) c.loop-event-test.true c.event-item.is c.in-End.is) (round_taken c.loop-event.left c.args.depth (noted c.args.text.now c.args.rules.now.bodies c.args.depth (tree_of c.args.part.now)) c.args.count c.args.c c.in-End.end _ _ c.if-c-end.true c.deref.ensures.value c.in_ok-later-in-End.ensures.done)
+    go_on_last (next_round c.args.setting.now.depth (noted c.args.setting.now.text.now c.args.setting.now.rules.now.bodies c.args.setting.now.depth (tree_of c.args.rounds.part.now)) c.args.rounds.count c.args.c) _ c.loop-event.left _ _ _ _ _ _ _ (left_at c.as_slice-event-items.result.now c.loop-event.event-index _ (End c.in-End.end c.in-End.conds) c.loop-event-test.true c.event-item.is c.in-End.is) (round_taken c.loop-event.left c.args.setting.now.depth (noted c.args.setting.now.text.now c.args.setting.now.rules.now.bodies c.args.setting.now.depth (tree_of c.args.rounds.part.now)) c.args.rounds.count c.args.c c.in-End.end _ _ c.if-c-end.true c.deref.ensures.value c.in_ok-later-in-End.ensures.done)
     (sym c.if-branch.true ∙ c.in_ok-add_after-in-End.ensures.ended) c.in_ok-add_after-in-End.ensures.added c.loop-event.invariant.added
 
 pub repeat-overflow_sub-left-then-c-end : goal.repeat-overflow_sub-left-then-c-end
 repeat-overflow_sub-left-then-c-end t c =
-    omega (arith, few_trials c.loop-event.left (noted_rounds c.args.depth (noted c.args.text.now c.args.rules.now.bodies c.args.depth (tree_of c.args.part.now)) (c.args.count - 1) c.in-End.end), c.count_trials-left.ensures.value, ap trials_of (c.deref-then-c-end.ensures.value ∙ c.in_ok-later-in-End.ensures.done))
+    omega (arith, few_trials c.loop-event.left (noted_rounds c.args.setting.now.depth (noted c.args.setting.now.text.now c.args.setting.now.rules.now.bodies c.args.setting.now.depth (tree_of c.args.rounds.part.now)) (c.args.rounds.count - 1) c.in-End.end), c.count_trials-left.ensures.value, ap trials_of (c.deref-then-c-end.ensures.value ∙ c.in_ok-later-in-End.ensures.done))
 
 pub repeat-loop-event-preserved : goal.repeat-loop-event-preserved
 repeat-loop-event-preserved t c =
     elim c.match-event.branch [
       | repeat-in-Try+else-left-eq0+in_ok-push_try-in-Try w ↦ record {
-        added = go_on_tried (next_round c.args.depth (noted c.args.text.now c.args.rules.now.bodies c.args.depth (tree_of c.args.part.now)) c.args.count c.args.c) _ c.loop-event.left _ _ _ _ _ _ (left_at c.as_slice-event-items.result.now c.loop-event.event-index _ (Try w.in-Try.trial) c.loop-event-test.true c.event-item.is w.in-Try.is) (omega (arith, w.if-left-eq0.false)) w.left-is
+        added = go_on_tried (next_round c.args.setting.now.depth (noted c.args.setting.now.text.now c.args.setting.now.rules.now.bodies c.args.setting.now.depth (tree_of c.args.rounds.part.now)) c.args.rounds.count c.args.c) _ c.loop-event.left _ _ _ _ _ _ (left_at c.as_slice-event-items.result.now c.loop-event.event-index _ (Try w.in-Try.trial) c.loop-event-test.true c.event-item.is w.in-Try.is) (omega (arith, w.if-left-eq0.false)) w.left-is
             (ap (λ v. v.items) w.all-is ∙ w.in_ok-push_try-in-Try.ensures) c.loop-event.invariant.added;
-        inside = AllEnds-tail (Within c.args.text.now 0) _ _ _ (left_at c.as_slice-event-items.result.now c.loop-event.event-index _ (Try w.in-Try.trial) c.loop-event-test.true c.event-item.is w.in-Try.is) c.loop-event.invariant.inside;
+        inside = AllEnds-tail (Within c.args.setting.now.text.now 0) _ _ _ (left_at c.as_slice-event-items.result.now c.loop-event.event-index _ (Try w.in-Try.trial) c.loop-event-test.true c.event-item.is w.in-Try.is) c.loop-event.invariant.inside;
       }
       | repeat-in-Set+in_ok-push_set-in-Set w ↦ record {
-        added = ap (λ j. c.match-event.all.items ++ upto j (go_on (drop (c.loop-event.event-index + 1) c.as_slice-event-items.result.now) (next_round c.args.depth (noted c.args.text.now c.args.rules.now.bodies c.args.depth (tree_of c.args.part.now)) c.args.count c.args.c))) w.left-is
-            ∙ go_on_set (next_round c.args.depth (noted c.args.text.now c.args.rules.now.bodies c.args.depth (tree_of c.args.part.now)) c.args.count c.args.c) _ c.loop-event.left _ _ _ _ _ (left_at c.as_slice-event-items.result.now c.loop-event.event-index _ (Set w.in-Set.assign) c.loop-event-test.true c.event-item.is w.in-Set.is) (ap (λ v. v.items) w.all-is ∙ w.in_ok-push_set-in-Set.ensures) c.loop-event.invariant.added;
-        inside = AllEnds-tail (Within c.args.text.now 0) _ _ _ (left_at c.as_slice-event-items.result.now c.loop-event.event-index _ (Set w.in-Set.assign) c.loop-event-test.true c.event-item.is w.in-Set.is) c.loop-event.invariant.inside;
+        added = ap (λ j. c.match-event.all.items ++ upto j (go_on (drop (c.loop-event.event-index + 1) c.as_slice-event-items.result.now) (next_round c.args.setting.now.depth (noted c.args.setting.now.text.now c.args.setting.now.rules.now.bodies c.args.setting.now.depth (tree_of c.args.rounds.part.now)) c.args.rounds.count c.args.c))) w.left-is
+            ∙ go_on_set (next_round c.args.setting.now.depth (noted c.args.setting.now.text.now c.args.setting.now.rules.now.bodies c.args.setting.now.depth (tree_of c.args.rounds.part.now)) c.args.rounds.count c.args.c) _ c.loop-event.left _ _ _ _ _ (left_at c.as_slice-event-items.result.now c.loop-event.event-index _ (Set w.in-Set.assign) c.loop-event-test.true c.event-item.is w.in-Set.is) (ap (λ v. v.items) w.all-is ∙ w.in_ok-push_set-in-Set.ensures) c.loop-event.invariant.added;
+        inside = AllEnds-tail (Within c.args.setting.now.text.now 0) _ _ _ (left_at c.as_slice-event-items.result.now c.loop-event.event-index _ (Set w.in-Set.assign) c.loop-event-test.true c.event-item.is w.in-Set.is) c.loop-event.invariant.inside;
       }
       | repeat-in-Mark+in_ok-push_mark-in-Mark w ↦ record {
-        added = ap (λ j. c.match-event.all.items ++ upto j (go_on (drop (c.loop-event.event-index + 1) c.as_slice-event-items.result.now) (next_round c.args.depth (noted c.args.text.now c.args.rules.now.bodies c.args.depth (tree_of c.args.part.now)) c.args.count c.args.c))) w.left-is
-            ∙ go_on_mark (next_round c.args.depth (noted c.args.text.now c.args.rules.now.bodies c.args.depth (tree_of c.args.part.now)) c.args.count c.args.c) _ c.loop-event.left _ _ _ _ _ (left_at c.as_slice-event-items.result.now c.loop-event.event-index _ (Mark w.in-Mark.mark) c.loop-event-test.true c.event-item.is w.in-Mark.is) (ap (λ v. v.items) w.all-is ∙ w.in_ok-push_mark-in-Mark.ensures) c.loop-event.invariant.added;
-        inside = AllEnds-tail (Within c.args.text.now 0) _ _ _ (left_at c.as_slice-event-items.result.now c.loop-event.event-index _ (Mark w.in-Mark.mark) c.loop-event-test.true c.event-item.is w.in-Mark.is) c.loop-event.invariant.inside;
+        added = ap (λ j. c.match-event.all.items ++ upto j (go_on (drop (c.loop-event.event-index + 1) c.as_slice-event-items.result.now) (next_round c.args.setting.now.depth (noted c.args.setting.now.text.now c.args.setting.now.rules.now.bodies c.args.setting.now.depth (tree_of c.args.rounds.part.now)) c.args.rounds.count c.args.c))) w.left-is
+            ∙ go_on_mark (next_round c.args.setting.now.depth (noted c.args.setting.now.text.now c.args.setting.now.rules.now.bodies c.args.setting.now.depth (tree_of c.args.rounds.part.now)) c.args.rounds.count c.args.c) _ c.loop-event.left _ _ _ _ _ (left_at c.as_slice-event-items.result.now c.loop-event.event-index _ (Mark w.in-Mark.mark) c.loop-event-test.true c.event-item.is w.in-Mark.is) (ap (λ v. v.items) w.all-is ∙ w.in_ok-push_mark-in-Mark.ensures) c.loop-event.invariant.added;
+        inside = AllEnds-tail (Within c.args.setting.now.text.now 0) _ _ _ (left_at c.as_slice-event-items.result.now c.loop-event.event-index _ (Mark w.in-Mark.mark) c.loop-event-test.true c.event-item.is w.in-Mark.is) c.loop-event.invariant.inside;
       }
       | repeat-in-End+then-c-end+in_ok-later-in-End+in_ok-add_after-in-End+else-branch w ↦ record {
-        added = go_on_end (next_round c.args.depth (noted c.args.text.now c.args.rules.now.bodies c.args.depth (tree_of c.args.part.now)) c.args.count c.args.c) _ c.loop-event.left _ _ _ _ _ _ _ _ (left_at c.as_slice-event-items.result.now c.loop-event.event-index _ (End w.in-End.end w.in-End.conds) c.loop-event-test.true c.event-item.is w.in-End.is) (round_taken c.loop-event.left c.args.depth (noted c.args.text.now c.args.rules.now.bodies c.args.depth (tree_of c.args.part.now)) c.args.count c.args.c w.in-End.end _ _ w.if-c-end.true w.deref.ensures.value w.in_ok-later-in-End.ensures.done)
+        added = go_on_end (next_round c.args.setting.now.depth (noted c.args.setting.now.text.now c.args.setting.now.rules.now.bodies c.args.setting.now.depth (tree_of c.args.rounds.part.now)) c.args.rounds.count c.args.c) _ c.loop-event.left _ _ _ _ _ _ _ _ (left_at c.as_slice-event-items.result.now c.loop-event.event-index _ (End w.in-End.end w.in-End.conds) c.loop-event-test.true c.event-item.is w.in-End.is) (round_taken c.loop-event.left c.args.setting.now.depth (noted c.args.setting.now.text.now c.args.setting.now.rules.now.bodies c.args.setting.now.depth (tree_of c.args.rounds.part.now)) c.args.rounds.count c.args.c w.in-End.end _ _ w.if-c-end.true w.deref.ensures.value w.in_ok-later-in-End.ensures.done)
             (sym w.if-branch.false ∙ w.in_ok-add_after-in-End.ensures.ended)
             (w.left-is ∙ ap (λ j. c.loop-event.left - j) (w.count_trials-left.ensures.value ∙ ap trials_of (w.deref-then-c-end.ensures.value ∙ sym w.deref.ensures.value)))
             (ap (λ v. v.items) w.all-is ∙ w.in_ok-add_after-in-End.ensures.added) c.loop-event.invariant.added;
-        inside = AllEnds-tail (Within c.args.text.now 0) _ _ _ (left_at c.as_slice-event-items.result.now c.loop-event.event-index _ (End w.in-End.end w.in-End.conds) c.loop-event-test.true c.event-item.is w.in-End.is) c.loop-event.invariant.inside;
+        inside = AllEnds-tail (Within c.args.setting.now.text.now 0) _ _ _ (left_at c.as_slice-event-items.result.now c.loop-event.event-index _ (End w.in-End.end w.in-End.conds) c.loop-event-test.true c.event-item.is w.in-End.is) c.loop-event.invariant.inside;
       }
       | repeat-in-End+else-c-end+in_ok-push_null_round-in-End w ↦ record {
-        added = ap (λ j. c.match-event.all.items ++ upto j (go_on (drop (c.loop-event.event-index + 1) c.as_slice-event-items.result.now) (next_round c.args.depth (noted c.args.text.now c.args.rules.now.bodies c.args.depth (tree_of c.args.part.now)) c.args.count c.args.c))) w.left-is
-            ∙ go_on_marked (next_round c.args.depth (noted c.args.text.now c.args.rules.now.bodies c.args.depth (tree_of c.args.part.now)) c.args.count c.args.c) _ c.loop-event.left _ _ _ _ _ _ _ (left_at c.as_slice-event-items.result.now c.loop-event.event-index _ (End w.in-End.end w.in-End.conds) c.loop-event-test.true c.event-item.is w.in-End.is) (round_dropped c.args.depth (noted c.args.text.now c.args.rules.now.bodies c.args.depth (tree_of c.args.part.now)) c.args.count c.args.c w.in-End.end w.if-c-end.false) (ap (λ v. v.items) w.all-is ∙ w.in_ok-push_null_round-in-End.ensures) c.loop-event.invariant.added;
-        inside = AllEnds-tail (Within c.args.text.now 0) _ _ _ (left_at c.as_slice-event-items.result.now c.loop-event.event-index _ (End w.in-End.end w.in-End.conds) c.loop-event-test.true c.event-item.is w.in-End.is) c.loop-event.invariant.inside;
+        added = ap (λ j. c.match-event.all.items ++ upto j (go_on (drop (c.loop-event.event-index + 1) c.as_slice-event-items.result.now) (next_round c.args.setting.now.depth (noted c.args.setting.now.text.now c.args.setting.now.rules.now.bodies c.args.setting.now.depth (tree_of c.args.rounds.part.now)) c.args.rounds.count c.args.c))) w.left-is
+            ∙ go_on_marked (next_round c.args.setting.now.depth (noted c.args.setting.now.text.now c.args.setting.now.rules.now.bodies c.args.setting.now.depth (tree_of c.args.rounds.part.now)) c.args.rounds.count c.args.c) _ c.loop-event.left _ _ _ _ _ _ _ (left_at c.as_slice-event-items.result.now c.loop-event.event-index _ (End w.in-End.end w.in-End.conds) c.loop-event-test.true c.event-item.is w.in-End.is) (round_dropped c.args.setting.now.depth (noted c.args.setting.now.text.now c.args.setting.now.rules.now.bodies c.args.setting.now.depth (tree_of c.args.rounds.part.now)) c.args.rounds.count c.args.c w.in-End.end w.if-c-end.false) (ap (λ v. v.items) w.all-is ∙ w.in_ok-push_null_round-in-End.ensures) c.loop-event.invariant.added;
+        inside = AllEnds-tail (Within c.args.setting.now.text.now 0) _ _ _ (left_at c.as_slice-event-items.result.now c.loop-event.event-index _ (End w.in-End.end w.in-End.conds) c.loop-event-test.true c.event-item.is w.in-End.is) c.loop-event.invariant.inside;
       }
     ]
 
@@ -145,7 +145,7 @@ walk-walk-requires t c =
 
 pub walk-follow-requires : goal.walk-follow-requires
 walk-follow-requires t c =
-    (falls _ _ _ _ _ 1 t c.decreases (omega (arith, nodes_of_seq _ _ _ (ap tree_of c.in-Seq.is), ap (λ p. nodes (tree_of p)) c.deref-in-Seq-2.ensures)) (omega arith), inside c.args.text.now c.args.rules.now.bodies c.args.depth c.args.limit (tree_of c.deref.result.now) c.args.c _ _ c.requires c.deref-in-Seq.ensures.value c.in_ok-first-in-Seq.ensures.done)
+    (falls _ _ _ _ _ 1 t c.decreases (omega (arith, nodes_of_seq _ _ _ (ap tree_of c.in-Seq.is), ap (λ p. nodes (tree_of p)) c.deref-in-Seq-2.ensures)) (omega arith), inside c.args.setting.now.text.now c.args.setting.now.rules.now.bodies c.args.setting.now.depth c.args.limit (tree_of c.deref.result.now) c.args.c _ _ c.requires c.deref-in-Seq.ensures.value c.in_ok-first-in-Seq.ensures.done)
 
 pub walk-walk-requires-in-Alt : goal.walk-walk-requires-in-Alt
 walk-walk-requires-in-Alt t c =
@@ -169,26 +169,26 @@ walk-named-requires t c =
 
 pub walk-returns-in_ok-events-in-Seq-clause-done : goal.walk-returns-in_ok-events-in-Seq-clause-done
 walk-returns-in_ok-events-in-Seq-clause-done t c =
-    seq_does c.args.text.now c.args.rules.now.bodies c.args.depth c.args.limit c.args.c (tree_of c.args.pattern.now) (tree_of c.in-Seq.left.value) (tree_of c.in-Seq.right.value) (tree_of c.deref.result.now) (tree_of c.deref-in-Seq-2.result.now) _ _ _
+    seq_does c.args.setting.now.text.now c.args.setting.now.rules.now.bodies c.args.setting.now.depth c.args.limit c.args.c (tree_of c.args.pattern.now) (tree_of c.in-Seq.left.value) (tree_of c.in-Seq.right.value) (tree_of c.deref.result.now) (tree_of c.deref-in-Seq-2.result.now) _ _ _
     (ap tree_of c.in-Seq.is) (ap tree_of c.deref.ensures) (ap tree_of c.deref-in-Seq-2.ensures) c.deref-in-Seq.ensures.value c.in_ok-first-in-Seq.ensures.done c.in_ok-events-in-Seq.ensures.done
 
 pub walk-returns-in_ok-events-in-Cond-clause-done : goal.walk-returns-in_ok-events-in-Cond-clause-done
 walk-returns-in_ok-events-in-Cond-clause-done t c =
-    cond_does c.args.text.now c.args.rules.now.bodies c.args.depth c.args.limit c.args.c (tree_of c.args.pattern.now) (tree_of c.in-Cond.part.value) (tree_of c.deref-in-Cond.result.now) c.in-Cond.name _ _ _
+    cond_does c.args.setting.now.text.now c.args.setting.now.rules.now.bodies c.args.setting.now.depth c.args.limit c.args.c (tree_of c.args.pattern.now) (tree_of c.in-Cond.part.value) (tree_of c.deref-in-Cond.result.now) c.in-Cond.name _ _ _
     (ap tree_of c.in-Cond.is) (ap tree_of c.deref-in-Cond.ensures) c.deref-in-Cond-2.ensures.value c.in_ok-inner-in-Cond.ensures.done c.in_ok-events-in-Cond.ensures
 
 pub walk-returns-in_ok-events-in-Imm-clause-done : goal.walk-returns-in_ok-events-in-Imm-clause-done
 walk-returns-in_ok-events-in-Imm-clause-done t c =
-    imm_does c.args.text.now c.args.rules.now.bodies c.args.depth c.args.limit c.args.c (tree_of c.args.pattern.now) (tree_of c.in-Imm.part.value) (tree_of c.deref-in-Imm.result.now) c.in-Imm.name _ _ _
+    imm_does c.args.setting.now.text.now c.args.setting.now.rules.now.bodies c.args.setting.now.depth c.args.limit c.args.c (tree_of c.args.pattern.now) (tree_of c.in-Imm.part.value) (tree_of c.deref-in-Imm.result.now) c.in-Imm.name _ _ _
     (ap tree_of c.in-Imm.is) (ap tree_of c.deref-in-Imm.ensures) c.deref-in-Imm-2.ensures.value c.in_ok-inner-in-Imm.ensures.done c.in_ok-events-in-Imm.ensures
 
 pub walk-returns-in_ok-events-in-Ref-clause-done : goal.walk-returns-in_ok-events-in-Ref-clause-done
 walk-returns-in_ok-events-in-Ref-clause-done t c =
-    ref_does c.args.text.now c.args.rules.now.bodies c.args.depth c.args.limit c.args.c (tree_of c.args.pattern.now) c.in-Ref.number _ _ _ (ap tree_of c.in-Ref.is) c.deref-in-Ref.ensures.value c.in_ok-inner-in-Ref.ensures.done c.in_ok-events-in-Ref.ensures
+    ref_does c.args.setting.now.text.now c.args.setting.now.rules.now.bodies c.args.setting.now.depth c.args.limit c.args.c (tree_of c.args.pattern.now) c.in-Ref.number _ _ _ (ap tree_of c.in-Ref.is) c.deref-in-Ref.ensures.value c.in_ok-inner-in-Ref.ensures.done c.in_ok-events-in-Ref.ensures
 
 pub walk-overflow_sub-rest : goal.walk-overflow_sub-rest
 walk-overflow_sub-rest t c =
-    omega (arith, few_trials c.args.limit (noted c.args.text.now c.args.rules.now.bodies c.args.depth (tree_of c.deref-in-Alt.result.now) c.args.c), c.count_trials.ensures.value, ap trials_of (c.deref-then-not-has_last.ensures.value ∙ c.in_ok-events-in-Alt.ensures.done))
+    omega (arith, few_trials c.args.limit (noted c.args.setting.now.text.now c.args.setting.now.rules.now.bodies c.args.setting.now.depth (tree_of c.deref-in-Alt.result.now) c.args.c), c.count_trials.ensures.value, ap trials_of (c.deref-then-not-has_last.ensures.value ∙ c.in_ok-events-in-Alt.ensures.done))
 
 pub walk-walk-requires-then-not-has_last : goal.walk-walk-requires-then-not-has_last
 walk-walk-requires-then-not-has_last t c =
@@ -199,14 +199,14 @@ walk-returns-after-not-has_last-clause-done t c =
     elim c.if-not-has_last.branch [
       | walk-then-not-has_last+in_ok-others-in-Alt+in_ok-append-in-Alt w ↦
           c.cut.ensures
-          ∙ both_sides c.args.text.now c.args.rules.now.bodies c.args.depth c.args.limit (c.args.limit - w.count_trials.result) c.args.c (tree_of c.args.pattern.now) (tree_of c.in-Alt.left.value) (tree_of c.in-Alt.right.value) (tree_of c.deref-in-Alt.result.now) (tree_of w.deref-then-not-has_last-2.result.now) _ _ _
+          ∙ both_sides c.args.setting.now.text.now c.args.setting.now.rules.now.bodies c.args.setting.now.depth c.args.limit (c.args.limit - w.count_trials.result) c.args.c (tree_of c.args.pattern.now) (tree_of c.in-Alt.left.value) (tree_of c.in-Alt.right.value) (tree_of c.deref-in-Alt.result.now) (tree_of w.deref-then-not-has_last-2.result.now) _ _ _
           (ap tree_of c.in-Alt.is) (ap tree_of c.deref-in-Alt.ensures) (ap tree_of w.deref-then-not-has_last-2.ensures)
           c.in_ok-events-in-Alt.ensures.done (sym w.if-not-has_last.true ∙ c.has_last.ensures ∙ ap (list_any is_last) c.deref-in-Alt-2.ensures.value)
           (ap (λ j. c.args.limit - j) (w.count_trials.ensures.value ∙ ap trials_of w.deref-then-not-has_last.ensures.value))
           w.in_ok-others-in-Alt.ensures.done (ap (λ v. v.items) w.events-is ∙ w.in_ok-append-in-Alt.ensures.items)
       | walk-else-not-has_last w ↦
           c.cut.ensures
-          ∙ one_side c.args.text.now c.args.rules.now.bodies c.args.depth c.args.limit c.args.c (tree_of c.args.pattern.now) (tree_of c.in-Alt.left.value) (tree_of c.in-Alt.right.value) (tree_of c.deref-in-Alt.result.now) _ _ (ap tree_of c.in-Alt.is) (ap tree_of c.deref-in-Alt.ensures)
+          ∙ one_side c.args.setting.now.text.now c.args.setting.now.rules.now.bodies c.args.setting.now.depth c.args.limit c.args.c (tree_of c.args.pattern.now) (tree_of c.in-Alt.left.value) (tree_of c.in-Alt.right.value) (tree_of c.deref-in-Alt.result.now) _ _ (ap tree_of c.in-Alt.is) (ap tree_of c.deref-in-Alt.ensures)
           c.in_ok-events-in-Alt.ensures.done (sym w.if-not-has_last.false ∙ c.has_last.ensures ∙ ap (list_any is_last) c.deref-in-Alt-2.ensures.value) (ap (λ v. v.items) w.events-is)
     ]
 
@@ -215,48 +215,48 @@ follow-returns-in_err-later-in-End-clause-deep t c =
     passed_on _ _ _ c.from_residual-in_err-later-in-End.ensures.1 (λ is. (c.in-End.end, found_end c.args.first.now c.loop-event.event-index _ c.in-End.end c.in-End.conds (left_at c.args.first.now c.loop-event.event-index _ (End c.in-End.end c.in-End.conds) c.loop-event-test.true c.event-item.is c.in-End.is), c.in_err-later-in-End.ensures.deep is))
 
 pub repeat-returns-in_err-inside-clause-deep : goal.repeat-returns-in_err-inside-clause-deep
-repeat-returns-in_err-inside-clause-deep t c = passed_on _ _ _ c.from_residual.ensures.1 (λ is. nests_none c.args.text.now c.args.rules.now.bodies c.args.room c.args.depth _ c.args.c c.in_err-inside.ensures.used_up)
+repeat-returns-in_err-inside-clause-deep t c = passed_on _ _ _ c.from_residual.ensures.1 (λ is. nests_none c.args.setting.now.text.now c.args.setting.now.rules.now.bodies c.args.room c.args.setting.now.depth _ c.args.c c.in_err-inside.ensures.used_up)
 
 pub repeat-returns-in_err-once-clause-deep : goal.repeat-returns-in_err-once-clause-deep
-repeat-returns-in_err-once-clause-deep t c = passed_on _ _ _ c.from_residual-in_err-once.ensures.1 (λ is. in_round c.args.text.now c.args.rules.now.bodies c.args.room _ c.args.depth (tree_of c.args.part.now) c.args.c c.in_ok-inside.ensures.left (c.in_err-once.ensures.deep is))
+repeat-returns-in_err-once-clause-deep t c = passed_on _ _ _ c.from_residual-in_err-once.ensures.1 (λ is. in_round c.args.setting.now.text.now c.args.setting.now.rules.now.bodies c.args.room _ c.args.setting.now.depth (tree_of c.args.rounds.part.now) c.args.c c.in_ok-inside.ensures.left (c.in_err-once.ensures.deep is))
 
 pub repeat-returns-in_err-later-in-End-clause-deep : goal.repeat-returns-in_err-later-in-End-clause-deep
 repeat-returns-in_err-later-in-End-clause-deep t c =
-    passed_on _ _ _ c.from_residual-in_err-later-in-End.ensures.1 (λ is. in_later_round c.args.text.now c.args.rules.now.bodies c.args.room _ c.args.depth c.args.limit (tree_of c.args.part.now) c.args.c c.in-End.end _ _ c.in_ok-inside.ensures.left c.as_slice-event-items.ensures.value c.in_ok-once.ensures.done
+    passed_on _ _ _ c.from_residual-in_err-later-in-End.ensures.1 (λ is. in_later_round c.args.setting.now.text.now c.args.setting.now.rules.now.bodies c.args.room _ c.args.setting.now.depth c.args.limit (tree_of c.args.rounds.part.now) c.args.c c.in-End.end _ _ c.in_ok-inside.ensures.left c.as_slice-event-items.ensures.value c.in_ok-once.ensures.done
     (found_end c.as_slice-event-items.result.now c.loop-event.event-index _ c.in-End.end c.in-End.conds (left_at c.as_slice-event-items.result.now c.loop-event.event-index _ (End c.in-End.end c.in-End.conds) c.loop-event-test.true c.event-item.is c.in-End.is)) c.if-c-end.true (c.in_err-later-in-End.ensures.deep is))
 
 pub walk-returns-in_err-inside-clause-deep : goal.walk-returns-in_err-inside-clause-deep
-walk-returns-in_err-inside-clause-deep t c = passed_on _ _ _ c.from_residual.ensures.1 (λ is. nests_none c.args.text.now c.args.rules.now.bodies c.args.room c.args.depth _ c.args.c c.in_err-inside.ensures.used_up)
+walk-returns-in_err-inside-clause-deep t c = passed_on _ _ _ c.from_residual.ensures.1 (λ is. nests_none c.args.setting.now.text.now c.args.setting.now.rules.now.bodies c.args.room c.args.setting.now.depth _ c.args.c c.in_err-inside.ensures.used_up)
 
 pub walk-returns-in_err-first-in-Seq-clause-deep : goal.walk-returns-in_err-first-in-Seq-clause-deep
 walk-returns-in_err-first-in-Seq-clause-deep t c =
-    passed_on _ _ _ c.from_residual-in_err-first-in-Seq.ensures.1 (λ is. in_first c.args.text.now c.args.rules.now.bodies c.args.room _ c.args.depth c.args.c _ _ _ _ (ap tree_of c.in-Seq.is) (ap tree_of c.deref.ensures) c.in_ok-inside.ensures.left (c.in_err-first-in-Seq.ensures.deep is))
+    passed_on _ _ _ c.from_residual-in_err-first-in-Seq.ensures.1 (λ is. in_first c.args.setting.now.text.now c.args.setting.now.rules.now.bodies c.args.room _ c.args.setting.now.depth c.args.c _ _ _ _ (ap tree_of c.in-Seq.is) (ap tree_of c.deref.ensures) c.in_ok-inside.ensures.left (c.in_err-first-in-Seq.ensures.deep is))
 
 pub walk-returns-in_err-events-in-Seq-clause-deep : goal.walk-returns-in_err-events-in-Seq-clause-deep
 walk-returns-in_err-events-in-Seq-clause-deep t c =
-    passed_on _ _ _ c.from_residual-in_err-events-in-Seq.ensures.1 (λ is. in_second c.args.text.now c.args.rules.now.bodies c.args.room _ c.args.depth c.args.limit c.args.c _ _ _ _ _ _ _ (ap tree_of c.in-Seq.is) (ap tree_of c.deref.ensures) (ap tree_of c.deref-in-Seq-2.ensures) c.in_ok-inside.ensures.left
+    passed_on _ _ _ c.from_residual-in_err-events-in-Seq.ensures.1 (λ is. in_second c.args.setting.now.text.now c.args.setting.now.rules.now.bodies c.args.room _ c.args.setting.now.depth c.args.limit c.args.c _ _ _ _ _ _ _ (ap tree_of c.in-Seq.is) (ap tree_of c.deref.ensures) (ap tree_of c.deref-in-Seq-2.ensures) c.in_ok-inside.ensures.left
     c.deref-in-Seq.ensures.value c.in_ok-first-in-Seq.ensures.done (c.in_err-events-in-Seq.ensures.deep is))
 
 pub walk-returns-in_err-events-in-Alt-clause-deep : goal.walk-returns-in_err-events-in-Alt-clause-deep
 walk-returns-in_err-events-in-Alt-clause-deep t c =
-    passed_on _ _ _ c.from_residual-in_err-events-in-Alt.ensures.1 (λ is. in_either c.args.text.now c.args.rules.now.bodies c.args.room _ c.args.depth c.args.c _ _ _ _ (ap tree_of c.in-Alt.is) (ap tree_of c.deref-in-Alt.ensures) c.in_ok-inside.ensures.left (c.in_err-events-in-Alt.ensures.deep is))
+    passed_on _ _ _ c.from_residual-in_err-events-in-Alt.ensures.1 (λ is. in_either c.args.setting.now.text.now c.args.setting.now.rules.now.bodies c.args.room _ c.args.setting.now.depth c.args.c _ _ _ _ (ap tree_of c.in-Alt.is) (ap tree_of c.deref-in-Alt.ensures) c.in_ok-inside.ensures.left (c.in_err-events-in-Alt.ensures.deep is))
 
 pub walk-returns-in_err-others-in-Alt-clause-deep : goal.walk-returns-in_err-others-in-Alt-clause-deep
 walk-returns-in_err-others-in-Alt-clause-deep t c =
-    passed_on _ _ _ c.from_residual-in_err-others-in-Alt.ensures.1 (λ is. in_other c.args.text.now c.args.rules.now.bodies c.args.room _ c.args.depth c.args.c _ _ _ _ (ap tree_of c.in-Alt.is) (ap tree_of c.deref-then-not-has_last-2.ensures) c.in_ok-inside.ensures.left (c.in_err-others-in-Alt.ensures.deep is))
+    passed_on _ _ _ c.from_residual-in_err-others-in-Alt.ensures.1 (λ is. in_other c.args.setting.now.text.now c.args.setting.now.rules.now.bodies c.args.room _ c.args.setting.now.depth c.args.c _ _ _ _ (ap tree_of c.in-Alt.is) (ap tree_of c.deref-then-not-has_last-2.ensures) c.in_ok-inside.ensures.left (c.in_err-others-in-Alt.ensures.deep is))
 
 pub walk-returns-in_err-events-in-Arbno-clause-deep : goal.walk-returns-in_err-events-in-Arbno-clause-deep
 walk-returns-in_err-events-in-Arbno-clause-deep t c =
-    passed_on _ _ _ c.from_residual-in_err-events-in-Arbno.ensures.1 (λ is. in_part c.args.text.now c.args.rules.now.bodies c.args.room c.args.depth c.args.c _ _ _ (ap tree_of c.in-Arbno.is) (ap tree_of c.deref-in-Arbno.ensures) (c.in_err-events-in-Arbno.ensures.deep is))
+    passed_on _ _ _ c.from_residual-in_err-events-in-Arbno.ensures.1 (λ is. in_part c.args.setting.now.text.now c.args.setting.now.rules.now.bodies c.args.room c.args.setting.now.depth c.args.c _ _ _ (ap tree_of c.in-Arbno.is) (ap tree_of c.deref-in-Arbno.ensures) (c.in_err-events-in-Arbno.ensures.deep is))
 
 pub walk-returns-in_err-inner-in-Cond-clause-deep : goal.walk-returns-in_err-inner-in-Cond-clause-deep
 walk-returns-in_err-inner-in-Cond-clause-deep t c =
-    passed_on _ _ _ c.from_residual-in_err-inner-in-Cond.ensures.1 (λ is. in_assigned c.args.text.now c.args.rules.now.bodies c.args.room _ c.args.depth c.args.c _ _ _ _ (inl (ap tree_of c.in-Cond.is)) (ap tree_of c.deref-in-Cond.ensures) c.in_ok-inside.ensures.left (c.in_err-inner-in-Cond.ensures.deep is))
+    passed_on _ _ _ c.from_residual-in_err-inner-in-Cond.ensures.1 (λ is. in_assigned c.args.setting.now.text.now c.args.setting.now.rules.now.bodies c.args.room _ c.args.setting.now.depth c.args.c _ _ _ _ (inl (ap tree_of c.in-Cond.is)) (ap tree_of c.deref-in-Cond.ensures) c.in_ok-inside.ensures.left (c.in_err-inner-in-Cond.ensures.deep is))
 
 pub walk-returns-in_err-inner-in-Imm-clause-deep : goal.walk-returns-in_err-inner-in-Imm-clause-deep
 walk-returns-in_err-inner-in-Imm-clause-deep t c =
-    passed_on _ _ _ c.from_residual-in_err-inner-in-Imm.ensures.1 (λ is. in_assigned c.args.text.now c.args.rules.now.bodies c.args.room _ c.args.depth c.args.c _ _ _ _ (inr (ap tree_of c.in-Imm.is)) (ap tree_of c.deref-in-Imm.ensures) c.in_ok-inside.ensures.left (c.in_err-inner-in-Imm.ensures.deep is))
+    passed_on _ _ _ c.from_residual-in_err-inner-in-Imm.ensures.1 (λ is. in_assigned c.args.setting.now.text.now c.args.setting.now.rules.now.bodies c.args.room _ c.args.setting.now.depth c.args.c _ _ _ _ (inr (ap tree_of c.in-Imm.is)) (ap tree_of c.deref-in-Imm.ensures) c.in_ok-inside.ensures.left (c.in_err-inner-in-Imm.ensures.deep is))
 
 pub walk-returns-in_err-inner-in-Ref-clause-deep : goal.walk-returns-in_err-inner-in-Ref-clause-deep
 walk-returns-in_err-inner-in-Ref-clause-deep t c =
-    passed_on _ _ _ c.from_residual-in_err-inner-in-Ref.ensures.1 (λ is. in_named c.args.text.now c.args.rules.now.bodies c.args.room _ c.args.depth c.args.c _ _ (ap tree_of c.in-Ref.is) c.in_ok-inside.ensures.left (c.in_err-inner-in-Ref.ensures.deep is))
+    passed_on _ _ _ c.from_residual-in_err-inner-in-Ref.ensures.1 (λ is. in_named c.args.setting.now.text.now c.args.setting.now.rules.now.bodies c.args.room _ c.args.setting.now.depth c.args.c _ _ (ap tree_of c.in-Ref.is) c.in_ok-inside.ensures.left (c.in_err-inner-in-Ref.ensures.deep is))

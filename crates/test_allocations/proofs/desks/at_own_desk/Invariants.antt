@@ -1,4 +1,4 @@
--- The new ledger and histories, and the book that was handed in.
+-- The new ledger and histories, and the book that was passed.
 use Rattle.test_allocations.proofs.desks.at_own_desk.Given as goal
 
 abbrev pub ghosts-at_seat-L-Ledger : goal.ghosts-at_seat-L-Ledger

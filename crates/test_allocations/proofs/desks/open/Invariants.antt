@@ -1,4 +1,4 @@
--- The new ledger and histories, and the book that was handed in.
+-- The new ledger and histories, and the book that was passed.
 use Rattle.test_allocations.proofs.desks.open.Given as goal
 
 abbrev pub ghosts-open_and_close-L-Ledger : goal.ghosts-open_and_close-L-Ledger

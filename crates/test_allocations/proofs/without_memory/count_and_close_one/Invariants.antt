@@ -1,4 +1,4 @@
--- The new ledger and histories, and the book that was handed in.
+-- The new ledger and histories, and the book that was passed.
 use Rattle.test_allocations.proofs.without_memory.count_and_close_one.Given as goal
 
 abbrev pub ghosts-count_and_close-L-Ledger : goal.ghosts-count_and_close-L-Ledger

@@ -1,4 +1,4 @@
--- The new ledger and histories, and the book that was handed in.
+-- The new ledger and histories, and the book that was passed.
 use Rattle.test_allocations.proofs.workers.work_at_own_desk.Given as goal
 
 abbrev pub ghosts-work-L-Ledger : goal.ghosts-work-L-Ledger

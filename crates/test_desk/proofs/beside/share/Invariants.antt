@@ -1,4 +1,4 @@
--- The new ledger and histories, and the book that was handed in.
+-- The new ledger and histories, and the book that was passed.
 use Rattle.test_desk.proofs.beside.share.Given as goal
 
 abbrev pub ghosts-read_beside-L-Ledger : goal.ghosts-read_beside-L-Ledger

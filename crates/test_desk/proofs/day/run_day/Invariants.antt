@@ -1,4 +1,4 @@
--- The new ledger and histories, and the book that was handed in.
+-- The new ledger and histories, and the book that was passed.
 use Rattle.test_desk.proofs.day.run_day.Given as goal
 
 abbrev pub ghosts-spend-L-Ledger : goal.ghosts-spend-L-Ledger

@@ -1,4 +1,4 @@
--- The new histories, and the book that was handed in.
+-- The new histories, and the book that was passed.
 use Rattle.test_desk.proofs.viewers.watched.Given as goal
 
 abbrev pub ghosts-watch-L-Ledger : goal.ghosts-watch-L-Ledger

@@ -1,4 +1,4 @@
--- The new histories, and the book that was handed in.
+-- The new histories, and the book that was passed.
 use Rattle.test_desk.proofs.viewers.watched_beside.Given as goal
 
 abbrev pub ghosts-watch_beside-L-Ledger : goal.ghosts-watch_beside-L-Ledger

@@ -9,7 +9,7 @@ import re
 import time
 from collections.abc import Awaitable, Callable
 
-from aiohttp import web
+from aiohttp import HttpVersion10, HttpVersion11, web
 
 from ._metrics import Metrics
 from ._options import Options
@@ -108,6 +108,9 @@ class Guard:
             return response
 
     def _check(self, request: web.Request) -> None:
+        # aiohttp's reader takes any number, and there is no other version to be spoken here.
+        if request.version not in (HttpVersion10, HttpVersion11):
+            raise fault(web.HTTPVersionNotSupported, "HTTP 1.0 or 1.1 is wanted")
         host = request.headers.get("Host", "")
         if re.sub(r":[0-9]*$", "", host).lower() not in self._hosts:
             raise fault(web.HTTPMisdirectedRequest, "another host is meant")

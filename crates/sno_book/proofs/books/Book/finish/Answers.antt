@@ -15,7 +15,7 @@ put-requires-clause-inside c =
     let b = the_view c.self.inside in
     let p = c.ready.inside.proposal in
     let f = free_here b c.args.self.now p c.args.ready c.self.inside.versioned_texts.items (arc_value c.ready.inside.text) c.self.view_is c.ready.view_is c.self.invariant c.requires.fits c.requires.related
-    c.ready.invariant.stands c.ready.invariant.performed in
+    c.ready.invariant.held c.ready.invariant.performed in
     rw c.place-place.ensures.place (place_inside b c.self.inside.versioned_texts.items p.statement.text p.place c.self.invariant f.placed)
 
 pub put-requires-clause-small : goal.put-requires-clause-small
@@ -27,9 +27,9 @@ invariant_of-self c =
     let b = the_view c.self.inside in
     let p = c.ready.inside.proposal in
     let f = free_here b c.args.self.now p c.args.ready c.self.inside.versioned_texts.items (arc_value c.ready.inside.text) c.self.view_is c.ready.view_is c.self.invariant c.requires.fits c.requires.related
-    c.ready.invariant.stands c.ready.invariant.performed in
+    c.ready.invariant.held c.ready.invariant.performed in
     let performed = performed_here b c.args.self.now p c.args.ready c.self.inside.versioned_texts.items (arc_value c.ready.inside.text) c.self.view_is c.ready.view_is c.self.invariant c.requires.fits
-    c.requires.related c.ready.invariant.stands c.ready.invariant.performed in
+    c.requires.related c.ready.invariant.held c.ready.invariant.performed in
     let at = f.placed ∙ ap (λ (k : ℕ). Some k) (sym c.place-place.ensures.place) in
     let put = c.put.ensures.put (names_in b.opening.texts) p.statement.text at in
     let done = rw c.ready.invariant.after_is at put in
@@ -42,6 +42,6 @@ returns-clause-accepted c =
     let p = c.ready.inside.proposal in
     let text = arc_value c.ready.inside.text in
     let journal : c.push_reserved.new.self.items ≡ b.journal ++ entry_of p ∷ [] = c.push_reserved.ensures.items ∙ ap (λ (e : Entry). b.journal ++ e ∷ []) c.ready.invariant.entry_is in
-    accepted b c.args.self.now p c.args.ready c.self.inside.versioned_texts.items text c.self.view_is c.ready.view_is c.self.invariant c.requires.fits c.requires.related c.ready.invariant.stands
+    accepted b c.args.self.now p c.args.ready c.self.inside.versioned_texts.items text c.self.view_is c.ready.view_is c.self.invariant c.requires.fits c.requires.related c.ready.invariant.held
     c.ready.invariant.performed c.push_reserved.new.self.items c.receipt.result journal
     (c.receipt.ensures ∙ ap (λ (n : ℕ). record { index = n; entry = entry_of p; text = text }) (c.len-index.ensures ∙ c.self.inside.journal.ok.0))

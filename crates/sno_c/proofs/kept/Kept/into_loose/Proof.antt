@@ -47,8 +47,8 @@ into_loose_spec 𝓤 𝓛 𝓜 𝓡 wired =
     let x = (value_of d.value full).0 in
     kept_out ! d z.0.4.0 (λ ws. rewrite ! 0 (λ (v : Option Held). ‵ (kept_at d.at v)) (value_of d.value full).1 refl $
     in_a_block ! d.at (λ p. box_owns chunk R p x) (fst∗ 𝓤 (never 𝓤) (sem 𝓛 (chunk (bare (denote.Param.layout R)) null_ptr))) (λ b o at.
-    let told : z.0.4.0 ≡ one (vptr b o) ∷ [] = subst (λ (p : Ptr). z.0.4.0 ≡ one (ptr_val p) ∷ []) at ws in
-    suffices ! (Run (one (vptr b o) ∷ [])) (subst (λ (us : List Val). ent 𝓤 (Run (one (vptr b o) ∷ [])) (Run us)) (sym (λ i. told i ++ [])) (id⊢ 𝓤 (Run (one (vptr b o) ∷ [])))) $
+    let reported : z.0.4.0 ≡ one (vptr b o) ∷ [] = subst (λ (p : Ptr). z.0.4.0 ≡ one (ptr_val p) ∷ []) at ws in
+    suffices ! (Run (one (vptr b o) ∷ [])) (subst (λ (us : List Val). ent 𝓤 (Run (one (vptr b o) ∷ [])) (Run us)) (sym (λ i. reported i ++ [])) (id⊢ 𝓤 (Run (one (vptr b o) ∷ [])))) $
     -- [the box; nothing; the tokens]
     keep ! (0 ∷ 2 ∷ []) $ enter ! 𝓣.C 𝓣.Λ code.function (one (vptr b o) ∷ []) Post $ alloc_all ! (λ l. pass_all ! refl ((tt, (tt, tt)), tt) $
     sets ! (of_opd ! (get_in ! (fld ! refl (stop !)) (sub ! {τs = tcons ty_ptr tnil} 0 refl (whole !)))) refl (tt, tt) $ sets ! (of_opd ! (get ! refl)) refl (tt, tt) $ sets ! (agg ! (and_then ! (get ! refl) (no_more !))) refl (tt, (tt, tt)) $

@@ -42,8 +42,8 @@ of_spec 𝓤 𝓛 𝓜 𝓡 wired =
     qed 𝓛 ((raw (alive 𝓛 ended.signature z.0.0 z.0.1) ⊛ ‵ (owns (types_at ended.signature.params z.0.0) z.0.3 z.0.4)) ∷ raw ((c z.0.0 z.0.3).requires z.1) ∷ []) ∵
     split ! $ keep ! (1 ∷ 0 ∷ []) $ fsplit ! $
     loose_out R ! d z.0.4.0 (λ ws. in_a_block ! d.at (λ p. box_owns chunk R p d.value) (fst∗ 𝓤 (never 𝓤) (sem 𝓛 (chunk (bare (denote.Param.layout R)) null_ptr))) (λ b o at.
-    let told : z.0.4.0 ≡ one (vptr b o) ∷ [] = subst (λ (p : Ptr). z.0.4.0 ≡ one (ptr_val p) ∷ []) at ws in let r : the_row.Denot = record { at = block_ptr b o; value = Some d.value } in
-    suffices ! (Run (one (vptr b o) ∷ [])) (subst (λ (us : List Val). ent 𝓤 (Run (one (vptr b o) ∷ [])) (Run us)) (sym (λ i. told i ++ [])) (id⊢ 𝓤 (Run (one (vptr b o) ∷ [])))) $
+    let reported : z.0.4.0 ≡ one (vptr b o) ∷ [] = subst (λ (p : Ptr). z.0.4.0 ≡ one (ptr_val p) ∷ []) at ws in let r : the_row.Denot = record { at = block_ptr b o; value = Some d.value } in
+    suffices ! (Run (one (vptr b o) ∷ [])) (subst (λ (us : List Val). ent 𝓤 (Run (one (vptr b o) ∷ [])) (Run us)) (sym (λ i. reported i ++ [])) (id⊢ 𝓤 (Run (one (vptr b o) ∷ [])))) $
     -- [the box; nothing; the tokens]
     keep ! (0 ∷ 2 ∷ []) $ enter ! 𝓣.C 𝓣.Λ code.function (one (vptr b o) ∷ []) Post $ alloc_all ! (λ l. pass_all ! refl ((tt, (tt, tt)), tt) $
     sets ! (of_opd ! (get_in ! (fld ! refl (stop !)) (sub ! {τs = tcons ty_ptr tnil} 0 refl (whole !)))) refl (tt, tt) $ sets ! (of_opd ! (get ! refl)) refl (tt, tt) $ sets ! (agg ! (and_then ! (get ! refl) (no_more !))) refl (tt, (tt, tt)) $

@@ -71,10 +71,10 @@ into_box_spec {M} 𝓤 𝓛 𝓜 𝓡 wired T L dx glue =
     split ! $ split ! $ move ! (3 ∷ []) $ use1 𝓛 (raw (fact 𝓤 (κ ⊑ T.lives)) ⊛ raw (emp 𝓤)) (id⊢ 𝓤 _) $ split ! $ heard ! (κ ⊑ T.lives) (λ within. drop ! $ move ! (2 ∷ []) $ fsplit3 ! $
     loose_out R ! d z.0.4.0 (λ ws. in_a_block ! d.at (λ p. box_owns chunk R p d.value) (fst∗ 𝓤 (never 𝓤) (sem 𝓛 (chunk (bare (layout T)) null_ptr))) (λ b o at.
     move ! (1 ∷ []) $ handle_tells E.al ! a z.0.4.1.0 (λ h eh fits.
-    let told : z.0.4.0 ≡ one (vptr b o) ∷ [] = subst (λ (p : Ptr). z.0.4.0 ≡ one (ptr_val p) ∷ []) at ws in
+    let reported : z.0.4.0 ≡ one (vptr b o) ∷ [] = subst (λ (p : Ptr). z.0.4.0 ≡ one (ptr_val p) ∷ []) at ws in
     -- [the handle; the box; nothing; the token of κ; nothing]
     keep ! (0 ∷ 1 ∷ 3 ∷ []) $
-    suffices ! (Run (one (vptr b o) ∷ h ∷ [])) (subst (λ (us : List Val). ent 𝓤 (Run (one (vptr b o) ∷ h ∷ [])) (Run us)) (sym (λ i. told i ++ (eh i ++ []))) (id⊢ 𝓤 (Run (one (vptr b o) ∷ h ∷ [])))) $
+    suffices ! (Run (one (vptr b o) ∷ h ∷ [])) (subst (λ (us : List Val). ent 𝓤 (Run (one (vptr b o) ∷ h ∷ [])) (Run us)) (sym (λ i. reported i ++ (eh i ++ []))) (id⊢ 𝓤 (Run (one (vptr b o) ∷ h ∷ [])))) $
     enter ! 𝓣.C 𝓣.Λ fn (one (vptr b o) ∷ h ∷ []) Post $ alloc_all ! (λ l. pass_all ! refl ((tt, (tt, tt)), (fits, tt)) $ let Ev = env fn.locals l in
     sets ! (of_opd ! (get_in ! (fld ! refl (stop !)) (sub ! 0 refl (whole !)))) refl (tt, tt) $ first ! $ blocks ! $
     lft_new ! tt (λ α. let ρ = α ∷ [] in

@@ -9,5 +9,5 @@ use Rattle.sno_desk.proofs.locked.Locked.has_all.Goals as goal
 
 pub returns : goal.returns
 returns g c =
-    subst (λ (j : List Entry). Decides c.are_within.result (All (λ (s : Seat g.row.L.Denot). Begins s.viewer.seen j) c.args.seats.now))
+    subst (λ (j : List Entry). Decides c.are_within.result (All (λ (s : Seat g.row.L.Denot). Begins s.seen j) c.args.seats.now))
     (c.table.ensures ∙ c.self.invariant.1 ∙ ap (λ (b : Book). b.journal) c.self.view_is) c.are_within.ensures

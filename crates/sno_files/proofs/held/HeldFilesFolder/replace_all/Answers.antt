@@ -1,5 +1,5 @@
 -- There is a result for each file.
-use Rattle.std.proofs.Common.{◌≡◌, ◌+◌, length, ap, arith, refl}
+use Rattle.std.proofs.Common.{length, ap, arith, refl}
 use Rattle.sno_files.proofs.FolderLemmas.{none_claimed}
 use Rattle.sno_files.proofs.held.HeldFilesFolder.replace_all.Goals as goal
 

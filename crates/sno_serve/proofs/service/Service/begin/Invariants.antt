@@ -7,4 +7,4 @@ use Rattle.sno_serve.proofs.service.Service.begin.Given as goal
 
 abbrev pub invariant-loop-statement : goal.invariant-loop-statement
 invariant-loop-statement g l =
-    HasServed (IsGiven (arc_value l.self.rules) (map arc_value l.self.statements.items) l.self.mode) (position l.fn.seat.accepted l.fn.seat.viewer.seen) (position l.seat.accepted l.seat.viewer.seen)
+    HasServed (IsGiven (arc_value l.self.rules) (map arc_value l.self.statements.items) l.self.mode) (position l.fn.seat.accepted l.fn.seat.seen) (position l.seat.accepted l.seat.seen)

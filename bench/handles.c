@@ -1,0 +1,78 @@
+/* A pattern by a handle of the library for C:
+ *
+ *     handles RULE DEFINITIONS TIMES < text
+ *
+ * Prints the nanoseconds of opening and closing the pattern, and those of its first match in the text with all
+ * assignments: each the least of five runs of TIMES. bench/python compiles it. */
+#include "sno_rewrite.h"
+
+#include <stdio.h>
+#include <stdlib.h>
+#include <string.h>
+#include <time.h>
+
+enum { RUNS = 5, ROOM = 1 << 20 };
+
+static sno_pattern pattern;
+static sno_text text;
+
+static double nanoseconds(void) {
+    struct timespec now;
+    clock_gettime(CLOCK_MONOTONIC, &now);
+    return now.tv_sec * 1e9 + now.tv_nsec;
+}
+
+/* Opens the pattern, for which it is closed first if it is open. */
+static bool opening(char **words) {
+    uint8_t line[1024];
+    size_t length;
+    return sno_pattern_open((const uint8_t *)words[2], strlen(words[2]), (const uint8_t *)words[1], strlen(words[1]),
+                            line, sizeof line, &length, &pattern) == SNO_DONE;
+}
+
+/* Whether there is a match or not, the search has to come to its end. */
+static bool matching(char **words) {
+    sno_match match;
+    (void)words;
+    uint8_t status = sno_pattern_next(&pattern, &text, 0, SNO_USUAL_TRIALS, &match);
+    for (size_t place = 0; place < match.assignments; place++) {
+        uint8_t name[SNO_LONGEST_NAME];
+        sno_assignment assignment;
+        if (sno_pattern_assignment(&pattern, place, name, sizeof name, &assignment) != SNO_DONE)
+            return false;
+    }
+    return status == SNO_DONE || status == SNO_NOTHING;
+}
+
+/* The least time of some runs of `times`; less than 0 if the work fails. */
+static double least(bool (*work)(char **), char **words, long times) {
+    double found = 1e18;
+    for (int run = 0; run < RUNS; run++) {
+        double begun = nanoseconds();
+        for (long time = 0; time < times; time++)
+            if (!work(words))
+                return -1;
+        double taken = (nanoseconds() - begun) / (double)times;
+        if (taken < found)
+            found = taken;
+    }
+    return found;
+}
+
+int main(int count, char **words) {
+    static uint8_t bytes[ROOM];
+    long times = count == 4 ? atol(words[3]) : 0;
+    if (times < 1)
+        return 3;
+    size_t length = fread(bytes, 1, sizeof bytes, stdin);
+    if (sno_text_open(bytes, length, &text) != SNO_DONE)
+        return 1;
+    double opened = least(opening, words, times);
+    double matched = opened < 0 ? -1 : least(matching, words, times);
+    sno_text_close(&text);
+    sno_pattern_close(&pattern);
+    if (matched < 0)
+        return 1;
+    printf("%.1f %.1f\n", opened, matched);
+    return 0;
+}
