@@ -36,7 +36,7 @@ impl<L: Naming> Gate for Overtaking<'_, L> {
     fn done<R: Wait>(&self, _rt: &R, _number: u32, _accepted: bool) {}
 }
 
-/// The first job is submitted with this many tries, each of which the second job overtakes.
+/// The first job is submitted with `tries` tries, each of which the second job overtakes.
 #[derive(Drop)]
 struct Overtaken {
     first: Arc<Statement>,
@@ -105,7 +105,7 @@ impl Work for Overtaken {
     }
 }
 
-/// The book that this many tries leave.
+/// The book that `tries` tries leave.
 fn overtake<R: Wait + Abort>(rt: &R, alloc: Global, tries: u32) -> Result<Book, Fail> {
     let overtaken = Overtaken::one_letter(rt, alloc, tries)?;
     at_desk(
@@ -117,7 +117,7 @@ fn overtake<R: Wait + Abort>(rt: &R, alloc: Global, tries: u32) -> Result<Book, 
     )
 }
 
-/// After this many tries the second job has left this text.
+/// After `tries` tries the second job has left this text.
 fn check_overtaken<R: Wait + Abort>(
     rt: &R,
     alloc: Global,

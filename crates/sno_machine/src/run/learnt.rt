@@ -65,7 +65,7 @@ impl<'t, 'a> Learnt<'t, 'a> {
         }
     }
 
-    /// Learns what walks since the last call would have been shorter for, if they went over many characters. If there is no
+    /// If walks since the last call went over many characters, learns the table that makes such walks short. If there is no
     /// memory for it, nothing is learnt.
     #[inline(always)]
     pub fn catch_up(&mut self, alloc: Global)
