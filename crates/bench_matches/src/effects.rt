@@ -1,11 +1,12 @@
 //! What a statement does on a text.
-ghost use Rattle.std.specs.Prelude.{◌≡◌, IfOk};
-ghost use Rattle.sno_statement.specs.Perform.{perform};
+ghost use Rattle.std.specs.Prelude.{◌≡◌, IfOk, length};
+ghost use Rattle.sno_statement.specs.Passes.{all_matches};
+ghost use Rattle.sno_statement.specs.Perform.{IsCodeOf, perform};
 ghost use Rattle.bench_matches.specs.Effects.{effect_of_hit, effect_of_matching, effect_of_performing};
 
 use sno_machine::{Code, Found, MatchFault, Workspace};
 use sno_pattern::Text;
-use sno_statement::{Outcome, Statement, StatementFault, perform};
+use sno_statement::{Outcome, Pass, Statement, StatementFault, perform};
 use std::alloc::{AllocError, Global};
 use std::fmt;
 
@@ -95,4 +96,26 @@ pub fn effect_of_matching<'a>(
         Err(MatchFault::Memory) => Err(AllocError),
         Err(MatchFault::TooManyTrials) => Ok(Effect::Refused(StatementFault::TooManyTrials)),
     }
+}
+
+/// How many matches a pass of the statement over the text has. Each is looked at where it lies: no variable is copied. The code has
+/// to be that of the statement's pattern.
+///
+/// Refused: `TooManyTrials` if the pass takes more trials than the statement's limit; `Memory` if out of memory.
+pub fn matches_of_pass(
+    alloc: Global,
+    code: &Code<'_>,
+    statement: &Statement,
+    text: &Text,
+) -> Result<usize, StatementFault>
+    requires { IsCodeOf code.now statement.now }
+    ensures { IfOk result (λ matches. matches ≡ length (all_matches statement.now text.now)) }
+{
+    let mut pass = Pass::new(alloc, statement, code, text);
+    let mut matches = 0;
+    while let Some((sets, hit)) = pass.next_hit(alloc)? {
+        matches += 1;
+        pass.give_back(sets, hit);
+    }
+    Ok(matches)
 }

@@ -1,7 +1,8 @@
 //! The least time of some runs.
 ghost use Rattle.std.specs.Prelude.{◌≤◌};
+ghost use Rattle.sno_statement.specs.Perform.{IsCodeOf};
 
-use crate::effects::{Effect, effect_of_matching, effect_of_performing};
+use crate::effects::{Effect, effect_of_matching, effect_of_performing, matches_of_pass};
 use crate::faults::Fault;
 use sno_machine::{Code, Workspace, compile};
 use sno_pattern::Text;
@@ -25,12 +26,14 @@ impl fmt::Display for Tenths {
     }
 }
 
-/// The times of compiling, matching and performing a statement once. They are printed as in the line of the statement.
+/// The times of compiling, matching and performing a statement once, and of a pass over its text if it is for all matches. They are
+/// printed as in the line of the statement.
 #[derive(Clone, Copy, Debug)]
 pub struct Times {
     compile: Tenths,
     matching: Tenths,
     perform: Tenths,
+    pass: Option<Tenths>,
 }
 
 impl fmt::Display for Times {
@@ -38,7 +41,11 @@ impl fmt::Display for Times {
         let compile = self.compile;
         let matching = self.matching;
         let perform = self.perform;
-        write!(f, "compile {compile} match {matching} perform {perform}")
+        write!(f, "compile {compile} match {matching} perform {perform}")?;
+        match self.pass {
+            Some(pass) => write!(f, " pass {pass}"),
+            None => Ok(()),
+        }
     }
 }
 
@@ -116,6 +123,45 @@ fn perform_once(
     expect(effect, expected)
 }
 
+fn pass_once(
+    alloc: Global,
+    code: &Code<'_>,
+    statement: &Statement,
+    text: &Text,
+    expected: Effect,
+) -> Result<(), Fault>
+    requires { IsCodeOf code.now statement.now }
+{
+    match matches_of_pass(alloc, code, statement, text) {
+        Ok(matches) => expect(Effect::All { matches }, expected),
+        Err(_) => Err(Fault::Differs),
+    }
+}
+
+/// How long a pass over the text takes, if the statement is for all matches and has some. Each match is looked at where it lies.
+fn time_of_pass<C: Clock>(
+    clock: &C,
+    alloc: Global,
+    code: &Code<'_>,
+    statement: &Statement,
+    text: &Text,
+    expected: Effect,
+    times: u32,
+) -> Result<Option<Tenths>, Fault>
+    requires times { 1 ≤ times }
+    requires code { IsCodeOf code.now statement.now }
+{
+    if !matches!(expected, Effect::All { .. }) {
+        return Ok(None);
+    }
+    let least = least_time(
+        clock,
+        times,
+        || pass_once(alloc, code, statement, text, expected),
+    )?;
+    Ok(Some(least))
+}
+
 /// How long it takes to compile the statement's pattern, to match it with the text, and to perform the statement on the text.
 /// Each is done `times` times in a run, and all matches use one workspace. If a statement is repeated, the match is that of its
 /// first round.
@@ -147,9 +193,11 @@ pub fn time<C: Clock>(
         times,
         || perform_once(alloc, statement, text, expected),
     )?;
+    let pass = time_of_pass(clock, alloc, &code, statement, text, expected, times)?;
     Ok(Times {
         compile,
         matching,
         perform,
+        pass,
     })
 }

@@ -1,11 +1,11 @@
 //! Matches in the content of a file, one after the other.
-ghost use Rattle.std.specs.Prelude.{◌≡◌, ◌<◌, ◌≤◌, ◌↔◌, ◌∷◌, [], length, slice_get, IsTrue, Some, None, IfOk, IfErr, OnOk, MatchOption};
+ghost use Rattle.std.specs.Prelude.{◌≡◌, ◌<◌, ◌≤◌, ◌↔◌, ◌∷◌, [], length, slice_get, IsTrue, Some, None, IfOk, IfErr, IfSome, OnOk, MatchOption};
 ghost use Rattle.std.specs.Option.{option_map};
 ghost use Rattle.sno_pattern.specs.CursorLaws.{SetsLie};
 ghost use Rattle.sno_statement.specs.declared.file_faults.FileStatementFault.TheVariants.{TooManyTrials, TextTooLong};
 ghost use Rattle.sno_statement.specs.Bindings.{lookup};
 ghost use Rattle.sno_statement.specs.BytePasses.{byte_match, first_match, first_trials};
-ghost use Rattle.sno_statement.specs.Passes.{begun, cursors_left, match_by, matches_left, trials_together};
+ghost use Rattle.sno_statement.specs.Passes.{begun, cursors_left, match_by, matches_left, resumed, trials_together};
 ghost use Rattle.sno_statement.specs.Perform.{IsCodeOf};
 ghost use Rattle.sno_statement.specs.Spans.{value_lent};
 ghost use Rattle.sno_statement.specs.Statement.{with_limit};
@@ -123,6 +123,38 @@ impl<'c, 't, 'a> BytePass<'c, 't, 'a> {
             searches: Searches::in_bytes(alloc, statement, code, text, trials),
             text,
         }
+    }
+
+    /// Goes on from this cursor, as after a match that ended at `before`, if there was one. So a pass can be taken up where another
+    /// one was left. It takes no memory.
+    pub fn resume(&mut self, before: Option<usize>, from: usize)
+        requires { from ≤ length self.old.text }
+        ensures { self.new ≡ resumed before from self.old }
+    {
+        self.searches.resume(before, from);
+    }
+
+    /// The next match as its search found it, without a copy: what the search assigned at once, and the match with its conditional
+    /// assignments, all as cursors of the text. `None` if there is none left. Refused as [`BytePass::next`] is.
+    pub fn next_hit(&mut self, alloc: Global) -> Result<Option<(Assigns, Hit)>, FileStatementFault>
+        ensures next { IfOk result (λ next. MatchOption next (matches_left self.old ≡ []) (λ h. matches_left self.old ≡ match_by self.old.text h.0 h.1 ∷ matches_left self.new)) }
+        ensures lies { IfOk result (λ next. IfSome next (λ h. SetsLie self.old.text h.0)) }
+        ensures ended { IfOk result (λ next. MatchOption next (self.new.at ≡ None) (λ _. cursors_left self.new.text self.new.at < cursors_left self.old.text self.old.at)) }
+        ensures trials { OnOk result (trials_together self.new ≡ trials_together self.old) }
+        ensures same { OnOk result ((self.new.statement ≡ self.old.statement) × (self.new.text ≡ self.old.text)) }
+        ensures within { OnOk result (self.new.spent ≤ self.new.statement.limit) }
+        ensures refused { IfErr result (λ e. e ≡ TooManyTrials → self.old.statement.limit < trials_together self.old) }
+        ensures never { IfErr result (λ e. e ≡ TextTooLong → ⊥) }
+    {
+        let next = self.searches.next_in_file(alloc)?;
+        Ok(next)
+    }
+
+    /// Takes the memory of a match back, for the matches to come.
+    pub fn give_back(&mut self, sets: Assigns, hit: Hit)
+        ensures { self.new ≡ self.old }
+    {
+        self.searches.give_back(sets, hit);
     }
 
     /// The next match with its bindings; `None` if there is none left. The limit is for the trials of all searches of the pass

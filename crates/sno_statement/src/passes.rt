@@ -1,5 +1,5 @@
 //! One pass over a text: all matches of a statement, from left to right.
-ghost use Rattle.std.specs.Prelude.{◌≡◌, ◌+◌, ◌<◌, ◌≤◌, ◌∷◌, [], length, Some, None, IfOk, IfErr, OnOk, MatchOption};
+ghost use Rattle.std.specs.Prelude.{◌≡◌, ◌+◌, ◌<◌, ◌≤◌, ◌∷◌, [], length, Some, None, IfOk, IfErr, IfSome, OnOk, MatchOption};
 ghost use Rattle.sno_pattern.specs.CursorLaws.{SetsLie};
 ghost use Rattle.sno_pattern.specs.declared.byte_texts.TheConstants.{MAX_BYTES};
 ghost use Rattle.sno_statement.specs.declared.outcomes.StatementFault.TheVariants.{TooManyTrials, TextTooLong};
@@ -52,6 +52,28 @@ impl<'c, 't, 'a> Pass<'c, 't, 'a> {
             searches: Searches::in_text(alloc, statement, code, text),
             text,
         }
+    }
+
+    /// The next match as its search found it, without a copy: what the search assigned at once, and the match with its conditional
+    /// assignments, all as cursors of the text. `None` if there is none left. Refused as [`Pass::next`] is.
+    pub fn next_hit(&mut self, alloc: Global) -> Result<Option<(Assigns, Hit)>, StatementFault>
+        ensures next { IfOk result (λ next. MatchOption next (matches_left self.old ≡ []) (λ h. matches_left self.old ≡ match_by self.old.text h.0 h.1 ∷ matches_left self.new)) }
+        ensures lies { IfOk result (λ next. IfSome next (λ h. SetsLie self.old.text h.0)) }
+        ensures ended { IfOk result (λ next. MatchOption next (self.new.at ≡ None) (λ _. cursors_left self.new.text self.new.at < cursors_left self.old.text self.old.at)) }
+        ensures trials { OnOk result (trials_together self.new ≡ trials_together self.old) }
+        ensures same { OnOk result ((self.new.statement ≡ self.old.statement) × (self.new.text ≡ self.old.text)) }
+        ensures refused { IfErr result (λ e. e ≡ TooManyTrials → self.old.statement.limit < trials_together self.old) }
+        ensures never { IfErr result (λ e. e ≡ TextTooLong → ⊥) }
+    {
+        let next = self.searches.next_hit(alloc)?;
+        Ok(next)
+    }
+
+    /// Takes the memory of a match back, for the matches to come.
+    pub fn give_back(&mut self, sets: Assigns, hit: Hit)
+        ensures { self.new ≡ self.old }
+    {
+        self.searches.give_back(sets, hit);
     }
 
     /// The next match with its bindings; `None` if there is none left. The limit is for the trials of all searches of the pass

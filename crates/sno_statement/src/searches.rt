@@ -3,7 +3,7 @@ ghost use Rattle.std.specs.Prelude.{◌≡◌, ◌+◌, ◌<◌, ◌≤◌, ◌�
 ghost use Rattle.sno_pattern.specs.CursorLaws.{SetsLie};
 ghost use Rattle.sno_statement.specs.declared.outcomes.StatementFault.TheVariants.{TooManyTrials, TextTooLong};
 ghost use Rattle.sno_statement.specs.FileFaults.{plain};
-ghost use Rattle.sno_statement.specs.Passes.{begun, counts, cursors_left, match_by, matches_left, moved, next_search, search, search_trials, trials_together};
+ghost use Rattle.sno_statement.specs.Passes.{begun, counts, cursors_left, match_by, matches_left, moved, next_search, resumed, search, search_trials, trials_together};
 ghost use Rattle.sno_statement.specs.Sought.{sought};
 ghost use Rattle.sno_statement.specs.Perform.{IsCodeOf};
 ghost use Rattle.sno_statement.specs.Statement.{with_limit};
@@ -106,6 +106,15 @@ impl<'c, 't, 'a> Searches<'c, 't, 'a> {
             limit,
             left: limit,
         }
+    }
+
+    /// Goes on from this cursor, as after a match that ended at `before`, if there was one.
+    pub(crate) fn resume(&mut self, before: Option<usize>, from: usize)
+        requires { from ≤ length self.old.text }
+        ensures { self.new ≡ resumed before from self.old }
+    {
+        self.before = before;
+        self.at = Some(from);
     }
 
     /// The next search, from this cursor on. Then the pass is past it.
