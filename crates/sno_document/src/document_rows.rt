@@ -59,7 +59,7 @@ fn pair_rows<'t>(
 ) -> Result<Vec<PairRow<'t>>, DocumentFault>
     ensures { Gives (λ v. map pair_seen v.items) result (each_row (pair_row first.now second.now) [] (map tree_seen values.now)) }
 {
-    let mut rows = Vec::new(alloc);
+    let mut rows = Vec::with_capacity(alloc, values.len())?;
     for value in values {
         rows.push(pair_row(value, first, second)?)?;
     }
@@ -102,7 +102,7 @@ fn statement_rows<'t>(
 ) -> Result<Vec<StatementRow<'t>>, DocumentFault>
     ensures { Gives (λ v. map statement_seen v.items) result (each_row statement_row [] (map tree_seen values.now)) }
 {
-    let mut rows = Vec::new(alloc);
+    let mut rows = Vec::with_capacity(alloc, values.len())?;
     for value in values {
         rows.push(statement_row(value)?)?;
     }

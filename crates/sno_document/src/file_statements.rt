@@ -142,7 +142,7 @@ pub(crate) fn file_statements(
         return Err(DocumentFault::TooManyStatements);
     }
     let mut last = LastPattern::none();
-    let mut statements = Vec::new(alloc);
+    let mut statements = Vec::with_capacity(alloc, rows.len())?;
     for (place, row) in rows.iter().enumerate() {
         statements.push(statement(alloc, rules, mode, place + 1, row, &mut last)?)?;
     }

@@ -35,7 +35,7 @@ fn rule_rows<'t>(
 ) -> Result<Vec<StatementRow<'t>>, DocumentFault>
     ensures { Gives (λ v. map statement_seen v.items) result (each_row rule_row [] (map tree_seen values.now)) }
 {
-    let mut rows = Vec::new(alloc);
+    let mut rows = Vec::with_capacity(alloc, values.len())?;
     for value in values {
         rows.push(rule_row(value)?)?;
     }

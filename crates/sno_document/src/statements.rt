@@ -162,7 +162,7 @@ pub(crate) fn statements(
         return Err(DocumentFault::TooManyStatements);
     }
     let mut last = LastPattern::none();
-    let mut statements = Vec::new(alloc);
+    let mut statements = Vec::with_capacity(alloc, rows.len())?;
     for (place, row) in rows.iter().enumerate() {
         let statement = statement(alloc, rules, mode, place + 1, row, &mut last)?;
         statements.push(Arc::new(alloc, statement)?)?;

@@ -36,7 +36,7 @@ fn text_rows(alloc: Global, rows: &[PairRow<'_>]) -> Result<Vec<(TextName, Text)
     ensures texts { Gives (λ v. v.items) result (texts_from 1 [] (map pair_seen rows.now)) }
     ensures as_many { IfOk result (λ v. length v.items ≡ length rows.now) }
 {
-    let mut texts = Vec::new(alloc);
+    let mut texts = Vec::with_capacity(alloc, rows.len())?;
     for (place, row) in rows.iter().enumerate() {
         texts.push(text_row(alloc, place + 1, row)?)?;
     }

@@ -28,9 +28,26 @@ fn put(out: &mut Vec<u8>, bytes: &[u8]) -> Result<(), AllocError>
     out.extend_from_slice(bytes)
 }
 
+// One byte, without the call that copies several.
+#[inline(always)]
+fn put_byte(out: &mut Vec<u8>, byte: u8) -> Result<(), AllocError>
+    ensures { OnOk result (out.new.items ≡ out.old.items ++ byte ∷ []) }
+{
+    out.push(byte)?;
+    Ok(())
+}
+
+// From this number on a number has two digits.
+const TWO_DIGITS: u64 = 10;
+
+/// Most numbers have one digit.
+#[tactic(auto, using(std::proofs::lemmas::Fmt::decimal_digit))]
 fn put_number(out: &mut Vec<u8>, number: u64) -> Result<(), AllocError>
     ensures { OnOk result (out.new.items ≡ out.old.items ++ decimal number) }
 {
+    if number < TWO_DIGITS {
+        return put_byte(out, number as u8 + b'0');
+    }
     let mut digits = Buffer::new();
     put(out, digits.format(number).as_bytes())
 }
@@ -109,7 +126,7 @@ fn put_count(out: &mut Vec<u8>, word: &str, count: usize) -> Result<(), AllocErr
 {
     put(out, word.as_bytes())?;
     put_number(out, count as u64)?;
-    put(out, b"\n")
+    put_byte(out, b'\n')
 }
 
 #[tactic(auto, unfolding(crate::specs::Listing::text_line))]
@@ -122,7 +139,7 @@ fn put_text(
     ensures { OnOk result (out.new.items ≡ out.old.items ++ text_line (record { name = name.now; text = arc_value text.now; version = version })) }
 {
     put_escaped(out, name.bytes())?;
-    put(out, b" ")?;
+    put_byte(out, b' ')?;
     put_number(out, version)?;
     put(out, b" |")?;
     put_escaped(out, text.bytes())?;
@@ -134,9 +151,9 @@ fn put_value(out: &mut Vec<u8>, value: &DatumRef<'_>) -> Result<(), AllocError>
 {
     match value {
         DatumRef::Str(text) => {
-            put(out, b"|")?;
+            put_byte(out, b'|')?;
             put_escaped(out, text.bytes())?;
-            put(out, b"|")
+            put_byte(out, b'|')
         }
         DatumRef::Int(number) => put_number(out, u64::from(*number)),
     }
@@ -150,7 +167,7 @@ fn put_binding(out: &mut Vec<u8>, name: &Name, value: &DatumRef<'_>) -> Result<(
     put(out, name.bytes())?;
     put(out, b" = ")?;
     put_value(out, value)?;
-    put(out, b"\n")
+    put_byte(out, b'\n')
 }
 
 /// A binding's line after these blanks.
@@ -172,7 +189,8 @@ fn put_after(out: &mut Vec<u8>, after: Option<&Arc<Text>>) -> Result<(), AllocEr
     if let Some(text) = after {
         put(out, b"  -> |")?;
         put_escaped(out, text.bytes())?;
-        put(out, b"|\n")?;
+        put_byte(out, b'|')?;
+        put_byte(out, b'\n')?;
     }
     Ok(())
 }
@@ -183,9 +201,9 @@ fn put_refusal(out: &mut Vec<u8>, refusal: &Refusal) -> Result<(), AllocError>
 {
     put(out, b"statement ")?;
     put_number(out, u64::from(refusal.number))?;
-    put(out, b" ")?;
+    put_byte(out, b' ')?;
     put_reason(out, refusal.reason)?;
-    put(out, b"\n")
+    put_byte(out, b'\n')
 }
 
 #[tactic(auto, using(crate::proofs::ListingLemmas::tries_ascii), unfolding(crate::specs::Listing::tries_words))]
@@ -195,7 +213,7 @@ fn put_tries(out: &mut Vec<u8>, seen: u64, now: u64) -> Result<(), AllocError>
 {
     put(out, b"tries spent ")?;
     put_number(out, seen)?;
-    put(out, b" ")?;
+    put_byte(out, b' ')?;
     put_number(out, now)
 }
 
@@ -242,9 +260,9 @@ fn put_one_match(out: &mut Vec<u8>, one: &MatchRef<'_>) -> Result<(), AllocError
 {
     put(out, b"  at ")?;
     put_number(out, one.start as u64)?;
-    put(out, b" ")?;
+    put_byte(out, b' ')?;
     put_number(out, one.end as u64)?;
-    put(out, b"\n")?;
+    put_byte(out, b'\n')?;
     put_each_indented(out, "  ", &one.bindings)
 }
 
@@ -267,9 +285,9 @@ fn put_match(out: &mut Vec<u8>, start: usize, end: usize) -> Result<(), AllocErr
 {
     put(out, b" matched ")?;
     put_number(out, start as u64)?;
-    put(out, b" ")?;
+    put_byte(out, b' ')?;
     put_number(out, end as u64)?;
-    put(out, b"\n")
+    put_byte(out, b'\n')
 }
 
 #[tactic(auto, unfolding(crate::specs::Listing::done_lines))]
@@ -278,7 +296,7 @@ fn put_matches(out: &mut Vec<u8>, matches: u32) -> Result<(), AllocError>
 {
     put(out, b" repeated ")?;
     put_number(out, u64::from(matches))?;
-    put(out, b"\n")
+    put_byte(out, b'\n')
 }
 
 /// How many matches there are, and the lines of each.
@@ -287,7 +305,7 @@ fn put_all(out: &mut Vec<u8>, matches: &Matches) -> Result<(), AllocError>
 {
     put(out, b" all ")?;
     put_number(out, matches.len() as u64)?;
-    put(out, b"\n")?;
+    put_byte(out, b'\n')?;
     put_each_match(out, matches)
 }
 
@@ -339,9 +357,9 @@ fn put_label(out: &mut Vec<u8>, index: usize, number: u32) -> Result<(), AllocEr
 fn put_subject(out: &mut Vec<u8>, name: &[u8], version: u64) -> Result<(), AllocError>
     ensures { OnOk result (out.new.items ≡ out.old.items ++ entry_subject name.now version) }
 {
-    put(out, b" ")?;
+    put_byte(out, b' ')?;
     put_escaped(out, name)?;
-    put(out, b" ")?;
+    put_byte(out, b' ')?;
     put_number(out, version)
 }
 
@@ -384,6 +402,13 @@ fn put_texts(out: &mut Vec<u8>, book: &Book) -> Result<(), AllocError>
     Ok(())
 }
 
+// How many bytes are made room for at first for each entry. Most take about as many.
+const ENTRY_ROOM: usize = 64;
+
+fn room_for(journal: &[Entry]) -> usize {
+    journal.len().saturating_mul(ENTRY_ROOM)
+}
+
 /// The listing of the final texts, of the journal and of the refused statements.
 #[tactic(auto, unfolding(crate::specs::Listing::listing))]
 pub(crate) fn listing(
@@ -393,7 +418,7 @@ pub(crate) fn listing(
 ) -> Result<Vec<u8>, AllocError>
     ensures { IfOk result (λ v. v.items ≡ listing (history_of (view_of book.now) refused.now)) }
 {
-    let mut out = Vec::new(alloc);
+    let mut out = Vec::with_capacity(alloc, room_for(book.journal()))?;
     put_count(&mut out, "texts ", book.len())?;
     put_texts(&mut out, book)?;
     put_count(&mut out, "entries ", book.journal().len())?;
