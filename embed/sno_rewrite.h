@@ -93,8 +93,9 @@ enum sno_pattern_status {
     SNO_CLOSED = 7,           /* A handle is closed, or holds something else. Nothing was done. */
     SNO_TOO_MANY_TRIALS = 8,  /* The search takes more trials than the limit. */
     SNO_TOO_LONG = 9,         /* A text would have more than SNO_LONGEST_TEXT bytes. */
-    SNO_PAST_END = 10,        /* The cursor lies past the end of the text. */
-    SNO_HISTORY_TOO_LONG = 11 /* The search would have to keep more than 4,194,304 places to back up to. */
+    SNO_PAST_END = 10,         /* The cursor lies past the end of the text. */
+    SNO_HISTORY_TOO_LONG = 11, /* The search would have to keep more than 4,194,304 places to back up to. */
+    SNO_NOTHING_GATHERED = 12  /* No search is gathered, or none is left. */
 };
 
 /* A longer text is refused. */
@@ -143,6 +144,8 @@ uint8_t sno_handle_open_pattern(const uint8_t *definitions, size_t definitions_l
                                 sno_handle *pattern);
 uint8_t sno_handle_open_text(const uint8_t *bytes, size_t length, sno_handle *text);
 uint8_t sno_handle_next(sno_handle *pattern, sno_handle *text, size_t from, uint32_t trials, sno_match *match);
+uint8_t sno_handle_gather(sno_handle *pattern, sno_handle *text, size_t from, uint32_t trials, size_t most);
+uint8_t sno_handle_take(sno_handle *pattern, sno_match *match);
 uint8_t sno_handle_assignment(sno_handle *pattern, size_t place, uint8_t *name, size_t name_room,
                               sno_assignment *assignment);
 uint8_t sno_handle_replace(sno_handle *pattern, sno_handle *text, uint32_t trials, uint8_t *buffer, size_t room,
@@ -195,6 +198,34 @@ static inline uint8_t sno_pattern_next(sno_pattern *pattern, sno_text *text, siz
     if (!pattern || !text || !match)
         return SNO_NULL;
     return sno_handle_next(&pattern->handle, &text->handle, from, trials, match);
+}
+
+/* Does up to `most` searches at once, each from where the match of the one before leaves off, and gathers what they
+ * find: the same as that many calls of sno_pattern_next, of which each takes its cursor from `next` of the one before,
+ * in a part of the time. A search without a match is the last one. All of them together may take `trials` trials.
+ * What was gathered with the pattern before is dropped; each search takes some memory until it is taken.
+ *
+ * - SNO_DONE: sno_pattern_take takes the searches, one after the other.
+ * - SNO_CLOSED: nothing is changed.
+ * - SNO_BAD_LIMIT, SNO_PAST_END, SNO_TOO_MANY_TRIALS, the first that applies; or SNO_HISTORY_TOO_LONG or
+ *   SNO_NO_MEMORY, which may come instead of SNO_DONE and SNO_TOO_MANY_TRIALS: nothing is gathered. */
+static inline uint8_t sno_pattern_gather(sno_pattern *pattern, sno_text *text, size_t from, uint32_t trials,
+                                         size_t most) {
+    if (!pattern || !text)
+        return SNO_NULL;
+    return sno_handle_gather(&pattern->handle, &text->handle, from, trials, most);
+}
+
+/* Takes the first of the searches that were gathered. Its assignments are with the pattern then.
+ *
+ * - SNO_DONE: `*match` has its match.
+ * - SNO_NOTHING: it found no match. `*match` has how many assignments it did nonetheless.
+ * - SNO_NOTHING_GATHERED: none is left. With the pattern nothing is changed, and `*match` is all 0.
+ * - SNO_CLOSED: `*match` is all 0. */
+static inline uint8_t sno_pattern_take(sno_pattern *pattern, sno_match *match) {
+    if (!pattern || !match)
+        return SNO_NULL;
+    return sno_handle_take(&pattern->handle, match);
 }
 
 /* An assignment of the last search, by its place from 0 on: first those by `$` and `@`, which are done at once and

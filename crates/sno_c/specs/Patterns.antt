@@ -4,6 +4,7 @@ use Rattle.std.specs.Option.{option_zip}
 use Rattle.sno_pattern.specs.declared.found.Found.{Found}
 use Rattle.sno_pattern.specs.declared.found.Hit.{Hit}
 use Rattle.sno_seek.specs.Assignments.{assignments_of}
+use Rattle.sno_seek.specs.Gathered.{cursor_or_past}
 use Rattle.sno_seek.specs.declared.seeker.Seeker.{Seeker}
 use Rattle.sno_statement.specs.Passes.{next_search, search, search_trials}
 use Rattle.sno_statement.specs.Statement.{Statement, IsLimit}
@@ -31,11 +32,6 @@ both_in pattern text = option_zip (pattern_in pattern) (text_in text)
 abbrev pub no_match : FoundMatch
 no_match = record { start = 0; end = 0; next = 0; assignments = 0 }
 
--- the cursor, or if there is none, one past the end of the text
-abbrev pub cursor_or_past : List ℕ → Option ℕ → ℕ
-cursor_or_past t None = length t + 1
-cursor_or_past t (Some c) = c
-
 -- what is reported of what a search found: the cursors of its match, if there is one, the cursor from which the next search of a
 -- pass begins, and how many assignments the search did
 abbrev pub match_seen : Statement → List ℕ → Found → Option Hit → FoundMatch
@@ -52,6 +48,7 @@ search_status (Some hit) = 0
 -- what was found and its status; or a refusal, by its cause.
 pub record IsSearched (from trials : ℕ) (t : List ℕ) (p q : Seeker) (m : FoundMatch) (status : ℕ) : Type 0 where
   pub statement : q.statement ≡ p.statement
+  pub ahead : q.ahead.items ≡ p.ahead.items
   pub searched : status < 2 → (q.found ≡ Some (search p.statement t from)) × (m ≡ match_seen p.statement t (search p.statement t from) (search p.statement t from).end)
       × (status ≡ search_status (search p.statement t from).end) × (search_trials p.statement t from ≤ trials)
   pub limit : status ≡ 3 ↔ (IsLimit trials → ⊥)

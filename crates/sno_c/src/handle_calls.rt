@@ -2,12 +2,14 @@
 ghost use Rattle.std.specs.Prelude.{◌≡◌, ◌≢◌, ◌<◌, ◌≤◌, ◌↔◌, ◌⊎◌, None, Some, drop, length};
 ghost use Rattle.sno_pattern.specs.declared.byte_texts.TheConstants.{MAX_BYTES};
 ghost use Rattle.sno_c.specs.Assignments.{IsAssignmentCall};
+ghost use Rattle.sno_c.specs.Gatherings.{IsGatherCall, IsTakeCall};
 ghost use Rattle.sno_c.specs.Openings.{HasOpened};
 ghost use Rattle.sno_c.specs.Patterns.{IsSearchCall};
 ghost use Rattle.sno_c.specs.Replacements.{IsReplacementCall};
 ghost use Rattle.sno_c.specs.declared.held.Held.TheVariants.{Text};
 
 use crate::assignments::{FoundAssignment, assignment_held};
+use crate::gatherings::{gather_held, take_held};
 use crate::handle::Handle;
 use crate::openings::opened;
 use crate::replacements::{Replaced, replace_held};
@@ -113,6 +115,62 @@ pub extern "C" fn sno_handle_next(
     let status = search_held(alloc, &mut sought, &held, from, trials, found);
     pattern.put(sought);
     text.put(held);
+    status
+}
+
+/// Does up to `most` searches for the pattern of a handle in the text of another one, each from where the match of the one before
+/// leaves off, and gathers what they find: the same as that many calls of [`sno_handle_next`], of which each takes its cursor from
+/// `next` of the one before. A search without a match is the last one. All of them together may take `trials` trials, 1 to
+/// 1,000,000,000. What was gathered with the pattern before is dropped.
+///
+/// It returns a status:
+///
+/// - 0: the searches are gathered. [`sno_handle_take`] takes them, one after the other.
+/// - 7: the handles don't hold a pattern and a text. Nothing is changed.
+///
+/// Else nothing is gathered. The first that applies of these:
+///
+/// - 3: the limit of trials is invalid.
+/// - 10: the cursor lies past the end of the text.
+/// - 8: the searches together take more trials than the limit.
+///
+/// 4 may come instead of 0 and 8: out of memory; so may 11: a search would have to keep too much.
+#[unsafe(no_mangle)]
+pub extern "C" fn sno_handle_gather(
+    alloc: Global,
+    pattern: &mut Handle,
+    text: &mut Handle,
+    from: usize,
+    trials: u32,
+    most: usize,
+) -> u8
+    ensures call { IsGatherCall from trials most pattern.old.kept.value text.old.kept.value pattern.new.kept.value result }
+    ensures text { text.new.kept.value ≡ text.old.kept.value }
+{
+    let mut sought = pattern.take(alloc);
+    let held = text.take(alloc);
+    let status = gather_held(alloc, &mut sought, &held, from, trials, most);
+    pattern.put(sought);
+    text.put(held);
+    status
+}
+
+/// Takes the first of the searches that were gathered with the pattern of a handle. It is the pattern's last search from then on, whose
+/// assignments [`sno_handle_assignment`] reports.
+///
+/// It returns a status, and sets `found` as [`sno_handle_next`] does:
+///
+/// - 0: the search found a match.
+/// - 1: it found none.
+/// - 12: no search is gathered, and nothing is changed.
+/// - 7: the handle doesn't hold a pattern.
+#[unsafe(no_mangle)]
+pub extern "C" fn sno_handle_take(alloc: Global, pattern: &mut Handle, found: &mut FoundMatch) -> u8
+    ensures call { IsTakeCall pattern.old.kept.value pattern.new.kept.value found.new result }
+{
+    let mut sought = pattern.take(alloc);
+    let status = take_held(&mut sought, found);
+    pattern.put(sought);
     status
 }
 

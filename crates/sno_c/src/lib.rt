@@ -14,12 +14,14 @@
 //! | `kept`, `loose` | a box as its pointer, with and without its type |
 //! | `openings`, `texts` | patterns and texts that are put into handles |
 //! | `searches`, `assignments`, `replacements` | what is reported of a search, of an assignment, of a new text |
+//! | `gatherings` | searches that are done many at once, and then taken one by one |
 //! | `buffers` | buffers of callers |
 //! | `statuses` | what the calls with handles return |
 #![tactic(auto)]
 
 mod assignments;
 mod buffers;
+mod gatherings;
 mod handle;
 mod handle_calls;
 mod held;

@@ -5,7 +5,8 @@ ghost use Rattle.sno_pattern.specs.declared.byte_texts.TheConstants.{MAX_BYTES};
 ghost use Rattle.sno_statement.specs.Passes.{next_search, search, search_trials};
 ghost use Rattle.sno_statement.specs.Statement.{IsLimit};
 ghost use Rattle.sno_c.specs.Kept.{held_in};
-ghost use Rattle.sno_c.specs.Patterns.{IsSearchCall, IsSearched, cursor_or_past, match_seen, no_match, text_in};
+ghost use Rattle.sno_c.specs.Patterns.{IsSearchCall, IsSearched, match_seen, no_match, text_in};
+ghost use Rattle.sno_seek.specs.Gathered.{cursor_or_past};
 
 use crate::held::Held;
 use crate::statuses::{

@@ -32,3 +32,6 @@ pub const PAST_END: u8 = 10;
 
 /// A search would have to keep more than 4,194,304 entries in its history, which it may back up to.
 pub const HISTORY_TOO_LONG: u8 = 11;
+
+/// No search is gathered.
+pub const NOTHING_GATHERED: u8 = 12;

@@ -1,2 +1,3 @@
 pub mod Assignments
+pub mod Gathered
 pub mod Opening

@@ -16,4 +16,4 @@ pub record IsOpened (p : Seeker) : Type 0 where
   pub set : RuleSet
   pub read : AreRules usual rows (Ok set)
   pub only : set.statements ≡ p.statement ∷ []
-  pub idle : p.found ≡ None
+  pub idle : (p.found ≡ None) × (p.ahead.items ≡ [])

@@ -2,7 +2,8 @@
 //!
 //! [`open`] reads a rule in a line, with the definitions that it may refer to, and returns a [`Seeker`], or the lines of the first
 //! fault. [`Seeker::next`] seeks the pattern in a text from a cursor on, and keeps what it found. [`Seeker::assignment`] returns the
-//! assignments of that search one by one, and [`Seeker::replaced`] what the statement makes of a text.
+//! assignments of that search one by one, and [`Seeker::replaced`] what the statement makes of a text. [`Seeker::gather`] does many
+//! searches that follow one another at once, and [`Seeker::take`] goes through them.
 //!
 //! What a search finds is by the definitions of `sno_pattern` and `sno_statement`; `specs/Assignments.antt` puts its assignments in
 //! one list. `specs/Opening.antt` says what is opened: the only statement of some rows. Which rows a line spells is tested, not
@@ -11,12 +12,15 @@
 //! | File | What it holds |
 //! |---|---|
 //! | `seeker` | [`Seeker`] |
+//! | `gathered` | [`Gathered`]: what searches that follow one another find |
 //! | `opening` | [`open`] and [`NoPattern`] |
 #![tactic(auto)]
 
+mod gathered;
 mod opening;
 mod seeker;
 
+pub use gathered::Gathered;
 pub use opening::{NoPattern, open};
 pub use seeker::Seeker;
 pub use sno_pattern::{Assign, ByteText, Found, Hit, Name, What};

@@ -1,5 +1,5 @@
 //! A statement that is sought in texts, one search after the other.
-ghost use Rattle.std.specs.Prelude.{◌≡◌, ◌<◌, ◌≤◌, ◌+◌, ◌^◌, length, slice_get, None, Some, IfOk, IfErr, is_some};
+ghost use Rattle.std.specs.Prelude.{◌≡◌, ◌<◌, ◌≤◌, ◌+◌, ◌^◌, length, slice_get, None, Some, IfOk, IfErr, IfSome, [], is_some};
 ghost use Rattle.std.specs.Option.{option_map};
 ghost use Rattle.sno_pattern.specs.declared.byte_texts.TheConstants.{MAX_BYTES};
 ghost use Rattle.sno_statement.specs.declared.file_faults.FileStatementFault.TheVariants.{TextTooLong, TooManyTrials};
@@ -8,11 +8,15 @@ ghost use Rattle.sno_statement.specs.Perform.{perform_within};
 ghost use Rattle.sno_statement.specs.Rewriting.{GivesRewritten, rewriting};
 ghost use Rattle.sno_statement.specs.Statement.{with_limit};
 ghost use Rattle.sno_seek.specs.Assignments.{assignments_of, conditional, found_assignments};
+ghost use Rattle.sno_seek.specs.Gathered.{IsTaken, gathered, gathered_trials};
 
+use crate::Gathered;
+use crate::gathered::gather;
 use sno_machine::{SearchOutcome, Searched, compile};
 use sno_pattern::{Assign, ByteText, Found, Hit, What};
 use sno_statement::{FileStatement, FileStatementFault, Rewritten, StatementFault, rewrite};
 use std::alloc::Global;
+use std::collections::VecDeque;
 
 /// A statement that is sought in texts, with what its last search found.
 #[derive(Drop)]
@@ -21,6 +25,8 @@ pub struct Seeker {
     pub statement: FileStatement,
     /// What the last search found; `None` if there was none yet, or if the last one was refused.
     pub found: Option<Found>,
+    /// What was gathered and not taken yet.
+    pub ahead: VecDeque<Gathered>,
 }
 
 /// The assignment at a place of a match: first those that were done at once, then the conditional ones.
@@ -88,17 +94,20 @@ fn search_in(
 
 impl Seeker {
     /// A statement that was not sought yet. It takes no memory.
-    pub fn new(statement: FileStatement) -> Seeker
-        ensures { result ≡ record { statement = statement; found = None } }
+    pub fn new(alloc: Global, statement: FileStatement) -> Seeker
+        ensures statement { result.statement ≡ statement }
+        ensures idle { (result.found ≡ None) × (result.ahead.items ≡ []) }
     {
         Seeker {
             statement,
             found: None,
+            ahead: VecDeque::new(alloc),
         }
     }
 
     /// Seeks the pattern from a cursor of the text on, and keeps what is found. Returns whether there is a match. The object and
-    /// the rounds of the statement are not looked at. The pattern is compiled anew, which takes about as long as a short match.
+    /// the rounds of the statement are not looked at. The pattern is compiled anew, which takes about as long as a short match. What
+    /// was gathered before stays.
     ///
     /// Refused:
     /// - `TooManyTrials` exactly if the search takes more than `trials` trials, unless one of the others comes first;
@@ -120,12 +129,56 @@ impl Seeker {
         ensures never { IfErr result (λ e. e ≡ TextTooLong → ⊥) }
         ensures nothing { IfErr result (λ _. self.new.found ≡ None) }
         ensures statement { self.new.statement ≡ self.old.statement }
+        ensures ahead { self.new.ahead.items ≡ self.old.ahead.items }
     {
         self.found = None;
         let found = search_in(alloc, &self.statement, text, from, trials)?;
         let matched = found.end.is_some();
         self.found = Some(found);
         Ok(matched)
+    }
+
+    /// Does up to `most` searches that follow one another, the first of them from a cursor of the text on, and gathers what they find:
+    /// what as many calls of [`Seeker::next`] would find, each from where the match before leaves off. After a search without a match
+    /// there is no further one. The pattern is compiled once, and what is learnt of the text serves all of them.
+    ///
+    /// Refused:
+    /// - `TooManyTrials` exactly if the searches together take more than `trials` trials, unless one of the others comes first;
+    /// - `HistoryTooLong` only if a search would have to keep more than `sno_machine::MAX_KEPT` entries in its history;
+    /// - `Memory` if out of memory.
+    ///
+    /// What was gathered before is dropped, also after a refusal; then nothing is gathered. What the last search found stays.
+    pub fn gather(
+        &mut self,
+        alloc: Global,
+        text: &ByteText,
+        from: usize,
+        trials: u32,
+        most: usize,
+    ) -> Result<(), FileStatementFault>
+        requires { from ≤ length text.now }
+        ensures gathered { IfOk result (λ _. self.new.ahead.items ≡ gathered self.old.statement text.now most (Some from)) }
+        ensures within { IfOk result (λ _. gathered_trials self.old.statement text.now most (Some from) ≤ trials) }
+        ensures refused { IfErr result (λ e. e ≡ TooManyTrials → trials < gathered_trials self.old.statement text.now most (Some from)) }
+        ensures never { IfErr result (λ e. e ≡ TextTooLong → ⊥) }
+        ensures nothing { IfErr result (λ _. self.new.ahead.items ≡ []) }
+        ensures same { (self.new.statement ≡ self.old.statement) × (self.new.found ≡ self.old.found) }
+    {
+        self.ahead = VecDeque::new(alloc);
+        self.ahead = gather(alloc, &self.statement, text, from, trials, most)?;
+        Ok(())
+    }
+
+    /// Takes the first of the searches that were gathered, which is the last search from then on. Returns where the next one begins, or
+    /// one past the end of the text if there is none; `None` if nothing is gathered, and then nothing changes.
+    pub fn take(&mut self) -> Option<usize>
+        ensures taken { IfSome result (IsTaken self.old.ahead.items self.new.ahead.items self.new.found) }
+        ensures nothing { result ≡ None → (self.old.ahead.items ≡ []) × (self.new.ahead.items ≡ []) × (self.new.found ≡ self.old.found) }
+        ensures statement { self.new.statement ≡ self.old.statement }
+    {
+        let Gathered { found, next } = self.ahead.pop_front()?;
+        self.found = Some(found);
+        Some(next)
     }
 
     /// The assignment of the last search at a place, counted from 0: first those that were done at once, in their order and also if

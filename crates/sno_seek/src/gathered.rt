@@ -1,0 +1,145 @@
+//! What searches that follow one another find.
+ghost use Rattle.std.specs.Prelude.{◌≡◌, ◌<◌, ◌≤◌, ◌+◌, ◌++◌, length, None, Some, IfOk, IfErr, IfSome, OnOk};
+ghost use Rattle.std.specs.Option.{option_map};
+ghost use Rattle.sno_statement.specs.declared.file_faults.FileStatementFault.TheVariants.{TextTooLong, TooManyTrials};
+ghost use Rattle.sno_statement.specs.Passes.{search, search_trials};
+ghost use Rattle.sno_statement.specs.Perform.{IsCodeOf};
+ghost use Rattle.sno_seek.specs.Gathered.{cursor_or_past, gathered, gathered_by, gathered_trials, next_after};
+
+use sno_machine::{Code, SearchOutcome, Searched, compile};
+use sno_pattern::{ByteText, Found, Hit, searches_lie_within_the_text};
+use sno_statement::{FileStatement, FileStatementFault, StatementFault, next_cursor};
+use std::alloc::Global;
+use std::collections::VecDeque;
+
+/// What a search found, and where the next one begins.
+#[derive(Drop)]
+pub struct Gathered {
+    /// What it found.
+    pub found: Found,
+    /// The cursor from which the next search of a pass begins; one past the end of the text if there is none.
+    pub next: usize,
+}
+
+/// A pattern that is sought in a text, search after search, in one workspace.
+#[derive(Drop)]
+struct Seeking<'c, 't, 'a> {
+    statement: &'c FileStatement,
+    code: &'c Code<'a>,
+    text: &'t ByteText,
+    searched: Searched<'t, 'a>,
+    /// How many trials all further searches may take together.
+    left: u32,
+    ghost agree: { IsCodeOf code.now statement.now × (searched ≡ text.now) },
+}
+
+/// Where the search after one begins, if that one found a match.
+fn cursor_after(anchored: bool, text: &ByteText, end: Option<&Hit>) -> Option<usize>
+    requires { IfSome end (λ hit. hit.now.end ≤ length text.now) }
+    ensures { result ≡ next_after anchored text.now (option_map (λ hit. hit.now) end.entry) }
+{
+    match end {
+        None => None,
+        Some(hit) => next_cursor(anchored, text.bytes(), hit),
+    }
+}
+
+/// The cursor, or if there is none, one past the end of the text.
+fn or_past(text: &ByteText, cursor: Option<usize>) -> usize
+    ensures { result ≡ cursor_or_past text.now cursor }
+{
+    match cursor {
+        Some(cursor) => cursor,
+        None => text.bytes().len() + 1,
+    }
+}
+
+impl<'c, 't, 'a> Seeking<'c, 't, 'a> {
+    /// What the search from this cursor on finds.
+    fn search(&mut self, alloc: Global, from: usize) -> Result<Found, FileStatementFault>
+        requires { from ≤ length self.old.text.now }
+        ensures found { IfOk result (λ found. found ≡ search self.old.statement.now self.old.text.now from) }
+        ensures trials { OnOk result (self.old.left ≡ search_trials self.old.statement.now self.old.text.now from + self.new.left) }
+        ensures same { (self.new.statement.now ≡ self.old.statement.now) × (self.new.text.now ≡ self.old.text.now) }
+        ensures refused { IfErr result (λ e. e ≡ TooManyTrials → self.old.left < search_trials self.old.statement.now self.old.text.now from) }
+        ensures never { IfErr result (λ e. e ≡ TextTooLong → ⊥) }
+    {
+        let anchored = self.statement.search().anchored();
+        match self
+            .code
+            .first_from(alloc, &mut self.searched, anchored, from, self.left)
+        {
+            Ok(search) => {
+                let SearchOutcome { found, trials } = search;
+                self.left -= trials;
+                Ok(found)
+            }
+            Err(fault) => {
+                let fault = StatementFault::from(fault);
+                Err(FileStatementFault::of(fault, self.searched.is_full()))
+            }
+        }
+    }
+
+    /// Puts what at most `most` searches find, the first of them from this cursor on, after what was gathered before.
+    fn gather(
+        &mut self,
+        alloc: Global,
+        from: Option<usize>,
+        most: usize,
+        ahead: &mut VecDeque<Gathered>,
+    ) -> Result<(), FileStatementFault>
+        requires { IfSome from (λ c. c ≤ length self.old.text.now) }
+        ensures gathered { OnOk result (ahead.new.items ≡ ahead.old.items ++ gathered self.old.statement.now self.old.text.now most from) }
+        ensures within { OnOk result (gathered_trials self.old.statement.now self.old.text.now most from ≤ self.old.left) }
+        ensures refused { IfErr result (λ e. e ≡ TooManyTrials → self.old.left < gathered_trials self.old.statement.now self.old.text.now most from) }
+        ensures never { IfErr result (λ e. e ≡ TextTooLong → ⊥) }
+    {
+        let anchored = self.statement.search().anchored();
+        let mut at = from;
+        let mut left = most;
+        while left > 0 {
+            let Some(cursor) = at else {
+                return Ok(());
+            };
+            let found = self.search(alloc, cursor)?;
+            // for the proof
+            searches_lie_within_the_text();
+            at = cursor_after(anchored, self.text, found.end.as_ref());
+            let next = or_past(self.text, at);
+            ahead.push_back(Gathered { found, next })?;
+            left -= 1;
+        }
+        Ok(())
+    }
+}
+
+/// What at most `most` searches find, the first of them from this cursor on. The pattern is compiled once. Refused as
+/// [`crate::Seeker::gather`] is.
+pub(crate) fn gather(
+    alloc: Global,
+    statement: &FileStatement,
+    text: &ByteText,
+    from: usize,
+    trials: u32,
+    most: usize,
+) -> Result<VecDeque<Gathered>, FileStatementFault>
+    requires { from ≤ length text.now }
+    ensures gathered { IfOk result (λ v. v.items ≡ gathered statement.now text.now most (Some from)) }
+    ensures within { IfOk result (λ _. gathered_trials statement.now text.now most (Some from) ≤ trials) }
+    ensures refused { IfErr result (λ e. e ≡ TooManyTrials → trials < gathered_trials statement.now text.now most (Some from)) }
+    ensures never { IfErr result (λ e. e ≡ TextTooLong → ⊥) }
+{
+    let sought = statement.search();
+    let code = compile(alloc, sought.rules(), sought.pattern())?;
+    let mut ahead = VecDeque::new(alloc);
+    let mut seeking = Seeking {
+        statement,
+        code: &code,
+        text,
+        searched: Searched::of_bytes(alloc, text),
+        left: trials,
+    };
+    seeking.gather(alloc, Some(from), most, &mut ahead)?;
+    Ok(ahead)
+}
