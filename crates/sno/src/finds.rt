@@ -16,7 +16,9 @@ use crate::thread_options::thread_count;
 use crate::variables::has_variable;
 use sno_edit::{EditRules, FileFault, FileStatementFault, Folder, ReadFault, RefusedStatement};
 use sno_files::{Listed, Part, ReadOnly, Reason, text_bytes};
-use sno_find::{FindFault, Finding, SpanValue, find_in, put_count, put_json, put_line};
+use sno_find::{
+    FindFault, Finding, SpanValue, count_in, find_in, put_count, put_json, put_line,
+};
 use sno_pattern::{ByteText, MAX_BYTES, Name};
 use std::alloc::{AllocError, Global};
 use std::fs::File;
@@ -185,11 +187,6 @@ fn write_findings<R: Files<File = File>, W: Write>(
     let alloc = search.alloc;
     let called = name_of(path);
     match search.shown {
-        Shown::Counts => {
-            let mut out = Vec::new(alloc);
-            put_count(alloc, called, findings.len(), &mut out)?;
-            write_all(output, &out)
-        }
         Shown::Lines(Some(context)) if !findings.is_empty() => {
             let bytes = text.bytes();
             let around = Around {
@@ -216,6 +213,34 @@ fn write_path<R: Files<File = File>, W: Write>(
         write_all(output, b"\n")?;
     }
     Ok(found)
+}
+
+/// Writes how many matches a file has.
+fn write_count<W: Write>(
+    alloc: Global,
+    path: &str,
+    count: usize,
+    output: &mut W,
+) -> Result<(), ProgramFault> {
+    let mut out = Vec::new(alloc);
+    put_count(alloc, name_of(path), count, &mut out)?;
+    write_all(output, &out)
+}
+
+/// Counts the matches in a text, writes how many there are, and returns whether there is one.
+fn count_text<R: Files<File = File>, W: Write>(
+    search: &Search<'_, R>,
+    path: &str,
+    text: &ByteText,
+    output: &mut W,
+) -> Result<bool, NotFound> {
+    match count_in(search.alloc, search.rules, path, text) {
+        Ok(count) => {
+            write_count(search.alloc, path, count, output)?;
+            Ok(count > 0)
+        }
+        Err(fault) => Err(NotFound::File(fault_of(fault))),
+    }
 }
 
 /// Why nothing is shown of a file.
@@ -247,8 +272,10 @@ fn find_text<R: Files<File = File>, W: Write>(
     grouped: bool,
     output: &mut W,
 ) -> Result<bool, NotFound> {
-    if matches!(search.shown, Shown::Paths) {
-        return write_path(search, path, text, output);
+    match search.shown {
+        Shown::Paths => return write_path(search, path, text, output),
+        Shown::Counts => return count_text(search, path, text, output),
+        _ => {}
     }
     let findings = match find_in(search.alloc, search.rules, path, text) {
         Ok(findings) => findings,

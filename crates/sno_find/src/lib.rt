@@ -19,6 +19,7 @@
 //! | `hits` | the matches of each statement, and their order |
 //! | `places` | the position of a place that comes after another |
 //! | `findings` | `Finding`, `find_in` |
+//! | `counts` | `count_in`: how many there are, of which none is kept |
 //! | `lines`, `json` | findings as lines, and as JSON |
 //! | `edit_rows` | what rules match that are performed in turn, as JSON |
 //!
@@ -26,6 +27,7 @@
 //! count lines, however many findings there are; no clause says so.
 #![tactic(auto)]
 
+mod counts;
 mod edit_rows;
 mod faults;
 mod findings;
@@ -34,6 +36,7 @@ mod json;
 mod lines;
 mod places;
 
+pub use counts::count_in;
 pub use edit_rows::{RowsFault, write_edit_rows};
 pub use faults::FindFault;
 pub use findings::{Finding, find_in};
