@@ -1,6 +1,7 @@
 //! What a statement does on a text.
-ghost use Rattle.std.specs.Prelude.{◌≡◌, IfOk, length};
-ghost use Rattle.sno_statement.specs.Passes.{all_matches};
+ghost use Rattle.std.specs.Prelude.{◌≡◌, ◌≤◌, ◌+◌, IfOk, length};
+ghost use Rattle.sno_pattern.specs.declared.texts.TheConstants.{MAX_TEXT};
+ghost use Rattle.sno_statement.specs.Passes.{all_matches, matches_left};
 ghost use Rattle.sno_statement.specs.Perform.{IsCodeOf, perform};
 ghost use Rattle.bench_matches.specs.Effects.{effect_of_hit, effect_of_matching, effect_of_performing};
 
@@ -98,10 +99,23 @@ pub fn effect_of_matching<'a>(
     }
 }
 
-/// How many matches a pass of the statement over the text has. Each is looked at where it lies: no variable is copied. The code has
-/// to be that of the statement's pattern.
+/// How many matches are left of a pass. Each is looked at where it lies: no variable is copied.
+fn count_left(alloc: Global, pass: &mut Pass<'_, '_, '_>) -> Result<usize, StatementFault>
+    requires { length (matches_left pass.old) ≤ MAX_TEXT + 1 }
+    ensures { IfOk result (λ n. n ≡ length (matches_left pass.old)) }
+{
+    let mut matches = 0;
+    while let Some((sets, hit)) = pass.next_hit(alloc)? {
+        matches += 1;
+        pass.give_back(sets, hit);
+    }
+    Ok(matches)
+}
+
+/// How many matches a pass of the statement over the text has. The code has to be that of the statement's pattern.
 ///
 /// Refused: `TooManyTrials` if the pass takes more trials than the statement's limit; `Memory` if out of memory.
+#[tactic(auto, using(sno_statement::proofs::PassLaws::matches_few))]
 pub fn matches_of_pass(
     alloc: Global,
     code: &Code<'_>,
@@ -112,10 +126,5 @@ pub fn matches_of_pass(
     ensures { IfOk result (λ matches. matches ≡ length (all_matches statement.now text.now)) }
 {
     let mut pass = Pass::new(alloc, statement, code, text);
-    let mut matches = 0;
-    while let Some((sets, hit)) = pass.next_hit(alloc)? {
-        matches += 1;
-        pass.give_back(sets, hit);
-    }
-    Ok(matches)
+    count_left(alloc, &mut pass)
 }

@@ -2,6 +2,7 @@ pub mod Added
 pub mod Sorted
 pub mod Within
 pub mod Rising
+pub mod PassedLines
 pub mod Walk
 pub mod LastLine
 pub mod Variables

@@ -1,5 +1,6 @@
 pub mod Faults
 pub mod Hits
+pub mod Feeds
 pub mod Findings
 pub mod Lines
 pub mod Json
