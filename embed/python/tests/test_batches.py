@@ -105,10 +105,10 @@ class Values(unittest.TestCase):
         chance = random.Random(6)
         text = "".join(chance.choice("abcd") for _ in range(200))
         pattern = patterns.compile("'a' . A | 'b' $ B | 'c' . C @B | 'd'")
-        wanted: list[dict[str, str | int]] = []
-        for place, one in enumerate(text):
-            wanted.append({"a": {"A": "a"}, "b": {"B": "b"}, "c": {"B": place + 1, "C": "c"}, "d": {}}[one])  # type: ignore[dict-item]
-        self.assertEqual([one.groupdict() for one in pattern.finditer(text)], wanted)
+        for place, one in enumerate(pattern.finditer(text)):
+            wanted = {"a": {"A": "a"}, "b": {"B": "b"}, "c": {"C": "c", "B": place + 1}, "d": {}}
+            self.assertEqual((one.start(), one.groupdict()), (place, wanted[text[place]]))
+        self.assertEqual(len(pattern.findall(text)), 200)
 
     def test_many_variables(self) -> None:
         names = [f"V{number}" for number in range(20)]
