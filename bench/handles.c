@@ -2,8 +2,8 @@
  *
  *     handles RULE DEFINITIONS TIMES < text
  *
- * Prints the nanoseconds of opening and closing the pattern, and those of its first match in the text with all
- * assignments: each the least of five runs of TIMES. bench/python compiles it. */
+ * Prints the nanoseconds of opening and closing the pattern, those of its first match in the text with all assignments,
+ * and those of each match if up to 32 are gathered: each the least of five runs of TIMES. bench/python compiles it. */
 #include "sno_rewrite.h"
 
 #include <stdio.h>
@@ -11,10 +11,12 @@
 #include <string.h>
 #include <time.h>
 
-enum { RUNS = 5, ROOM = 1 << 20 };
+/* As many searches the package for Python gathers. */
+enum { RUNS = 5, ROOM = 1 << 20, AT_ONCE = 32 };
 
 static sno_pattern pattern;
 static sno_text text;
+static size_t taken;
 
 static double nanoseconds(void) {
     struct timespec now;
@@ -31,17 +33,36 @@ static bool opening(char **words) {
 }
 
 /* Whether there is a match or not, the search has to come to its end. */
-static bool matching(char **words) {
-    sno_match match;
-    (void)words;
-    uint8_t status = sno_pattern_next(&pattern, &text, 0, SNO_USUAL_TRIALS, &match);
-    for (size_t place = 0; place < match.assignments; place++) {
+static bool assignments(uint8_t status, size_t count) {
+    for (size_t place = 0; place < count; place++) {
         uint8_t name[SNO_LONGEST_NAME];
         sno_assignment assignment;
         if (sno_pattern_assignment(&pattern, place, name, sizeof name, &assignment) != SNO_DONE)
             return false;
     }
     return status == SNO_DONE || status == SNO_NOTHING;
+}
+
+static bool matching(char **words) {
+    sno_match match;
+    (void)words;
+    uint8_t status = sno_pattern_next(&pattern, &text, 0, SNO_USUAL_TRIALS, &match);
+    return assignments(status, match.assignments);
+}
+
+/* There is one search or more, since the text has an end. */
+static bool gathering(char **words) {
+    sno_match match;
+    (void)words;
+    if (sno_pattern_gather(&pattern, &text, 0, SNO_USUAL_TRIALS, AT_ONCE) != SNO_DONE)
+        return false;
+    for (taken = 0;; taken++) {
+        uint8_t status = sno_pattern_take(&pattern, &match);
+        if (status == SNO_NOTHING_GATHERED)
+            return taken > 0;
+        if (!assignments(status, match.assignments))
+            return false;
+    }
 }
 
 /* The least time of some runs of `times`; less than 0 if the work fails. */
@@ -69,10 +90,11 @@ int main(int count, char **words) {
         return 1;
     double opened = least(opening, words, times);
     double matched = opened < 0 ? -1 : least(matching, words, times);
+    double gathered = matched < 0 ? -1 : least(gathering, words, times);
     sno_text_close(&text);
     sno_pattern_close(&pattern);
-    if (matched < 0)
+    if (gathered < 0)
         return 1;
-    printf("%.1f %.1f\n", opened, matched);
+    printf("%.1f %.1f %.1f\n", opened, matched, gathered / (double)taken);
     return 0;
 }

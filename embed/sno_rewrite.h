@@ -87,12 +87,12 @@ static inline uint8_t sno_rewrite(const uint8_t *document, size_t document_lengt
 
 /* What these functions return. SNO_BAD_LIMIT, SNO_NO_MEMORY, SNO_TOO_SHORT and SNO_NULL are returned, too. */
 enum sno_pattern_status {
-    SNO_DONE = 0,             /* It is done; of a search, there is a match. */
-    SNO_NOTHING = 1,          /* There is no match, no assignment at this place, or no new text. */
-    SNO_FAULT = 2,            /* The rule or a definition can't be read. */
-    SNO_CLOSED = 7,           /* A handle is closed, or holds something else. Nothing was done. */
-    SNO_TOO_MANY_TRIALS = 8,  /* The search takes more trials than the limit. */
-    SNO_TOO_LONG = 9,         /* A text would have more than SNO_LONGEST_TEXT bytes. */
+    SNO_DONE = 0,              /* It is done; of a search, there is a match. */
+    SNO_NOTHING = 1,           /* There is no match, no assignment at this place, or no new text. */
+    SNO_FAULT = 2,             /* The rule or a definition can't be read. */
+    SNO_CLOSED = 7,            /* A handle is closed, or holds something else. Nothing was done. */
+    SNO_TOO_MANY_TRIALS = 8,   /* The search takes more trials than the limit. */
+    SNO_TOO_LONG = 9,          /* A text would have more than SNO_LONGEST_TEXT bytes. */
     SNO_PAST_END = 10,         /* The cursor lies past the end of the text. */
     SNO_HISTORY_TOO_LONG = 11, /* The search would have to keep more than 4,194,304 places to back up to. */
     SNO_NOTHING_GATHERED = 12  /* No search is gathered, or none is left. */

@@ -230,10 +230,22 @@ public:
     std::uint8_t next(Text &text, std::size_t from, Match &match, std::uint32_t trials = SNO_USUAL_TRIALS) noexcept {
         sno_match found = sno_match();
         const std::uint8_t status = sno_pattern_next(&pattern_, &text.text_, from, trials, &found);
-        match.start = found.start;
-        match.end = found.end;
-        match.next = found.next;
-        match.assignments = found.assignments;
+        match = {found.start, found.end, found.next, found.assignments};
+        return status;
+    }
+
+    // Does up to `most` searches at once that follow one another, as sno_pattern_gather. What was gathered before is
+    // dropped.
+    std::uint8_t gather(Text &text, std::size_t from, std::size_t most,
+                        std::uint32_t trials = SNO_USUAL_TRIALS) noexcept {
+        return sno_pattern_gather(&pattern_, &text.text_, from, trials, most);
+    }
+
+    // Takes the first of the searches that were gathered, as sno_pattern_take. It is the last search then.
+    std::uint8_t take(Match &match) noexcept {
+        sno_match found = sno_match();
+        const std::uint8_t status = sno_pattern_take(&pattern_, &found);
+        match = {found.start, found.end, found.next, found.assignments};
         return status;
     }
 

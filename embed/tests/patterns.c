@@ -1,5 +1,6 @@
 /* Tries patterns and texts in handles, in C and in C++: each status, the cursors of matches, assignments, new texts,
- * and the bytes of buffers. What is wanted was worked out by hand from docs/LANGUAGE.md. Ends with 1 if something failed.
+ * and the bytes of buffers. What is wanted was worked out by hand from docs/LANGUAGE.md; of many gathered searches it
+ * is what the same searches find one by one. Ends with 1 if something failed.
  *
  *     patterns [memory]      with `memory` it tries a lack of memory alone */
 #include "../sno_rewrite.h"
@@ -359,6 +360,284 @@ static void try_null(void) {
                                       assignment.end == 3 && replaced.matches == 2);
 }
 
+/* ---- Searches that are gathered ---- */
+
+enum { MOST_SEARCHES = 64, MOST_ASSIGNMENTS = 8 };
+
+/* All that can be seen of a search. */
+typedef struct seen {
+    uint8_t status;
+    sno_match match;
+    size_t count;
+    uint8_t names[MOST_ASSIGNMENTS][SNO_LONGEST_NAME];
+    sno_assignment assignments[MOST_ASSIGNMENTS];
+} seen;
+
+static seen seen_of(sno_pattern *pattern, uint8_t status, sno_match match) {
+    seen all;
+    memset(&all, 0, sizeof all);
+    all.status = status;
+    all.match = match;
+    while (all.count < MOST_ASSIGNMENTS &&
+           sno_pattern_assignment(pattern, all.count, all.names[all.count], SNO_LONGEST_NAME,
+                                  &all.assignments[all.count]) == SNO_DONE)
+        all.count++;
+    return all;
+}
+
+static bool is_same_seen(const seen *a, const seen *b) {
+    bool same = a->status == b->status && are_same(a->match, b->match) && a->count == b->count;
+    for (size_t place = 0; same && place < a->count; place++) {
+        const sno_assignment *one = &a->assignments[place], *other = &b->assignments[place];
+        same = one->name_length == other->name_length && one->start == other->start && one->end == other->end &&
+               one->is_cursor == other->is_cursor && !memcmp(a->names[place], b->names[place], SNO_LONGEST_NAME);
+    }
+    return same;
+}
+
+/* The least limit of trials with which the search isn't refused. */
+static uint32_t trials_of(sno_pattern *pattern, sno_text *text, size_t from) {
+    sno_match match;
+    uint32_t trials = 1;
+    while (sno_pattern_next(pattern, text, from, trials, &match) == SNO_TOO_MANY_TRIALS)
+        trials++;
+    return trials;
+}
+
+/* What at most `most` searches by sno_pattern_next find, each from `next` of the one before, and in `*trials` how many
+ * trials they take together. */
+static size_t by_next(sno_pattern *pattern, sno_text *text, size_t from, size_t most, seen *all, uint32_t *trials) {
+    size_t count = 0;
+    sno_match match;
+    uint8_t status = SNO_DONE;
+    *trials = 0;
+    while (count < most && count < MOST_SEARCHES && status == SNO_DONE) {
+        uint32_t needed = trials_of(pattern, text, from);
+        status = sno_pattern_next(pattern, text, from, SNO_USUAL_TRIALS, &match);
+        if (status == SNO_PAST_END)
+            break;
+        *trials += needed;
+        all[count++] = seen_of(pattern, status, match);
+        from = match.next;
+    }
+    return count;
+}
+
+static void try_take(const char *what, sno_pattern *pattern, uint8_t wanted_status, sno_match wanted) {
+    sno_match match = {12345, 12345, 12345, 12345};
+    uint8_t status = sno_pattern_take(pattern, &match);
+    bool right = status == wanted_status && are_same(match, wanted);
+    if (!right)
+        printf("status %d, wanted %d; %zu to %zu, then %zu, %zu assignments\n", status, wanted_status, match.start,
+               match.end, match.next, match.assignments);
+    expect(what, right);
+}
+
+static void try_none_left(const char *what, sno_pattern *pattern) {
+    try_take(what, pattern, SNO_NOTHING_GATHERED, (sno_match){0, 0, 0, 0});
+}
+
+static void try_gather(const char *what, sno_pattern *pattern, sno_text *text, size_t from, uint32_t trials,
+                       size_t most, uint8_t wanted_status) {
+    uint8_t status = sno_pattern_gather(pattern, text, from, trials, most);
+    if (status != wanted_status)
+        printf("status %d, wanted %d\n", status, wanted_status);
+    expect(what, status == wanted_status);
+}
+
+/* Takes as many searches, and compares them with those that were done one by one. The last one stays. */
+static void try_all_taken(const char *what, sno_pattern *pattern, const seen *wanted, size_t count) {
+    sno_match match;
+    bool right = true;
+    for (size_t place = 0; right && place < count; place++) {
+        uint8_t status = sno_pattern_take(pattern, &match);
+        seen found = seen_of(pattern, status, match);
+        right = is_same_seen(&found, &wanted[place]);
+    }
+    expect(what, right);
+    try_none_left(what, pattern);
+    if (count) {
+        seen last = seen_of(pattern, wanted[count - 1].status, wanted[count - 1].match);
+        expect(what, is_same_seen(&last, &wanted[count - 1]));
+    }
+}
+
+/* Gathers searches with just enough trials, and with one too few. */
+static void try_beside_next(const char *rule, const char *bytes, size_t from, size_t most) {
+    static seen wanted[MOST_SEARCHES];
+    sno_pattern pattern = opened("", rule);
+    sno_text text = text_of(bytes);
+    uint32_t trials;
+    size_t count = by_next(&pattern, &text, from, most, wanted, &trials);
+    try_gather(rule, &pattern, &text, from, SNO_USUAL_TRIALS, most, SNO_DONE);
+    try_all_taken(rule, &pattern, wanted, count);
+    if (count) {
+        try_gather(rule, &pattern, &text, from, trials, most, SNO_DONE);
+        try_all_taken(rule, &pattern, wanted, count);
+    }
+    if (trials > 1) {
+        try_gather(rule, &pattern, &text, from, trials, most, SNO_DONE);
+        try_gather(rule, &pattern, &text, from, trials - 1, most, SNO_TOO_MANY_TRIALS);
+        try_none_left(rule, &pattern);
+    }
+    sno_text_close(&text);
+    sno_pattern_close(&pattern);
+}
+
+static void try_gathered(void) {
+    const char *rules[] = {DIGITS, BRACKETS, "SPAN('a') | ''", "''", "'b'", "'z'", "LEN(1) . X", "'a' $ V 'c'",
+                           "@C ANY('ab') . X @D", "SPAN('a') | '' :anchored", "ANY('a1') . X :anchored",
+                           "'b' :anchored", "RPOS(0)", "ARB . V 'b' | '3' $ W", "LEN(2) LEN(1) . X"};
+    const char *texts[] = {"", "a", "b", "aab", "aabab", "a12b345", "1a2b3c4d5e6f7g8h9", "aaaaaaaaaaaaaaaaaaaab"};
+    size_t most[] = {0, 1, 2, 3, 5, 50, SIZE_MAX};
+    for (size_t rule = 0; rule < sizeof rules / sizeof *rules; rule++)
+        for (size_t text = 0; text < sizeof texts / sizeof *texts; text++)
+            for (size_t number = 0; number < sizeof most / sizeof *most; number++) {
+                size_t length = strlen(texts[text]);
+                try_beside_next(rules[rule], texts[text], 0, most[number]);
+                try_beside_next(rules[rule], texts[text], length / 2, most[number]);
+                try_beside_next(rules[rule], texts[text], length, most[number]);
+            }
+}
+
+static void try_takes(void) {
+    sno_pattern pattern = opened("", DIGITS);
+    sno_text text = text_of("a12b345");
+    try_none_left("nothing is gathered at first", &pattern);
+    try_gather("all searches", &pattern, &text, 0, SNO_USUAL_TRIALS, 5, SNO_DONE);
+    try_no_assignment("before the first is taken", &pattern, 0, SNO_NOTHING);
+    try_take("the first match", &pattern, SNO_DONE, (sno_match){1, 3, 3, 1});
+    try_assignment("its assignment", &pattern, 0, "N", 1, 3, false);
+    try_no_assignment("it has no more than one", &pattern, 1, SNO_NOTHING);
+    try_next("a search in between", &pattern, &text, 5, SNO_USUAL_TRIALS, SNO_DONE, (sno_match){5, 7, 7, 1});
+    try_assignment("the assignment of that", &pattern, 0, "N", 5, 7, false);
+    try_next("a refusal in between", &pattern, &text, 8, SNO_USUAL_TRIALS, SNO_PAST_END, (sno_match){0, 0, 0, 0});
+    try_take("the second match", &pattern, SNO_DONE, (sno_match){4, 7, 7, 1});
+    try_assignment("the assignment of it", &pattern, 0, "N", 4, 7, false);
+    try_take("no further match", &pattern, SNO_NOTHING, (sno_match){0, 0, 8, 0});
+    try_no_assignment("no assignment either", &pattern, 0, SNO_NOTHING);
+    try_none_left("all is taken", &pattern);
+    try_none_left("all is still taken", &pattern);
+    try_gather("one search", &pattern, &text, 2, SNO_USUAL_TRIALS, 1, SNO_DONE);
+    try_take("its match", &pattern, SNO_DONE, (sno_match){2, 3, 3, 1});
+    try_none_left("it was the only one", &pattern);
+    try_assignment("it still has its assignment", &pattern, 0, "N", 2, 3, false);
+    try_gather("no search", &pattern, &text, 0, SNO_USUAL_TRIALS, 0, SNO_DONE);
+    try_none_left("no search is none", &pattern);
+    try_assignment("the last search is as before", &pattern, 0, "N", 2, 3, false);
+    try_gather("at the end", &pattern, &text, 7, SNO_USUAL_TRIALS, 5, SNO_DONE);
+    try_take("no match there", &pattern, SNO_NOTHING, (sno_match){0, 0, 8, 0});
+    try_none_left("only one search there", &pattern);
+    sno_text_close(&text);
+    sno_pattern_close(&pattern);
+    pattern = opened("", "'a' $ V 'c'");
+    text = text_of("aab");
+    try_gather("a failure that assigned", &pattern, &text, 0, SNO_USUAL_TRIALS, 5, SNO_DONE);
+    try_take("the failure", &pattern, SNO_NOTHING, (sno_match){0, 0, 4, 2});
+    try_assignment("the second of its assignments", &pattern, 1, "V", 1, 2, false);
+    sno_text_close(&text);
+    sno_pattern_close(&pattern);
+    pattern = opened("", "SPAN('a') | ''");
+    text = text_of("aab");
+    try_gather("null strings", &pattern, &text, 0, SNO_USUAL_TRIALS, 5, SNO_DONE);
+    try_take("a run of them", &pattern, SNO_DONE, (sno_match){0, 2, 2, 0});
+    try_take("the null string after it", &pattern, SNO_DONE, (sno_match){2, 2, 3, 0});
+    try_take("the null string at the end", &pattern, SNO_DONE, (sno_match){3, 3, 4, 0});
+    try_none_left("there can be no match after it", &pattern);
+    sno_text_close(&text);
+    sno_pattern_close(&pattern);
+}
+
+static void try_drops(void) {
+    sno_pattern pattern = opened("", DIGITS);
+    sno_text text = text_of("a12b345"), other = text_of("7"), none = closed_text();
+    sno_match first = {1, 3, 3, 1};
+    try_gather("the first text", &pattern, &text, 0, SNO_USUAL_TRIALS, 5, SNO_DONE);
+    try_gather("another text", &pattern, &other, 0, SNO_USUAL_TRIALS, 5, SNO_DONE);
+    try_take("the match in the other text", &pattern, SNO_DONE, (sno_match){0, 1, 1, 1});
+    try_take("and no further one", &pattern, SNO_NOTHING, (sno_match){0, 0, 2, 0});
+    try_none_left("the first text was dropped", &pattern);
+    const struct {
+        const char *what;
+        size_t from;
+        uint32_t trials;
+        uint8_t status;
+    } refusals[] = {{"no trials", 0, 0, SNO_BAD_LIMIT},
+                    {"no trials past the end", 8, 0, SNO_BAD_LIMIT},
+                    {"more trials", 0, 1000000001, SNO_BAD_LIMIT},
+                    {"past the end", 8, SNO_USUAL_TRIALS, SNO_PAST_END},
+                    {"far past the end", SIZE_MAX, SNO_USUAL_TRIALS, SNO_PAST_END},
+                    {"past the end with one trial", 8, 1, SNO_PAST_END},
+                    {"one trial", 0, 1, SNO_TOO_MANY_TRIALS}};
+    for (size_t number = 0; number < sizeof refusals / sizeof *refusals; number++) {
+        try_gather("what is dropped", &pattern, &text, 0, 1000000000, 5, SNO_DONE);
+        try_take("the first of it", &pattern, SNO_DONE, first);
+        try_gather(refusals[number].what, &pattern, &text, refusals[number].from, refusals[number].trials, 5,
+                   refusals[number].status);
+        try_none_left(refusals[number].what, &pattern);
+        try_assignment("the last search stays", &pattern, 0, "N", 1, 3, false);
+    }
+    try_gather("no search past the end", &pattern, &text, 8, SNO_USUAL_TRIALS, 0, SNO_PAST_END);
+    try_gather("no search needs no trial", &pattern, &text, 0, 1, 0, SNO_DONE);
+    try_gather("what stays", &pattern, &text, 0, SNO_USUAL_TRIALS, 5, SNO_DONE);
+    try_gather("a closed text", &pattern, &none, 0, 0, 5, SNO_CLOSED);
+    sno_text_close(&text);
+    try_take("what was gathered is left", &pattern, SNO_DONE, first);
+    try_assignment("with its assignment", &pattern, 0, "N", 1, 3, false);
+    sno_text_close(&other);
+    uint8_t line[SPACE];
+    size_t length;
+    expect("opened again", sno_pattern_open(NULL, 0, bytes_of("'a'"), 3, line, SPACE, &length, &pattern) == SNO_DONE);
+    try_none_left("another pattern has nothing gathered", &pattern);
+    sno_pattern_close(&pattern);
+}
+
+static void try_gather_handles(void) {
+    sno_pattern pattern = closed_pattern();
+    sno_text text = closed_text();
+    sno_match none = {0, 0, 0, 0}, match = {12345, 12345, 12345, 12345};
+    try_gather("both closed to gather", &pattern, &text, 0, SNO_USUAL_TRIALS, 5, SNO_CLOSED);
+    try_take("no pattern to take from", &pattern, SNO_CLOSED, none);
+    text = text_of("ab");
+    try_gather("no pattern to gather", &pattern, &text, 0, 0, 5, SNO_CLOSED);
+    expect("a text to take from", sno_handle_take(&text.handle, &match) == SNO_CLOSED && are_same(match, none));
+    pattern = opened("", "'a'");
+    expect("a text as a pattern to gather",
+           sno_handle_gather(&text.handle, &pattern.handle, 0, SNO_USUAL_TRIALS, 5) == SNO_CLOSED);
+    expect("a text as both", sno_handle_gather(&text.handle, &text.handle, 0, 0, 5) == SNO_CLOSED);
+    expect("a pattern is null", sno_pattern_gather(NULL, &text, 0, 1, 1) == SNO_NULL);
+    expect("a text is null", sno_pattern_gather(&pattern, NULL, 0, 1, 1) == SNO_NULL);
+    expect("no pattern to take", sno_pattern_take(NULL, &match) == SNO_NULL);
+    expect("no match to take", sno_pattern_take(&pattern, NULL) == SNO_NULL);
+    try_gather("then it gathers", &pattern, &text, 0, SNO_USUAL_TRIALS, 5, SNO_DONE);
+    expect("no match to take what is there", sno_pattern_take(&pattern, NULL) == SNO_NULL);
+    try_take("it is still there", &pattern, SNO_DONE, (sno_match){0, 1, 1, 0});
+    sno_text_close(&text);
+    sno_pattern_close(&pattern);
+}
+
+static void try_many_gathered(void) {
+    static uint8_t bytes[100000];
+    sno_text text = closed_text();
+    memset(bytes, 'a', sizeof bytes);
+    expect("a text of many matches", sno_text_open(bytes, sizeof bytes, &text) == SNO_DONE);
+    sno_pattern pattern = opened("", "LEN(1) . X");
+    try_gather("many searches", &pattern, &text, 0, SNO_USUAL_TRIALS, SIZE_MAX, SNO_DONE);
+    bool right = true;
+    for (size_t place = 0; place < sizeof bytes; place++) {
+        sno_match match;
+        uint8_t status = sno_pattern_take(&pattern, &match);
+        right = right && status == SNO_DONE && are_same(match, (sno_match){place, place + 1, place + 1, 1});
+    }
+    expect("many matches", right);
+    try_take("the end of many", &pattern, SNO_NOTHING, (sno_match){0, 0, sizeof bytes + 1, 0});
+    try_none_left("none is left of many", &pattern);
+    /* What is gathered is freed with the pattern. */
+    try_gather("many searches again", &pattern, &text, 0, SNO_USUAL_TRIALS, 1000, SNO_DONE);
+    sno_pattern_close(&pattern);
+    sno_text_close(&text);
+}
+
 /* No memory can be had that isn't there already. */
 static void try_no_memory(void) {
     uint8_t *bytes = (uint8_t *)malloc(SNO_LONGEST_TEXT);
@@ -388,6 +667,11 @@ int main(int count, char **arguments) {
         try_handles();
         try_long_texts();
         try_null();
+        try_gathered();
+        try_takes();
+        try_drops();
+        try_gather_handles();
+        try_many_gathered();
     }
     printf("%d passed, %d failed\n", passed, failed);
     return failed ? 1 : 0;

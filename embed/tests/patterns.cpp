@@ -66,6 +66,29 @@ void try_matches() {
     expect("too many trials", few.begin() == few.end() && few.status() == SNO_TOO_MANY_TRIALS);
 }
 
+void try_gathered() {
+    sno::Pattern pattern = opened(brackets);
+    sno::Text text = text_of("a12b345");
+    sno::Match match;
+    expect("nothing is gathered", pattern.take(match) == SNO_NOTHING_GATHERED && match.next == 0);
+    expect("too few trials to gather", pattern.gather(text, 0, 5, 1) == SNO_TOO_MANY_TRIALS);
+    expect("then nothing is gathered", pattern.take(match) == SNO_NOTHING_GATHERED);
+    expect("searches are gathered", pattern.gather(text, 0, 5) == SNO_DONE);
+    expect("the first of them", pattern.take(match) == SNO_DONE && match.start == 1 && match.end == 3 &&
+                                    match.next == 3 && match.assignments == 1);
+    const auto assignments = pattern.assignments();
+    expect("its assignment", assignments.size() == 1 && assignments[0].of("a12b345") == "12");
+    expect("the second of them", pattern.take(match) == SNO_DONE && match.start == 4 && match.end == 7 &&
+                                     match.next == 7);
+    expect("no further match", pattern.take(match) == SNO_NOTHING && match.next == 8 && pattern.assignments().empty());
+    expect("nothing is left", pattern.take(match) == SNO_NOTHING_GATHERED);
+    expect("one search", pattern.gather(text, 2, 1) == SNO_DONE && pattern.take(match) == SNO_DONE &&
+                             match.start == 2 && pattern.take(match) == SNO_NOTHING_GATHERED);
+    expect("a gathering past the end", pattern.gather(text, 8, 5) == SNO_PAST_END);
+    sno::Pattern closed;
+    expect("a closed pattern to gather", closed.gather(text, 0, 5) == SNO_CLOSED && closed.take(match) == SNO_CLOSED);
+}
+
 void try_replacements() {
     sno::Pattern pattern = opened(brackets);
     sno::Text text = text_of("a12b345");
@@ -114,6 +137,7 @@ void try_moves() {
 
 int main() {
     try_matches();
+    try_gathered();
     try_replacements();
     try_faults();
     try_moves();

@@ -35,7 +35,10 @@ enum {
     /* A new text has room for twice the text and as many bytes. If that isn't enough, a second run is needed. */
     SPARE_ROOM = 1024,
     /* A match with more variables takes memory for them while it is made. */
-    FEW_VARIABLES = 8
+    FEW_VARIABLES = 8,
+    /* As many searches are done at once. The pattern is compiled once for all of them, which takes longer than a short
+     * search. More of them would gain little, and those after the last match that a program asks for are in vain. */
+    SEARCHES_AT_ONCE = 32
 };
 
 /* ---- library.c: the functions of a library ---- */
@@ -44,6 +47,9 @@ typedef struct Functions {
     __typeof__(sno_handle_open_pattern) *open_pattern;
     __typeof__(sno_handle_open_text) *open_text;
     __typeof__(sno_handle_next) *next;
+    /* Both are null if an older library lacks one of them. */
+    __typeof__(sno_handle_gather) *gather;
+    __typeof__(sno_handle_take) *take;
     __typeof__(sno_handle_assignment) *assignment;
     __typeof__(sno_handle_replace) *replace;
     __typeof__(sno_handle_close) *close;
@@ -163,6 +169,15 @@ void give_turn(Finder *self);
 void begin_found(Found *found);
 void end_found(Found *found);
 
+/* Adds a variable; false if there is no memory. */
+bool add_variable(Found *found, Variable variable);
+
+/* Adds what the last search assigned, whose match is in there, and returns the status. Called in the finder's turn. */
+uint8_t add_assignments(Finder *self, Found *found);
+
+/* With how many trials a search is tried before the interpreter's lock is released; 0 if it isn't tried. */
+uint32_t tried_trials(const Finder *self, const Text *text);
+
 /* Seeks the next match whose start is this cursor or lies past it, and returns the status. A search of more than a few
  * trials begins again without the interpreter's lock. Called in the finder's turn. */
 uint8_t seek(Finder *self, Text *text, size_t from, Found *found);
@@ -170,6 +185,42 @@ uint8_t seek(Finder *self, Text *text, size_t from, Found *found);
 /* Puts what the rule makes of the text in a buffer, which the caller frees, and returns the status. Called in the
  * finder's turn. */
 uint8_t replace(Finder *self, Text *text, uint8_t **buffer, sno_replaced *replaced);
+
+/* ---- batch.c: searches that are done at once ---- */
+
+/* A match, and which of the variables of its batch are its own. */
+typedef struct Kept {
+    sno_match match;
+    size_t first;
+    size_t count;
+} Kept;
+
+/* The matches that were sought at once, in their order, and the variables of all of them. */
+typedef struct Batch {
+    size_t count;
+    /* One that was sought before took more than a few trials, and so probably does the next. */
+    bool is_slow;
+    Kept kept[SEARCHES_AT_ONCE];
+    Found all;
+} Batch;
+
+/* A batch without matches; null if there is no memory. Its memory isn't moved. */
+Batch *new_batch(void);
+
+/* Frees it, and ignores null. */
+void free_batch(Batch *batch);
+
+/* Seeks as many matches as are sought at once, from this cursor on, and keeps them in the batch. They all together take
+ * no more trials than a search may take; with more than a few they are sought without the interpreter's lock. Called in
+ * the finder's turn.
+ *
+ * - SNO_NOTHING_GATHERED: the batch has the matches.
+ * - SNO_NOTHING: it has the matches, and there is no further one.
+ * - Others: something was refused. The batch has the matches before it, if there are any. */
+uint8_t seek_batch(Finder *self, Text *text, size_t from, Batch *batch);
+
+/* Copies a match of the batch; false if there is no memory. */
+bool copy_kept(const Batch *batch, size_t place, Found *found);
 
 /* ---- finder.c: the type Finder ---- */
 

@@ -7,6 +7,14 @@
 
 static const char FUNCTIONS[] = "sno_rewrite._fast.functions";
 
+/* Puts the function with a name at a place; false if the library has none. */
+static bool find_function(void *library, const char *name, void *place) {
+    void *found = dlsym(library, name);
+    if (found)
+        memcpy(place, &found, sizeof found);
+    return found;
+}
+
 static bool find_functions(void *library, Functions *functions) {
     const struct {
         const char *name;
@@ -19,11 +27,13 @@ static bool find_functions(void *library, Functions *functions) {
         {"sno_handle_replace", &functions->replace},
         {"sno_handle_close", &functions->close},
     };
-    for (size_t number = 0; number < sizeof wanted / sizeof *wanted; number++) {
-        void *found = dlsym(library, wanted[number].name);
-        if (!found)
+    for (size_t number = 0; number < sizeof wanted / sizeof *wanted; number++)
+        if (!find_function(library, wanted[number].name, wanted[number].place))
             return false;
-        memcpy(wanted[number].place, &found, sizeof found);
+    if (!find_function(library, "sno_handle_gather", &functions->gather) ||
+        !find_function(library, "sno_handle_take", &functions->take)) {
+        functions->gather = NULL;
+        functions->take = NULL;
     }
     return true;
 }

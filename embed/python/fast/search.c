@@ -73,6 +73,13 @@ static bool has_room(Found *found) {
     return true;
 }
 
+bool add_variable(Found *found, Variable variable) {
+    if (!has_room(found))
+        return false;
+    found->variables[found->count++] = variable;
+    return true;
+}
+
 static uint8_t add_assignment(Finder *self, size_t place, Found *found) {
     uint8_t bytes[SNO_LONGEST_NAME];
     sno_assignment one;
@@ -80,32 +87,43 @@ static uint8_t add_assignment(Finder *self, size_t place, Found *found) {
     if (status != SNO_DONE)
         return status;
     Name *name = name_of(self, bytes, one.name_length);
-    if (!name || !has_room(found))
+    if (!name)
         return SNO_NO_MEMORY;
-    if (name->search != self->searches) {
-        name->search = self->searches;
-        name->place = found->count++;
+    Variable variable = {name, one.start, one.end, one.is_cursor};
+    if (name->search == self->searches) {
+        found->variables[name->place] = variable;
+        return SNO_DONE;
     }
-    found->variables[name->place] = (Variable){name, one.start, one.end, one.is_cursor};
-    return SNO_DONE;
+    name->search = self->searches;
+    name->place = found->count;
+    return add_variable(found, variable) ? SNO_DONE : SNO_NO_MEMORY;
 }
 
-static uint8_t seek_within(Finder *self, Text *text, size_t from, uint32_t trials, Found *found) {
-    uint8_t status = self->functions.next(&self->handle, &text->handle, from, trials, &found->match);
-    found->count = 0;
+uint8_t add_assignments(Finder *self, Found *found) {
+    uint8_t status = SNO_DONE;
     self->searches++;
     for (size_t place = 0; status == SNO_DONE && place < found->match.assignments; place++)
         status = add_assignment(self, place, found);
     return status;
 }
 
+static uint8_t seek_within(Finder *self, Text *text, size_t from, uint32_t trials, Found *found) {
+    uint8_t status = self->functions.next(&self->handle, &text->handle, from, trials, &found->match);
+    found->count = 0;
+    return status == SNO_DONE ? add_assignments(self, found) : status;
+}
+
 static uint32_t few_trials(const Finder *self) {
     return self->trials < FEW_TRIALS ? self->trials : FEW_TRIALS;
 }
 
+uint32_t tried_trials(const Finder *self, const Text *text) {
+    return text->length < LONG_TEXT ? few_trials(self) : 0;
+}
+
 uint8_t seek(Finder *self, Text *text, size_t from, Found *found) {
     uint8_t status = SNO_TOO_MANY_TRIALS;
-    uint32_t tried = text->length < LONG_TEXT ? few_trials(self) : 0;
+    uint32_t tried = tried_trials(self, text);
     if (tried)
         status = seek_within(self, text, from, tried, found);
     if (status == SNO_TOO_MANY_TRIALS && tried < self->trials) {

@@ -9,6 +9,7 @@ import gc
 import importlib
 import importlib.util
 import inspect
+import itertools
 import mmap
 import os
 import pickle
@@ -257,6 +258,7 @@ def calls_of(pattern: patterns.Pattern, text: str, slow: patterns.Pattern) -> It
     yield lambda: pattern.fullmatch(text)
     yield lambda: list(pattern.finditer(text))
     yield lambda: next(pattern.finditer(text))
+    yield lambda: list(itertools.islice(pattern.finditer(text), 3))
     yield lambda: pattern.findall(text)
     yield lambda: [(one.groups(), one.group(0, "N"), one.groupdict(), repr(one)) for one in pattern.finditer(text)]
     yield lambda: [one["M"] for one in pattern.finditer(text)]
@@ -306,6 +308,7 @@ class Memory(unittest.TestCase):
         uses: list[Callable[[], Any]] = [
             lambda: patterns.search(NUMBER, text),
             lambda: next(patterns.finditer(NUMBER, text)),
+            lambda: list(itertools.islice(patterns.finditer(NUMBER, text), 3)),
             lambda: list(patterns.finditer("'a' 'c'", text)),
             lambda: patterns.sub(NUMBER, "'<' N '>'", text[:7000]),
             lambda: patterns.Pattern(f"{NUMBER} | '{'x' * 3_900}'"),
@@ -422,9 +425,10 @@ class Both(unittest.TestCase):
                 forms = f"{rule} | {other}", f"({rule}) {other}", f"({rule}) . X", f"({rule}) $ Y", f"@C ({rule}) @D"
                 rule = chance.choice(forms)
             rule += chance.choice(("", " = '<' X '>'", " = Y :first", " :anchored"))
-            text: Any = "".join(chance.choice("abcé€") for _ in range(chance.randrange(9)))
+            # In a long text most matches are sought in batches.
+            text: Any = "".join(chance.choice("abcé€") for _ in range(chance.randrange(chance.choice((9, 9, 80)))))
             text = text.encode() if chance.randrange(4) == 0 else text
-            pos, trials = chance.randrange(-1, 6), chance.choice((4, 1_000_000))
+            pos, trials = chance.randrange(-1, 6), chance.choice((4, 100, 1_000_000))
             found = [tried(*part, rule, trials, (text, pos)) for part in parts]
             self.assertEqual(found[0], found[-1], (rule, text, pos, trials))
             counts["refused" if isinstance(found[0][-1], str) else "found"] += 1

@@ -21,6 +21,92 @@ fn finds_all_matches() {
     assert_eq!(spans(&mut pattern, b""), []);
 }
 
+/// The first match is sought alone, and 32 after it at once.
+const COUNTS: [usize; 10] = [0, 1, 2, 32, 33, 34, 64, 65, 66, 130];
+
+fn repeated(part: &str, count: usize) -> Vec<u8> {
+    part.repeat(count).into_bytes()
+}
+
+#[test]
+fn finds_many_matches() {
+    for count in COUNTS {
+        let mut pattern = Pattern::new(BRACKETS).expect("a pattern");
+        for rest in ["", "...."] {
+            let mut bytes = repeated("7-", count);
+            bytes.extend_from_slice(rest.as_bytes());
+            let wanted: Vec<_> = (0..count)
+                .map(|number| (2 * number, 2 * number + 1))
+                .collect();
+            assert_eq!(spans(&mut pattern, &bytes), wanted);
+            // A pass that is broken off leaves nothing to the next one.
+            let mut text = Text::new(&bytes).expect("a text");
+            let few = pattern.matches(&mut text).take(3).count();
+            assert_eq!(few, count.min(3));
+            assert_eq!(spans(&mut pattern, b"a12b345"), [(1, 3), (4, 7)]);
+        }
+        let mut pattern = Pattern::new("''").expect("a pattern");
+        let wanted: Vec<_> = (0..=count).map(|place| (place, place)).collect();
+        assert_eq!(spans(&mut pattern, &repeated("-", count)), wanted);
+    }
+}
+
+#[test]
+fn has_the_assignments_of_each_match() {
+    let mut pattern = Pattern::new("'a' . A | 'b' . B @C").expect("a pattern");
+    let mut text = Text::new(&repeated("ab", 50)).expect("a text");
+    let mut places = 0..100;
+    for found in pattern.matches(&mut text) {
+        let (found, place) = (found.expect("a match"), places.next().expect("a place"));
+        let span = Some(Value::Span(place, place + 1));
+        let (a, b, cursor) = if place % 2 == 0 {
+            (span, None, None)
+        } else {
+            (None, span, Some(Value::Cursor(place + 1)))
+        };
+        assert_eq!(found.value("A"), a);
+        assert_eq!(found.value("B"), b);
+        assert_eq!(found.value("C"), cursor);
+    }
+    assert!(places.is_empty());
+}
+
+#[test]
+fn limits_each_search() {
+    // For `'b'` a search takes as many trials as there are characters up to the end of the match.
+    for (trials, gap) in [(100, 99), (100, 60), (1000, 999)] {
+        for count in COUNTS {
+            let mut bytes = repeated("b", count);
+            for _ in 0..3 {
+                bytes.extend(repeated("a", gap));
+                bytes.extend(repeated("b", 40));
+            }
+            let places = (0..bytes.len()).filter(|&place| bytes[place] == b'b');
+            let wanted: Vec<_> = places.map(|place| (place, place + 1)).collect();
+            let pattern = Pattern::new("'b'").expect("a pattern");
+            assert_eq!(spans(&mut pattern.limited(trials), &bytes), wanted);
+        }
+    }
+}
+
+#[test]
+fn refuses_the_search_that_takes_too_many_trials() {
+    for count in COUNTS {
+        let mut bytes = repeated("b", count);
+        bytes.extend(repeated("a", 100));
+        bytes.extend(repeated("b", 40));
+        let mut pattern = Pattern::new("'b'").expect("a pattern").limited(100);
+        let mut text = Text::new(&bytes).expect("a text");
+        let mut matches = pattern.matches(&mut text);
+        for place in 0..count {
+            let found = matches.next().expect("a search").expect("a match");
+            assert_eq!(found.start, place);
+        }
+        assert_eq!(matches.next(), Some(Err(Error::TooManyTrials(100))));
+        assert_eq!(matches.next(), None);
+    }
+}
+
 #[test]
 fn counts_null_strings() {
     let mut pattern = Pattern::new("SPAN('a') | ''").expect("a pattern");

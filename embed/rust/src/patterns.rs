@@ -10,6 +10,7 @@ const NO_MEMORY: u8 = 4;
 const TOO_SHORT: u8 = 5;
 pub(crate) const TOO_MANY_TRIALS: u8 = 8;
 pub(crate) const HISTORY_TOO_LONG: u8 = 11;
+const NOTHING_GATHERED: u8 = 12;
 pub(crate) const TOO_LONG: u8 = 9;
 pub(crate) const PAST_END: u8 = 10;
 
@@ -21,6 +22,10 @@ const LINE_ROOM: usize = 1024;
 
 /// A new text of up to this length takes one call of the library.
 const FIRST_ROOM: usize = 4096;
+
+/// As many searches of a pass are done at once. The pattern is compiled once for all of them, which takes longer than a
+/// short search.
+const SEARCHES_AT_ONCE: usize = 32;
 
 #[repr(C)]
 struct Handle {
@@ -73,6 +78,14 @@ extern "C" {
         trials: u32,
         found: *mut FoundMatch,
     ) -> u8;
+    fn sno_handle_gather(
+        pattern: *mut Handle,
+        text: *mut Handle,
+        from: usize,
+        trials: u32,
+        most: usize,
+    ) -> u8;
+    fn sno_handle_take(pattern: *mut Handle, found: *mut FoundMatch) -> u8;
     fn sno_handle_assignment(
         pattern: *mut Handle,
         place: usize,
@@ -296,6 +309,11 @@ impl Pattern {
                 &mut found,
             )
         };
+        self.searched(status, found)
+    }
+
+    /// What a search found.
+    fn searched(&mut self, status: u8, found: FoundMatch) -> Result<Option<Match>, Error> {
         match status {
             DONE => Ok(Some(Match {
                 start: found.start,
@@ -308,6 +326,29 @@ impl Pattern {
         }
     }
 
+    /// Does many searches at once that follow one another. All of them together may take as many trials as one of them may.
+    fn gather(&mut self, text: &mut Text, from: usize) -> bool {
+        let status = unsafe {
+            sno_handle_gather(
+                &mut self.handle,
+                &mut text.handle,
+                from,
+                self.trials,
+                SEARCHES_AT_ONCE,
+            )
+        };
+        status == DONE
+    }
+
+    /// What the first of the gathered searches found; `None` if none is left.
+    fn take(&mut self) -> Option<Result<Option<Match>, Error>> {
+        let mut found = FoundMatch::default();
+        match unsafe { sno_handle_take(&mut self.handle, &mut found) } {
+            NOTHING_GATHERED => None,
+            status => Some(self.searched(status, found)),
+        }
+    }
+
     /// All matches of one pass, one after the other. A null string at the end of the match before is none of them. Each search
     /// may take as many trials as the pattern; after an error there is no further match.
     pub fn matches<'p>(&'p mut self, text: &'p mut Text) -> Matches<'p> {
@@ -317,6 +358,9 @@ impl Pattern {
             from: 0,
             before: None,
             is_over: false,
+            is_gathered: false,
+            alone: 1,
+            pause: SEARCHES_AT_ONCE,
         }
     }
 
@@ -358,13 +402,43 @@ impl Pattern {
     }
 }
 
-/// The matches of a pass over a text.
+/// The matches of a pass over a text. The first is sought alone, and the further ones many at once: nobody else gathers with
+/// the pattern meanwhile, since it is borrowed.
 pub struct Matches<'p> {
     pattern: &'p mut Pattern,
     text: &'p mut Text,
     from: usize,
     before: Option<usize>,
     is_over: bool,
+    /// Whether searches that were gathered may be left.
+    is_gathered: bool,
+    /// How many searches are done alone before more are gathered, and how many there will be if that is refused.
+    alone: usize,
+    pause: usize,
+}
+
+impl Matches<'_> {
+    /// What the next search finds. Gathered searches have a limit of trials together, of which each may take all. So if they
+    /// are refused, searches are done alone, which find out whether one of them is.
+    fn search(&mut self) -> Result<Option<Match>, Error> {
+        loop {
+            if self.is_gathered {
+                if let Some(found) = self.pattern.take() {
+                    return found;
+                }
+            } else if self.alone > 0 {
+                self.alone -= 1;
+                return self.pattern.find_from(self.text, self.from);
+            }
+            self.is_gathered = self.pattern.gather(self.text, self.from);
+            if self.is_gathered {
+                self.pause = SEARCHES_AT_ONCE;
+            } else {
+                self.alone = self.pause;
+                self.pause *= 2;
+            }
+        }
+    }
 }
 
 impl Iterator for Matches<'_> {
@@ -372,7 +446,7 @@ impl Iterator for Matches<'_> {
 
     fn next(&mut self) -> Option<Result<Match, Error>> {
         while !self.is_over {
-            match self.pattern.find_from(self.text, self.from) {
+            match self.search() {
                 Ok(Some(found)) => {
                     let is_counted = self.before != Some(found.start) || found.start != found.end;
                     self.from = found.next;
