@@ -193,11 +193,11 @@ pub fn time<C: Clock>(
         times,
         || perform_once(alloc, statement, text, expected),
     )?;
-    let pass = time_of_pass(clock, alloc, &code, statement, text, expected, times)?;
+    let over_text = time_of_pass(clock, alloc, &code, statement, text, expected, times)?;
     Ok(Times {
         compile,
         matching,
         perform,
-        pass,
+        pass: over_text,
     })
 }

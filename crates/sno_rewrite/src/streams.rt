@@ -3,6 +3,7 @@ ghost use Rattle.std.specs.Prelude.{◌≡◌, ◌<◌, ◌≤◌, ◌+◌, leng
 ghost use Rattle.std.specs.Io.KnownBytes.{Appends, Consumes, IsAtEnd, Keeps};
 ghost use Rattle.sno_rewrite.specs.Streams.{AppendsFront, ConsumesAfter, IsMemoryOrRead, IsWholeInput, IsReadFault, TakesAtMost};
 ghost use Rattle.sno_rewrite.specs.declared.faults.RunFault.TheVariants.{Write as WriteFailed};
+ghost use Rattle.sno_rewrite.specs.declared.streams.TheConstants.{PIECE};
 
 use crate::RunFault;
 use sno_document::{DocumentFault, MAX_DOCUMENT};
@@ -12,9 +13,16 @@ use std::io::{Read, Write};
 const PIECE: usize = 4_096;
 
 /// Adds at most `room` bytes of the reader after those already read, and returns how many. It returns 0 only at the
-/// end.
-fn read_piece<R: Read>(reader: &mut R, bytes: &mut Vec<u8>, room: usize) -> Result<usize, RunFault>
-    requires { 0 < room }
+/// end. They are read into `piece` first.
+fn read_piece<R: Read>(
+    reader: &mut R,
+    piece: &mut [u8],
+    bytes: &mut Vec<u8>,
+    room: usize,
+) -> Result<usize, RunFault>
+    requires room { 0 < room }
+    requires piece { length piece.old ≡ PIECE }
+    ensures piece { length piece.new ≡ PIECE }
     ensures more { IfOk result (λ n. vec_len bytes.new ≡ vec_len bytes.old + n) }
     ensures bound { IfOk result (λ n. n ≤ room) }
     ensures consumed { IfOk result (λ n. ConsumesAfter (R.remaining reader.old) (R.remaining reader.new) bytes.old.items bytes.new.items) }
@@ -22,7 +30,6 @@ fn read_piece<R: Read>(reader: &mut R, bytes: &mut Vec<u8>, room: usize) -> Resu
     ensures taken { TakesAtMost room (R.remaining reader.old) (R.remaining reader.new) }
     ensures fault { IfErr result IsMemoryOrRead }
 {
-    let mut piece = [0; PIECE];
     let room = room.min(PIECE);
     let Ok(count) = reader.read(&mut piece[..room]) else {
         return Err(RunFault::Read);
@@ -39,9 +46,10 @@ pub(crate) fn read_all<R: Read>(alloc: Global, reader: &mut R) -> Result<Vec<u8>
     ensures fault { IfErr result (IsReadFault (R.remaining reader.old) (R.remaining reader.new)) }
 {
     let mut bytes = Vec::new(alloc);
+    let mut piece = [0; PIECE];
     while bytes.len() <= MAX_DOCUMENT {
         let room = MAX_DOCUMENT + 1 - bytes.len();
-        let count = read_piece(reader, &mut bytes, room)?;
+        let count = read_piece(reader, &mut piece, &mut bytes, room)?;
         if count == 0 {
             return Ok(bytes);
         }

@@ -1,13 +1,12 @@
 //! What searches that follow one another find.
 ghost use Rattle.std.specs.Prelude.{◌≡◌, ◌<◌, ◌≤◌, ◌+◌, ◌++◌, length, None, Some, IfOk, IfErr, IfSome, OnOk};
-ghost use Rattle.std.specs.Option.{option_map};
 ghost use Rattle.sno_statement.specs.declared.file_faults.FileStatementFault.TheVariants.{TextTooLong, TooManyTrials};
-ghost use Rattle.sno_statement.specs.Passes.{search, search_trials};
+ghost use Rattle.sno_statement.specs.Passes.{IsCursor, search, search_trials};
 ghost use Rattle.sno_statement.specs.Perform.{IsCodeOf};
 ghost use Rattle.sno_seek.specs.Gathered.{cursor_or_past, gathered, gathered_by, gathered_trials, next_after};
 
 use sno_machine::{Code, SearchOutcome, Searched, compile};
-use sno_pattern::{ByteText, Found, Hit, searches_lie_within_the_text};
+use sno_pattern::{ByteText, Found};
 use sno_statement::{FileStatement, FileStatementFault, StatementFault, next_cursor};
 use std::alloc::Global;
 use std::collections::VecDeque;
@@ -34,11 +33,11 @@ struct Seeking<'c, 't, 'a> {
 }
 
 /// Where the search after one begins, if that one found a match.
-fn cursor_after(anchored: bool, text: &ByteText, end: Option<&Hit>) -> Option<usize>
-    requires { IfSome end (λ hit. hit.now.end ≤ length text.now) }
-    ensures { result ≡ next_after anchored text.now (option_map (λ hit. hit.now) end.entry) }
+fn cursor_after(anchored: bool, text: &ByteText, found: &Found) -> Option<usize>
+    requires { IfSome found.now.end (λ hit. hit.end ≤ length text.now) }
+    ensures { result ≡ next_after anchored text.now found.now.end }
 {
-    match end {
+    match &found.end {
         None => None,
         Some(hit) => next_cursor(anchored, text.bytes(), hit),
     }
@@ -81,6 +80,7 @@ impl<'c, 't, 'a> Seeking<'c, 't, 'a> {
         }
     }
 
+    #[tactic(auto, using(crate::proofs::GatheredLaws::none_left, crate::proofs::GatheredLaws::no_trials, crate::proofs::GatheredLaws::one_more, crate::proofs::GatheredLaws::trials_more, crate::proofs::GatheredLaws::next_cursor, crate::proofs::GatheredLaws::end_inside))]
     /// Puts what at most `most` searches find, the first of them from this cursor on, after what was gathered before.
     fn gather(
         &mut self,
@@ -89,7 +89,7 @@ impl<'c, 't, 'a> Seeking<'c, 't, 'a> {
         most: usize,
         ahead: &mut VecDeque<Gathered>,
     ) -> Result<(), FileStatementFault>
-        requires { IfSome from (λ c. c ≤ length self.old.text.now) }
+        requires { IsCursor self.old.text.now from }
         ensures gathered { OnOk result (ahead.new.items ≡ ahead.old.items ++ gathered self.old.statement.now self.old.text.now most from) }
         ensures within { OnOk result (gathered_trials self.old.statement.now self.old.text.now most from ≤ self.old.left) }
         ensures refused { IfErr result (λ e. e ≡ TooManyTrials → self.old.left < gathered_trials self.old.statement.now self.old.text.now most from) }
@@ -103,9 +103,7 @@ impl<'c, 't, 'a> Seeking<'c, 't, 'a> {
                 return Ok(());
             };
             let found = self.search(alloc, cursor)?;
-            // for the proof
-            searches_lie_within_the_text();
-            at = cursor_after(anchored, self.text, found.end.as_ref());
+            at = cursor_after(anchored, self.text, &found);
             let next = or_past(self.text, at);
             ahead.push_back(Gathered { found, next })?;
             left -= 1;

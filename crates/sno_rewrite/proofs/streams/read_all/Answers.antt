@@ -6,11 +6,11 @@ use Rattle.sno_rewrite.proofs.streams.read_all.Goals as goal
 
 pub returns-in_err-count-clause-taken : goal.returns-in_err-count-clause-taken
 returns-in_err-count-clause-taken g c =
-    let before = c.loop-bytes.invariant in
+    let before = c.loop-piece.invariant in
     let piece = c.read_piece.ensures.taken in (
-      c.loop-bytes.bytes.items ++ piece.0,
-      Consumes-trans _ _ _ c.loop-bytes.bytes.items piece.0 before.consumed piece.1,
-      omega (arith, length-append c.loop-bytes.bytes.items piece.0, piece.2),
+      c.loop-piece.bytes.items ++ piece.0,
+      Consumes-trans _ _ _ c.loop-piece.bytes.items piece.0 before.consumed piece.1,
+      omega (arith, length-append c.loop-piece.bytes.items piece.0, piece.2),
     )
 
 pub returns-clause-taken : goal.returns-clause-taken
