@@ -16,9 +16,7 @@ use crate::thread_options::thread_count;
 use crate::variables::has_variable;
 use sno_edit::{EditRules, FileFault, FileStatementFault, Folder, ReadFault, RefusedStatement};
 use sno_files::{Listed, Part, ReadOnly, Reason, text_bytes};
-use sno_find::{
-    FindFault, Finding, SpanValue, count_in, find_in, put_count, put_json, put_line,
-};
+use sno_find::{FindFault, Finding, SpanValue, count_in, find_in, put_count, put_json, put_line};
 use sno_pattern::{ByteText, MAX_BYTES, Name};
 use std::alloc::{AllocError, Global};
 use std::fs::File;

@@ -45,3 +45,49 @@ pub(crate) fn places_of<'p, X: Drop>(
     }
     Ok(places)
 }
+
+/// How many files that come one after the other go to one thread before the next ones go to another. Long files often lie together.
+const TOGETHER: usize = 16;
+
+/// The numbers of so many files, as they are dealt out: first those of the first thread.
+pub(crate) fn dealt(alloc: Global, count: usize, threads: usize) -> Result<Vec<usize>, AllocError> {
+    let mut order = Vec::with_capacity(alloc, count)?;
+    for number in 0..count {
+        order.push(number)?;
+    }
+    order.sort_by_key(|number| (*number / TOGETHER).checked_rem(threads).unwrap_or(0))?;
+    Ok(order)
+}
+
+/// A place for each of the paths, in this order of their numbers.
+pub(crate) fn dealt_places<'p, X: Drop>(
+    alloc: Global,
+    paths: &[&'p str],
+    order: &[usize],
+) -> Result<Vec<Place<'p, X>>, AllocError> {
+    let mut places = Vec::with_capacity(alloc, order.len())?;
+    for number in order {
+        if let Some(path) = paths.get(*number) {
+            places.push(Place { path, result: None })?;
+        }
+    }
+    Ok(places)
+}
+
+/// The places in the order of the paths, of which these are the numbers.
+pub(crate) fn in_order<'s, 'p, X: Drop>(
+    alloc: Global,
+    places: &'s [Place<'p, X>],
+    order: &[usize],
+) -> Result<Vec<&'s Place<'p, X>>, AllocError> {
+    let mut numbered = Vec::with_capacity(alloc, places.len())?;
+    for (number, place) in order.iter().zip(places.iter()) {
+        numbered.push((*number, place))?;
+    }
+    numbered.sort_by_key(|one| one.0)?;
+    let mut sorted = Vec::with_capacity(alloc, numbered.len())?;
+    for (_, place) in numbered {
+        sorted.push(place)?;
+    }
+    Ok(sorted)
+}

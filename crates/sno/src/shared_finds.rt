@@ -4,7 +4,7 @@ use crate::faults::ProgramFault;
 use crate::find_options::Shown;
 use crate::finds::{NotFound, Sought, find_file, find_named, keep};
 use crate::searches::Search;
-use crate::shared_files::{Kept, places_of};
+use crate::shared_files::{Kept, dealt, dealt_places, in_order};
 use crate::streams::write_all;
 use sno_edit::FileFault;
 use sno_files::{Place, side_by_side};
@@ -59,7 +59,7 @@ fn write_sight<W: Write>(
 /// Writes what is shown of each of the files.
 fn write_each<R: Files<File = File>, I: Read, W: Write, E: Write>(
     search: &Search<'_, R>,
-    places: &[Place<'_, Seen>],
+    places: &[&Place<'_, Seen>],
     sought: &mut Sought,
     input: &mut I,
     output: &mut W,
@@ -100,7 +100,8 @@ pub(crate) fn find_shared<
         threads,
         in_folder,
     } = *search;
-    let mut places = places_of(alloc, paths)?;
+    let order = dealt(alloc, paths.len(), threads)?;
+    let mut places = dealt_places(alloc, paths, &order)?;
     side_by_side(
         rt,
         threads,
@@ -117,5 +118,6 @@ pub(crate) fn find_shared<
             see(&alone, path)
         },
     );
+    let places = in_order(alloc, &places, &order)?;
     write_each(search, &places, sought, input, output, errors)
 }
