@@ -2,10 +2,10 @@
 ghost use Rattle.std.specs.Prelude.{◌≡◌, ◌≤◌, ◌+◌, IfOk, length};
 ghost use Rattle.sno_pattern.specs.declared.texts.TheConstants.{MAX_TEXT};
 ghost use Rattle.sno_statement.specs.Passes.{all_matches, matches_left};
-ghost use Rattle.sno_statement.specs.Perform.{IsCodeOf, perform};
+ghost use Rattle.sno_statement.specs.Perform.{perform};
 ghost use Rattle.bench_matches.specs.Effects.{effect_of_hit, effect_of_matching, effect_of_performing};
 
-use sno_machine::{Code, Found, MatchFault, Workspace};
+use sno_machine::{Code, Found, MatchFault, Workspace, compile};
 use sno_pattern::Text;
 use sno_statement::{Outcome, Pass, Statement, StatementFault, perform};
 use std::alloc::{AllocError, Global};
@@ -112,19 +112,20 @@ fn count_left(alloc: Global, pass: &mut Pass<'_, '_, '_>) -> Result<usize, State
     Ok(matches)
 }
 
-/// How many matches a pass of the statement over the text has. The code has to be that of the statement's pattern.
+/// How many matches a pass of the statement over the text has. The pattern is compiled first.
 ///
 /// Refused: `TooManyTrials` if the pass takes more trials than the statement's limit; `Memory` if out of memory.
 #[tactic(auto, using(sno_statement::proofs::PassLaws::matches_few))]
 pub fn matches_of_pass(
     alloc: Global,
-    code: &Code<'_>,
     statement: &Statement,
     text: &Text,
 ) -> Result<usize, StatementFault>
-    requires { IsCodeOf code.now statement.now }
     ensures { IfOk result (λ matches. matches ≡ length (all_matches statement.now text.now)) }
 {
-    let mut pass = Pass::new(alloc, statement, code, text);
+    let code = compile(alloc, statement.rules(), statement.pattern())?;
+    // for the proof
+    let _short = text.bytes();
+    let mut pass = Pass::new(alloc, statement, &code, text);
     count_left(alloc, &mut pass)
 }

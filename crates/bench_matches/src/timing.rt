@@ -1,6 +1,5 @@
 //! The least time of some runs.
 ghost use Rattle.std.specs.Prelude.{◌≤◌};
-ghost use Rattle.sno_statement.specs.Perform.{IsCodeOf};
 
 use crate::effects::{Effect, effect_of_matching, effect_of_performing, matches_of_pass};
 use crate::faults::Fault;
@@ -125,14 +124,11 @@ fn perform_once(
 
 fn pass_once(
     alloc: Global,
-    code: &Code<'_>,
     statement: &Statement,
     text: &Text,
     expected: Effect,
-) -> Result<(), Fault>
-    requires { IsCodeOf code.now statement.now }
-{
-    match matches_of_pass(alloc, code, statement, text) {
+) -> Result<(), Fault> {
+    match matches_of_pass(alloc, statement, text) {
         Ok(matches) => expect(Effect::All { matches }, expected),
         Err(_) => Err(Fault::Differs),
     }
@@ -142,23 +138,17 @@ fn pass_once(
 fn time_of_pass<C: Clock>(
     clock: &C,
     alloc: Global,
-    code: &Code<'_>,
     statement: &Statement,
     text: &Text,
     expected: Effect,
     times: u32,
 ) -> Result<Option<Tenths>, Fault>
-    requires times { 1 ≤ times }
-    requires code { IsCodeOf code.now statement.now }
+    requires { 1 ≤ times }
 {
     if !matches!(expected, Effect::All { .. }) {
         return Ok(None);
     }
-    let least = least_time(
-        clock,
-        times,
-        || pass_once(alloc, code, statement, text, expected),
-    )?;
+    let least = least_time(clock, times, || pass_once(alloc, statement, text, expected))?;
     Ok(Some(least))
 }
 
@@ -193,7 +183,7 @@ pub fn time<C: Clock>(
         times,
         || perform_once(alloc, statement, text, expected),
     )?;
-    let over_text = time_of_pass(clock, alloc, &code, statement, text, expected, times)?;
+    let over_text = time_of_pass(clock, alloc, statement, text, expected, times)?;
     Ok(Times {
         compile,
         matching,

@@ -75,13 +75,13 @@ pub(crate) fn dealt_places<'p, X: Drop>(
 }
 
 /// The places in the order of the paths, of which these are the numbers.
-pub(crate) fn in_order<'s, 'p, X: Drop>(
+pub(crate) fn in_order<'p, X: Drop>(
     alloc: Global,
-    places: &'s [Place<'p, X>],
+    places: Vec<Place<'p, X>>,
     order: &[usize],
-) -> Result<Vec<&'s Place<'p, X>>, AllocError> {
+) -> Result<Vec<Place<'p, X>>, AllocError> {
     let mut numbered = Vec::with_capacity(alloc, places.len())?;
-    for (number, place) in order.iter().zip(places.iter()) {
+    for (number, place) in order.iter().zip(places) {
         numbered.push((*number, place))?;
     }
     numbered.sort_by_key(|one| one.0)?;

@@ -59,7 +59,7 @@ fn write_sight<W: Write>(
 /// Writes what is shown of each of the files.
 fn write_each<R: Files<File = File>, I: Read, W: Write, E: Write>(
     search: &Search<'_, R>,
-    places: &[&Place<'_, Seen>],
+    places: &[Place<'_, Seen>],
     sought: &mut Sought,
     input: &mut I,
     output: &mut W,
@@ -118,6 +118,6 @@ pub(crate) fn find_shared<
             see(&alone, path)
         },
     );
-    let places = in_order(alloc, &places, &order)?;
+    let places = in_order(alloc, places, &order)?;
     write_each(search, &places, sought, input, output, errors)
 }
