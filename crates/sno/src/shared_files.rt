@@ -49,7 +49,7 @@ pub(crate) fn places_of<'p, X: Drop>(
 /// How many files that come one after the other go to one thread before the next ones go to another. Long files often lie together.
 const TOGETHER: usize = 16;
 
-/// The numbers of so many files, as they are dealt out: first those of the first thread.
+/// The numbers of `count` files, as they are dealt out: first those of the first thread.
 pub(crate) fn dealt(alloc: Global, count: usize, threads: usize) -> Result<Vec<usize>, AllocError> {
     let mut order = Vec::with_capacity(alloc, count)?;
     for number in 0..count {
