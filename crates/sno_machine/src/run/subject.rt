@@ -92,6 +92,7 @@ impl<'s, 't, 'a> Subject<'s, 't, 'a> {
         requires { c ≤ length self.now }
         ensures exact { option_to_list result ≡ span_ends self.now set.now c }
         ensures past { IfSome result (λ e. (c ≤ e) × (e ≤ length self.now)) }
+        ensures short { length self.now ≤ MAX_BYTES }
     {
         let end = self.run_end(set, true, c);
         if end != c { Some(end) } else { None }
@@ -103,6 +104,7 @@ impl<'s, 't, 'a> Subject<'s, 't, 'a> {
         requires { c ≤ length self.now }
         ensures exact { option_to_list result ≡ break_ends self.now set.now c }
         ensures past { IfSome result (λ e. (c ≤ e) × (e ≤ length self.now)) }
+        ensures short { length self.now ≤ MAX_BYTES }
     {
         let end = self.run_end(set, false, c);
         if end < self.text.len() {
@@ -118,6 +120,7 @@ impl<'s, 't, 'a> Subject<'s, 't, 'a> {
         requires { c ≤ length self.now }
         ensures exact { result ≡ run_end inside set.now self.now c }
         ensures within { (c ≤ result) × (result ≤ length self.now) }
+        ensures short { length self.now ≤ MAX_BYTES }
     {
         match near_run_end(self.text, set, inside, c, NEAR) {
             Some(end) => end,
