@@ -1,7 +1,6 @@
 //! What a statement does on a text.
-ghost use Rattle.std.specs.Prelude.{◌≡◌, ◌≤◌, ◌+◌, IfOk, length};
-ghost use Rattle.sno_pattern.specs.declared.texts.TheConstants.{MAX_TEXT};
-ghost use Rattle.sno_statement.specs.Passes.{all_matches, matches_left};
+ghost use Rattle.std.specs.Prelude.{◌≡◌, IfOk, length};
+ghost use Rattle.sno_statement.specs.Passes.{all_matches};
 ghost use Rattle.sno_statement.specs.Perform.{perform};
 ghost use Rattle.bench_matches.specs.Effects.{effect_of_hit, effect_of_matching, effect_of_performing};
 
@@ -99,23 +98,9 @@ pub fn effect_of_matching<'a>(
     }
 }
 
-/// How many matches are left of a pass. Each is looked at where it lies: no variable is copied.
-fn count_left(alloc: Global, pass: &mut Pass<'_, '_, '_>) -> Result<usize, StatementFault>
-    requires { length (matches_left pass.old) ≤ MAX_TEXT + 1 }
-    ensures { IfOk result (λ n. n ≡ length (matches_left pass.old)) }
-{
-    let mut matches = 0;
-    while let Some((sets, hit)) = pass.next_hit(alloc)? {
-        matches += 1;
-        pass.give_back(sets, hit);
-    }
-    Ok(matches)
-}
-
 /// How many matches a pass of the statement over the text has. The pattern is compiled first.
 ///
 /// Refused: `TooManyTrials` if the pass takes more trials than the statement's limit; `Memory` if out of memory.
-#[tactic(auto, using(sno_statement::proofs::PassLaws::matches_few))]
 pub fn matches_of_pass(
     alloc: Global,
     statement: &Statement,
@@ -124,8 +109,7 @@ pub fn matches_of_pass(
     ensures { IfOk result (λ matches. matches ≡ length (all_matches statement.now text.now)) }
 {
     let code = compile(alloc, statement.rules(), statement.pattern())?;
-    // for the proof
-    let _short = text.bytes();
     let mut pass = Pass::new(alloc, statement, &code, text);
-    count_left(alloc, &mut pass)
+    let matches = pass.count_left(alloc)?;
+    Ok(matches as usize)
 }

@@ -1,8 +1,7 @@
 //! How many matches there are in a file.
-ghost use Rattle.std.specs.Prelude.{◌≡◌, ◌<◌, ◌+◌, ◌≤◌, length, false, None, IfOk, IfErr};
-ghost use Rattle.sno_pattern.specs.declared.byte_texts.TheConstants.{MAX_BYTES};
+ghost use Rattle.std.specs.Prelude.{◌≡◌, ◌<◌, ◌≤◌, length, false, None, IfOk, IfErr};
 ghost use Rattle.sno_statement.specs.BytePasses.{first_match, first_trials};
-ghost use Rattle.sno_statement.specs.Passes.{all_matches, all_trials, matches_left, trials_together};
+ghost use Rattle.sno_statement.specs.Passes.{all_matches, all_trials};
 ghost use Rattle.sno_statement.specs.Perform.{IsCodeOf};
 ghost use Rattle.sno_statement.specs.Statement.{with_limit};
 ghost use Rattle.sno_statement.specs.declared.file_faults.FileStatementFault.TheVariants.{TextTooLong, TooManyTrials};
@@ -18,24 +17,7 @@ use sno_pattern::ByteText;
 use sno_statement::{BytePass, FileStatement, FileStatementFault, first_match};
 use std::alloc::Global;
 
-/// How many matches are left of a pass. None is kept, and no variable looked at.
-fn count_left(alloc: Global, pass: &mut BytePass<'_, '_, '_>) -> Result<usize, FileStatementFault>
-    requires { length (matches_left pass.old) ≤ MAX_BYTES + 1 }
-    ensures counted { IfOk result (λ n. n ≡ length (matches_left pass.old)) }
-    ensures within { IfOk result (λ _. trials_together pass.old ≤ pass.old.statement.limit) }
-    ensures refused { IfErr result (λ e. e ≡ TooManyTrials → pass.old.statement.limit < trials_together pass.old) }
-    ensures never { IfErr result (λ e. e ≡ TextTooLong → ⊥) }
-{
-    let mut matches = 0;
-    while let Some((sets, hit)) = pass.next_hit(alloc)? {
-        matches += 1;
-        pass.give_back(sets, hit);
-    }
-    Ok(matches)
-}
-
 /// How many matches a statement for all matches has. The code is that of its pattern.
-#[tactic(auto, using(sno_statement::proofs::PassLaws::matches_few))]
 fn count_all(
     alloc: Global,
     statement: &FileStatement,
@@ -50,7 +32,8 @@ fn count_all(
     ensures never { IfErr result (λ e. e ≡ TextTooLong → ⊥) }
 {
     let mut pass = BytePass::new(alloc, statement, code, text, trials);
-    count_left(alloc, &mut pass)
+    let matches = pass.count_left(alloc)?;
+    Ok(matches as usize)
 }
 
 /// 1 if a statement has a first match, and 0 if not. The code is that of its pattern.

@@ -98,10 +98,6 @@ pass_code =
 abbrev pub begun : Statement → List ℕ → Pass
 begun s t = record { statement = s; text = t; before = None; at = Some 0; spent = 0 }
 
--- as it goes on from cursor c; `before` is the end of the match before, if there was one
-abbrev pub resumed : Option ℕ → ℕ → Pass → Pass
-resumed before c p = record { statement = p.statement; text = p.text; before = before; at = Some c; spent = p.spent }
-
 -- as it is after a search that took these trials, and found this match or none
 abbrev pub moved : Pass → ℕ → Option Hit → Pass
 moved p trials None = record { statement = p.statement; text = p.text; before = p.before; at = None; spent = p.spent + trials }

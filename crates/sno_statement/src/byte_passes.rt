@@ -5,7 +5,7 @@ ghost use Rattle.sno_pattern.specs.CursorLaws.{SetsLie};
 ghost use Rattle.sno_statement.specs.declared.file_faults.FileStatementFault.TheVariants.{TooManyTrials, TextTooLong};
 ghost use Rattle.sno_statement.specs.Bindings.{lookup};
 ghost use Rattle.sno_statement.specs.BytePasses.{byte_match, first_match, first_trials};
-ghost use Rattle.sno_statement.specs.Passes.{begun, cursors_left, match_by, matches_left, resumed, trials_together};
+ghost use Rattle.sno_statement.specs.Passes.{begun, cursors_left, match_by, matches_left, trials_together};
 ghost use Rattle.sno_statement.specs.Perform.{IsCodeOf};
 ghost use Rattle.sno_statement.specs.Spans.{value_lent};
 ghost use Rattle.sno_statement.specs.Statement.{with_limit};
@@ -125,15 +125,6 @@ impl<'c, 't, 'a> BytePass<'c, 't, 'a> {
         }
     }
 
-    /// Goes on from this cursor, as after a match that ended at `before`, if there was one. So a pass can be taken up where another
-    /// one was left. It takes no memory.
-    pub fn resume(&mut self, before: Option<usize>, from: usize)
-        requires { from ≤ length self.old.text }
-        ensures { self.new ≡ resumed before from self.old }
-    {
-        self.searches.resume(before, from);
-    }
-
     /// The next match as its search found it, without a copy: what the search assigned at once, and the match with its conditional
     /// assignments, all as cursors of the text. `None` if there is none left. Refused as [`BytePass::next`] is.
     pub fn next_hit(&mut self, alloc: Global) -> Result<Option<(Assigns, Hit)>, FileStatementFault>
@@ -155,6 +146,19 @@ impl<'c, 't, 'a> BytePass<'c, 't, 'a> {
         ensures { self.new ≡ self.old }
     {
         self.searches.give_back(sets, hit);
+    }
+
+    /// How many matches are left. None is kept, and no variable looked at. Refused as [`BytePass::next`] is. Then no match is left;
+    /// after a refusal none should be asked for.
+    pub fn count_left(&mut self, alloc: Global) -> Result<u64, FileStatementFault>
+        ensures counted { IfOk result (λ n. n ≡ length (matches_left self.old)) }
+        ensures ended { OnOk result (self.new.at ≡ None) }
+        ensures within { IfOk result (λ _. trials_together self.old ≤ self.old.statement.limit) }
+        ensures refused { IfErr result (λ e. e ≡ TooManyTrials → self.old.statement.limit < trials_together self.old) }
+        ensures never { IfErr result (λ e. e ≡ TextTooLong → ⊥) }
+    {
+        let matches = self.searches.count_in_file(alloc)?;
+        Ok(matches)
     }
 
     /// The next match with its bindings; `None` if there is none left. The limit is for the trials of all searches of the pass

@@ -76,6 +76,19 @@ impl<'c, 't, 'a> Pass<'c, 't, 'a> {
         self.searches.give_back(sets, hit);
     }
 
+    /// How many matches are left. None is kept, and no variable copied. Refused as [`Pass::next`] is. Then no match is left; after a
+    /// refusal none should be asked for.
+    pub fn count_left(&mut self, alloc: Global) -> Result<u64, StatementFault>
+        ensures counted { IfOk result (λ n. n ≡ length (matches_left self.old)) }
+        ensures ended { OnOk result (self.new.at ≡ None) }
+        ensures within { IfOk result (λ _. trials_together self.old ≤ self.old.statement.limit) }
+        ensures refused { IfErr result (λ e. e ≡ TooManyTrials → self.old.statement.limit < trials_together self.old) }
+        ensures never { IfErr result (λ e. e ≡ TextTooLong → ⊥) }
+    {
+        let matches = self.searches.count_left(alloc)?;
+        Ok(matches)
+    }
+
     /// The next match with its bindings; `None` if there is none left. The limit is for the trials of all searches of the pass
     /// together.
     ///

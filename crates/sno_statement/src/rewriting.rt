@@ -287,22 +287,6 @@ fn with_end(text: Option<Vec<u8>>, end: &[u8]) -> Result<Option<Vec<u8>>, AllocE
     Ok(Some(text))
 }
 
-/// How many matches are left of a pass.
-fn count(alloc: Global, pass: &mut Searches<'_, '_, '_>) -> Result<u64, FileStatementFault>
-    requires { length (matches_left pass.old) ≤ MAX_BYTES + 1 }
-    ensures counted { IfOk result (λ n. n ≡ length (matches_left pass.old)) }
-    ensures within { IfOk result (λ _. trials_together pass.old ≤ pass.old.statement.limit) }
-    ensures refused { IfErr result (λ e. plain e ≡ TooManyTrials → pass.old.statement.limit < trials_together pass.old) }
-    ensures never { IfErr result (λ e. plain e ≡ TextTooLong → ⊥) }
-{
-    let mut matches = 0;
-    while let Some((sets, hit)) = pass.next_in_file(alloc)? {
-        matches += 1;
-        pass.give_back(sets, hit);
-    }
-    Ok(matches)
-}
-
 /// How many matches are left of a pass, and the text in which each is replaced; `None` for a text that is too long. No match is
 /// kept.
 fn replace_left(
@@ -382,7 +366,7 @@ fn rewrite_all(
     let bytes = subject.bytes();
     match statement.object() {
         None => {
-            let matches = count(alloc, &mut pass)?;
+            let matches = pass.count_in_file(alloc)?;
             Ok(Rewritten {
                 matches,
                 after: None,

@@ -3,7 +3,7 @@ ghost use Rattle.std.specs.Prelude.{◌≡◌, ◌+◌, ◌<◌, ◌≤◌, ◌�
 ghost use Rattle.sno_pattern.specs.CursorLaws.{SetsLie};
 ghost use Rattle.sno_statement.specs.declared.outcomes.StatementFault.TheVariants.{TooManyTrials, TextTooLong};
 ghost use Rattle.sno_statement.specs.FileFaults.{plain};
-ghost use Rattle.sno_statement.specs.Passes.{begun, counts, cursors_left, match_by, matches_left, moved, next_search, resumed, search, search_trials, trials_together};
+ghost use Rattle.sno_statement.specs.Passes.{begun, counts, cursors_left, match_by, matches_left, moved, next_search, search, search_trials, trials_together};
 ghost use Rattle.sno_statement.specs.Sought.{sought};
 ghost use Rattle.sno_statement.specs.Perform.{IsCodeOf};
 ghost use Rattle.sno_statement.specs.Statement.{with_limit};
@@ -108,15 +108,6 @@ impl<'c, 't, 'a> Searches<'c, 't, 'a> {
         }
     }
 
-    /// Goes on from this cursor, as after a match that ended at `before`, if there was one.
-    pub(crate) fn resume(&mut self, before: Option<usize>, from: usize)
-        requires { from ≤ length self.old.text }
-        ensures { self.new ≡ resumed before from self.old }
-    {
-        self.before = before;
-        self.at = Some(from);
-    }
-
     /// The next search, from this cursor on. Then the pass is past it.
     #[inline(always)]
     pub(crate) fn search(&mut self, alloc: Global, from: usize) -> Result<Found, StatementFault>
@@ -185,6 +176,43 @@ impl<'c, 't, 'a> Searches<'c, 't, 'a> {
             }
         }
         Ok(None)
+    }
+
+    /// How many matches are left. None is kept, and no variable looked at.
+    pub(crate) fn count_left(&mut self, alloc: Global) -> Result<u64, StatementFault>
+        ensures counted { IfOk result (λ n. n ≡ length (matches_left self.old)) }
+        ensures ended { OnOk result (self.new.at ≡ None) }
+        ensures within { IfOk result (λ _. trials_together self.old ≤ self.old.statement.limit) }
+        ensures refused { IfErr result (λ e. e ≡ TooManyTrials → self.old.statement.limit < trials_together self.old) }
+        ensures never { IfErr result (λ e. e ≡ TextTooLong → ⊥) }
+        ensures text { self.new.text ≡ self.old.text }
+    {
+        // for the proof
+        let _short = self.searched.characters();
+        let mut matches = 0;
+        while let Some((sets, hit)) = self.next_hit(alloc)? {
+            matches += 1;
+            self.give_back(sets, hit);
+        }
+        Ok(matches)
+    }
+
+    /// As [`Searches::count_left`], with the fault that a file has.
+    pub(crate) fn count_in_file(&mut self, alloc: Global) -> Result<u64, FileStatementFault>
+        ensures counted { IfOk result (λ n. n ≡ length (matches_left self.old)) }
+        ensures ended { OnOk result (self.new.at ≡ None) }
+        ensures within { IfOk result (λ _. trials_together self.old ≤ self.old.statement.limit) }
+        ensures refused { IfErr result (λ e. plain e ≡ TooManyTrials → self.old.statement.limit < trials_together self.old) }
+        ensures never { IfErr result (λ e. plain e ≡ TextTooLong → ⊥) }
+        ensures text { self.new.text ≡ self.old.text }
+    {
+        match self.count_left(alloc) {
+            Ok(matches) => Ok(matches),
+            Err(fault) => {
+                let is_full = self.searched.is_full();
+                Err(FileStatementFault::of(fault, is_full))
+            }
+        }
     }
 
     /// As [`Searches::next_hit`], with the fault that a file has.

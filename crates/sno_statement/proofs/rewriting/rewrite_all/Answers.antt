@@ -8,9 +8,6 @@ use Rattle.sno_statement.specs.Rewriting.{GivesRewritten, IsReplaced}
 use Rattle.sno_statement.proofs.RewritingLaws.{begun_few, counted_all, over_begun, refused_rewriting, replaced_all, within_begun}
 use Rattle.sno_statement.proofs.rewriting.rewrite_all.Goals as goal
 
-pub count-requires : goal.count-requires
-count-requires c = subst (λ (z : Pass). length (matches_left z) ≤ MAX_BYTES + 1) (sym c.in_bytes-pass.ensures) (begun_few (with_limit c.args.statement.now c.args.trials) c.args.subject.now c.bytes-bytes.ensures.short)
-
 pub returns-in_err-matches-in-None-clause-rewritten : goal.returns-in_err-matches-in-None-clause-rewritten
 returns-in_err-matches-in-None-clause-rewritten c =
     let s = with_limit c.args.statement.now c.args.trials in

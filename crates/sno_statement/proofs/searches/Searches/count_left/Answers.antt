@@ -1,19 +1,21 @@
 -- Each match is counted. At the end no search is left, and the trials that were spent are those of all searches.
 use Rattle.std.proofs.Common.{◌≡◌, ◌∷◌, [], length, ap, ◌∙◌, arith}
 use Rattle.sno_statement.specs.Statement.{Statement}
-use Rattle.sno_statement.specs.Passes.{Pass, match_by, matches_left, trials_together}
-use Rattle.sno_statement.proofs.PassLaws.{ended_within}
-use Rattle.sno_find.proofs.counts.count_left.Goals as goal
+use Rattle.sno_statement.specs.Passes.{Pass, match_by, matches_left, most_searches, trials_together}
+use Rattle.sno_statement.proofs.PassLaws.{ended_within, matches_few}
+use Rattle.sno_statement.proofs.searches.Searches.count_left.Goals as goal
 
 pub overflow_add-matches : goal.overflow_add-matches
 overflow_add-matches c =
-    let next : matches_left c.loop-sets.pass ≡ match_by c.loop-sets.pass.text c.in-Some.sets c.in-Some.hit ∷ matches_left c.next_hit.new.self = rw c.in-Some.is at c.in_ok-sets.ensures.next in
+    let next : matches_left c.loop-sets.self ≡ match_by c.loop-sets.self.text c.in-Some.sets c.in-Some.hit ∷ matches_left c.next_hit.new.self = rw c.in-Some.is at c.in_ok-sets.ensures.next in
     let here = ap length next in
-    omega (arith, here, c.loop-sets.invariant.counted, c.requires)
+    let p = c.args.self.now in
+    let few = matches_few p.statement p.text (most_searches p.text) p.before p.at in
+    omega (arith, here, c.loop-sets.invariant.counted, few, c.characters-_short.ensures)
 
 pub loop-sets-preserved : goal.loop-sets-preserved
 loop-sets-preserved c =
-    let next : matches_left c.loop-sets.pass ≡ match_by c.loop-sets.pass.text c.in-Some.sets c.in-Some.hit ∷ matches_left c.next_hit.new.self = rw c.in-Some.is at c.in_ok-sets.ensures.next in
+    let next : matches_left c.loop-sets.self ≡ match_by c.loop-sets.self.text c.in-Some.sets c.in-Some.hit ∷ matches_left c.next_hit.new.self = rw c.in-Some.is at c.in_ok-sets.ensures.next in
     let here = ap length next in
     let kept = ap (λ (z : Pass). length (matches_left z)) c.give_back.ensures in
     record {
@@ -24,7 +26,7 @@ loop-sets-preserved c =
 
 pub returns-clause-counted : goal.returns-clause-counted
 returns-clause-counted c =
-    let nothing : matches_left c.loop-sets.pass ≡ [] = rw c.in_default.is at c.in_ok-sets.ensures.next in
+    let nothing : matches_left c.loop-sets.self ≡ [] = rw c.in_default.is at c.in_ok-sets.ensures.next in
     let here = ap length nothing in
     omega (arith, here, c.loop-sets.invariant.counted)
 
