@@ -11,7 +11,7 @@ overflow_add-matches c =
     let here = ap length next in
     let p = c.args.self.now in
     let few = matches_few p.statement p.text (most_searches p.text) p.before p.at in
-    omega (arith, here, c.loop-sets.invariant.counted, few, c.characters-_short.ensures)
+    omega (arith, here, c.loop-sets.invariant.counted, few, c.characters-short.ensures.short)
 
 pub loop-sets-preserved : goal.loop-sets-preserved
 loop-sets-preserved c =
