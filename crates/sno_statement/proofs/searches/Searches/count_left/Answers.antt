@@ -1,5 +1,6 @@
 -- Each match is counted. At the end no search is left, and the trials that were spent are those of all searches.
-use Rattle.std.proofs.Common.{◌≡◌, ◌∷◌, [], length, ap, ◌∙◌, arith}
+use Rattle.std.proofs.Common.{◌≡◌, ◌≤◌, ◌∷◌, [], length, ap, subst, ◌∙◌, arith}
+use Rattle.sno_pattern.specs.declared.byte_texts.TheConstants.{MAX_BYTES}
 use Rattle.sno_statement.specs.Statement.{Statement}
 use Rattle.sno_statement.specs.Passes.{Pass, match_by, matches_left, most_searches, trials_together}
 use Rattle.sno_statement.proofs.PassLaws.{ended_within, matches_few}
@@ -11,7 +12,8 @@ overflow_add-matches c =
     let here = ap length next in
     let p = c.args.self.now in
     let few = matches_few p.statement p.text (most_searches p.text) p.before p.at in
-    omega (arith, here, c.loop-sets.invariant.counted, few, c.characters-short.ensures.short)
+    let short : length p.text ≤ MAX_BYTES = subst (λ (z : Pass). length z.text ≤ MAX_BYTES) c.self.view_is c.characters-short.ensures.short in
+    omega (arith, here, c.loop-sets.invariant.counted, few, short)
 
 pub loop-sets-preserved : goal.loop-sets-preserved
 loop-sets-preserved c =
@@ -21,6 +23,7 @@ loop-sets-preserved c =
     record {
       counted = omega (arith, here, kept, c.loop-sets.invariant.counted);
       trials = ap trials_together c.give_back.ensures ∙ c.in_ok-sets.ensures.trials ∙ c.loop-sets.invariant.trials;
+      text = ap (λ (z : Pass). z.text) c.give_back.ensures ∙ c.in_ok-sets.ensures.same.1 ∙ c.loop-sets.invariant.text;
       statement = ap (λ (z : Pass). z.statement) c.give_back.ensures ∙ c.in_ok-sets.ensures.same.0 ∙ c.loop-sets.invariant.statement;
     }
 

@@ -7,6 +7,7 @@ abbrev pub invariant-loop-sets : goal.invariant-loop-sets
 invariant-loop-sets l = record {
   counted : l.matches + length (matches_left l.self) ≡ length (matches_left l.fn.self);
   trials : trials_together l.self ≡ trials_together l.fn.self;
+  text : l.self.text ≡ l.fn.self.text;
   statement : l.self.statement ≡ l.fn.self.statement;
 }
 
