@@ -9,7 +9,7 @@ use std::fs::{File, Metadata};
 use std::io::{ErrorKind, Write};
 use std::rt::Files;
 use std::thread::Threads;
-use std::{fs, io};
+use std::{fs, io, mem};
 
 /// Files that were named one after the other, or the files of one folder.
 #[derive(Drop)]
@@ -92,58 +92,20 @@ fn list_folder<R: Files + AllocGlobal + Clone + Drop>(
     Ok(found)
 }
 
-/// Adds what is in a folder. Returns why it can't be read, if it can't.
-fn put_inside<R: Files + AllocGlobal + Clone + Drop>(
+/// What is in a folder, or why it can't be read.
+fn inside_of<R: Files + AllocGlobal + Clone + Drop>(
     rt: &R,
     alloc: Global,
     folder: &str,
     names: &[&str],
-    found: &mut Inside,
-) -> Result<Option<ErrorKind>, AllocError> {
+) -> Result<Inside, ErrorKind> {
     match list_folder(rt, alloc, folder, names) {
-        Ok(mut inside) => {
-            found.folders.append(&mut inside.folders)?;
-            found.files.append(&mut inside.files)?;
-            Ok(None)
-        }
-        Err(e) => match e.kind() {
-            ErrorKind::OutOfMemory => Err(AllocError),
-            kind => Ok(Some(kind)),
-        },
+        Ok(inside) => Ok(inside),
+        Err(e) => Err(e.kind()),
     }
 }
 
-/// How many folders are listed before others are in threads, so that there is work for each.
-const AHEAD: usize = 16;
-
-/// What was found below a folder: the files, in no order, and the folders that could not be read.
-#[derive(Drop)]
-struct Below {
-    files: Vec<String>,
-    unread: Vec<(String, ErrorKind)>,
-}
-
-/// Lists at most this many of the folders in `inside`, and of those in them. What was found is added to it.
-fn list_some<R: Files + AllocGlobal + Clone + Drop>(
-    rt: &R,
-    alloc: Global,
-    names: &[&str],
-    most: u64,
-    inside: &mut Inside,
-    unread: &mut Vec<(String, ErrorKind)>,
-) -> Result<(), AllocError> {
-    for _ in 0..most {
-        let Some(folder) = inside.folders.pop() else {
-            break;
-        };
-        if let Some(kind) = put_inside(rt, alloc, folder.as_str(), names, inside)? {
-            unread.push((folder, kind))?;
-        }
-    }
-    Ok(())
-}
-
-/// What is in this folder and no other yet.
+/// This folder, of which nothing is listed yet.
 fn only_folder(alloc: Global, folder: &str) -> Result<Inside, AllocError> {
     let mut folders = Vec::new(alloc);
     folders.push(String::from_str(alloc, folder)?)?;
@@ -153,38 +115,23 @@ fn only_folder(alloc: Global, folder: &str) -> Result<Inside, AllocError> {
     })
 }
 
-/// Lists a folder and all that are in it, at any depth.
-fn list_below<R: Files + AllocGlobal + Clone + Drop>(
-    rt: &R,
-    alloc: Global,
-    folder: &str,
-    names: &[&str],
-) -> Result<Below, AllocError> {
-    let mut inside = only_folder(alloc, folder)?;
-    let mut unread = Vec::new(alloc);
-    list_some(rt, alloc, names, u64::MAX, &mut inside, &mut unread)?;
-    Ok(Below {
-        files: inside.files,
-        unread,
-    })
-}
-
-/// Lists each of these folders and all that are in it, in at most `threads` threads.
+/// What is in each of these folders and in no other yet, in at most `threads` threads.
 fn list_each<'f, R: Files<File = File, Dir: Send> + AllocGlobal + Clone + Drop + Threads + Sync>(
     rt: &R,
     alloc: Global,
     names: &[&str],
     threads: usize,
     folders: &'f [String],
-) -> Result<Vec<Place<'f, Result<Below, AllocError>>>, AllocError>
+) -> Result<Vec<Place<'f, Result<Inside, ErrorKind>>>, AllocError>
     requires { 0 < threads }
 {
     let mut places = places_of(alloc, folders)?;
     side_by_side(
         rt,
+        alloc,
         threads,
         &mut places,
-        &|path: &str| list_below(rt, alloc, path, names),
+        &|path: &str| inside_of(rt, alloc, path, names),
     );
     Ok(places)
 }
@@ -220,24 +167,52 @@ impl Listed {
         Ok(())
     }
 
-    /// Adds what was found below folders: the files to `files`.
-    fn put_each(
+    /// Adds what is in a folder, or that it can't be read.
+    fn put_inside(
         &mut self,
-        places: Vec<Place<'_, Result<Below, AllocError>>>,
-        files: &mut Vec<String>,
+        alloc: Global,
+        folder: &str,
+        inside: Result<Inside, ErrorKind>,
+        found: &mut Inside,
     ) -> Result<(), AllocError> {
-        for place in places {
-            let Some(below) = place.result else {
-                return Err(AllocError);
-            };
-            let mut below = below?;
-            files.append(&mut below.files)?;
-            self.unread.append(&mut below.unread)?;
+        match inside {
+            Ok(mut inside) => {
+                found.folders.append(&mut inside.folders)?;
+                found.files.append(&mut inside.files)?;
+            }
+            Err(ErrorKind::OutOfMemory) => return Err(AllocError),
+            Err(kind) => {
+                let folder = String::from_str(alloc, folder)?;
+                self.unread.push((folder, kind))?;
+            }
         }
         Ok(())
     }
 
-    /// Adds the files in a folder, at any depth, in the order of their paths. Its folders are listed in at most `threads` threads.
+    /// Adds what is in the folders found so far: their files, and in place of them the folders in them.
+    fn put_level<R: Files<File = File, Dir: Send> + AllocGlobal + Clone + Drop + Threads + Sync>(
+        &mut self,
+        rt: &R,
+        alloc: Global,
+        names: &[&str],
+        threads: usize,
+        found: &mut Inside,
+    ) -> Result<(), AllocError>
+        requires { 0 < threads }
+    {
+        let folders = mem::replace(&mut found.folders, Vec::new(alloc));
+        for place in list_each(rt, alloc, names, threads, &folders)? {
+            let Place { path, result } = place;
+            let Some(inside) = result else {
+                return Err(AllocError);
+            };
+            self.put_inside(alloc, path, inside, found)?;
+        }
+        Ok(())
+    }
+
+    /// Adds the files in a folder, at any depth, in the order of their paths. Folders that are equally deep are listed together, in at
+    /// most `threads` threads.
     fn put_folder<R: Files<File = File, Dir: Send> + AllocGlobal + Clone + Drop + Threads + Sync>(
         &mut self,
         rt: &R,
@@ -248,18 +223,14 @@ impl Listed {
     ) -> Result<(), AllocError>
         requires { 0 < threads }
     {
-        let mut inside = only_folder(alloc, folder)?;
-        list_some(
-            rt,
-            alloc,
-            names,
-            AHEAD as u64,
-            &mut inside,
-            &mut self.unread,
-        )?;
-        let mut files = inside.files;
-        let places = list_each(rt, alloc, names, threads, &inside.folders)?;
-        self.put_each(places, &mut files)?;
+        let mut found = only_folder(alloc, folder)?;
+        for _ in 0..u64::MAX {
+            if found.folders.is_empty() {
+                break;
+            }
+            self.put_level(rt, alloc, names, threads, &mut found)?;
+        }
+        let mut files = found.files;
         files.sort()?;
         self.parts.push(Part {
             files,
