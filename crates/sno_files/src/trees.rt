@@ -92,20 +92,59 @@ fn list_folder<R: Files + AllocGlobal + Clone + Drop>(
     Ok(found)
 }
 
-/// What is in a folder, or why it can't be read.
-fn inside_of<R: Files + AllocGlobal + Clone + Drop>(
+/// Adds what is in a folder. Returns why it can't be read, if it can't.
+fn put_inside<R: Files + AllocGlobal + Clone + Drop>(
     rt: &R,
     alloc: Global,
     folder: &str,
     names: &[&str],
-) -> Result<Inside, ErrorKind> {
+    found: &mut Inside,
+) -> Result<Option<ErrorKind>, AllocError> {
     match list_folder(rt, alloc, folder, names) {
-        Ok(inside) => Ok(inside),
-        Err(e) => Err(e.kind()),
+        Ok(mut inside) => {
+            found.folders.append(&mut inside.folders)?;
+            found.files.append(&mut inside.files)?;
+            Ok(None)
+        }
+        Err(e) => match e.kind() {
+            ErrorKind::OutOfMemory => Err(AllocError),
+            kind => Ok(Some(kind)),
+        },
     }
 }
 
-/// This folder, of which nothing is listed yet.
+/// How many folders a thread lists before those in them are left to the next thread that is free. To list them takes longer than to
+/// begin threads, and a tree has more parts of this size than there are threads.
+const TOGETHER: u64 = 16;
+
+/// What was found below a folder: the files so far, in no order, the folders that are not listed yet, and those that can't be read.
+#[derive(Drop)]
+struct Below {
+    inside: Inside,
+    unread: Vec<(String, ErrorKind)>,
+}
+
+/// Lists at most this many of the folders in `inside`, and of those in them. What was found is added to it.
+fn list_some<R: Files + AllocGlobal + Clone + Drop>(
+    rt: &R,
+    alloc: Global,
+    names: &[&str],
+    most: u64,
+    inside: &mut Inside,
+    unread: &mut Vec<(String, ErrorKind)>,
+) -> Result<(), AllocError> {
+    for _ in 0..most {
+        let Some(folder) = inside.folders.pop() else {
+            break;
+        };
+        if let Some(kind) = put_inside(rt, alloc, folder.as_str(), names, inside)? {
+            unread.push((folder, kind))?;
+        }
+    }
+    Ok(())
+}
+
+/// What is in this folder and no other yet.
 fn only_folder(alloc: Global, folder: &str) -> Result<Inside, AllocError> {
     let mut folders = Vec::new(alloc);
     folders.push(String::from_str(alloc, folder)?)?;
@@ -115,14 +154,27 @@ fn only_folder(alloc: Global, folder: &str) -> Result<Inside, AllocError> {
     })
 }
 
-/// What is in each of these folders and in no other yet, in at most `threads` threads.
+/// Lists a folder, and some of those in it.
+fn list_below<R: Files + AllocGlobal + Clone + Drop>(
+    rt: &R,
+    alloc: Global,
+    folder: &str,
+    names: &[&str],
+) -> Result<Below, AllocError> {
+    let mut inside = only_folder(alloc, folder)?;
+    let mut unread = Vec::new(alloc);
+    list_some(rt, alloc, names, TOGETHER, &mut inside, &mut unread)?;
+    Ok(Below { inside, unread })
+}
+
+/// Lists each of these folders, and some of those in it, in at most `threads` threads.
 fn list_each<'f, R: Files<File = File, Dir: Send> + AllocGlobal + Clone + Drop + Threads + Sync>(
     rt: &R,
     alloc: Global,
     names: &[&str],
     threads: usize,
     folders: &'f [String],
-) -> Result<Vec<Place<'f, Result<Inside, ErrorKind>>>, AllocError>
+) -> Result<Vec<Place<'f, Result<Below, AllocError>>>, AllocError>
     requires { 0 < threads }
 {
     let mut places = places_of(alloc, folders)?;
@@ -131,7 +183,7 @@ fn list_each<'f, R: Files<File = File, Dir: Send> + AllocGlobal + Clone + Drop +
         alloc,
         threads,
         &mut places,
-        &|path: &str| inside_of(rt, alloc, path, names),
+        &|path: &str| list_below(rt, alloc, path, names),
     );
     Ok(places)
 }
@@ -167,30 +219,8 @@ impl Listed {
         Ok(())
     }
 
-    /// Adds what is in a folder, or that it can't be read.
-    fn put_inside(
-        &mut self,
-        alloc: Global,
-        folder: &str,
-        inside: Result<Inside, ErrorKind>,
-        found: &mut Inside,
-    ) -> Result<(), AllocError> {
-        match inside {
-            Ok(mut inside) => {
-                found.folders.append(&mut inside.folders)?;
-                found.files.append(&mut inside.files)?;
-            }
-            Err(ErrorKind::OutOfMemory) => return Err(AllocError),
-            Err(kind) => {
-                let folder = String::from_str(alloc, folder)?;
-                self.unread.push((folder, kind))?;
-            }
-        }
-        Ok(())
-    }
-
-    /// Adds what is in the folders found so far: their files, and in place of them the folders in them.
-    fn put_level<R: Files<File = File, Dir: Send> + AllocGlobal + Clone + Drop + Threads + Sync>(
+    /// Lists the folders in `found`, and some of those in them, in at most `threads` threads. What was found is added to it.
+    fn put_round<R: Files<File = File, Dir: Send> + AllocGlobal + Clone + Drop + Threads + Sync>(
         &mut self,
         rt: &R,
         alloc: Global,
@@ -202,17 +232,21 @@ impl Listed {
     {
         let folders = mem::replace(&mut found.folders, Vec::new(alloc));
         for place in list_each(rt, alloc, names, threads, &folders)? {
-            let Place { path, result } = place;
-            let Some(inside) = result else {
+            let Some(below) = place.result else {
                 return Err(AllocError);
             };
-            self.put_inside(alloc, path, inside, found)?;
+            let Below {
+                mut inside,
+                mut unread,
+            } = below?;
+            found.folders.append(&mut inside.folders)?;
+            found.files.append(&mut inside.files)?;
+            self.unread.append(&mut unread)?;
         }
         Ok(())
     }
 
-    /// Adds the files in a folder, at any depth, in the order of their paths. Folders that are equally deep are listed together, in at
-    /// most `threads` threads.
+    /// Adds the files in a folder, at any depth, in the order of their paths. Its folders are listed in at most `threads` threads.
     fn put_folder<R: Files<File = File, Dir: Send> + AllocGlobal + Clone + Drop + Threads + Sync>(
         &mut self,
         rt: &R,
@@ -228,7 +262,7 @@ impl Listed {
             if found.folders.is_empty() {
                 break;
             }
-            self.put_level(rt, alloc, names, threads, &mut found)?;
+            self.put_round(rt, alloc, names, threads, &mut found)?;
         }
         let mut files = found.files;
         files.sort()?;
