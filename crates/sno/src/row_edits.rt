@@ -145,6 +145,7 @@ fn edit_share<R: Files<File = File, Dir: Send> + Threads + Sync, W: Write, E: Wr
     let mut places = places_of(alloc, paths)?;
     side_by_side(
         rt,
+        alloc,
         threads,
         &mut places,
         &|path: &str| {

@@ -51,6 +51,7 @@ pub(crate) fn edit_shared<R: Files<File = File, Dir: Send> + Threads + Sync>(
     let mut ends = Vec::with_capacity(alloc, paths.len())?;
     side_by_side(
         rt,
+        alloc,
         threads,
         &mut places,
         &|path: &str| edit_one(rt, alloc, rules, writing, path),
@@ -109,6 +110,7 @@ pub(crate) fn see_shared<'p, R: Files<File = File, Dir: Send> + Threads + Sync>(
     let mut places = places_of(alloc, paths)?;
     side_by_side(
         rt,
+        alloc,
         threads,
         &mut places,
         &|path: &str| {

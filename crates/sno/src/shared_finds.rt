@@ -4,7 +4,7 @@ use crate::faults::ProgramFault;
 use crate::find_options::Shown;
 use crate::finds::{NotFound, Sought, find_file, find_named, keep};
 use crate::searches::Search;
-use crate::shared_files::{Kept, dealt, dealt_places, in_order};
+use crate::shared_files::{Kept, places_of};
 use crate::streams::write_all;
 use sno_edit::FileFault;
 use sno_files::{Place, side_by_side};
@@ -100,10 +100,10 @@ pub(crate) fn find_shared<
         threads,
         in_folder,
     } = *search;
-    let order = dealt(alloc, paths.len(), threads)?;
-    let mut places = dealt_places(alloc, paths, &order)?;
+    let mut places = places_of(alloc, paths)?;
     side_by_side(
         rt,
+        alloc,
         threads,
         &mut places,
         &|path: &str| {
@@ -118,6 +118,5 @@ pub(crate) fn find_shared<
             see(&alone, path)
         },
     );
-    let places = in_order(alloc, places, &order)?;
     write_each(search, &places, sought, input, output, errors)
 }

@@ -1,3 +1,4 @@
 pub mod FolderLemmas
 mod ListLemmas
 pub mod EndLemmas
+mod PlaceLemmas

@@ -38,7 +38,13 @@ fn look_at<'f, R: Files<File = File, Dir: Send> + Threads + Sync>(
     requires { 0 < threads }
 {
     let mut places = places_of(alloc, files)?;
-    side_by_side(rt, threads, &mut places, &|path: &str| is_text_at(rt, path));
+    side_by_side(
+        rt,
+        alloc,
+        threads,
+        &mut places,
+        &|path: &str| is_text_at(rt, path),
+    );
     Ok(places)
 }
 

@@ -75,6 +75,7 @@ pub(crate) fn without_repeats<R: Files<File = File, Dir: Send> + Threads + Sync>
     let mut places = places_of(alloc, paths)?;
     side_by_side(
         rt,
+        alloc,
         threads,
         &mut places,
         &|path: &str| name_of(rt, alloc, path),

@@ -9,7 +9,7 @@ use std::fs::{File, Metadata};
 use std::io::{ErrorKind, Write};
 use std::rt::Files;
 use std::thread::Threads;
-use std::{fs, io};
+use std::{fs, io, mem};
 
 /// Files that were named one after the other, or the files of one folder.
 #[derive(Drop)]
@@ -113,13 +113,14 @@ fn put_inside<R: Files + AllocGlobal + Clone + Drop>(
     }
 }
 
-/// How many folders are listed before others are in threads, so that there is work for each.
-const AHEAD: usize = 16;
+/// How many folders a thread lists before those in them are left to the next thread that is free. To list them takes longer than to
+/// begin threads, and a tree has more parts of this size than there are threads.
+const TOGETHER: u64 = 16;
 
-/// What was found below a folder: the files, in no order, and the folders that could not be read.
+/// What was found below a folder: the files so far, in no order, the folders that are not listed yet, and those that can't be read.
 #[derive(Drop)]
 struct Below {
-    files: Vec<String>,
+    inside: Inside,
     unread: Vec<(String, ErrorKind)>,
 }
 
@@ -153,7 +154,7 @@ fn only_folder(alloc: Global, folder: &str) -> Result<Inside, AllocError> {
     })
 }
 
-/// Lists a folder and all that are in it, at any depth.
+/// Lists a folder, and some of those in it.
 fn list_below<R: Files + AllocGlobal + Clone + Drop>(
     rt: &R,
     alloc: Global,
@@ -162,14 +163,11 @@ fn list_below<R: Files + AllocGlobal + Clone + Drop>(
 ) -> Result<Below, AllocError> {
     let mut inside = only_folder(alloc, folder)?;
     let mut unread = Vec::new(alloc);
-    list_some(rt, alloc, names, u64::MAX, &mut inside, &mut unread)?;
-    Ok(Below {
-        files: inside.files,
-        unread,
-    })
+    list_some(rt, alloc, names, TOGETHER, &mut inside, &mut unread)?;
+    Ok(Below { inside, unread })
 }
 
-/// Lists each of these folders and all that are in it, in at most `threads` threads.
+/// Lists each of these folders, and some of those in it, in at most `threads` threads.
 fn list_each<'f, R: Files<File = File, Dir: Send> + AllocGlobal + Clone + Drop + Threads + Sync>(
     rt: &R,
     alloc: Global,
@@ -182,6 +180,7 @@ fn list_each<'f, R: Files<File = File, Dir: Send> + AllocGlobal + Clone + Drop +
     let mut places = places_of(alloc, folders)?;
     side_by_side(
         rt,
+        alloc,
         threads,
         &mut places,
         &|path: &str| list_below(rt, alloc, path, names),
@@ -220,19 +219,29 @@ impl Listed {
         Ok(())
     }
 
-    /// Adds what was found below folders: the files to `files`.
-    fn put_each(
+    /// Lists the folders in `found`, and some of those in them, in at most `threads` threads. What was found is added to it.
+    fn put_round<R: Files<File = File, Dir: Send> + AllocGlobal + Clone + Drop + Threads + Sync>(
         &mut self,
-        places: Vec<Place<'_, Result<Below, AllocError>>>,
-        files: &mut Vec<String>,
-    ) -> Result<(), AllocError> {
-        for place in places {
+        rt: &R,
+        alloc: Global,
+        names: &[&str],
+        threads: usize,
+        found: &mut Inside,
+    ) -> Result<(), AllocError>
+        requires { 0 < threads }
+    {
+        let folders = mem::replace(&mut found.folders, Vec::new(alloc));
+        for place in list_each(rt, alloc, names, threads, &folders)? {
             let Some(below) = place.result else {
                 return Err(AllocError);
             };
-            let mut below = below?;
-            files.append(&mut below.files)?;
-            self.unread.append(&mut below.unread)?;
+            let Below {
+                mut inside,
+                mut unread,
+            } = below?;
+            found.folders.append(&mut inside.folders)?;
+            found.files.append(&mut inside.files)?;
+            self.unread.append(&mut unread)?;
         }
         Ok(())
     }
@@ -248,18 +257,14 @@ impl Listed {
     ) -> Result<(), AllocError>
         requires { 0 < threads }
     {
-        let mut inside = only_folder(alloc, folder)?;
-        list_some(
-            rt,
-            alloc,
-            names,
-            AHEAD as u64,
-            &mut inside,
-            &mut self.unread,
-        )?;
-        let mut files = inside.files;
-        let places = list_each(rt, alloc, names, threads, &inside.folders)?;
-        self.put_each(places, &mut files)?;
+        let mut found = only_folder(alloc, folder)?;
+        for _ in 0..u64::MAX {
+            if found.folders.is_empty() {
+                break;
+            }
+            self.put_round(rt, alloc, names, threads, &mut found)?;
+        }
+        let mut files = found.files;
         files.sort()?;
         self.parts.push(Part {
             files,
