@@ -105,7 +105,7 @@ pub(crate) fn check_rows<'t>(findings: &mut Collector, rows: &Rows<'t>) -> Resul
     let Some(definitions) = definitions else {
         return Ok(());
     };
-    let reach = Reach::of(findings, &definitions.bodies)?;
+    let reach = Reach::of(findings, &definitions.patterns(findings.alloc)?)?;
     let surroundings = Surroundings {
         definitions,
         reach,

@@ -7,14 +7,24 @@ use crate::vocabulary::{Vocabulary, checked_rows, vocabulary_of};
 use sno_document::DocumentFault;
 use sno_findings::{Collector, Whose, advice_of};
 use sno_pattern::{MAX_DEFINITIONS, Pattern};
-use std::alloc::AllocError;
+use std::alloc::{AllocError, Global};
 
 /// The definitions of a document.
 #[derive(Drop)]
 pub(crate) struct Definitions<'t> {
     pub(crate) vocabulary: Vocabulary<'t>,
+    bodies: Vec<Option<Pattern>>,
+}
+
+impl<'t> Definitions<'t> {
     /// The pattern of each definition, if it can be read.
-    pub(crate) bodies: Vec<Option<Pattern>>,
+    pub(crate) fn patterns(&self, alloc: Global) -> Result<Vec<Option<&Pattern>>, AllocError> {
+        let mut patterns = Vec::new(alloc);
+        for body in &self.bodies {
+            patterns.push(body.as_ref())?;
+        }
+        Ok(patterns)
+    }
 }
 
 fn bodies_of(

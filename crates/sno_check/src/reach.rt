@@ -44,12 +44,12 @@ fn reach_over(reached: &mut Vec<u64>, number: usize) {
 
 fn facts_of_bodies(
     findings: &mut Collector,
-    bodies: &[Option<Pattern>],
+    bodies: &[Option<&Pattern>],
 ) -> Result<Vec<Option<Facts>>, AllocError> {
     let mut all = Vec::new(findings.alloc);
     for (place, body) in bodies.iter().enumerate() {
         let mut found = None;
-        if let Some(pattern) = body {
+        if let Some(pattern) = *body {
             let facts = facts_of(findings.alloc, bodies, pattern)?;
             warn_of_facts(findings, Whose::Definition(place.saturating_add(1)), &facts)?;
             found = Some(facts);
@@ -63,7 +63,7 @@ impl Reach {
     /// What the definitions with these patterns say, with a warning for what is strange in them.
     pub(crate) fn of(
         findings: &mut Collector,
-        bodies: &[Option<Pattern>],
+        bodies: &[Option<&Pattern>],
     ) -> Result<Reach, AllocError> {
         let facts = facts_of_bodies(findings, bodies)?;
         let mut reached = direct_references(findings.alloc, &facts)?;

@@ -119,10 +119,22 @@ fn check_all<'t>(findings: &mut Collector, number: usize, row: &Row<'t>) -> Resu
     Ok(())
 }
 
-/// Warns of what an object probably doesn't mean.
-fn check_object<'t>(
+/// Warns of what a pattern probably doesn't mean, and returns what it says. `bodies` has the definitions, each if it can be read.
+pub(crate) fn check_pattern(
     findings: &mut Collector,
-    surroundings: &Surroundings<'t>,
+    bodies: &[Option<&Pattern>],
+    number: usize,
+    pattern: &Pattern,
+) -> Result<Facts, AllocError> {
+    let facts = facts_of(findings.alloc, bodies, pattern)?;
+    warn_of_facts(findings, Whose::Pattern(number), &facts)?;
+    Ok(facts)
+}
+
+/// Warns of what an object probably doesn't mean.
+pub(crate) fn check_object(
+    findings: &mut Collector,
+    reach: &Reach,
     number: usize,
     facts: Facts,
     object: &ByteObject,
@@ -137,12 +149,12 @@ fn check_object<'t>(
         is_ambiguous: _,
         blocked: _,
     } = facts;
-    let reached = surroundings.reach.from(references);
-    if !surroundings.reach.are_read(reached) {
+    let reached = reach.from(references);
+    if !reach.are_read(reached) {
         return Ok(());
     }
     let mut assigned = variables;
-    surroundings.reach.add_variables(reached, &mut assigned)?;
+    reach.add_variables(reached, &mut assigned)?;
     warn_of_variables(findings, Place::Statement(number), &assigned, object)
 }
 
@@ -150,6 +162,7 @@ fn check_object<'t>(
 fn check_statement<'t>(
     findings: &mut Collector,
     surroundings: &Surroundings<'t>,
+    bodies: &[Option<&Pattern>],
     number: usize,
     row: &Row<'t>,
 ) -> Result<u64, AllocError> {
@@ -161,12 +174,10 @@ fn check_statement<'t>(
     let Some(pattern) = pattern else {
         return Ok(u64::MAX);
     };
-    let bodies = &surroundings.definitions.bodies;
-    let facts = facts_of(findings.alloc, bodies, &pattern)?;
+    let facts = check_pattern(findings, bodies, number, &pattern)?;
     let references = facts.references;
-    warn_of_facts(findings, Whose::Pattern(number), &facts)?;
     if let Some(object) = object {
-        check_object(findings, surroundings, number, facts, &object)?;
+        check_object(findings, &surroundings.reach, number, facts, &object)?;
         if repeats {
             let place = Place::Statement(number);
             warn_of_growth(findings, place, bodies, &pattern, row.anchored, &object)?;
@@ -214,9 +225,11 @@ pub(crate) fn check_statements<'t>(
         let fault = DocumentFault::TooManyStatements;
         return findings.refuse_plainly(fault, advice_of(&fault));
     }
+    let bodies = surroundings.definitions.patterns(findings.alloc)?;
     let mut used = rows.used;
     for (place, row) in rows.statements.iter().enumerate() {
-        used = used | check_statement(findings, surroundings, place.saturating_add(1), row)?;
+        let number = place.saturating_add(1);
+        used = used | check_statement(findings, surroundings, &bodies, number, row)?;
     }
     if rows.statements.is_empty() {
         return Ok(());

@@ -79,7 +79,7 @@ fn add_places<'p>(places: &mut Vec<Taken<'p>>, pattern: &'p Pattern) -> Result<b
 }
 
 /// What a reference refers to, over at most 64 others; any other pattern is itself.
-fn referred<'p>(bodies: &'p [Option<Pattern>], pattern: &'p Pattern) -> &'p Pattern {
+fn referred<'p>(bodies: &[Option<&'p Pattern>], pattern: &'p Pattern) -> &'p Pattern {
     let mut found = pattern;
     for _ in 0..MAX_DEFINITIONS {
         if let Pattern::Ref(number) = found {
@@ -95,7 +95,7 @@ fn referred<'p>(bodies: &'p [Option<Pattern>], pattern: &'p Pattern) -> &'p Patt
 /// Adds the places of each alternative that has them, up to the most that are compared.
 fn add_alternatives<'p>(
     alloc: Global,
-    bodies: &'p [Option<Pattern>],
+    bodies: &[Option<&'p Pattern>],
     alternatives: &mut Vec<Vec<Taken<'p>>>,
     pattern: &'p Pattern,
 ) -> Result<(), AllocError> {
@@ -150,10 +150,10 @@ fn is_taken_again(one: &[Taken], later: &[Vec<Taken>], alternatives: &[Vec<Taken
 /// characters. The part may be a reference, and so may an alternative; `bodies` has the definitions, each if it can be read.
 ///
 /// Refused only if memory runs out.
-pub(crate) fn is_ambiguous(
+pub(crate) fn is_ambiguous<'p>(
     alloc: Global,
-    bodies: &[Option<Pattern>],
-    part: &Pattern,
+    bodies: &[Option<&'p Pattern>],
+    part: &'p Pattern,
 ) -> Result<bool, AllocError> {
     let mut alternatives = Vec::new(alloc);
     add_alternatives(alloc, bodies, &mut alternatives, referred(bodies, part))?;

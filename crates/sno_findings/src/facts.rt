@@ -47,11 +47,11 @@ impl Facts {
         }
     }
 
-    fn note_repeated(
+    fn note_repeated<'p>(
         &mut self,
         alloc: Global,
-        bodies: &[Option<Pattern>],
-        part: &Pattern,
+        bodies: &[Option<&'p Pattern>],
+        part: &'p Pattern,
     ) -> Result<(), AllocError> {
         if let Pattern::Arbno(_) = part {
             self.repeats_rounds = true;
@@ -68,11 +68,11 @@ impl Facts {
         }
     }
 
-    fn gather(
+    fn gather<'p>(
         &mut self,
         alloc: Global,
-        bodies: &[Option<Pattern>],
-        pattern: &Pattern,
+        bodies: &[Option<&'p Pattern>],
+        pattern: &'p Pattern,
     ) -> Result<(), AllocError> {
         match pattern {
             Pattern::Lit(text) => self.note_characters(text.bytes()),
@@ -139,10 +139,10 @@ fn range_in(members: &[u8]) -> Option<(u8, u8)> {
 }
 
 /// What the pattern says. `bodies` has the definitions, each if it can be read. Refused only if memory runs out.
-pub fn facts_of(
+pub fn facts_of<'p>(
     alloc: Global,
-    bodies: &[Option<Pattern>],
-    pattern: &Pattern,
+    bodies: &[Option<&'p Pattern>],
+    pattern: &'p Pattern,
 ) -> Result<Facts, AllocError> {
     let mut facts = Facts {
         variables: Vec::new(alloc),

@@ -59,7 +59,7 @@ fn has_variable(object: &ByteObject, variable: &Name) -> bool {
 /// set there too, and a part whose variable the object has in that variable's value. What has no characters of its own is found
 /// anywhere.
 pub(crate) fn may_find_again(
-    bodies: &[Option<Pattern>],
+    bodies: &[Option<&Pattern>],
     pattern: &Pattern,
     object: &ByteObject,
 ) -> bool {
@@ -74,7 +74,7 @@ pub(crate) fn may_find_again(
 /// What the parts are looked for in, and how many more are looked at.
 #[derive(Drop)]
 struct PartSearch<'a> {
-    bodies: &'a [Option<Pattern>],
+    bodies: &'a [Option<&'a Pattern>],
     object: &'a ByteObject,
     room: u32,
 }

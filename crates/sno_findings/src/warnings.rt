@@ -243,7 +243,7 @@ fn finds_itself_again(pattern: &Pattern, anchored: bool, object: &ByteObject) ->
 pub fn warn_of_growth(
     findings: &mut Collector,
     place: Place,
-    bodies: &[Option<Pattern>],
+    bodies: &[Option<&Pattern>],
     pattern: &Pattern,
     anchored: bool,
     object: &ByteObject,

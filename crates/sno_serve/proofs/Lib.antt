@@ -3,3 +3,4 @@ pub mod AtVersion
 pub mod Excerpts
 mod NamedMembers
 mod Rows
+mod Tried

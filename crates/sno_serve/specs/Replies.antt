@@ -1,5 +1,6 @@
 -- Replies: JSON objects with the caller's id.
-use Rattle.std.specs.Prelude.{◌≡◌, ◌⊎◌, ℕ, true, List, [], ◌∷◌, length, Option, Some, None, Result, Ok, Err, codes, nat_lt, if◌then◌else◌}
+use Rattle.std.specs.Prelude.{◌≡◌, ◌⊎◌, ℕ, true, List, [], ◌∷◌, ◌++◌, length, map, Option, Some, None, Result, Ok, Err, codes, nat_lt, if◌then◌else◌}
+use Rattle.std.specs.Fmt.{decimal}
 use Rattle.serde_json.specs.Data.{Data, boolean, string, object, Members, no_members, member, put}
 use Rattle.sno_statement.specs.Statement.{Statement}
 use Rattle.sno_book.specs.Entries.{Entry}
@@ -40,6 +41,14 @@ with_further key value d = d
 abbrev pub with_ignored : List Data → Data → Data
 with_ignored [] d = d
 with_ignored (name ∷ names) d = with_further (codes "ignored") (array_of (name ∷ names)) d
+
+-- what is found in statement number s: a message, and which statement it is
+abbrev pub finding_data : ℕ → List ℕ → Data
+finding_data s message = object (member (codes "message") (string message) (member (codes "place") (string (codes "statement " ++ decimal s)) no_members))
+
+-- a reply with what is found in statement number s, also if that is nothing
+abbrev pub with_findings : ℕ → List (List ℕ) → Data → Data
+with_findings s messages d = with_further (codes "findings") (array_of (map (finding_data s) messages)) d
 
 -- an object with one member, and with the id
 abbrev pub word_reply : Option Data → List ℕ → List ℕ → Data
@@ -177,11 +186,12 @@ pub record IsListed (opening : Opening) (after : List Entry) (id : Option Data) 
   pub gives : GivesAll gave opening after (names_in opening.texts)
   pub reply : d ≡ texts_reply id (names_in opening.texts) gave
 
--- what the statement would do to its text as the seat sees it, with the reply
+-- what the statement would do to its text as the seat sees it, with the reply, which also has what is found in the statement
 pub record IsTried (opening : Opening) (after : List Entry) (id : Option Data) (s : Statement) (d : Data) : Type 0 where
   pub gave : Result Proposal SubmitFault
   pub gives : GivesProposed gave opening after s
-  pub reply : d ≡ check_reply id (length after) gave
+  pub messages : List (List ℕ)
+  pub reply : d ≡ with_findings s.number messages (check_reply id (length after) gave)
 
 -- some words say why the line can't be read
 pub record IsFaulted (id : Option Data) (d : Data) : Type 0 where

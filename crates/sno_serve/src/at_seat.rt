@@ -204,7 +204,8 @@ fn list<L: Naming, R: Wait>(
 /// A line that can't be read gets words that say why. Each has the line's id, if there is one.
 ///
 /// The reply to a statement that is only to be tried is the entry that it would be if it came next, by what [`Seat::propose`] gives, or
-/// the reason for which it would be refused; nothing is accepted. That to `texts` has all texts as they are at one moment, and that to a
+/// the reason for which it would be refused; nothing is accepted. It also has what [`sno_check::statement_warnings`] finds in the
+/// statement. That to `texts` has all texts as they are at one moment, and that to a
 /// read at a version what the text was then, if it had that version.
 ///
 /// A statement with a version is tried once. Its reply is its entry only if the entry has that version. If the text has another version

@@ -13,6 +13,7 @@
 //! | `at_version` | a statement that is accepted only at one version of its text |
 //! | `versions` | texts at one moment, and as they were at a version; a statement that is only tried |
 //! | `excerpt` | which entries a line asks for |
+//! | `findings` | what is found in a statement that is only tried |
 //! | `ignored` | members of a line that mean nothing there |
 //! | `intake`, `outlet` | lines of a reader; lines to a writer, and what was refused |
 //! | `service` | seats that take lines until there are no more |
@@ -27,6 +28,7 @@ mod at_version;
 mod binds;
 mod excerpt;
 mod faults;
+mod findings;
 mod ignored;
 mod intake;
 mod outlet;

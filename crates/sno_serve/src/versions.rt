@@ -9,8 +9,10 @@ ghost use Rattle.sno_serve.specs.Replies.{IsListed, IsTried, read_at_reply, word
 ghost use Rattle.sno_serve.specs.Versions.{given_by, opened_at, replaced_at, text_at_version};
 
 use crate::at_desk::AtDesk;
+use crate::findings::with_findings;
 use crate::replies::{check_reply, look_reason, read_at_reply, reason_reply, texts_reply};
 use serde_json::Value;
+use sno_check::statement_warnings;
 use sno_desk::{Entry, Naming, Opening, Seat, SinceFault, Statement, Text, TextName};
 use std::alloc::{AllocError, Global};
 use std::sync::{Arc, Wait};
@@ -129,7 +131,8 @@ pub(crate) fn list_texts<L: Naming>(
     }
 }
 
-/// Shows what a statement would do to its text as the seat sees it now.
+/// Shows what a statement would do to its text as the seat sees it now, with what is found in the statement.
+#[tactic(auto, using(crate::proofs::Tried::tried))]
 pub(crate) fn try_out<L: Naming>(
     alloc: Global,
     seat: &mut Seat<L>,
@@ -143,5 +146,8 @@ pub(crate) fn try_out<L: Naming>(
     let statement = Arc::new(alloc, statement)?;
     let gave = seat.propose(alloc, &statement);
     let index = seat.seen() as usize;
-    check_reply(alloc, id, index, &gave)
+    let reply = check_reply(alloc, id, index, &gave)?;
+    let warnings = statement_warnings(alloc, &statement)?;
+    let noted = with_findings(alloc, reply, statement.number(), &warnings)?;
+    Ok(noted)
 }

@@ -9,7 +9,7 @@ const DOCUMENT: &[u8] =
     b"{\"texts\":[{\"name\":\"T\",\"text\":\"the cat\"}],\"statements\":[{\"text\":\"T\",\"pattern\":\"'the'\",\"object\":\"'a'\"}]}";
 
 /// Lines, each with its reply.
-static LINES: [(&'static str, &'static str); 13] = [
+static LINES: [(&'static str, &'static str); 18] = [
     (
         r#"{"id":1,"text":"T","pattern":"'cat'","object":"'dog'"}"#,
         r#"{"after":"a dog","bindings":[],"end":5,"entry":1,"id":1,"matched":true,"start":2,"statement":2,"text":"T","version":1}"#,
@@ -52,6 +52,26 @@ static LINES: [(&'static str, &'static str); 13] = [
     (
         r#"{"id":8,"since":2,"limit":1,"text":"T"}"#,
         r#"{"entries":[{"bindings":[],"entry":2,"matched":false,"statement":4,"text":"T","version":2}],"id":8}"#,
+    ),
+    (
+        r#"{"id":9,"text":"T","pattern":"'cow'","object":"'dog'","check":true}"#,
+        r#"{"after":"a dog","bindings":[],"check":true,"end":5,"entry":4,"findings":[],"id":9,"matched":true,"start":2,"statement":7,"text":"T","version":3}"#,
+    ),
+    (
+        r#"{"id":9,"text":"T","pattern":"SPAN('a-z') . W 'q'","object":"V","check":true}"#,
+        r#"{"bindings":[],"check":true,"entry":4,"findings":[{"message":"pattern: a-z in a set is three characters, not a range; write all of them","place":"statement 7"},{"message":"object: no part of the pattern assigns V, so it is the null string; characters are written in quotes, as 'V'","place":"statement 7"}],"id":9,"matched":false,"statement":7,"text":"T","version":3}"#,
+    ),
+    (
+        r#"{"text":"T","pattern":"WHAT . W","object":"WITH W","bind":{"WHAT":"x","WITH":"a x"},"repeat":2,"check":true}"#,
+        r#"{"bindings":[],"check":true,"entry":4,"findings":[{"message":"repeat: the object has what the pattern seeks, so each round finds it again; \"all\": true is one pass","place":"statement 7"}],"matched":false,"statement":7,"text":"T","version":3}"#,
+    ),
+    (
+        r#"{"id":10,"text":"U","pattern":"'cow'","check":true}"#,
+        r#"{"findings":[],"id":10,"reason":"no text"}"#,
+    ),
+    (
+        r#"{"id":10,"text":"T","pattern":"COW","check":true}"#,
+        r#"{"error":"pattern: unknown name at 0","id":10}"#,
     ),
 ];
 
