@@ -95,6 +95,18 @@ fn placed(alloc: Global, number: usize, found: Vec<Warning>) -> Result<Vec<Warni
     Ok(warnings)
 }
 
+/// The definitions of a statement, all of which were read.
+fn bodies_of<'p>(
+    alloc: Global,
+    statement: &'p Statement,
+) -> Result<Vec<Option<&'p Pattern>>, AllocError> {
+    let mut bodies = Vec::new(alloc);
+    for body in statement.rules().bodies() {
+        bodies.push(Some(body))?;
+    }
+    Ok(bodies)
+}
+
 /// Returns what a statement that was read probably doesn't mean: the warnings that [`check`](crate::check) has of the pattern and the
 /// object of a document's statement with this number. Names that are bound to texts are literals. What its definitions mean
 /// themselves, and that no text has the statement's name, isn't among them.
@@ -104,10 +116,7 @@ pub fn statement_warnings(alloc: Global, statement: &Statement) -> Result<Vec<Wa
     // Each warning is one of this statement.
     ensures own { IfOk result (λ warnings. All (IsWarningOf statement.now.number) warnings.items) }
 {
-    let mut bodies = Vec::new(alloc);
-    for body in statement.rules().bodies() {
-        bodies.push(Some(body))?;
-    }
+    let bodies = bodies_of(alloc, statement)?;
     // What is found in definitions is theirs.
     let mut of_definitions = Collector::new(alloc, Form::Json);
     let reach = Reach::of(&mut of_definitions, &bodies)?;
