@@ -2,9 +2,9 @@
 
 use crate::NoTrace;
 use crate::trace_lines::{Starts, TraceLines, lines_between, match_lines, pass_lines, round_lines};
-use sno_book::{Book, CommitFault, SnapshotFault, fresh_is_related, propose};
+use sno_book::SnapshotFault;
 use sno_document::Document;
-use sno_pattern::Text;
+use sno_pattern::{Text, TextName};
 use sno_statement::{Statement, StatementFault, perform_shared};
 use std::alloc::{AllocError, Global};
 use std::sync::Arc;
@@ -94,39 +94,6 @@ fn lines_on(
     Ok(round_lines(alloc, &once, text, earlier, most)?)
 }
 
-/// Performs one statement on the current text of its name. If it is refused, nothing changes.
-fn advance(alloc: Global, book: &mut Book, statement: &Arc<Statement>) -> Result<(), AllocError> {
-    let snapshot = match book.snapshot(statement.text()) {
-        Ok(snapshot) => snapshot,
-        Err(SnapshotFault::NoText) => return Ok(()),
-        Err(SnapshotFault::Memory) => return Err(AllocError),
-    };
-    let proposal = match propose(alloc, Arc::try_clone(statement)?, snapshot) {
-        Ok(proposal) => proposal,
-        Err(StatementFault::Memory) => return Err(AllocError),
-        Err(StatementFault::TextTooLong) | Err(StatementFault::TooManyTrials) => return Ok(()),
-    };
-    // for the proof
-    fresh_is_related();
-    match book.commit(proposal) {
-        Ok(_) => Ok(()),
-        Err((CommitFault::Memory, _)) => Err(AllocError),
-        Err(_) => Ok(()),
-    }
-}
-
-/// Performs the statements in order.
-fn advance_all(
-    alloc: Global,
-    book: &mut Book,
-    statements: &[Arc<Statement>],
-) -> Result<(), AllocError> {
-    for statement in statements {
-        advance(alloc, book, statement)?;
-    }
-    Ok(())
-}
-
 /// The text that a statement leaves of this one. If it fails or is refused, it is this one.
 fn text_after(
     alloc: Global,
@@ -142,6 +109,23 @@ fn text_after(
         Some(after) => Arc::try_clone(after),
         None => Ok(text),
     }
+}
+
+/// The text with this name as the statements leave it, one after the other. Those on other texts are not performed, as they do
+/// nothing to it.
+fn text_before(
+    alloc: Global,
+    earlier: &[Arc<Statement>],
+    name: &TextName,
+    text: Arc<Text>,
+) -> Result<Arc<Text>, AllocError> {
+    let mut text = text;
+    for statement in earlier {
+        if statement.text() == name {
+            text = text_after(alloc, statement, text)?;
+        }
+    }
+    Ok(text)
 }
 
 /// Takes the statement with this number, from 1, out of its list, and leaves only those before it there.
@@ -170,16 +154,16 @@ pub fn trace_of_document(
     wanted: Wanted,
 ) -> Result<Option<TraceLines>, NoTrace> {
     let Document {
-        mut book,
+        book,
         mut statements,
         ..
     } = document;
     let statement = take_statement(&mut statements, number)?;
     check_number(&statement, wanted.number)?;
-    advance_all(alloc, &mut book, &statements)?;
     match book.snapshot(statement.text()) {
         Ok(snapshot) => {
             let text = Arc::try_clone(&snapshot.text)?;
+            let text = text_before(alloc, &statements, statement.text(), text)?;
             Ok(Some(lines_on(alloc, statement, text, wanted)?))
         }
         Err(SnapshotFault::NoText) => Ok(None),
