@@ -110,6 +110,9 @@ fn has_names(characters: &[u8]) -> bool {
     let mut rest = characters;
     // A piece has at least one character.
     for _ in 0..characters.len() {
+        if rest.is_empty() {
+            break;
+        }
         let (piece, after) = first_piece(rest);
         if is_name(piece) {
             return true;
@@ -317,9 +320,15 @@ pub(crate) fn mentioned(
     characters: &[u8],
 ) -> Result<Vec<usize>, AllocError> {
     let mut places = Vec::new(alloc);
+    if definitions.is_empty() {
+        return Ok(places);
+    }
     let mut rest = characters;
     // A piece has at least one character.
     for _ in 0..characters.len() {
+        if rest.is_empty() {
+            break;
+        }
         let (piece, after) = first_piece(rest);
         if let Some(place) = place_of(definitions, piece) {
             places.push(place)?;

@@ -32,13 +32,14 @@ pub struct Spelling {
 }
 
 impl Spelling {
-    fn nothing(alloc: Global) -> Spelling
-        ensures { spelling_seen result ≡ nothing_spelled }
+    /// Nothing yet, with the room that most texts of this length need.
+    fn nothing(alloc: Global, length: usize) -> Result<Spelling, AllocError>
+        ensures { IfOk result (λ s. spelling_seen s ≡ nothing_spelled) }
     {
-        Spelling {
-            characters: Vec::new(alloc),
-            marks: Vec::new(alloc),
-        }
+        Ok(Spelling {
+            characters: Vec::with_capacity(alloc, length)?,
+            marks: Vec::with_capacity(alloc, length / 4)?,
+        })
     }
 
     /// The characters.
@@ -258,7 +259,7 @@ pub fn spelled<'n>(
 ) -> Result<Spelling, SpellingFault>
     ensures { GivesSpelled names.now written.now result }
 {
-    let mut spelling = Spelling::nothing(alloc);
+    let mut spelling = Spelling::nothing(alloc, written.len())?;
     let mut rest = written;
     while !rest.is_empty() {
         match step(alloc, names, written.len(), &mut spelling, rest) {

@@ -8,7 +8,7 @@ use crate::day::{check_entry, check_text};
 use crate::flags::{Flag, TURNS};
 use crate::jobs::{book, statement};
 use sno_book::{Book, Entry};
-use sno_desk::{Blank, Desk, Gate, Naming, Seat, TextName, close};
+use sno_desk::{Blank, Desk, Gate, Naming, Seat, TextName, close, may_cross};
 use sno_statement::Statement;
 use std::alloc::Global;
 use std::marker::Brand;
@@ -122,11 +122,6 @@ fn submit_beside<L: Naming, S: Reads + Send, R: Threads + Wait + Clock + Sync>(
         || desk.submit(rt, alloc, writer, job, 1, &gate).is_ok(),
     )
 }
-
-/// That a value of this type may go to another thread. It does nothing: its contract is used.
-fn may_cross<T: Send>()
-    ensures sends { IsSend T.row }
-{}
 
 /// That an entry may go to another thread. It is found out where little else is known.
 fn entries_may_cross()
