@@ -111,7 +111,7 @@ fn perform<L: Naming, R: Wait>(
 }
 
 /// What the listing has of a statement that was to be performed at one version of its text.
-fn at_refusal(number: u32, gave: &Result<Receipt, AtFault>) -> Option<Refusal>
+pub fn at_refusal(number: u32, gave: &Result<Receipt, AtFault>) -> Option<Refusal>
     ensures { result ≡ at_refusal number gave.now }
 {
     let Err(AtFault::Refused(fault)) = gave else {
@@ -161,7 +161,7 @@ fn look<L: Naming>(
     }
 }
 
-fn capped(index: u64) -> usize
+pub fn capped(index: u64) -> usize
     ensures value { result ≡ capped index }
     ensures within { result ≤ MAX_INDEX }
 {

@@ -74,7 +74,7 @@ fn most_of(limit: Option<u64>, count: usize) -> usize
 
 impl Excerpt {
     /// The objects of those of the entries that are asked for, the first of which is at the index `from`.
-    pub(crate) fn values(
+    pub fn values(
         &self,
         alloc: Global,
         from: usize,

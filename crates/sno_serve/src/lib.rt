@@ -38,12 +38,19 @@ mod versions;
 
 pub use asked::{Asked, Line, line_in};
 pub use at_desk::AtDesk;
-pub use at_seat::{Replied, refusal_in, reply_to, submit};
+pub use at_seat::{Replied, at_refusal, capped, refusal_in, reply_to, submit};
+pub use at_version::AtFault;
 pub use excerpt::Excerpt;
 pub use faults::{BindFault, LineFault, ServeFault};
 pub use ignored::with_ignored;
 pub use intake::{Intake, MAX_LINE, Next};
+pub use outlet::MAX_REFUSED;
+pub use replies::{
+    at_reply, fault_reply, line_of, look_reason, read_at_reply, read_reply, reason_reply,
+    row_value, rows_reply, since_reply, submit_reply, too_long_reply,
+};
 pub use service::{Served, Terms, serve};
 pub use sno_desk::{Desk, Entry, Naming, Seat};
 pub use sno_document::{Document, Mode, Rules};
 pub use sno_listing::{Reason, Refusal};
+pub use versions::{text_at, tried_reply};

@@ -18,9 +18,8 @@ use crate::at_seat::{refusal_in, submit};
 use crate::ignored::with_ignored;
 use crate::intake::{Intake, Next};
 use crate::outlet::Outlet;
-use crate::replies::error_reply;
+use crate::replies::{line_of, too_long_reply};
 use crate::{Asked, Line, Replied, ServeFault, line_in, reply_to};
-use serde_json::Value;
 use sno_book::Book;
 use sno_desk::{AtDeskFault, Desk, DeskWork, Naming, Seat, at_desk, may_cross};
 use sno_document::{Document, Mode, Rules};
@@ -54,13 +53,6 @@ pub struct Served {
     pub refused: Vec<Refusal>,
     /// What ended the service before the end of the input, if anything did.
     pub fault: Option<ServeFault>,
-}
-
-/// A reply as a line.
-fn line_of(alloc: Global, reply: &Value) -> Result<Vec<u8>, AllocError> {
-    let mut line = reply.to_vec(alloc)?;
-    line.push(b'\n')?;
-    Ok(line)
 }
 
 impl<I: Read + Drop, W: Write + Drop> Service<I, W> {
@@ -148,7 +140,7 @@ impl<I: Read + Drop, W: Write + Drop> Service<I, W> {
 
     /// Writes the reply to a line that is too long.
     fn refuse_line<R: Wait>(&self, rt: &R, alloc: Global) -> Result<(), AllocError> {
-        let reply = error_reply(alloc, None, "longer than 16777216 bytes")?;
+        let reply = too_long_reply(alloc)?;
         let bytes = line_of(alloc, &reply)?;
         self.outlet.lock(rt).put(&bytes);
         Ok(())
