@@ -1,12 +1,7 @@
 //! A statement on a book.
-ghost use Rattle.std.specs.Prelude.{◌≡◌, ◌≢◌, IfErr, IfOk};
 ghost use Rattle.std.specs.Arc.{arc_value};
 ghost use Rattle.sno_book.specs.Books.{view_of};
-ghost use Rattle.sno_desk.specs.Proposed.{GivesProposed};
-ghost use Rattle.sno_desk.specs.Seen.{GivesSeen};
-ghost use Rattle.sno_desk.specs.declared.faults.SnapshotFault.TheVariants as snapshots;
-ghost use Rattle.sno_desk.specs.declared.faults.SubmitFault.TheVariants as submits;
-ghost use Rattle.sno_held_book.specs.Lines.{IsDone, IsDoneAt};
+ghost use Rattle.sno_held_book.specs.Lines.{GivesAttempt, GivesTaken, IsDone, IsDoneAt};
 
 use sno_book::{Book, SnapshotFault as BookFault};
 use sno_desk::{
@@ -19,8 +14,7 @@ use std::sync::Arc;
 
 /// A snapshot of the text of this name.
 pub(crate) fn snapshot(book: &Book, name: &TextName) -> Result<Snapshot, SnapshotFault>
-    ensures gives { GivesSeen result book.now.opening book.now.journal name.now }
-    ensures going { IfErr result (λ e. e ≢ snapshots.Stopped) }
+    ensures { GivesTaken result (view_of book.now) name.now }
 {
     match book.snapshot(name) {
         Ok(taken) => Ok(taken),
@@ -30,25 +24,36 @@ pub(crate) fn snapshot(book: &Book, name: &TextName) -> Result<Snapshot, Snapsho
 }
 
 /// What a statement would do to the text of its name. The book is unchanged.
+#[tactic(auto, using(crate::proofs::Attempts::untaken, crate::proofs::Attempts::unperformed, crate::proofs::Attempts::unshared, crate::proofs::Attempts::attempted))]
 pub(crate) fn attempt(
     alloc: Global,
     book: &Book,
     statement: &Arc<Statement>,
 ) -> Result<Proposal, SubmitFault>
-    ensures gives { GivesProposed result book.now.opening book.now.journal (arc_value statement.now) }
-    ensures going { IfErr result (λ e. e ≢ submits.Stopped) }
+    ensures { GivesAttempt result (view_of book.now) (arc_value statement.now) }
 {
-    let taken = snapshot(book, statement.text())?;
-    let shared = Arc::try_clone(statement)?;
-    let proposal = propose(alloc, shared, taken)?;
-    Ok(proposal)
+    let taken = match snapshot(book, statement.text()) {
+        Ok(taken) => taken,
+        Err(fault) => return Err(SubmitFault::from(fault)),
+    };
+    let Ok(shared) = Arc::try_clone(statement) else {
+        return Err(SubmitFault::Memory);
+    };
+    match propose(alloc, shared, taken) {
+        Ok(proposal) => Ok(proposal),
+        Err(fault) => Err(SubmitFault::from(fault)),
+    }
 }
 
 /// Performs a statement on the text of its name, and accepts it.
+#[tactic(auto, using(crate::proofs::Attempts::accepted, crate::proofs::Attempts::uncommitted, crate::proofs::Attempts::related))]
 pub(crate) fn submit(alloc: Global, book: &mut Book, statement: &Arc<Statement>) -> Reply
     ensures { IsDone (view_of book.old) (view_of book.new) (arc_value statement.now) result }
 {
-    let proposal = attempt(alloc, book, statement)?;
+    let proposal = match attempt(alloc, book, statement) {
+        Ok(proposal) => proposal,
+        Err(fault) => return Err(fault),
+    };
     match book.commit(proposal) {
         Ok(receipt) => Ok(receipt),
         Err((fault, _)) => Err(SubmitFault::from(CommitFault::from(fault))),
@@ -56,6 +61,7 @@ pub(crate) fn submit(alloc: Global, book: &mut Book, statement: &Arc<Statement>)
 }
 
 /// Performs a statement if its text has this version, and accepts it.
+#[tactic(auto, using(crate::proofs::Attempts::untaken, crate::proofs::Attempts::changed, crate::proofs::Attempts::done_at))]
 pub(crate) fn submit_at(
     alloc: Global,
     book: &mut Book,
@@ -64,8 +70,12 @@ pub(crate) fn submit_at(
 ) -> Result<Receipt, AtFault>
     ensures { IsDoneAt (view_of book.old) (view_of book.new) (arc_value statement.now) version result }
 {
-    let taken = snapshot(book, statement.text())?;
-    if taken.version != version {
+    let taken = match snapshot(book, statement.text()) {
+        Ok(taken) => taken,
+        Err(fault) => return Err(AtFault::Refused(SubmitFault::from(fault))),
+    };
+    let is_other = taken.version != version;
+    if is_other {
         return Err(AtFault::Changed(taken.version));
     }
     match submit(alloc, book, statement) {

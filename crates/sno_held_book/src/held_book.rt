@@ -1,18 +1,15 @@
 //! A book with what its lines are read by.
-ghost use Rattle.std.specs.Prelude.{◌≡◌, ◌≢◌, ◌<◌, ◌≤◌, ◌⊎◌, IfErr, IfOk, OnErr, OnOk, length};
-ghost use Rattle.std.specs.Arc.{arc_value};
+ghost use Rattle.std.specs.Prelude.{◌≡◌, ◌≢◌, Err, IfErr, IfOk, OnErr, OnOk};
 ghost use Rattle.sno_book.specs.Books.{view_of};
 ghost use Rattle.sno_document.specs.Document.{IsDocument};
 ghost use Rattle.sno_document.specs.declared.faults.DocumentFault.TheVariants.{Memory};
 ghost use Rattle.sno_listing.specs.History.{history_of};
 ghost use Rattle.sno_listing.specs.JsonListing.{json_listing};
 ghost use Rattle.sno_serve.specs.Accepted.{AsksFor};
-ghost use Rattle.sno_serve.specs.Asked.{asked_in};
 ghost use Rattle.sno_serve.specs.Replies.{IsLine, too_long_reply};
-ghost use Rattle.sno_serve.specs.declared.intake.TheConstants.{MAX_LINE};
 ghost use Rattle.sno_statement.specs.Statement.{IsLimit};
 ghost use Rattle.sno_held_book.specs.Lines.{HasTaken};
-ghost use Rattle.sno_held_book.specs.Held.{IsLineReply, IsOpened, SameTerms, listed_with, number_after};
+ghost use Rattle.sno_held_book.specs.Held.{IsLineReply, IsOpened, IsReplyTo, SameTerms, asked_of, listed_with, number_after};
 
 use crate::reply_to;
 use sno_book::Book;
@@ -98,7 +95,7 @@ impl HeldBook {
     /// The reply to a line that isn't too long.
     fn reply_within(&mut self, alloc: Global, line: &[u8]) -> Result<Vec<u8>, AllocError>
         ensures replied { IfOk result (λ v. IsLineReply self.old self.new line.now v.items) }
-        ensures taken { HasTaken (AsksFor (asked_in (arc_value self.old.rules) self.old.mode self.old.number line.now)) (view_of self.old.book) (view_of self.new.book) }
+        ensures taken { HasTaken (AsksFor (asked_of self.old line.now)) (view_of self.old.book) (view_of self.new.book) }
         ensures terms { SameTerms self.old self.new }
         ensures refused { OnErr result (self.new.refused.items ≡ self.old.refused.items) }
     {
@@ -118,9 +115,8 @@ impl HeldBook {
     /// Refused only if memory runs out. Texts and journal are unchanged then, or the journal has one entry more, of the line's
     /// statement. The listing has no more refused statements than before.
     pub fn reply(&mut self, alloc: Global, line: &[u8]) -> Result<Vec<u8>, AllocError>
-        ensures replied { length line.now ≤ MAX_LINE → IfOk result (λ v. IsLineReply self.old self.new line.now v.items) }
-        ensures longer { MAX_LINE < length line.now → IfOk result (λ v. IsLine too_long_reply v.items) × (self.new ≡ self.old) }
-        ensures taken { HasTaken (AsksFor (asked_in (arc_value self.old.rules) self.old.mode self.old.number line.now)) (view_of self.old.book) (view_of self.new.book) }
+        ensures replied { IfOk result (λ v. IsReplyTo self.old self.new line.now v.items) }
+        ensures taken { HasTaken (AsksFor (asked_of self.old line.now)) (view_of self.old.book) (view_of self.new.book) }
         ensures terms { SameTerms self.old self.new }
         ensures refused { OnErr result (self.new.refused.items ≡ self.old.refused.items) }
     {

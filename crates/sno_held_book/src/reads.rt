@@ -27,7 +27,7 @@ pub(crate) fn look(
     id: Option<Value>,
     name: &TextName,
 ) -> Result<Value, AllocError>
-    ensures { IfOk result (λ v. IsShown book.now.opening book.now.journal (option_map view id) name.now (view v)) }
+    ensures { IfOk result (λ v. IsShown (view_of book.now) (option_map view id) name.now (view v)) }
 {
     match snapshot(book, name) {
         Ok(taken) => read_reply(alloc, id, name, &taken),
