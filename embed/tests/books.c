@@ -233,8 +233,8 @@ static void try_refusals(void) {
                sno_handle_listing(others[place], buffer, SPACE, &length) == SNO_CLOSED && length == 0);
     }
     expect("buffers of no book", is_filled(buffer, SPACE));
-    expect("a book is no pattern", sno_handle_next(&open.handle, &text.handle, 0, 9, &match) == SNO_CLOSED);
-    expect("a book is no text", sno_handle_next(&pattern.handle, &open.handle, 0, 9, &match) == SNO_CLOSED);
+    expect("a book isn't a pattern", sno_handle_next(&open.handle, &text.handle, 0, 9, &match) == SNO_CLOSED);
+    expect("a book isn't a text", sno_handle_next(&pattern.handle, &open.handle, 0, 9, &match) == SNO_CLOSED);
     expect("a book isn't taken from", sno_handle_take(&open.handle, &match) == SNO_CLOSED);
     try_line(&open, "{\"read\":\"N\"}", "{\"name\":\"N\",\"text\":\"0\",\"version\":0}\n");
     const uint8_t *some = bytes_of("{}");
