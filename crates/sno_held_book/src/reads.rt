@@ -52,6 +52,7 @@ pub(crate) fn look_at(
 }
 
 /// The texts as they are listed.
+#[tactic(auto, using(sno_listing::proofs::ListingLemmas::row_there))]
 fn rows(alloc: Global, book: &Book) -> Result<Vec<Value>, AllocError>
     ensures { IfOk result (λ v. map view v.items ≡ map row_of (state_of (view_of book.now))) }
 {
@@ -74,6 +75,7 @@ pub(crate) fn list_texts(alloc: Global, book: &Book, id: Option<Value>) -> Resul
 }
 
 /// Lists entries.
+#[tactic(auto, using(std::proofs::lemmas::List::drop_min))]
 pub(crate) fn list(
     alloc: Global,
     book: &Book,
