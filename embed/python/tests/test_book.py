@@ -133,7 +133,7 @@ class Books(unittest.TestCase):
             with held._lock:
                 listed = held._filled(held._functions.sno_handle_listing, 1)
             self.assertEqual(listed, listing.read_bytes())
-        self.assertGreater(len(lines), 80)
+        self.assertGreater(len(lines), 60)
 
 
 if __name__ == "__main__":
