@@ -11,8 +11,11 @@ LANGUAGES = {"C": "c", "C++": "cpp", "Rust": "rs", "Python": "python"}
 TOOLS = {"C": ("cc", "pkg-config"), "C++": ("g++", "pkg-config"), "Rust": ("cargo",), "Python": ()}
 # A section begins with its program.
 MOST_LINES = 14
-# The sections with a program in each language, and the name of a folder for each.
-SECTIONS = {"A pattern for many texts": "shown_patterns", "A book, line by line": "shown_books"}
+# Further sections with programs: their languages, and the name of a folder for each.
+SECTIONS = {
+    "A pattern for many texts": (tuple(FILES), "shown_patterns"),
+    "A book, line by line": (("Python",), "shown_books"),
+}
 MOST_LINES_OF_A_SECTION = 25
 
 
@@ -41,10 +44,10 @@ def try_all(folder):
 
 
 def try_sections(folder):
-    for section, kind in SECTIONS.items():
+    for section, (languages, kind) in SECTIONS.items():
         outputs = blocks(section, "text")
         expect(f"docs/LIBRARY.md: {section}: one output", len(outputs), 1)
-        for name in FILES:
+        for name in languages:
             programs = blocks(section, LANGUAGES[name])
             # By the commands of the language's own section.
             commands = [f"{sys.executable} first.py"] if name == "Python" else blocks(name, "sh")
