@@ -11,12 +11,9 @@ LANGUAGES = {"C": "c", "C++": "cpp", "Rust": "rs", "Python": "python"}
 TOOLS = {"C": ("cc", "pkg-config"), "C++": ("g++", "pkg-config"), "Rust": ("cargo",), "Python": ()}
 # A section begins with its program.
 MOST_LINES = 14
-# Further sections with programs: their languages, and the name of a folder for each.
-SECTIONS = {
-    "A pattern for many texts": (tuple(FILES), "shown_patterns"),
-    "A book, line by line": (("Python",), "shown_books"),
-}
-MOST_LINES_OF_A_SECTION = 25
+# The section with a program in each language.
+PATTERNS = "A pattern for many texts"
+MOST_LINES_OF_PATTERNS = 25
 
 
 def blocks(section, language):
@@ -43,21 +40,20 @@ def try_all(folder):
             try_one(name, programs[0], commands[0], wanted, folder)
 
 
-def try_sections(folder):
-    for section, (languages, kind) in SECTIONS.items():
-        outputs = blocks(section, "text")
-        expect(f"docs/LIBRARY.md: {section}: one output", len(outputs), 1)
-        for name in languages:
-            programs = blocks(section, LANGUAGES[name])
-            # By the commands of the language's own section.
-            commands = [f"{sys.executable} first.py"] if name == "Python" else blocks(name, "sh")
-            if name in ("C", "C++"):
-                commands = [f"{command}./first" for command in commands]
-            found = len(programs), len(commands)
-            if expect(f"docs/LIBRARY.md: {section}: one program in {name}", found, (1, 1)) and has(*TOOLS[name]):
-                is_short = programs[0].count("\n") <= MOST_LINES_OF_A_SECTION
-                expect(f"docs/LIBRARY.md: {section}: the program in {name} is short", is_short, True)
-                try_one(name, programs[0], commands[0], "".join(outputs), folder, kind)
+def try_patterns(folder):
+    outputs = blocks(PATTERNS, "text")
+    expect(f"docs/LIBRARY.md: {PATTERNS}: one output", len(outputs), 1)
+    for name in FILES:
+        programs = blocks(PATTERNS, LANGUAGES[name])
+        # By the commands of the language's own section.
+        commands = [f"{sys.executable} first.py"] if name == "Python" else blocks(name, "sh")
+        if name in ("C", "C++"):
+            commands = [f"{command}./first" for command in commands]
+        found = len(programs), len(commands)
+        if expect(f"docs/LIBRARY.md: {PATTERNS}: one program in {name}", found, (1, 1)) and has(*TOOLS[name]):
+            is_short = programs[0].count("\n") <= MOST_LINES_OF_PATTERNS
+            expect(f"docs/LIBRARY.md: {PATTERNS}: the program in {name} is short", is_short, True)
+            try_one(name, programs[0], commands[0], "".join(outputs), folder, "shown_patterns")
 
 
 def try_one(name, program, commands, wanted, folder, kind="shown"):
