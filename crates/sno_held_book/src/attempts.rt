@@ -24,7 +24,7 @@ pub(crate) fn snapshot(book: &Book, name: &TextName) -> Result<Snapshot, Snapsho
 }
 
 /// What a statement would do to the text of its name. The book is unchanged.
-#[tactic(auto, using(crate::proofs::Attempts::untaken, crate::proofs::Attempts::unperformed, crate::proofs::Attempts::unshared, crate::proofs::Attempts::attempted))]
+#[tactic(auto, using(crate::proofs::Performing::untaken, crate::proofs::Performing::unperformed, crate::proofs::Performing::unshared, crate::proofs::Performing::attempted))]
 pub(crate) fn attempt(
     alloc: Global,
     book: &Book,
@@ -46,7 +46,7 @@ pub(crate) fn attempt(
 }
 
 /// Performs a statement on the text of its name, and accepts it.
-#[tactic(auto, using(crate::proofs::Attempts::accepted, crate::proofs::Attempts::uncommitted, crate::proofs::Attempts::related))]
+#[tactic(auto, using(crate::proofs::Performing::accepted, crate::proofs::Performing::uncommitted, crate::proofs::Performing::related))]
 pub(crate) fn submit(alloc: Global, book: &mut Book, statement: &Arc<Statement>) -> Reply
     ensures { IsDone (view_of book.old) (view_of book.new) (arc_value statement.now) result }
 {
@@ -61,7 +61,7 @@ pub(crate) fn submit(alloc: Global, book: &mut Book, statement: &Arc<Statement>)
 }
 
 /// Performs a statement if its text has this version, and accepts it.
-#[tactic(auto, using(crate::proofs::Attempts::untaken, crate::proofs::Attempts::changed, crate::proofs::Attempts::done_at))]
+#[tactic(auto, using(crate::proofs::Performing::untaken, crate::proofs::Performing::changed, crate::proofs::Performing::done_at))]
 pub(crate) fn submit_at(
     alloc: Global,
     book: &mut Book,
