@@ -9,12 +9,14 @@
 //! | File | What it does |
 //! |---|---|
 //! | `held_book` | [`HeldBook`]: the book, what its lines are read by, and what the listing has |
+//! | `calls` | [`HeldBook::open`], [`HeldBook::reply`], [`HeldBook::listing`] |
 //! | `lines` | [`reply_to`]: what a line asks for, with its reply |
 //! | `attempts` | a statement on a book: tried, performed, performed at one version of its text |
 //! | `reads` | texts, a text as it was at a version, entries |
 #![tactic(auto)]
 
 mod attempts;
+mod calls;
 mod held_book;
 mod lines;
 mod reads;
