@@ -6,8 +6,10 @@
 //! | File | What it does |
 //! |---|---|
 //! | `asked`, `asked_statements` | what a line asks for |
+//! | `plain_lines` | lines that are a statement and nothing else |
 //! | `binds` | the texts that names represent in one statement |
 //! | `replies` | the JSON of each reply |
+//! | `content` | what a reply says, which is written without a value |
 //! | `at_seat` | a line with its reply, at a seat |
 //! | `at_desk` | what a call at a desk takes |
 //! | `at_version` | a statement that is accepted only at one version of its text |
@@ -26,12 +28,14 @@ mod at_desk;
 mod at_seat;
 mod at_version;
 mod binds;
+mod content;
 mod excerpt;
 mod faults;
 mod findings;
 mod ignored;
 mod intake;
 mod outlet;
+mod plain_lines;
 mod replies;
 mod service;
 mod versions;
@@ -39,6 +43,7 @@ mod versions;
 pub use asked::{Asked, Line, line_in};
 pub use at_desk::AtDesk;
 pub use at_seat::{Replied, refusal_in, reply_to, submit};
+pub use content::{Content, Id, Listed};
 pub use excerpt::Excerpt;
 pub use faults::{BindFault, LineFault, ServeFault};
 pub use ignored::with_ignored;

@@ -19,7 +19,7 @@ use crate::ignored::with_ignored;
 use crate::intake::{Intake, Next};
 use crate::outlet::Outlet;
 use crate::replies::error_reply;
-use crate::{Asked, Line, Replied, ServeFault, line_in, reply_to};
+use crate::{Asked, Content, Line, Replied, ServeFault, line_in, reply_to};
 use serde_json::Value;
 use sno_book::Book;
 use sno_desk::{AtDeskFault, Desk, DeskWork, Naming, Seat, at_desk, may_cross};
@@ -56,9 +56,25 @@ pub struct Served {
     pub fault: Option<ServeFault>,
 }
 
+/// How many bytes are made room for at first for each reply. Most take no more.
+const LINE_ROOM: usize = 256;
+
 /// A reply as a line.
 fn line_of(alloc: Global, reply: &Value) -> Result<Vec<u8>, AllocError> {
     let mut line = reply.to_vec(alloc)?;
+    line.push(b'\n')?;
+    Ok(line)
+}
+
+/// A reply as a line, with the names of members of its line that mean nothing there.
+fn line_with(alloc: Global, reply: Content, ignored: Vec<Value>) -> Result<Vec<u8>, AllocError> {
+    if !ignored.is_empty() {
+        let value = reply.into_value(alloc)?;
+        let noted = with_ignored(alloc, value, ignored)?;
+        return line_of(alloc, &noted);
+    }
+    let mut line = Vec::with_capacity(alloc, LINE_ROOM)?;
+    reply.put(alloc, &mut line)?;
     line.push(b'\n')?;
     Ok(line)
 }
@@ -138,8 +154,7 @@ impl<I: Read + Drop, W: Write + Drop> Service<I, W> {
         let mut line = self.read(rt, alloc, line)?;
         let ignored = line.take_ignored(alloc);
         let Replied { reply, refused } = reply_to(rt, alloc, desk, seat, line, self.tries)?;
-        let reply = with_ignored(alloc, reply, ignored)?;
-        let bytes = line_of(alloc, &reply)?;
+        let bytes = line_with(alloc, reply, ignored)?;
         let mut outlet = self.outlet.lock(rt);
         outlet.refuse(refused);
         outlet.put(&bytes);
