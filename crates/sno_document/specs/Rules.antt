@@ -1,6 +1,6 @@
 -- Rules: what JSON represents that is read for files. As a document, but without texts; a statement need not name its text, and
 -- literals may have any bytes.
-use Rattle.std.specs.Prelude.{◌≡◌, ◌≢◌, ℕ, List, [], Result, Ok, Err, codes, map, true, unwrap_or}
+use Rattle.std.specs.Prelude.{◌≡◌, ◌≢◌, ℕ, List, [], Result, Ok, Err, codes, true, unwrap_or}
 use Rattle.std.specs.Arc.{arc_value}
 use Rattle.serde_json.specs.Data.{Data}
 use Rattle.serde_json.specs.Find.{as_object}

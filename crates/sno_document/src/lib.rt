@@ -5,7 +5,8 @@
 //! by `IsDocument` of `specs/Document.antt`. Bytes have only one such result ([`one_result`]). `DocumentFault::Memory` is a
 //! further result. [`read_rules`] reads statements for files, whose literals may have any bytes (`IsRules` of `specs/Rules.antt`).
 //! [`read_statement`] reads one statement alone, for definitions that are there (`specs/Single.antt`), and
-//! [`read_bound_statement`] one in which names represent texts (`specs/Bound.antt`).
+//! [`read_bound_statement`] one in which names represent texts (`specs/Bound.antt`). [`tree_in`], [`member`], [`whole_in`] and
+//! [`statement_of_tree`] do so in steps, for a caller that wants more of the JSON.
 //!
 //! | File | What it does |
 //! |---|---|
@@ -48,12 +49,13 @@ pub use documents::{Document, MAX_DOCUMENT, read_document};
 pub use faults::DocumentFault;
 pub use file_rules::FileRules;
 pub use laws::one_result;
+pub use members::member;
 pub use modes::Mode;
 pub use rules::{read_rules, rules_of_rows};
-pub use single::read_statement;
+pub use single::{read_statement, statement_of_tree};
 pub use sno_book::Book;
 pub use sno_pattern::{Name, Rules};
 pub use sno_read::ReadFault;
 pub use sno_statement::{FileStatement, Statement};
 pub use statements::MAX_STATEMENTS;
-pub use trees::MAX_DEPTH;
+pub use trees::{MAX_DEPTH, tree_in, whole_in};

@@ -14,9 +14,9 @@ pub(crate) fn is_object(value: &Value<'_>) -> bool
     matches!(value, Value::Object(_))
 }
 
-/// The member with this key; the last one if there are several.
+/// Returns the member of an object with this key; the last one if there are several, and none if it isn't an object.
 #[tactic(auto, using(crate::proofs::TreeLemmas::member_found))]
-pub(crate) fn member<'v, 't>(value: &'v Value<'t>, key: &str) -> Option<&'v Value<'t>>
+pub fn member<'v, 't>(value: &'v Value<'t>, key: &str) -> Option<&'v Value<'t>>
     ensures { option_map (λ v. tree_seen v.now) result ≡ get key.now (tree_seen value.now) }
 {
     value.get(key)

@@ -1,19 +1,21 @@
 //! Trees of JSON, whose strings are borrowed from the text. They represent the value of the text if their numbers are
 //! in range.
-ghost use Rattle.std.specs.Prelude.{◌≡◌, ◌≢◌, ◌==◌, ◌<◌, length, slice_index, is_some, true, false, None, Some, IsTrue, MatchResult};
+ghost use Rattle.std.specs.Prelude.{◌≡◌, ◌≢◌, ◌==◌, ◌<◌, length, slice_index, is_some, true, false, None, Some, IfOk, IfSome, IsTrue, MatchResult};
+ghost use Rattle.std.specs.Option.{option_map};
 ghost use Rattle.std.specs.Float.{float_is_finite};
 ghost use Rattle.json.specs.Value.{value_view, items_view, members_view};
+ghost use Rattle.serde_json.specs.Data.{unsigned};
 ghost use Rattle.serde_json.specs.Read.{number_of, number_from, float_of};
 ghost use Rattle.sno_document.specs.Faults.{Gives};
 ghost use Rattle.sno_document.specs.Json.{json_of};
 ghost use Rattle.sno_document.specs.Document.{value_or, value_in};
-ghost use Rattle.sno_document.specs.Trees.{tree_of_text, is_in_range, are_items_in_range, are_members_in_range, tree_seen};
+ghost use Rattle.sno_document.specs.Trees.{tree_of_text, is_in_range, are_items_in_range, are_members_in_range, number_seen, tree_seen};
 ghost use Rattle.sno_document.specs.declared.faults.DocumentFault.TheVariants.{Memory, NotJson};
 
 use crate::{DocumentFault, MAX_DOCUMENT};
 use fast_float::Numeral;
 use json::{Error, Reader, Scratch, Value};
-use std::alloc::Global;
+use std::alloc::{AllocError, Global};
 
 /// How deep arrays and objects of a document may nest.
 pub const MAX_DEPTH: usize = 127;
@@ -154,4 +156,38 @@ pub(crate) fn value_in<'t>(
         return Err(DocumentFault::DocumentTooLong);
     }
     parse(alloc, bytes, scratch)
+}
+
+/// Returns the JSON tree of the bytes, and nothing if they aren't JSON in UTF-8 whose numbers are in range. Its strings are borrowed from
+/// the bytes or, if they have escapes, from `scratch`. Refused only if memory runs out.
+pub fn tree_in<'t>(
+    alloc: Global,
+    bytes: &'t [u8],
+    scratch: &'t mut Scratch,
+) -> Result<Option<Value<'t>>, AllocError>
+    ensures { IfOk result (λ v. option_map tree_seen v ≡ json_of bytes.now) }
+{
+    match parse(alloc, bytes, scratch) {
+        Ok(value) => Ok(Some(value)),
+        Err(DocumentFault::Memory) => Err(AllocError),
+        Err(_) => Ok(None),
+    }
+}
+
+fn unsigned_in(numeral: &Numeral<'_>) -> Option<u64>
+    ensures { IfSome result (λ n. number_from false numeral.now ≡ Some (unsigned n)) }
+{
+    numeral.to_u64()
+}
+
+/// Returns the number that a number's text is, if it is written without sign, fraction and exponent and has at most 64 bits.
+pub fn whole_in(text: &str) -> Option<u64>
+    ensures { IfSome result (λ n. number_seen text.now ≡ unsigned n) }
+{
+    let bytes = text.as_bytes();
+    if has_minus(bytes) {
+        None
+    } else {
+        unsigned_in(&Numeral::scan(bytes))
+    }
 }

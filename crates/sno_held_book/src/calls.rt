@@ -16,7 +16,7 @@ use sno_document::{DocumentFault, Mode, read_document};
 use sno_listing::{Refusal, listing_of};
 use sno_rewrite::perform_serial;
 use sno_serve::{
-    Asked, MAX_LINE, MAX_REFUSED, Replied, line_in, line_of, too_long_reply, with_ignored,
+    Asked, MAX_LINE, MAX_REFUSED, Replied, line_in, line_of, line_with, too_long_reply,
 };
 use std::alloc::{AllocError, Global};
 use std::sync::Arc;
@@ -86,8 +86,7 @@ impl HeldBook {
         self.number = number_after(&line.asked, self.number);
         let ignored = line.take_ignored(alloc);
         let Replied { reply, refused } = reply_to(alloc, &mut self.book, line)?;
-        let reply = with_ignored(alloc, reply, ignored)?;
-        let bytes = line_of(alloc, &reply)?;
+        let bytes = line_with(alloc, reply, ignored)?;
         list_refusal(&mut self.refused, refused)?;
         Ok(bytes)
     }

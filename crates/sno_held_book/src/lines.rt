@@ -5,6 +5,7 @@ ghost use Rattle.std.specs.Arc.{arc_value};
 ghost use Rattle.serde_json.specs.View.{view};
 ghost use Rattle.sno_book.specs.Books.{view_of};
 ghost use Rattle.sno_serve.specs.Accepted.{AsksFor};
+ghost use Rattle.sno_serve.specs.Contents.{content_data};
 ghost use Rattle.sno_held_book.specs.Lines.{HasTaken, IsNotedOn, IsPerformed, IsPerformedAt, IsReplied};
 
 use crate::attempts::{attempt, submit, submit_at};
@@ -13,7 +14,8 @@ use serde_json::Value;
 use sno_book::Book;
 use sno_desk::Statement;
 use sno_serve::{
-    Asked, Line, Replied, at_refusal, at_reply, fault_reply, refusal_in, submit_reply, tried_reply,
+    Asked, Content, Line, Replied, at_refusal, at_reply, fault_reply, refusal_in, submit_reply,
+    tried_reply,
 };
 use std::alloc::{AllocError, Global};
 use std::sync::Arc;
@@ -25,14 +27,14 @@ fn perform(
     id: Option<Value>,
     statement: Statement,
 ) -> Result<Replied, AllocError>
-    ensures performed { IfOk result (λ a. IsPerformed (view_of book.old) (view_of book.new) (option_map view id) statement (view a.reply) a.refused) }
+    ensures performed { IfOk result (λ a. IsPerformed (view_of book.old) (view_of book.new) (option_map view id) statement (content_data a.reply) a.refused) }
     ensures taken { HasTaken (λ s. s ≡ statement) (view_of book.old) (view_of book.new) }
 {
     let number = statement.number();
     let statement = Arc::new(alloc, statement)?;
     let gave = submit(alloc, book, &statement);
     let refused = refusal_in(number, &gave);
-    let reply = submit_reply(alloc, id, &gave)?;
+    let reply = submit_reply(alloc, id, gave)?;
     Ok(Replied { reply, refused })
 }
 
@@ -44,7 +46,7 @@ fn perform_at(
     statement: Statement,
     version: u64,
 ) -> Result<Replied, AllocError>
-    ensures performed { IfOk result (λ a. IsPerformedAt (view_of book.old) (view_of book.new) (option_map view id) statement version (view a.reply) a.refused) }
+    ensures performed { IfOk result (λ a. IsPerformedAt (view_of book.old) (view_of book.new) (option_map view id) statement version (content_data a.reply) a.refused) }
     ensures taken { HasTaken (λ s. s ≡ statement) (view_of book.old) (view_of book.new) }
 {
     let number = statement.number();
@@ -81,7 +83,7 @@ fn try_out(
 ///
 /// Refused only if memory runs out. The book is unchanged then, or has one entry more, of the line's statement.
 pub fn reply_to(alloc: Global, book: &mut Book, line: Line) -> Result<Replied, AllocError>
-    ensures replied { IfOk result (λ a. IsReplied (view_of book.old) (view_of book.new) (option_map view line.id) line.asked (view a.reply) a.refused) }
+    ensures replied { IfOk result (λ a. IsReplied (view_of book.old) (view_of book.new) (option_map view line.id) line.asked (content_data a.reply) a.refused) }
     ensures taken { HasTaken (AsksFor line.asked) (view_of book.old) (view_of book.new) }
 {
     let Line { id, asked, .. } = line;
@@ -98,7 +100,7 @@ pub fn reply_to(alloc: Global, book: &mut Book, line: Line) -> Result<Replied, A
         Asked::Fault(fault) => fault_reply(alloc, id, &fault)?,
     };
     Ok(Replied {
-        reply,
+        reply: Content::Value(reply),
         refused: None,
     })
 }

@@ -15,7 +15,7 @@ use serde_json::Value;
 use sno_book::Book;
 use sno_desk::TextName;
 use sno_serve::{
-    Excerpt, capped, look_reason, read_at_reply, read_reply, row_value, rows_reply, since_reply,
+    Excerpt, capped, entries_reply, look_reason, read_at_reply, read_reply, row_value, rows_reply,
     text_at,
 };
 use std::alloc::{AllocError, Global};
@@ -88,5 +88,5 @@ pub(crate) fn list(
     let journal = book.journal();
     let (_, entries) = journal.split_at(from.min(journal.len()));
     let values = excerpt.values(alloc, from, entries)?;
-    since_reply(alloc, id, values)
+    entries_reply(alloc, id, values)
 }

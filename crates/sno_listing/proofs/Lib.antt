@@ -1,2 +1,3 @@
 pub mod ListingLemmas
 pub mod JsonListingLemmas
+pub mod TokenLemmas

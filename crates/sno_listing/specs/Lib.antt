@@ -1,4 +1,5 @@
 pub mod History
 pub mod Listing
 pub mod JsonListing
+pub mod Tokens
 pub mod Forms

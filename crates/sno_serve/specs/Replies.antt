@@ -2,7 +2,7 @@
 use Rattle.std.specs.Prelude.{◌≡◌, ◌⊎◌, ℕ, false, true, List, [], ◌∷◌, ◌++◌, length, map, Option, Some, None, Result, Ok, Err, codes, nat_lt, if◌then◌else◌}
 use Rattle.std.specs.Fmt.{decimal}
 use Rattle.serde_json.specs.Data.{Data, boolean, string, object, Members, no_members, member, put}
-use Rattle.serde_json.specs.Written.{IsInOrder, compact_text, has_float}
+use Rattle.serde_json.specs.Written.{compact_text, has_float}
 use Rattle.sno_statement.specs.Statement.{Statement}
 use Rattle.sno_book.specs.Entries.{Entry}
 use Rattle.sno_book.specs.Openings.{Opening, names_in, place_in}
@@ -202,11 +202,10 @@ pub record IsTried (opening : Opening) (after : List Entry) (id : Option Data) (
   pub gives : GivesProposed gave opening after s
   pub noted : IsNoted id (length after) s gave d
 
--- the bytes are a line that has the value: compact JSON, and a line feed
+-- the bytes are a line that has the value: compact JSON, and a line feed. The text of a value with a float isn't fixed
 pub record IsLine (d : Data) (bytes : List ℕ) : Type 0 where
   pub text : List ℕ
   pub ended : bytes ≡ text ++ 10 ∷ []
-  pub in_order : IsInOrder text d
   pub compact : has_float d ≡ false → text ≡ compact_text d
 
 -- the reply to a line that is too long

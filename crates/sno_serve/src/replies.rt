@@ -3,10 +3,12 @@ ghost use Rattle.std.specs.Prelude.{◌≡◌, codes, map, IfOk, Ok};
 ghost use Rattle.std.specs.Option.{option_map};
 ghost use Rattle.serde_json.specs.Data.{string, no_members, member};
 ghost use Rattle.serde_json.specs.View.{view, members_view};
-ghost use Rattle.sno_serve.specs.Replies.{IsFaulted, IsLine, look_words, with_id, word_reply, submit_words, submit_reply, changed_reply, check_reply, at_reply, read_at_reply, read_reply, row_data, rows_data, rows_reply, since_reply, texts_reply, too_long_reply};
+ghost use Rattle.sno_serve.specs.Contents.{content_data, entry_reply, listed_rows};
+ghost use Rattle.sno_serve.specs.Replies.{IsFaulted, look_words, with_id, word_reply, submit_words, submit_reply, changed_reply, check_reply, at_reply, read_at_reply, read_reply, row_data, rows_data, rows_reply, since_reply, texts_reply, too_long_reply};
 
 use crate::at_version::AtFault;
-use crate::{BindFault, LineFault};
+use crate::content::{Listed, id_in};
+use crate::{BindFault, Content, LineFault};
 use serde_json::{Map, Value, put};
 use sno_desk::{Proposal, Receipt, Reply, Snapshot, SnapshotFault, SubmitFault, Text, TextName};
 use sno_document::DocumentFault;
@@ -63,18 +65,41 @@ fn submit_words(alloc: Global, fault: &SubmitFault) -> Result<Value, AllocError>
     }
 }
 
+/// The reply to a statement that was accepted, as a value.
+pub(crate) fn entry_value(
+    alloc: Global,
+    id: Option<Value>,
+    receipt: &Receipt,
+) -> Result<Value, AllocError>
+    ensures { IfOk result (λ v. view v ≡ entry_reply (option_map view id) receipt.now) }
+{
+    let members = done_members(alloc, receipt.index, &receipt.entry)?;
+    with_id(alloc, id, members)
+}
+
+/// The reply to a statement that was accepted: its entry, as the JSON listing has it, with the id.
+fn accepted_reply(alloc: Global, id: Option<Value>, receipt: Receipt) -> Result<Content, AllocError>
+    ensures { IfOk result (λ c. content_data c ≡ entry_reply (option_map view id) receipt) }
+{
+    match id_in(id) {
+        Ok(id) => Ok(Content::Entry(id, receipt)),
+        Err(id) => {
+            let value = entry_value(alloc, Some(id), &receipt)?;
+            Ok(Content::Value(value))
+        }
+    }
+}
+
 /// The reply to a statement: its entry, as the JSON listing has it, or the reason why it was refused, with the id.
-pub fn submit_reply(alloc: Global, id: Option<Value>, reply: &Reply) -> Result<Value, AllocError>
-    ensures { IfOk result (λ v. view v ≡ submit_reply (option_map view id) reply.now) }
+pub fn submit_reply(alloc: Global, id: Option<Value>, reply: Reply) -> Result<Content, AllocError>
+    ensures { IfOk result (λ c. content_data c ≡ submit_reply (option_map view id) reply) }
 {
     match reply {
-        Ok(receipt) => {
-            let members = done_members(alloc, receipt.index, &receipt.entry)?;
-            with_id(alloc, id, members)
-        }
+        Ok(receipt) => accepted_reply(alloc, id, receipt),
         Err(fault) => {
-            let words = submit_words(alloc, fault)?;
-            word_reply(alloc, id, "reason", words)
+            let words = submit_words(alloc, &fault)?;
+            let value = word_reply(alloc, id, "reason", words)?;
+            Ok(Content::Value(value))
         }
     }
 }
@@ -95,13 +120,16 @@ pub fn at_reply(
     alloc: Global,
     id: Option<Value>,
     gave: Result<Receipt, AtFault>,
-) -> Result<Value, AllocError>
-    ensures { IfOk result (λ v. view v ≡ at_reply (option_map view id) gave) }
+) -> Result<Content, AllocError>
+    ensures { IfOk result (λ c. content_data c ≡ at_reply (option_map view id) gave) }
 {
     match gave {
-        Ok(receipt) => submit_reply(alloc, id, &Ok(receipt)),
-        Err(AtFault::Changed(now)) => changed_reply(alloc, id, now),
-        Err(AtFault::Refused(fault)) => submit_reply(alloc, id, &Err(fault)),
+        Ok(receipt) => submit_reply(alloc, id, Ok(receipt)),
+        Err(AtFault::Changed(now)) => {
+            let value = changed_reply(alloc, id, now)?;
+            Ok(Content::Value(value))
+        }
+        Err(AtFault::Refused(fault)) => submit_reply(alloc, id, Err(fault)),
     }
 }
 
@@ -237,15 +265,44 @@ pub(crate) fn check_reply(
     }
 }
 
-/// The reply with these entries, with the id.
-pub fn since_reply(
+/// The reply with these rows of entries, with the id.
+pub fn entries_reply(
     alloc: Global,
     id: Option<Value>,
-    entries: Vec<Value>,
+    rows: Vec<Value>,
 ) -> Result<Value, AllocError>
-    ensures { IfOk result (λ v. view v ≡ since_reply (option_map view id) (map view entries.items)) }
+    ensures { IfOk result (λ v. view v ≡ since_reply (option_map view id) (map view rows.items)) }
 {
-    word_reply(alloc, id, "entries", Value::Array(entries))
+    word_reply(alloc, id, "entries", Value::Array(rows))
+}
+
+/// The reply with the entries that are listed, with the id, as a value.
+pub(crate) fn since_value(
+    alloc: Global,
+    id: Option<Value>,
+    listed: &Listed,
+) -> Result<Value, AllocError>
+    ensures { IfOk result (λ v. view v ≡ since_reply (option_map view id) (listed_rows listed.now)) }
+{
+    let rows = listed.excerpt.values(alloc, listed.from, &listed.entries)?;
+    entries_reply(alloc, id, rows)
+}
+
+/// The reply with the entries that are listed, with the id.
+pub(crate) fn since_reply(
+    alloc: Global,
+    id: Option<Value>,
+    listed: Listed,
+) -> Result<Content, AllocError>
+    ensures { IfOk result (λ c. content_data c ≡ since_reply (option_map view id) (listed_rows listed)) }
+{
+    match id_in(id) {
+        Ok(id) => Ok(Content::Entries(id, listed)),
+        Err(id) => {
+            let value = since_value(alloc, Some(id), &listed)?;
+            Ok(Content::Value(value))
+        }
+    }
 }
 
 /// The reply with the reason why nothing was done, and the id.
@@ -318,13 +375,4 @@ pub fn too_long_reply(alloc: Global) -> Result<Value, AllocError>
     ensures { IfOk result (λ v. view v ≡ too_long_reply) }
 {
     error_reply(alloc, None, "longer than 16777216 bytes")
-}
-
-/// A reply as a line.
-pub fn line_of(alloc: Global, reply: &Value) -> Result<Vec<u8>, AllocError>
-    ensures { IfOk result (λ line. IsLine (view reply.now) line.items) }
-{
-    let mut line = reply.to_vec(alloc)?;
-    line.push(b'\n')?;
-    Ok(line)
 }

@@ -15,10 +15,10 @@ ghost use Rattle.sno_serve.specs.Accepted.{HasServed, IsGiven};
 ghost use Rattle.sno_serve.specs.declared.faults.ServeFault.TheVariants.{Desk as Failed, Memory};
 
 use crate::at_seat::{refusal_in, submit};
-use crate::ignored::with_ignored;
 use crate::intake::{Intake, Next};
 use crate::outlet::Outlet;
-use crate::replies::{line_of, too_long_reply};
+use crate::replies::too_long_reply;
+use crate::reply_lines::{line_of, line_with};
 use crate::{Asked, Line, Replied, ServeFault, line_in, reply_to};
 use sno_book::Book;
 use sno_desk::{AtDeskFault, Desk, DeskWork, Naming, Seat, at_desk, may_cross};
@@ -130,8 +130,7 @@ impl<I: Read + Drop, W: Write + Drop> Service<I, W> {
         let mut line = self.read(rt, alloc, line)?;
         let ignored = line.take_ignored(alloc);
         let Replied { reply, refused } = reply_to(rt, alloc, desk, seat, line, self.tries)?;
-        let reply = with_ignored(alloc, reply, ignored)?;
-        let bytes = line_of(alloc, &reply)?;
+        let bytes = line_with(alloc, reply, ignored)?;
         let mut outlet = self.outlet.lock(rt);
         outlet.refuse(refused);
         outlet.put(&bytes);
