@@ -225,7 +225,7 @@ fn serve_next<R: Wait, I: Read + Drop, W: Write + Drop, E: Write>(
     serve_opened(rt, alloc, opened, given, client, errors)
 }
 
-/// Writes the listing, or the line of the fault that ended the service, and returns the status.
+/// Writes the listing, if it is asked for, or the line of the fault that ended the service, and returns the status.
 fn end<R: Files, D: Disk, I: Read, W: Write, E: Write>(
     rt: &R,
     alloc: Global,
@@ -235,6 +235,9 @@ fn end<R: Files, D: Disk, I: Read, W: Write, E: Write>(
 ) -> Result<u8, ProgramFault> {
     if let Err(fault) = &kept.ended {
         return Ok(refuse(fault, errors));
+    }
+    if matches!(listing, ListingFile::Nowhere) {
+        return Ok(0);
     }
     let bytes = kept.listing(alloc)?;
     write_listing(rt, listing, &bytes)?;

@@ -2,3 +2,4 @@ pub mod CompactedLemmas
 pub mod Keeping
 pub mod ShownLemmas
 pub mod WrittenLemmas
+pub mod RecordLemmas

@@ -1,5 +1,6 @@
 -- What the lines of a store are.
-use Rattle.std.specs.Prelude.{ℕ, List, codes}
+use Rattle.std.specs.Prelude.{ℕ, List, [], ◌∷◌, ◌++◌, codes}
+use Rattle.json.specs.Print.{quoted}
 use Rattle.serde_json.specs.Data.{Data, number, unsigned, string, object, no_members, member}
 use Rattle.sno_durable.specs.declared.records.TheConstants.{FORMAT, LATER_FORMAT}
 
@@ -22,3 +23,7 @@ later_data document trials made_of past =
 -- the record of an entry: the line of a client, as it came, and its reply
 abbrev pub record_data : List ℕ → Data → Data
 record_data line reply = object (member (codes "line") (string line) (member (codes "reply") reply no_members))
+
+-- the same as text: the reply's text is in it as the client gets it
+abbrev pub record_text : List ℕ → List ℕ → List ℕ
+record_text line reply = 123 ∷ (quoted (codes "line") ++ 58 ∷ (quoted line ++ (44 ∷ (quoted (codes "reply") ++ 58 ∷ (reply ++ 125 ∷ [])))))

@@ -1,7 +1,7 @@
 //! The lines of a client, their replies, and the store between the two.
-ghost use Rattle.std.specs.Prelude.{◌≡◌, ◌+◌, OnOk, IsTrue, length};
+ghost use Rattle.std.specs.Prelude.{◌≡◌, ◌+◌, [], OnOk, IsTrue, length};
 ghost use Rattle.sno_statement.specs.Statement.{IsLimit};
-ghost use Rattle.sno_store.specs.Shown.{lines_left};
+ghost use Rattle.sno_store.specs.Shown.{lines_in, lines_left};
 ghost use Rattle.sno_store.specs.Store.{is_clean};
 ghost use Rattle.sno_durable.specs.Kept.{AreKept, HasNoted, HasKept};
 
@@ -17,6 +17,7 @@ use sno_serve::{Asked, AtDesk, Intake, Next, line_in, refusal_in, submit};
 use sno_statement::Statement;
 use sno_store::{Lines, LinesIter, Store};
 use sqlite_disk::Disk;
+use std::alloc::Global;
 use std::io::{Read, Write};
 use std::sync::{Arc, Wait};
 
@@ -34,6 +35,33 @@ const TRIES: u32 = 1;
 struct Waiting {
     records: Lines,
     replies: Vec<u8>,
+    /// The text of the last reply, which its record has too.
+    text: Vec<u8>,
+}
+
+impl Waiting {
+    /// Nothing waits.
+    fn nothing(alloc: Global) -> Waiting
+        ensures { lines_in result.records ≡ [] }
+    {
+        Waiting {
+            records: Lines::new(alloc),
+            replies: Vec::new(alloc),
+            text: Vec::new(alloc),
+        }
+    }
+
+    /// Nothing waits any more. The memory is used again, unless it is much.
+    fn clear(&mut self, alloc: Global)
+        ensures { lines_in self.new.records ≡ [] }
+    {
+        if self.replies.capacity() > MAX_WAITING {
+            *self = Waiting::nothing(alloc);
+        } else {
+            self.records.clear();
+            self.replies.clear();
+        }
+    }
 }
 
 /// What is between a client and the desk's only seat.
@@ -73,7 +101,15 @@ impl<D: Disk + Drop, I: Read + Drop, W: Write + Drop> Keeper<D, I, W> {
         }
         let before = seat.accepted();
         let Shown { reply, refused } = reply_here(at, seat, &self.past, read, TRIES)?;
-        put_noted(at.alloc, &mut waiting.replies, &reply, ignored)?;
+        waiting.text.clear();
+        reply.put(at.alloc, &mut waiting.text)?;
+        put_noted(
+            at.alloc,
+            &mut waiting.replies,
+            &waiting.text,
+            reply,
+            ignored,
+        )?;
         if let Some(refused) = refused {
             self.refused.push(refused)?;
         }
@@ -83,7 +119,7 @@ impl<D: Disk + Drop, I: Read + Drop, W: Write + Drop> Keeper<D, I, W> {
         let Ok(text) = str::from_utf8(line) else {
             return Err(DurableFault::Read);
         };
-        let record = record_line(at.alloc, text, reply)?;
+        let record = record_line(at.alloc, text, &waiting.text)?;
         waiting.records.push(&record)?;
         Ok(())
     }
@@ -145,22 +181,20 @@ impl<D: Disk + Drop, I: Read + Drop, W: Write + Drop> Keeper<D, I, W> {
     }
 
     /// Replies to some lines: their entries are put into the store, and when they are on the disk, the replies are written.
-    /// Returns whether there may be more lines.
+    /// Returns whether there may be more lines. What waited before is dropped.
     fn turn<L: Naming, R: Wait>(
         &mut self,
         at: &AtDesk<'_, L, R>,
         seat: &mut Seat<L>,
+        waiting: &mut Waiting,
     ) -> Result<bool, DurableFault>
         ensures kept { OnOk result (HasKept self.old.store self.new.store seat.old.accepted seat.new.accepted) }
         ensures clean { OnOk result (IsTrue (is_clean self.new.store) → IsTrue (is_clean self.old.store)) }
     {
-        let mut waiting = Waiting {
-            records: Lines::new(at.alloc),
-            replies: Vec::new(at.alloc),
-        };
-        let more = self.gather(at, seat, &mut waiting)?;
+        waiting.clear(at.alloc);
+        let more = self.gather(at, seat, waiting)?;
         self.store.put(&waiting.records)?;
-        self.show(&waiting)?;
+        self.show(waiting)?;
         Ok(more)
     }
 
@@ -173,11 +207,12 @@ impl<D: Disk + Drop, I: Read + Drop, W: Write + Drop> Keeper<D, I, W> {
     ) -> Result<bool, DurableFault>
         ensures kept { OnOk result (HasKept self.old.store self.new.store seat.old.accepted seat.new.accepted) }
     {
+        let mut waiting = Waiting::nothing(at.alloc);
         for _ in 0..u64::MAX {
             if seat.accepted() >= self.most {
                 return Ok(true);
             }
-            if !self.turn(at, seat)? {
+            if !self.turn(at, seat, &mut waiting)? {
                 return Ok(false);
             }
         }
@@ -250,7 +285,9 @@ impl<D: Disk + Drop, I: Read + Drop, W: Write + Drop> Keeper<D, I, W> {
         if seat.accepted() == before {
             return Err(DurableFault::Outcome(place));
         }
-        let again = record_line(at.alloc, &record.line, reply)?;
+        let mut text = Vec::new(at.alloc);
+        reply.put(at.alloc, &mut text)?;
+        let again = record_line(at.alloc, &record.line, &text)?;
         if again.as_slice() != stored {
             return Err(DurableFault::Outcome(place));
         }

@@ -1,11 +1,13 @@
 //! The lines of a store: first what it was made of, and then a record of each entry.
 ghost use Rattle.std.specs.Prelude.{◌≡◌, ◌≤◌, ◌+◌, IfOk, Some};
-ghost use Rattle.serde_json.specs.Data.{depth};
+ghost use Rattle.serde_json.specs.Data.{Data, depth};
 ghost use Rattle.serde_json.specs.Read.{read, max_depth};
 ghost use Rattle.serde_json.specs.View.{view};
-ghost use Rattle.sno_durable.specs.Records.{later_data, origin_data, past_data, record_data};
+ghost use Rattle.serde_json.specs.Written.{compact_text};
+ghost use Rattle.sno_durable.specs.Records.{later_data, origin_data, past_data, record_data, record_text};
 
 use crate::past::Past;
+use json::Writer;
 use serde_json::{Category, Map, Value, put};
 use std::alloc::{AllocError, Global};
 
@@ -122,15 +124,25 @@ pub(crate) fn later_line(
     Ok(bytes)
 }
 
-/// The record of an entry: the line of a client, and its reply.
-pub(crate) fn record_line(alloc: Global, line: &str, reply: Value) -> Result<Vec<u8>, AllocError>
-    ensures { IfOk result (λ b. depth (record_data line.now (view reply)) ≤ max_depth → read b.items ≡ Some (record_data line.now (view reply))) }
+// How many bytes a record has beside its line and its reply, if nothing in the line is escaped, and some more.
+const RECORD_ROOM: usize = 48;
+
+/// The record of an entry: the line of a client, and the text of its reply as it is written to the client.
+#[tactic(auto, using(crate::proofs::RecordLemmas::record_of))]
+pub(crate) fn record_line(alloc: Global, line: &str, reply: &[u8]) -> Result<Vec<u8>, AllocError>
+    ensures text { IfOk result (λ b. b.items ≡ record_text line.now reply.now) }
+    ensures data { IfOk result (λ b. (d : Data) → reply.now ≡ compact_text d → b.items ≡ compact_text (record_data line.now d)) }
 {
-    let text = Value::try_from_str(alloc, line)?;
-    let mut members = Map::new(alloc);
-    put(&mut members, alloc, "reply", reply)?;
-    put(&mut members, alloc, "line", text)?;
-    let bytes = Value::Object(members).to_vec(alloc)?;
+    let room = line.len().saturating_add(reply.len());
+    let bytes = Vec::with_capacity(alloc, room.saturating_add(RECORD_ROOM))?;
+    let mut out = Writer::new(bytes);
+    out.begin_object()?;
+    out.key("line")?;
+    out.string(line)?;
+    out.key("reply")?;
+    let mut bytes = out.into_inner();
+    bytes.extend_from_slice(reply)?;
+    bytes.push(b'}')?;
     Ok(bytes)
 }
 

@@ -1,7 +1,7 @@
 //! The lines that a client gets.
 
 use serde_json::{Map, Value, put};
-use sno_serve::with_ignored;
+use sno_serve::{Content, with_ignored};
 use std::alloc::{AllocError, Global};
 
 /// Puts a reply down as a line.
@@ -16,18 +16,22 @@ pub(crate) fn put_reply(
     Ok(())
 }
 
-/// Puts a reply down as a line, with the names of members of its line that mean nothing there. A record has the reply without them.
+/// Puts down the text of a reply as a line. If members of its line mean nothing there, the reply is written anew with their names. A
+/// record has the reply without them.
 pub(crate) fn put_noted(
     alloc: Global,
     replies: &mut Vec<u8>,
-    reply: &Value,
+    text: &[u8],
+    reply: Content,
     ignored: Vec<Value>,
 ) -> Result<(), AllocError> {
     if ignored.is_empty() {
-        return put_reply(alloc, replies, reply);
+        replies.extend_from_slice(text)?;
+        replies.push(b'\n')?;
+        return Ok(());
     }
-    let copy = reply.clone()?;
-    let noted = with_ignored(alloc, copy, ignored)?;
+    let value = reply.into_value(alloc)?;
+    let noted = with_ignored(alloc, value, ignored)?;
     put_reply(alloc, replies, &noted)
 }
 

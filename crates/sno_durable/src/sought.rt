@@ -3,7 +3,8 @@ ghost use Rattle.std.specs.Prelude.{◌≡◌, ◌≤◌, ◌⊎◌, ◌+◌, If
 ghost use Rattle.std.specs.Option.{option_map};
 ghost use Rattle.serde_json.specs.View.{view};
 ghost use Rattle.sno_desk.specs.declared.desk.TheConstants.{MAX_TRIES};
-ghost use Rattle.sno_durable.specs.Past.{version_of};
+ghost use Rattle.sno_durable.specs.Past.{shown, version_of};
+ghost use Rattle.sno_serve.specs.Contents.{content_data};
 ghost use Rattle.sno_durable.specs.Sought.{IsRepliedOn, asked_here, gone_reply, name_asked};
 
 use crate::past::{Past, lower, with_further};
@@ -11,7 +12,7 @@ use serde_json::{Map, Value, put};
 use sno_desk::{Naming, Seat};
 use sno_listing::{Refusal, text_name_value};
 use sno_pattern::TextName;
-use sno_serve::{Asked, AtDesk, Excerpt, Line, Replied, reply_to};
+use sno_serve::{Asked, AtDesk, Content, Excerpt, Line, Replied, reply_to};
 use std::alloc::{AllocError, Global};
 use std::sync::Wait;
 
@@ -19,7 +20,7 @@ use std::sync::Wait;
 #[derive(Drop)]
 pub(crate) struct Shown {
     /// The reply.
-    pub(crate) reply: Value,
+    pub(crate) reply: Content,
     /// What the listing has of it, if it is a refused statement.
     pub(crate) refused: Option<Refusal>,
 }
@@ -85,6 +86,24 @@ fn gone_reply(alloc: Global, id: Option<Value>, entries: u64) -> Result<Value, A
     }
 }
 
+/// A reply about a text that had this version before, as a client is shown it. Only if there are entries from before, a value is made of
+/// it.
+fn shown_here(
+    alloc: Global,
+    past: &Past,
+    reply: Content,
+    version: u64,
+) -> Result<Content, AllocError>
+    ensures { IfOk result (λ c. content_data c ≡ shown past.now.entries (view past.now.versions) version (content_data reply)) }
+{
+    if past.entries == 0 {
+        return Ok(reply);
+    }
+    let value = reply.into_value(alloc)?;
+    let value = past.shown(alloc, value, version)?;
+    Ok(Content::Value(value))
+}
+
 /// Does what a line asks for at a seat, as [`sno_serve::reply_to`] does, with numbers that go on from what came before: indices of
 /// entries and versions of texts. `tries` is from 1 to 1,000.
 pub(crate) fn reply_here<L: Naming, R: Wait>(
@@ -95,7 +114,7 @@ pub(crate) fn reply_here<L: Naming, R: Wait>(
     tries: u32,
 ) -> Result<Shown, AllocError>
     requires { (1 ≤ tries) × (tries ≤ MAX_TRIES) }
-    ensures replied { IfOk result (λ a. IsRepliedOn past.now.entries (view past.now.versions) tries L.opening seat.old.seen seat.new.seen (option_map view line.id) line.asked (view a.reply) a.refused) }
+    ensures replied { IfOk result (λ a. IsRepliedOn past.now.entries (view past.now.versions) tries L.opening seat.old.seen seat.new.seen (option_map view line.id) line.asked (content_data a.reply) a.refused) }
     ensures counted { IfOk result (λ a. (seat.new.accepted ≡ seat.old.accepted) ⊎ (seat.new.accepted ≡ seat.old.accepted + 1)) }
 {
     let AtDesk { rt, alloc, desk } = *at;
@@ -104,12 +123,12 @@ pub(crate) fn reply_here<L: Naming, R: Wait>(
     let Some(asked) = asked_here(past.entries, version, asked) else {
         let reply = gone_reply(alloc, id, past.entries)?;
         return Ok(Shown {
-            reply,
+            reply: Content::Value(reply),
             refused: None,
         });
     };
     let here = Line { id, asked, ignored };
     let Replied { reply, refused } = reply_to(rt, alloc, desk, seat, here, tries)?;
-    let reply = past.shown(alloc, reply, version)?;
+    let reply = shown_here(alloc, past, reply, version)?;
     Ok(Shown { reply, refused })
 }

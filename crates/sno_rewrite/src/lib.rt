@@ -42,6 +42,7 @@ pub use laws::each_document_has_a_serial_run;
 pub use options::{MAX_WORKERS, Options};
 pub use program::{explain, run_program, words_after_name};
 pub use runs::{Report, run, run_serial, run_shared};
+pub use serial::{BookWithRefusals, perform_serial};
 pub use sno_desk::MAX_TRIES;
 pub use sno_document::{DocumentFault, Mode};
 pub use sno_listing::{Reason, Refusal};

@@ -16,9 +16,11 @@ use std::sync::Arc;
 
 /// A book on which statements were performed, and those that were refused.
 #[derive(Drop)]
-pub(crate) struct BookWithRefusals {
-    pub(crate) book: Book,
-    pub(crate) refused: Vec<Refusal>,
+pub struct BookWithRefusals {
+    /// The book.
+    pub book: Book,
+    /// The refused statements, in their order.
+    pub refused: Vec<Refusal>,
 }
 
 /// Refuses the statement. It is listed after the earlier refused ones.
@@ -91,11 +93,8 @@ fn run(
 }
 
 /// Performs the statements of the document in order on its texts, and returns what they did. Each is performed by
-/// snapshot, proposal and commit.
-pub(crate) fn perform_serial(
-    alloc: Global,
-    document: Document,
-) -> Result<BookWithRefusals, AllocError>
+/// snapshot, proposal and commit. Refused only if memory runs out.
+pub fn perform_serial(alloc: Global, document: Document) -> Result<BookWithRefusals, AllocError>
     requires { IsReady document }
     ensures serial { IfOk result (λ p. serial (document_seen document) ≡ Some (history_seen p)) }
 {

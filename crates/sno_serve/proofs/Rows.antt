@@ -50,9 +50,9 @@ no_rows (name ∷ names) = refl
 
 -- one row further
 pub row_moved : (so_far all : List Data) (name : List ℕ) (names : List (List ℕ)) (taken : List Snapshot) (i : ℕ) (one : Snapshot)
-    → so_far ++ rows_data (name ∷ names) (drop i taken) ≡ all → slice_get taken i ≡ Some one → (so_far ++ row_data name one ∷ []) ++ rows_data names (drop (i + 1) taken) ≡ all
+    → so_far ++ rows_data (name ∷ names) (drop i taken) ≡ all → slice_get taken i ≡ Some one → (so_far ++ row_data name one.text one.version ∷ []) ++ rows_data names (drop (i + 1) taken) ≡ all
 row_moved so_far all name names taken i one h there =
-    append_assoc so_far (row_data name one ∷ []) (rows_data names (drop (i + 1) taken))
+    append_assoc so_far (row_data name one.text one.version ∷ []) (rows_data names (drop (i + 1) taken))
     ∙ ap (λ ts. so_far ++ rows_data (name ∷ names) ts) (sym (drop_get taken i one there)) ∙ h
 
 -- there are no more rows

@@ -6,3 +6,5 @@ pub mod Excerpts
 pub mod Examples
 pub mod Versions
 pub mod Replies
+pub mod Contents
+pub mod PlainLines

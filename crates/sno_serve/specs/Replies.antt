@@ -1,7 +1,8 @@
 -- Replies: JSON objects with the caller's id.
-use Rattle.std.specs.Prelude.{◌≡◌, ◌⊎◌, ℕ, true, List, [], ◌∷◌, ◌++◌, length, map, Option, Some, None, Result, Ok, Err, codes, nat_lt, if◌then◌else◌}
+use Rattle.std.specs.Prelude.{◌≡◌, ◌⊎◌, ℕ, false, true, List, [], ◌∷◌, ◌++◌, length, map, Option, Some, None, Result, Ok, Err, codes, nat_lt, if◌then◌else◌}
 use Rattle.std.specs.Fmt.{decimal}
 use Rattle.serde_json.specs.Data.{Data, boolean, string, object, Members, no_members, member, put}
+use Rattle.serde_json.specs.Written.{compact_text, has_float}
 use Rattle.sno_statement.specs.Statement.{Statement}
 use Rattle.sno_book.specs.Entries.{Entry}
 use Rattle.sno_book.specs.Openings.{Opening, names_in, place_in}
@@ -100,18 +101,22 @@ look_reply id name (Ok taken) = read_reply id name taken
 look_reply id name (Err fault) = word_reply id (codes "reason") (look_words fault)
 
 -- a text as it is listed: its length, its name and its version
-abbrev pub row_data : List ℕ → Snapshot → Data
-row_data name taken = object (member (codes "length") (count (length taken.text)) (member (codes "name") (string name) (member (codes "version") (count taken.version) no_members)))
+abbrev pub row_data : List ℕ → List ℕ → ℕ → Data
+row_data name text version = object (member (codes "length") (count (length text)) (member (codes "name") (string name) (member (codes "version") (count version) no_members)))
 
 -- texts in order, with their names
 abbrev pub rows_data : List (List ℕ) → List Snapshot → List Data
 rows_data [] taken = []
 rows_data (name ∷ names) [] = []
-rows_data (name ∷ names) (one ∷ taken) = row_data name one ∷ rows_data names taken
+rows_data (name ∷ names) (one ∷ taken) = row_data name one.text one.version ∷ rows_data names taken
+
+-- the reply with these texts as they are listed
+abbrev pub rows_reply : Option Data → List Data → Data
+rows_reply id rows = with_id id (member (codes "texts") (array_of rows) no_members)
 
 -- the reply with the texts, by what the seat's snapshots gave
 abbrev pub texts_reply : Option Data → List (List ℕ) → Result (List Snapshot) SnapshotFault → Data
-texts_reply id names (Ok taken) = with_id id (member (codes "texts") (array_of (rows_data names taken)) no_members)
+texts_reply id names (Ok taken) = rows_reply id (rows_data names taken)
 texts_reply id names (Err fault) = word_reply id (codes "reason") (look_words fault)
 
 -- why there is no text as it was at a version: the opening has no text of that name, at some place, or it never had that version
@@ -186,12 +191,26 @@ pub record IsListed (opening : Opening) (after : List Entry) (id : Option Data) 
   pub gives : GivesAll gave opening after (names_in opening.texts)
   pub reply : d ≡ texts_reply id (names_in opening.texts) gave
 
--- what the statement would do to its text as the seat sees it, with the reply, which also has what is found in the statement
+-- the reply to a statement that was only tried, which also has what is found in the statement
+pub record IsNoted (id : Option Data) (index : ℕ) (s : Statement) (gave : Result Proposal SubmitFault) (d : Data) : Type 0 where
+  pub messages : List (List ℕ)
+  pub reply : d ≡ with_findings s.number messages (check_reply id index gave)
+
+-- what the statement would do to its text as the seat sees it, with the reply
 pub record IsTried (opening : Opening) (after : List Entry) (id : Option Data) (s : Statement) (d : Data) : Type 0 where
   pub gave : Result Proposal SubmitFault
   pub gives : GivesProposed gave opening after s
-  pub messages : List (List ℕ)
-  pub reply : d ≡ with_findings s.number messages (check_reply id (length after) gave)
+  pub noted : IsNoted id (length after) s gave d
+
+-- the bytes are a line that has the value: compact JSON, and a line feed. The text of a value with a float isn't fixed
+pub record IsLine (d : Data) (bytes : List ℕ) : Type 0 where
+  pub text : List ℕ
+  pub ended : bytes ≡ text ++ 10 ∷ []
+  pub compact : has_float d ≡ false → text ≡ compact_text d
+
+-- the reply to a line that is too long
+abbrev pub too_long_reply : Data
+too_long_reply = word_reply None (codes "error") (codes "longer than 16777216 bytes")
 
 -- some words say why the line can't be read
 pub record IsFaulted (id : Option Data) (d : Data) : Type 0 where

@@ -10,6 +10,7 @@ ghost use Rattle.sno_serve.specs.Asked.{id_or_none, id_in, name_of, name_or_none
 
 use crate::asked_statements::asks_statement;
 use crate::ignored::ignored_in;
+use crate::plain_lines::plain_line;
 use crate::{Excerpt, LineFault};
 use serde_json::{Category, Value};
 use sno_document::{DocumentFault, Mode, Rules, Statement};
@@ -254,6 +255,9 @@ pub fn line_in(
     ensures id { IfOk result (λ l. option_map view l.id ≡ id_in line.now) }
     ensures asked { IfOk result (λ l. l.asked ≡ asked_in (arc_value rules.now) mode number line.now) }
 {
+    if let Some(line) = plain_line(alloc, rules, mode, number, line)? {
+        return Ok(line);
+    }
     let Some(value) = value_of(alloc, line)? else {
         return Ok(Line {
             id: None,

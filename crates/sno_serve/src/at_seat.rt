@@ -8,16 +8,18 @@ ghost use Rattle.sno_desk.specs.declared.desk.TheConstants.{MAX_TRIES};
 ghost use Rattle.sno_desk.specs.Replies.{IsReply, IsReplyAt, receipts_in};
 ghost use Rattle.sno_desk.specs.Turns.{position};
 ghost use Rattle.sno_serve.specs.Accepted.{AsksFor, HasTaken, IsCounted, IsCountedAt, IsCountedOnce};
+ghost use Rattle.sno_serve.specs.Contents.{content_data};
 ghost use Rattle.sno_serve.specs.Excerpts.{excerpt_of};
 ghost use Rattle.sno_serve.specs.Replies.{IsReplied, IsPerformed, IsPerformedAt, IsLooked, at_refusal, capped, refusal_in, reason_in, since_reply, word_reply};
 
 use crate::at_desk::AtDesk;
 use crate::at_version::{AtFault, submit_at};
+use crate::content::Listed;
 use crate::replies::{
     at_reply, fault_reply, look_reason, read_reply, reason_reply, since_reply, submit_reply,
 };
 use crate::versions::{list_texts, look_at, try_out};
-use crate::{Asked, Excerpt, Line};
+use crate::{Asked, Content, Excerpt, Line};
 use serde_json::Value;
 use sno_desk::{Desk, Naming, OpenGate, Receipt, Reply, Seat, SinceFault, SubmitFault};
 use sno_listing::{Reason, Refusal};
@@ -33,7 +35,7 @@ const MAX_INDEX: u64 = 1_000_000;
 #[derive(Drop)]
 pub struct Replied {
     /// The reply.
-    pub reply: Value,
+    pub reply: Content,
     /// What the listing has of it, if it is a refused statement.
     pub refused: Option<Refusal>,
 }
@@ -96,8 +98,8 @@ fn perform<L: Naming, R: Wait>(
     tries: u32,
 ) -> Result<Replied, AllocError>
     requires { (1 ≤ tries) × (tries ≤ MAX_TRIES) }
-    ensures performed { IfOk result (λ a. IsPerformed tries L.opening seat.old.seen seat.new.seen (option_map view id) statement (view a.reply) a.refused) }
-    ensures counted { IfOk result (λ a. IsCountedOnce seat.old.accepted seat.new.accepted (option_map view id) (view a.reply)) }
+    ensures performed { IfOk result (λ a. IsPerformed tries L.opening seat.old.seen seat.new.seen (option_map view id) statement (content_data a.reply) a.refused) }
+    ensures counted { IfOk result (λ a. IsCountedOnce seat.old.accepted seat.new.accepted (option_map view id) (content_data a.reply)) }
     ensures taken { HasTaken (λ s. s ≡ statement) (position seat.old.accepted seat.old.seen) (position seat.new.accepted seat.new.seen) }
     ensures begins { Begins seat.old.seen seat.new.seen }
 {
@@ -106,12 +108,12 @@ fn perform<L: Naming, R: Wait>(
     let statement = Arc::new(alloc, statement)?;
     let reply = submit(rt, alloc, desk, seat, statement, tries);
     let refused = refusal_in(number, &reply);
-    let reply = submit_reply(alloc, id, &reply)?;
+    let reply = submit_reply(alloc, id, reply)?;
     Ok(Replied { reply, refused })
 }
 
 /// What the listing has of a statement that was to be performed at one version of its text.
-fn at_refusal(number: u32, gave: &Result<Receipt, AtFault>) -> Option<Refusal>
+pub fn at_refusal(number: u32, gave: &Result<Receipt, AtFault>) -> Option<Refusal>
     ensures { result ≡ at_refusal number gave.now }
 {
     let Err(AtFault::Refused(fault)) = gave else {
@@ -130,8 +132,8 @@ fn perform_at<L: Naming, R: Wait>(
     statement: Statement,
     version: u64,
 ) -> Result<Replied, AllocError>
-    ensures performed { IfOk result (λ a. IsPerformedAt L.opening seat.old.seen seat.new.seen (option_map view id) statement version (view a.reply) a.refused) }
-    ensures counted { IfOk result (λ a. IsCountedAt seat.old.accepted seat.new.accepted (option_map view id) (view a.reply)) }
+    ensures performed { IfOk result (λ a. IsPerformedAt L.opening seat.old.seen seat.new.seen (option_map view id) statement version (content_data a.reply) a.refused) }
+    ensures counted { IfOk result (λ a. IsCountedAt seat.old.accepted seat.new.accepted (option_map view id) (content_data a.reply)) }
     ensures taken { HasTaken (λ s. s ≡ statement) (position seat.old.accepted seat.old.seen) (position seat.new.accepted seat.new.seen) }
     ensures begins { Begins seat.old.seen seat.new.seen }
 {
@@ -161,7 +163,7 @@ fn look<L: Naming>(
     }
 }
 
-fn capped(index: u64) -> usize
+pub fn capped(index: u64) -> usize
     ensures value { result ≡ capped index }
     ensures within { result ≤ MAX_INDEX }
 {
@@ -179,19 +181,27 @@ fn list<L: Naming, R: Wait>(
     desk: &Desk<L>,
     seat: &mut Seat<L>,
     id: Option<Value>,
-    excerpt: &Excerpt,
-) -> Result<Value, AllocError>
-    ensures listed { IfOk result (λ v. (view v ≡ since_reply (option_map view id) (excerpt_of excerpt.now (capped excerpt.now.from) seat.new.seen)) ⊎ (view v ≡ word_reply (option_map view id) (codes "reason") (codes "stopped"))) }
+    excerpt: Excerpt,
+) -> Result<Content, AllocError>
+    ensures listed { IfOk result (λ c. (content_data c ≡ since_reply (option_map view id) (excerpt_of excerpt (capped excerpt.from) seat.new.seen)) ⊎ (content_data c ≡ word_reply (option_map view id) (codes "reason") (codes "stopped"))) }
     ensures same { seat.new.accepted ≡ seat.old.accepted }
     ensures begins { Begins seat.old.seen seat.new.seen }
 {
     let from = capped(excerpt.from);
     match desk.since(rt, seat, from) {
         Ok(entries) => {
-            let values = excerpt.values(alloc, from, &entries)?;
-            since_reply(alloc, id, values)
+            let listed = Listed {
+                from,
+                entries,
+                excerpt,
+            };
+            let reply = since_reply(alloc, id, listed)?;
+            Ok(reply)
         }
-        Err(SinceFault::Stopped) => reason_reply(alloc, id, "stopped"),
+        Err(SinceFault::Stopped) => {
+            let reply = reason_reply(alloc, id, "stopped")?;
+            Ok(Content::Value(reply))
+        }
         Err(SinceFault::Memory) => Err(AllocError),
     }
 }
@@ -223,8 +233,8 @@ pub fn reply_to<L: Naming, R: Wait>(
     tries: u32,
 ) -> Result<Replied, AllocError>
     requires { (1 ≤ tries) × (tries ≤ MAX_TRIES) }
-    ensures replied { IfOk result (λ a. IsReplied tries L.opening seat.old.seen seat.new.seen (option_map view line.id) line.asked (view a.reply) a.refused) }
-    ensures counted { IfOk result (λ a. IsCounted seat.old.accepted seat.new.accepted (option_map view line.id) line.asked (view a.reply)) }
+    ensures replied { IfOk result (λ a. IsReplied tries L.opening seat.old.seen seat.new.seen (option_map view line.id) line.asked (content_data a.reply) a.refused) }
+    ensures counted { IfOk result (λ a. IsCounted seat.old.accepted seat.new.accepted (option_map view line.id) line.asked (content_data a.reply)) }
     ensures taken { HasTaken (AsksFor line.asked) (position seat.old.accepted seat.old.seen) (position seat.new.accepted seat.new.seen) }
     ensures begins { Begins seat.old.seen seat.new.seen }
 {
@@ -235,12 +245,12 @@ pub fn reply_to<L: Naming, R: Wait>(
         Asked::PerformAt(statement, version) => {
             return perform_at(&at, seat, id, statement, version);
         }
-        Asked::Check(statement) => try_out(alloc, seat, id, statement)?,
-        Asked::Read(name) => look(alloc, seat, id, &name)?,
-        Asked::ReadAt(name, version) => look_at(&at, seat, id, &name, version)?,
-        Asked::Texts => list_texts(alloc, seat, id)?,
-        Asked::Since(excerpt) => list(rt, alloc, desk, seat, id, &excerpt)?,
-        Asked::Fault(fault) => fault_reply(alloc, id, &fault)?,
+        Asked::Check(statement) => Content::Value(try_out(alloc, seat, id, statement)?),
+        Asked::Read(name) => Content::Value(look(alloc, seat, id, &name)?),
+        Asked::ReadAt(name, version) => Content::Value(look_at(&at, seat, id, &name, version)?),
+        Asked::Texts => Content::Value(list_texts(alloc, seat, id)?),
+        Asked::Since(excerpt) => list(rt, alloc, desk, seat, id, excerpt)?,
+        Asked::Fault(fault) => Content::Value(fault_reply(alloc, id, &fault)?),
     };
     Ok(Replied {
         reply,

@@ -18,7 +18,7 @@ use std::sync::{Arc, Wait};
 
 /// Why a statement was not accepted at a version of its text.
 #[derive(Clone, Copy)]
-pub(crate) enum AtFault {
+pub enum AtFault {
     /// The text has this version, which is another one.
     Changed(u64),
     /// A submit is refused so.

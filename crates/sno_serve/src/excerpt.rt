@@ -22,7 +22,7 @@ pub struct Excerpt {
 }
 
 /// Whether the entry is of the text of this name, or no text is named.
-fn is_of(name: Option<&TextName>, entry: &Entry) -> bool
+pub(crate) fn is_of(name: Option<&TextName>, entry: &Entry) -> bool
     ensures { result ≡ is_of (option_map (λ n. n.now) name.entry) entry.now }
 {
     match name {
@@ -63,7 +63,7 @@ fn first_values(
 }
 
 /// How many of `count` entries may be listed.
-fn most_of(limit: Option<u64>, count: usize) -> usize
+pub(crate) fn most_of(limit: Option<u64>, count: usize) -> usize
     ensures { result ≡ most_of limit count }
 {
     match limit {
@@ -74,7 +74,7 @@ fn most_of(limit: Option<u64>, count: usize) -> usize
 
 impl Excerpt {
     /// The objects of those of the entries that are asked for, the first of which is at the index `from`.
-    pub(crate) fn values(
+    pub fn values(
         &self,
         alloc: Global,
         from: usize,

@@ -6,8 +6,11 @@
 //! | File | What it does |
 //! |---|---|
 //! | `asked`, `asked_statements` | what a line asks for |
+//! | `plain_lines` | lines that are a statement and nothing else |
 //! | `binds` | the texts that names represent in one statement |
 //! | `replies` | the JSON of each reply |
+//! | `reply_lines` | replies as lines |
+//! | `content` | what a reply says, which is written without a value |
 //! | `at_seat` | a line with its reply, at a seat |
 //! | `at_desk` | what a call at a desk takes |
 //! | `at_version` | a statement that is accepted only at one version of its text |
@@ -26,24 +29,36 @@ mod at_desk;
 mod at_seat;
 mod at_version;
 mod binds;
+mod content;
 mod excerpt;
 mod faults;
 mod findings;
 mod ignored;
 mod intake;
 mod outlet;
+mod plain_lines;
 mod replies;
+mod reply_lines;
 mod service;
 mod versions;
 
 pub use asked::{Asked, Line, line_in};
 pub use at_desk::AtDesk;
-pub use at_seat::{Replied, refusal_in, reply_to, submit};
+pub use at_seat::{Replied, at_refusal, capped, refusal_in, reply_to, submit};
+pub use at_version::AtFault;
+pub use content::{Content, Id, Listed};
 pub use excerpt::Excerpt;
 pub use faults::{BindFault, LineFault, ServeFault};
 pub use ignored::with_ignored;
 pub use intake::{Intake, MAX_LINE, Next};
+pub use outlet::MAX_REFUSED;
+pub use replies::{
+    at_reply, entries_reply, fault_reply, look_reason, read_at_reply, read_reply, row_value,
+    rows_reply, submit_reply, too_long_reply,
+};
+pub use reply_lines::{line_of, line_with};
 pub use service::{Served, Terms, serve};
 pub use sno_desk::{Desk, Entry, Naming, Seat};
 pub use sno_document::{Document, Mode, Rules};
 pub use sno_listing::{Reason, Refusal};
+pub use versions::{text_at, tried_reply};

@@ -6,7 +6,7 @@ use std::alloc::Global;
 use std::io::Write;
 
 /// The listing has no more refused statements than this. They would take memory without a bound.
-const MAX_REFUSED: usize = 1_000_000;
+pub const MAX_REFUSED: usize = 1_000_000;
 
 /// Where the replies go.
 #[derive(Drop)]

@@ -3,10 +3,12 @@ ghost use Rattle.std.specs.Prelude.{◌≡◌, codes, map, IfOk, Ok};
 ghost use Rattle.std.specs.Option.{option_map};
 ghost use Rattle.serde_json.specs.Data.{string, no_members, member};
 ghost use Rattle.serde_json.specs.View.{view, members_view};
-ghost use Rattle.sno_serve.specs.Replies.{IsFaulted, look_words, with_id, word_reply, submit_words, submit_reply, changed_reply, check_reply, at_reply, read_at_reply, read_reply, row_data, rows_data, since_reply, texts_reply};
+ghost use Rattle.sno_serve.specs.Contents.{content_data, entry_reply, listed_rows};
+ghost use Rattle.sno_serve.specs.Replies.{IsFaulted, look_words, with_id, word_reply, submit_words, submit_reply, changed_reply, check_reply, at_reply, read_at_reply, read_reply, row_data, rows_data, rows_reply, since_reply, texts_reply, too_long_reply};
 
 use crate::at_version::AtFault;
-use crate::{BindFault, LineFault};
+use crate::content::{Listed, id_in};
+use crate::{BindFault, Content, LineFault};
 use serde_json::{Map, Value, put};
 use sno_desk::{Proposal, Receipt, Reply, Snapshot, SnapshotFault, SubmitFault, Text, TextName};
 use sno_document::DocumentFault;
@@ -63,22 +65,41 @@ fn submit_words(alloc: Global, fault: &SubmitFault) -> Result<Value, AllocError>
     }
 }
 
-/// The reply to a statement: its entry, as the JSON listing has it, or the reason why it was refused, with the id.
-pub(crate) fn submit_reply(
+/// The reply to a statement that was accepted, as a value.
+pub(crate) fn entry_value(
     alloc: Global,
     id: Option<Value>,
-    reply: &Reply,
+    receipt: &Receipt,
 ) -> Result<Value, AllocError>
-    ensures { IfOk result (λ v. view v ≡ submit_reply (option_map view id) reply.now) }
+    ensures { IfOk result (λ v. view v ≡ entry_reply (option_map view id) receipt.now) }
+{
+    let members = done_members(alloc, receipt.index, &receipt.entry)?;
+    with_id(alloc, id, members)
+}
+
+/// The reply to a statement that was accepted: its entry, as the JSON listing has it, with the id.
+fn accepted_reply(alloc: Global, id: Option<Value>, receipt: Receipt) -> Result<Content, AllocError>
+    ensures { IfOk result (λ c. content_data c ≡ entry_reply (option_map view id) receipt) }
+{
+    match id_in(id) {
+        Ok(id) => Ok(Content::Entry(id, receipt)),
+        Err(id) => {
+            let value = entry_value(alloc, Some(id), &receipt)?;
+            Ok(Content::Value(value))
+        }
+    }
+}
+
+/// The reply to a statement: its entry, as the JSON listing has it, or the reason why it was refused, with the id.
+pub fn submit_reply(alloc: Global, id: Option<Value>, reply: Reply) -> Result<Content, AllocError>
+    ensures { IfOk result (λ c. content_data c ≡ submit_reply (option_map view id) reply) }
 {
     match reply {
-        Ok(receipt) => {
-            let members = done_members(alloc, receipt.index, &receipt.entry)?;
-            with_id(alloc, id, members)
-        }
+        Ok(receipt) => accepted_reply(alloc, id, receipt),
         Err(fault) => {
-            let words = submit_words(alloc, fault)?;
-            word_reply(alloc, id, "reason", words)
+            let words = submit_words(alloc, &fault)?;
+            let value = word_reply(alloc, id, "reason", words)?;
+            Ok(Content::Value(value))
         }
     }
 }
@@ -95,22 +116,25 @@ fn changed_reply(alloc: Global, id: Option<Value>, now: u64) -> Result<Value, Al
 }
 
 /// The reply to a statement at one version of its text, with the id.
-pub(crate) fn at_reply(
+pub fn at_reply(
     alloc: Global,
     id: Option<Value>,
     gave: Result<Receipt, AtFault>,
-) -> Result<Value, AllocError>
-    ensures { IfOk result (λ v. view v ≡ at_reply (option_map view id) gave) }
+) -> Result<Content, AllocError>
+    ensures { IfOk result (λ c. content_data c ≡ at_reply (option_map view id) gave) }
 {
     match gave {
-        Ok(receipt) => submit_reply(alloc, id, &Ok(receipt)),
-        Err(AtFault::Changed(now)) => changed_reply(alloc, id, now),
-        Err(AtFault::Refused(fault)) => submit_reply(alloc, id, &Err(fault)),
+        Ok(receipt) => submit_reply(alloc, id, Ok(receipt)),
+        Err(AtFault::Changed(now)) => {
+            let value = changed_reply(alloc, id, now)?;
+            Ok(Content::Value(value))
+        }
+        Err(AtFault::Refused(fault)) => submit_reply(alloc, id, Err(fault)),
     }
 }
 
 /// The reply to a read: name, text and version, with the id.
-pub(crate) fn read_reply(
+pub fn read_reply(
     alloc: Global,
     id: Option<Value>,
     name: &TextName,
@@ -123,17 +147,23 @@ pub(crate) fn read_reply(
 }
 
 /// A text as it is listed: its length, its name and its version.
-fn row_value(alloc: Global, name: &TextName, taken: &Snapshot) -> Result<Value, AllocError>
-    ensures { IfOk result (λ v. view v ≡ row_data name.now taken.now) }
+pub fn row_value(
+    alloc: Global,
+    name: &TextName,
+    text: &Text,
+    version: u64,
+) -> Result<Value, AllocError>
+    ensures { IfOk result (λ v. view v ≡ row_data name.now text.now version) }
 {
+    let name = text_name_value(alloc, name)?;
     let mut members = Map::new(alloc);
-    put(&mut members, alloc, "version", Value::from(taken.version))?;
-    put(&mut members, alloc, "name", text_name_value(alloc, name)?)?;
+    put(&mut members, alloc, "version", Value::from(version))?;
+    put(&mut members, alloc, "name", name)?;
     put(
         &mut members,
         alloc,
         "length",
-        Value::from(taken.text.bytes().len()),
+        Value::from(text.bytes().len()),
     )?;
     Ok(Value::Object(members))
 }
@@ -152,9 +182,16 @@ fn row_values(
         let Some(taken) = taken.get(place) else {
             return Ok(rows);
         };
-        rows.push(row_value(alloc, name, taken)?)?;
+        rows.push(row_value(alloc, name, &taken.text, taken.version)?)?;
     }
     Ok(rows)
+}
+
+/// The reply with these texts as they are listed, with the id.
+pub fn rows_reply(alloc: Global, id: Option<Value>, rows: Vec<Value>) -> Result<Value, AllocError>
+    ensures { IfOk result (λ v. view v ≡ rows_reply (option_map view id) (map view rows.items)) }
+{
+    word_reply(alloc, id, "texts", Value::Array(rows))
 }
 
 /// The reply with the texts, with the id.
@@ -167,11 +204,11 @@ pub(crate) fn texts_reply(
     ensures { IfOk result (λ v. view v ≡ texts_reply (option_map view id) (map (λ n. n.now) names.now) (Ok taken.now)) }
 {
     let rows = row_values(alloc, names, taken)?;
-    word_reply(alloc, id, "texts", Value::Array(rows))
+    rows_reply(alloc, id, rows)
 }
 
 /// The reply with the reason why texts could not be looked at, with the id.
-pub(crate) fn look_reason(
+pub fn look_reason(
     alloc: Global,
     id: Option<Value>,
     fault: SnapshotFault,
@@ -186,7 +223,7 @@ pub(crate) fn look_reason(
 }
 
 /// The reply to a read of a text as it was at a version, with the id.
-pub(crate) fn read_at_reply(
+pub fn read_at_reply(
     alloc: Global,
     id: Option<Value>,
     name: &TextName,
@@ -228,23 +265,48 @@ pub(crate) fn check_reply(
     }
 }
 
-/// The reply with these entries, with the id.
+/// The reply with these rows of entries, with the id.
+pub fn entries_reply(
+    alloc: Global,
+    id: Option<Value>,
+    rows: Vec<Value>,
+) -> Result<Value, AllocError>
+    ensures { IfOk result (λ v. view v ≡ since_reply (option_map view id) (map view rows.items)) }
+{
+    word_reply(alloc, id, "entries", Value::Array(rows))
+}
+
+/// The reply with the entries that are listed, with the id, as a value.
+pub(crate) fn since_value(
+    alloc: Global,
+    id: Option<Value>,
+    listed: &Listed,
+) -> Result<Value, AllocError>
+    ensures { IfOk result (λ v. view v ≡ since_reply (option_map view id) (listed_rows listed.now)) }
+{
+    let rows = listed.excerpt.values(alloc, listed.from, &listed.entries)?;
+    entries_reply(alloc, id, rows)
+}
+
+/// The reply with the entries that are listed, with the id.
 pub(crate) fn since_reply(
     alloc: Global,
     id: Option<Value>,
-    entries: Vec<Value>,
-) -> Result<Value, AllocError>
-    ensures { IfOk result (λ v. view v ≡ since_reply (option_map view id) (map view entries.items)) }
+    listed: Listed,
+) -> Result<Content, AllocError>
+    ensures { IfOk result (λ c. content_data c ≡ since_reply (option_map view id) (listed_rows listed)) }
 {
-    word_reply(alloc, id, "entries", Value::Array(entries))
+    match id_in(id) {
+        Ok(id) => Ok(Content::Entries(id, listed)),
+        Err(id) => {
+            let value = since_value(alloc, Some(id), &listed)?;
+            Ok(Content::Value(value))
+        }
+    }
 }
 
 /// The reply with the reason why nothing was done, and the id.
-pub(crate) fn reason_reply(
-    alloc: Global,
-    id: Option<Value>,
-    reason: &str,
-) -> Result<Value, AllocError>
+pub fn reason_reply(alloc: Global, id: Option<Value>, reason: &str) -> Result<Value, AllocError>
     ensures { IfOk result (λ v. view v ≡ word_reply (option_map view id) (codes "reason") reason.now) }
 {
     let words = Value::try_from_str(alloc, reason)?;
@@ -301,13 +363,16 @@ pub(crate) fn error_reply(
 }
 
 /// The reply to a line with this fault.
-pub(crate) fn fault_reply(
-    alloc: Global,
-    id: Option<Value>,
-    fault: &LineFault,
-) -> Result<Value, AllocError>
+pub fn fault_reply(alloc: Global, id: Option<Value>, fault: &LineFault) -> Result<Value, AllocError>
     ensures { IfOk result (λ v. IsFaulted (option_map view id) (view v)) }
 {
     let words = fault_words(alloc, fault)?;
     error_reply(alloc, id, &words)
+}
+
+/// The reply to a line that is too long, whatever its id is.
+pub fn too_long_reply(alloc: Global) -> Result<Value, AllocError>
+    ensures { IfOk result (λ v. view v ≡ too_long_reply) }
+{
+    error_reply(alloc, None, "longer than 16777216 bytes")
 }

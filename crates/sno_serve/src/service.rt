@@ -15,12 +15,11 @@ ghost use Rattle.sno_serve.specs.Accepted.{HasServed, IsGiven};
 ghost use Rattle.sno_serve.specs.declared.faults.ServeFault.TheVariants.{Desk as Failed, Memory};
 
 use crate::at_seat::{refusal_in, submit};
-use crate::ignored::with_ignored;
 use crate::intake::{Intake, Next};
 use crate::outlet::Outlet;
-use crate::replies::error_reply;
+use crate::replies::too_long_reply;
+use crate::reply_lines::{line_of, line_with};
 use crate::{Asked, Line, Replied, ServeFault, line_in, reply_to};
-use serde_json::Value;
 use sno_book::Book;
 use sno_desk::{AtDeskFault, Desk, DeskWork, Naming, Seat, at_desk, may_cross};
 use sno_document::{Document, Mode, Rules};
@@ -54,13 +53,6 @@ pub struct Served {
     pub refused: Vec<Refusal>,
     /// What ended the service before the end of the input, if anything did.
     pub fault: Option<ServeFault>,
-}
-
-/// A reply as a line.
-fn line_of(alloc: Global, reply: &Value) -> Result<Vec<u8>, AllocError> {
-    let mut line = reply.to_vec(alloc)?;
-    line.push(b'\n')?;
-    Ok(line)
 }
 
 impl<I: Read + Drop, W: Write + Drop> Service<I, W> {
@@ -138,8 +130,7 @@ impl<I: Read + Drop, W: Write + Drop> Service<I, W> {
         let mut line = self.read(rt, alloc, line)?;
         let ignored = line.take_ignored(alloc);
         let Replied { reply, refused } = reply_to(rt, alloc, desk, seat, line, self.tries)?;
-        let reply = with_ignored(alloc, reply, ignored)?;
-        let bytes = line_of(alloc, &reply)?;
+        let bytes = line_with(alloc, reply, ignored)?;
         let mut outlet = self.outlet.lock(rt);
         outlet.refuse(refused);
         outlet.put(&bytes);
@@ -148,7 +139,7 @@ impl<I: Read + Drop, W: Write + Drop> Service<I, W> {
 
     /// Writes the reply to a line that is too long.
     fn refuse_line<R: Wait>(&self, rt: &R, alloc: Global) -> Result<(), AllocError> {
-        let reply = error_reply(alloc, None, "longer than 16777216 bytes")?;
+        let reply = too_long_reply(alloc)?;
         let bytes = line_of(alloc, &reply)?;
         self.outlet.lock(rt).put(&bytes);
         Ok(())

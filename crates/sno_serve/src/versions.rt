@@ -5,7 +5,7 @@ ghost use Rattle.std.specs.Option.{option_map};
 ghost use mathlib.Core.List.{IsPrefix as Begins};
 ghost use Rattle.serde_json.specs.View.{view};
 ghost use Rattle.sno_book.specs.Openings.{names_in, place_in};
-ghost use Rattle.sno_serve.specs.Replies.{IsListed, IsTried, read_at_reply, word_reply};
+ghost use Rattle.sno_serve.specs.Replies.{IsListed, IsNoted, IsTried, read_at_reply, word_reply};
 ghost use Rattle.sno_serve.specs.Versions.{given_by, opened_at, replaced_at, text_at_version};
 
 use crate::at_desk::AtDesk;
@@ -13,7 +13,9 @@ use crate::findings::with_findings;
 use crate::replies::{check_reply, look_reason, read_at_reply, reason_reply, texts_reply};
 use serde_json::Value;
 use sno_check::statement_warnings;
-use sno_desk::{Entry, Naming, Opening, Seat, SinceFault, Statement, Text, TextName};
+use sno_desk::{
+    Entry, Naming, Opening, Proposal, Seat, SinceFault, Statement, SubmitFault, Text, TextName,
+};
 use std::alloc::{AllocError, Global};
 use std::sync::{Arc, Wait};
 
@@ -52,7 +54,7 @@ fn opened_at<'o>(opening: &'o Opening, name: &TextName) -> Option<&'o Text>
 }
 
 /// The text of this name as it was at a version, after these entries.
-fn text_at<'t>(
+pub fn text_at<'t>(
     opening: &'t Opening,
     entries: &'t [Entry],
     name: &TextName,
@@ -131,6 +133,24 @@ pub(crate) fn list_texts<L: Naming>(
     }
 }
 
+/// The reply to a statement that was only tried: the entry that it would be at this index, with what is found in the statement and
+/// the id.
+#[tactic(auto, using(crate::proofs::Tried::noted))]
+pub fn tried_reply(
+    alloc: Global,
+    id: Option<Value>,
+    index: usize,
+    statement: &Statement,
+    gave: &Result<Proposal, SubmitFault>,
+) -> Result<Value, AllocError>
+    ensures { IfOk result (λ v. IsNoted (option_map view id) index statement.now gave.now (view v)) }
+{
+    let reply = check_reply(alloc, id, index, gave)?;
+    let warnings = statement_warnings(alloc, statement)?;
+    let noted = with_findings(alloc, reply, statement.number(), &warnings)?;
+    Ok(noted)
+}
+
 /// Shows what a statement would do to its text as the seat sees it now, with what is found in the statement.
 #[tactic(auto, using(crate::proofs::Tried::tried))]
 pub(crate) fn try_out<L: Naming>(
@@ -146,8 +166,6 @@ pub(crate) fn try_out<L: Naming>(
     let statement = Arc::new(alloc, statement)?;
     let gave = seat.propose(alloc, &statement);
     let index = seat.seen() as usize;
-    let reply = check_reply(alloc, id, index, &gave)?;
-    let warnings = statement_warnings(alloc, &statement)?;
-    let noted = with_findings(alloc, reply, statement.number(), &warnings)?;
-    Ok(noted)
+    let reply = tried_reply(alloc, id, index, &statement, &gave)?;
+    Ok(reply)
 }

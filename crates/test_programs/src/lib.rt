@@ -10,6 +10,8 @@ mod edits;
 mod findings;
 #[cfg(test)]
 mod full;
+#[cfg(test)]
+mod held;
 mod memory;
 #[cfg(test)]
 mod seekers;

@@ -5,11 +5,11 @@ use sno_serve::{Entry, Reason, Refusal, Terms, serve};
 use std::process::Abort;
 use std::test::Fail;
 
-const DOCUMENT: &[u8] =
+pub(crate) const DOCUMENT: &[u8] =
     b"{\"texts\":[{\"name\":\"T\",\"text\":\"the cat\"}],\"statements\":[{\"text\":\"T\",\"pattern\":\"'the'\",\"object\":\"'a'\"}]}";
 
 /// Lines, each with its reply.
-static LINES: [(&'static str, &'static str); 18] = [
+pub(crate) static LINES: [(&'static str, &'static str); 18] = [
     (
         r#"{"id":1,"text":"T","pattern":"'cat'","object":"'dog'"}"#,
         r#"{"after":"a dog","bindings":[],"end":5,"entry":1,"id":1,"matched":true,"start":2,"statement":2,"text":"T","version":1}"#,

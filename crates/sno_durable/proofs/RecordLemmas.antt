@@ -1,0 +1,9 @@
+-- The text of a record.
+use Rattle.std.proofs.Common.{◌≡◌, ℕ, List, ap}
+use Rattle.serde_json.specs.Data.{Data}
+use Rattle.serde_json.specs.Written.{compact_text}
+use Rattle.sno_durable.specs.Records.{record_data, record_text}
+
+-- with the text of the reply's data it is the text of the record's data
+pub record_of : (line reply : List ℕ) (d : Data) → reply ≡ compact_text d → record_text line reply ≡ compact_text (record_data line d)
+record_of line reply d is = ap (record_text line) is
