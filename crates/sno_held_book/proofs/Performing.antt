@@ -1,5 +1,5 @@
 -- What the steps of an attempt say together.
-use Rattle.std.proofs.Common.{◌≡◌, ◌≢◌, ◌∙◌, ◌⊎◌, inl, ℕ, List, [], ◌∷◌, ◌++◌, length, Some, refl, sym, ap, subst}
+use Rattle.std.proofs.Common.{◌≡◌, ◌≢◌, ◌∙◌, ◌⊎◌, inl, inr, ℕ, List, [], ◌∷◌, ◌++◌, length, Some, refl, sym, ap, subst}
 use Rattle.std.specs.Prelude.{Ok, Err, slice_get}
 use Rattle.std.proofs.lemmas.List.{append-nil}
 use Rattle.sno_statement.specs.Statement.{Statement}
@@ -25,7 +25,7 @@ use Rattle.sno_desk.specs.declared.faults.SubmitFault.TheVariants as submits
 use Rattle.sno_desk.proofs.Causes.{explained}
 use Rattle.sno_serve.specs.AtVersion.{AtResult, IsChanged}
 use Rattle.sno_serve.specs.declared.at_version.AtFault.TheVariants as at
-use Rattle.sno_held_book.specs.Lines.{GivesAttempt, GivesTaken, IsAppended, IsAttempted, IsDone, IsDoneAt, IsHindered}
+use Rattle.sno_held_book.specs.Lines.{GivesAttempt, GivesTaken, HasTaken, IsAppended, IsAttempted, IsDone, IsDoneAt, IsHindered}
 
 -- a text has one version
 one_version : (v : View) (place a b : ℕ) → HasVersion v.opening v.journal place a → HasVersion v.opening v.journal place b → a ≡ b
@@ -153,3 +153,14 @@ done_at v w s its name taken version r called same h at_version done =
     let found : HasVersion v.opening v.journal done.place r.entry.version = record { text = r.text; name = s.text; there = done.text } in
     let level = one_version v taken.place r.entry.version taken.version (subst (λ (n : ℕ). HasVersion v.opening v.journal n r.entry.version) place found) its_own in
     (done, level ∙ at_version)
+
+-- at most one entry is appended, of the statement
+pub taken : (v w : View) (s its : Statement) (gave : Reply) → its ≡ s → IsDone v w its gave → HasTaken (λ t. t ≡ s) v w
+taken v w s its (Ok r) same h = inr (record { entry = r.entry; asked = h.statement ∙ same; appended = h.appended })
+taken v w s its (Err fault) same h = inl h.1
+
+-- .. if its text has one version
+pub taken_at : (v w : View) (s its : Statement) (version : ℕ) (gave : AtResult) → its ≡ s → IsDoneAt v w its version gave → HasTaken (λ t. t ≡ s) v w
+taken_at v w s its version (Ok r) same h = inr (record { entry = r.entry; asked = h.0.statement ∙ same; appended = h.0.appended })
+taken_at v w s its version (Err (at.Changed now)) same h = inl h.1
+taken_at v w s its version (Err (at.Refused fault)) same h = inl h.1

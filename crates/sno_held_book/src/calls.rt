@@ -57,6 +57,7 @@ impl HeldBook {
     /// Returns a book of the document that the bytes are. The document's statements were performed on it, in their order.
     ///
     /// Refused as [`read_document`] refuses; with `Memory` also if memory runs out while the statements are performed.
+    #[tactic(auto, using(crate::proofs::Replying::opened))]
     pub fn open(alloc: Global, document: &[u8], mode: Mode) -> Result<HeldBook, DocumentFault>
         requires { IsLimit mode.trials }
         ensures opened { IfOk result (λ b. IsOpened mode document.now b) }
@@ -76,6 +77,7 @@ impl HeldBook {
     }
 
     /// The reply to a line that isn't too long.
+    #[tactic(auto, using(crate::proofs::Replying::line_reply, crate::proofs::Replying::line_taken))]
     fn reply_within(&mut self, alloc: Global, line: &[u8]) -> Result<Vec<u8>, AllocError>
         ensures replied { IfOk result (λ v. IsLineReply self.old self.new line.now v.items) }
         ensures taken { HasTaken (AsksFor (asked_of self.old line.now)) (view_of self.old.book) (view_of self.new.book) }
@@ -96,6 +98,7 @@ impl HeldBook {
     ///
     /// Refused only if memory runs out. Texts and journal are unchanged then, or the journal has one entry more, of the line's
     /// statement. The listing has no more refused statements than before.
+    #[tactic(auto, using(crate::proofs::Replying::too_long, crate::proofs::Replying::within))]
     pub fn reply(&mut self, alloc: Global, line: &[u8]) -> Result<Vec<u8>, AllocError>
         ensures replied { IfOk result (λ v. IsReplyTo self.old self.new line.now v.items) }
         ensures taken { HasTaken (AsksFor (asked_of self.old line.now)) (view_of self.old.book) (view_of self.new.book) }
@@ -103,9 +106,11 @@ impl HeldBook {
         ensures refused { OnErr result (self.new.refused.items ≡ self.old.refused.items) }
     {
         if line.len() > MAX_LINE {
-            return too_long(alloc);
+            let bytes = too_long(alloc)?;
+            return Ok(bytes);
         }
-        self.reply_within(alloc, line)
+        let bytes = self.reply_within(alloc, line)?;
+        Ok(bytes)
     }
 
     /// The JSON listing of the texts, of the journal and of the refused statements, as `sno serve --listing` writes it. It ends in a

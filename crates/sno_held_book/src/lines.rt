@@ -21,6 +21,7 @@ use std::alloc::{AllocError, Global};
 use std::sync::Arc;
 
 /// Performs a statement, and puts its result into a reply.
+#[tactic(auto, using(crate::proofs::Performing::taken))]
 fn perform(
     alloc: Global,
     book: &mut Book,
@@ -39,6 +40,7 @@ fn perform(
 }
 
 /// Performs a statement if its text has this version, and puts its result into a reply.
+#[tactic(auto, using(crate::proofs::Performing::taken_at))]
 fn perform_at(
     alloc: Global,
     book: &mut Book,
@@ -58,6 +60,7 @@ fn perform_at(
 }
 
 /// Shows what a statement would do, with what is found in it.
+#[tactic(auto, using(crate::proofs::Replying::noted_on))]
 fn try_out(
     alloc: Global,
     book: &Book,
