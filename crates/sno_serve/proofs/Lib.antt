@@ -1,7 +1,7 @@
 pub mod Accepting
 pub mod AtVersion
 pub mod Excerpts
-mod Contents
+pub mod Contents
 mod NamedMembers
 mod Rows
 mod Tried
