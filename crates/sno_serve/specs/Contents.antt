@@ -13,7 +13,7 @@ use Rattle.sno_serve.specs.declared.content.Content.{Content}
 use Rattle.sno_serve.specs.declared.content.Content.TheVariants as says
 use Rattle.sno_serve.specs.declared.content.Id.{Id}
 use Rattle.sno_serve.specs.declared.content.Id.TheVariants as id
-use Rattle.sno_serve.specs.declared.content.Listed.{Listed}
+use Rattle.sno_serve.specs.declared.listed.Listed.{Listed}
 
 -- a caller's id
 abbrev pub id_data : Id → Data

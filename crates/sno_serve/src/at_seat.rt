@@ -14,7 +14,7 @@ ghost use Rattle.sno_serve.specs.Replies.{IsReplied, IsPerformed, IsPerformedAt,
 
 use crate::at_desk::AtDesk;
 use crate::at_version::{AtFault, submit_at};
-use crate::content::Listed;
+use crate::listed::Listed;
 use crate::replies::{
     at_reply, fault_reply, look_reason, read_reply, reason_reply, since_reply, submit_reply,
 };

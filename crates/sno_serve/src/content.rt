@@ -10,8 +10,8 @@ ghost use Rattle.sno_serve.specs.Contents.{content_data, entry_reply, id_data, i
 ghost use Rattle.sno_serve.specs.Excerpts.{rows_of, up_to};
 ghost use Rattle.sno_serve.specs.Replies.{since_reply};
 
-use crate::Excerpt;
 use crate::excerpt::{is_of, most_of};
+use crate::listed::Listed;
 use crate::replies::{entry_value, since_value};
 use json::Writer;
 use serde_json::Value;
@@ -27,18 +27,6 @@ pub enum Id {
     Text(String),
     /// A whole number.
     Whole(u64),
-}
-
-/// Entries of the journal, of which those are listed that an excerpt wants.
-#[derive(Drop)]
-pub struct Listed {
-    /// The index of the first one.
-    pub from: usize,
-    /// The entries.
-    pub entries: Vec<Entry>,
-    /// Which of them are listed.
-    pub excerpt: Excerpt,
-    ghost few: { from + length entries.items < 2 ^ 64 },
 }
 
 /// What a reply says.

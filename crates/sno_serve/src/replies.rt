@@ -7,7 +7,8 @@ ghost use Rattle.sno_serve.specs.Contents.{content_data, entry_reply, listed_row
 ghost use Rattle.sno_serve.specs.Replies.{IsFaulted, look_words, with_id, word_reply, submit_words, submit_reply, changed_reply, check_reply, at_reply, read_at_reply, read_reply, row_data, rows_data, rows_reply, since_reply, texts_reply, too_long_reply};
 
 use crate::at_version::AtFault;
-use crate::content::{Listed, id_in};
+use crate::content::id_in;
+use crate::listed::Listed;
 use crate::{BindFault, Content, LineFault};
 use serde_json::{Map, Value, put};
 use sno_desk::{Proposal, Receipt, Reply, Snapshot, SnapshotFault, SubmitFault, Text, TextName};

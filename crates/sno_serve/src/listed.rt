@@ -1,0 +1,17 @@
+//! Entries of which some are listed.
+ghost use Rattle.std.specs.Prelude.{◌<◌, ◌+◌, ◌^◌, length};
+
+use crate::Excerpt;
+use sno_desk::Entry;
+
+/// Entries of the journal, of which those are listed that an excerpt wants.
+#[derive(Drop)]
+pub struct Listed {
+    /// The index of the first one.
+    pub from: usize,
+    /// The entries.
+    pub entries: Vec<Entry>,
+    /// Which of them are listed.
+    pub excerpt: Excerpt,
+    ghost few: { from + length entries.items < 2 ^ 64 },
+}
