@@ -9,12 +9,8 @@
 //! | `plain_lines` | lines that are a statement and nothing else |
 //! | `binds` | the texts that names represent in one statement |
 //! | `replies` | the JSON of each reply |
-<<<<<<< HEAD
 //! | `reply_lines` | replies as lines |
-//! | `content` | what a reply says, which is written without a value |
-=======
 //! | `content`, `listed` | what a reply says, which is written without a value; entries of which some are listed |
->>>>>>> 84b0badb (sno_serve: Listed in a file of its own, since its ghost field would import the definitions that are about it; not yet seen proved)
 //! | `at_seat` | a line with its reply, at a seat |
 //! | `at_desk` | what a call at a desk takes |
 //! | `at_version` | a statement that is accepted only at one version of its text |
@@ -49,28 +45,20 @@ mod versions;
 
 pub use asked::{Asked, Line, line_in};
 pub use at_desk::AtDesk;
-<<<<<<< HEAD
 pub use at_seat::{Replied, at_refusal, capped, refusal_in, reply_to, submit};
 pub use at_version::AtFault;
-pub use content::{Content, Id, Listed};
-=======
-pub use at_seat::{Replied, refusal_in, reply_to, submit};
 pub use content::{Content, Id};
->>>>>>> 84b0badb (sno_serve: Listed in a file of its own, since its ghost field would import the definitions that are about it; not yet seen proved)
 pub use excerpt::Excerpt;
 pub use faults::{BindFault, LineFault, ServeFault};
 pub use ignored::with_ignored;
 pub use intake::{Intake, MAX_LINE, Next};
-<<<<<<< HEAD
+pub use listed::Listed;
 pub use outlet::MAX_REFUSED;
 pub use replies::{
     at_reply, entries_reply, fault_reply, look_reason, read_at_reply, read_reply, row_value,
     rows_reply, submit_reply, too_long_reply,
 };
 pub use reply_lines::{line_of, line_with};
-=======
-pub use listed::Listed;
->>>>>>> 84b0badb (sno_serve: Listed in a file of its own, since its ghost field would import the definitions that are about it; not yet seen proved)
 pub use service::{Served, Terms, serve};
 pub use sno_desk::{Desk, Entry, Naming, Seat};
 pub use sno_document::{Document, Mode, Rules};

@@ -8,5 +8,5 @@ use Rattle.sno_serve.proofs.content.put_first.Given as goal
 abbrev pub invariant-loop-place : goal.invariant-loop-place
 invariant-loop-place l =
     (l.out.tokens ++ rows_tokens (take l.left (rows_of (option_map (λ n. n.now) l.name) (l.from + l.place) (drop l.place l.entries)))
-        ≡ l.fn.out.tokens ++ rows_tokens (take l.most (rows_of (option_map (λ n. n.now) l.name) l.from l.entries)))
+    ≡ l.fn.out.tokens ++ rows_tokens (take l.most (rows_of (option_map (λ n. n.now) l.name) l.from l.entries)))
     × (l.out.before ≡ l.fn.out.before)
