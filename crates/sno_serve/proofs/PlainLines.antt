@@ -16,7 +16,9 @@ asked_plainly rules mode s line d p = rw (p.0.0, p.0.1, p.0.2, p.1.0, p.1.1, p.1
 
 pub plain_asks : (rules : Definitions) (mode : Mode) (s : ℕ) (line : List ℕ) (d : Data) → json_of line ≡ Some d → IsPlain d
     → asked_in rules mode s line ≡ asks_read_statement false None (statement_in rules mode s line)
-plain_asks rules mode s line d is p = rw is ∙ asked_plainly rules mode s line d p
+plain_asks rules mode s line d is p =
+    let read : asked_in rules mode s line ≡ asked_by rules mode s line d (get (codes "read") d) (get (codes "since") d) = rw is in
+    read ∙ asked_plainly rules mode s line d p
 
 pub id_of : (line : List ℕ) (d : Data) → json_of line ≡ Some d → id_in line ≡ id_or_none (get (codes "id") d)
 id_of line d is = rw is

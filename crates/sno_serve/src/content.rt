@@ -84,13 +84,13 @@ fn put_id(out: &mut Writer, id: &Option<Id>) -> Result<(), AllocError>
 }
 
 /// The reply to a statement that was accepted.
-#[tactic(auto, using(crate::proofs::Contents::entry_parts))]
 fn put_accepted(out: &mut Writer, id: &Option<Id>, receipt: &Receipt) -> Result<(), AllocError>
     ensures { OnOk result (Adds out.old out.new (data_tokens (entry_reply (option_map id_data id.now) receipt.now))) }
 {
     put_head(out, receipt.index, &receipt.entry)?;
     put_id(out, id)?;
-    put_tail(out, &receipt.entry)
+    put_tail(out, &receipt.entry)?;
+    Ok(())
 }
 
 /// The first `most` of the entries of a text, the first of which may be at the index `from`, and the bracket after them.

@@ -11,12 +11,6 @@ returns-in_err-reply g c = record {
       (position c.args.seat.now.accepted c.args.seat.now.seen) (position c.reply_to.new.seat.accepted c.reply_to.new.seat.seen) (c.take_ignored-ignored.ensures.asked ∙ c.in_ok-line.ensures.1) c.reply_to.ensures.taken;
 }
 
-pub returns-in_err-reply-2 : goal.returns-in_err-reply-2
-returns-in_err-reply-2 g c = record {
-  served = line_served (arc_value c.args.self.now.rules) (map arc_value c.args.self.now.statements.items) c.args.self.now.mode c.in_ok-line.ensures.0 c.args.line.now c.take_ignored-ignored.new.self.asked
-      (position c.args.seat.now.accepted c.args.seat.now.seen) (position c.reply_to.new.seat.accepted c.reply_to.new.seat.seen) (c.take_ignored-ignored.ensures.asked ∙ c.in_ok-line.ensures.1) c.reply_to.ensures.taken;
-}
-
 pub returns-in_err-bytes : goal.returns-in_err-bytes
 returns-in_err-bytes g c = record {
   served = line_served (arc_value c.args.self.now.rules) (map arc_value c.args.self.now.statements.items) c.args.self.now.mode c.in_ok-line.ensures.0 c.args.line.now c.take_ignored-ignored.new.self.asked
