@@ -1,5 +1,7 @@
 //! The lines of a store: first what it was made of, and then a record of each entry.
-ghost use Rattle.std.specs.Prelude.{◌≡◌, ◌≤◌, ◌+◌, IfOk, Some};
+ghost use Rattle.std.specs.Prelude.{◌≡◌, ◌≤◌, ◌+◌, ◌∷◌, [], codes, IfOk, Some};
+ghost use Rattle.json.specs.Token.{Token, begin_object, key};
+ghost use Rattle.json.specs.Print.{print};
 ghost use Rattle.serde_json.specs.Data.{Data, depth};
 ghost use Rattle.serde_json.specs.Read.{read, max_depth};
 ghost use Rattle.serde_json.specs.View.{view};
@@ -127,20 +129,25 @@ pub(crate) fn later_line(
 // How many bytes a record has beside its line and its reply, if nothing in the line is escaped, and some more.
 const RECORD_ROOM: usize = 48;
 
+/// What a record has before its reply: the line of a client, and the key of the reply. `room` is how many bytes are expected.
+fn record_head(alloc: Global, line: &str, room: usize) -> Result<Vec<u8>, AllocError>
+    ensures { IfOk result (λ b. b.items ≡ print (begin_object ∷ key (codes "line") ∷ Token.string line.now ∷ key (codes "reply") ∷ [])) }
+{
+    let mut out = Writer::new(Vec::with_capacity(alloc, room)?);
+    out.begin_object()?;
+    out.key("line")?;
+    out.string(line)?;
+    out.key("reply")?;
+    Ok(out.into_inner())
+}
+
 /// The record of an entry: the line of a client, and the text of its reply as it is written to the client.
-#[tactic(auto, using(crate::proofs::RecordLemmas::record_of))]
 pub(crate) fn record_line(alloc: Global, line: &str, reply: &[u8]) -> Result<Vec<u8>, AllocError>
     ensures text { IfOk result (λ b. b.items ≡ record_text line.now reply.now) }
     ensures data { IfOk result (λ b. (d : Data) → reply.now ≡ compact_text d → b.items ≡ compact_text (record_data line.now d)) }
 {
     let room = line.len().saturating_add(reply.len());
-    let bytes = Vec::with_capacity(alloc, room.saturating_add(RECORD_ROOM))?;
-    let mut out = Writer::new(bytes);
-    out.begin_object()?;
-    out.key("line")?;
-    out.string(line)?;
-    out.key("reply")?;
-    let mut bytes = out.into_inner();
+    let mut bytes = record_head(alloc, line, room.saturating_add(RECORD_ROOM))?;
     bytes.extend_from_slice(reply)?;
     bytes.push(b'}')?;
     Ok(bytes)
