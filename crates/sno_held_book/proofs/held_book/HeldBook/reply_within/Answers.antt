@@ -9,7 +9,9 @@ use Rattle.sno_held_book.proofs.held_book.HeldBook.reply_within.Goals as goal
 
 pub returns-clause-replied : goal.returns-clause-replied
 returns-clause-replied c =
-    line_reply c.args.self.now _ c.args.line.now c.in_ok-bytes.bytes.items (option_map view c.take_ignored-ignored.new.self.id) c.take_ignored-ignored.new.self.asked
+    line_reply c.args.self.now
+    (record { book = c.reply_to.new.book; rules = c.args.self.now.rules; mode = c.args.self.now.mode; number = c.number_after-self.result; refused = c.list_refusal.new.refused; limit = _ })
+    c.args.line.now c.in_ok-bytes.bytes.items (option_map view c.take_ignored-ignored.new.self.id) c.take_ignored-ignored.new.self.asked
     (content_data c.in_ok-reply.reply) c.in_ok-reply.refused (map view c.take_ignored-ignored.result.items)
     (ap (λ i. option_map view i) c.take_ignored-ignored.ensures.id ∙ c.in_ok-line.ensures.id)
     (c.take_ignored-ignored.ensures.asked ∙ c.in_ok-line.ensures.asked) c.in_ok-reply.ensures.replied
