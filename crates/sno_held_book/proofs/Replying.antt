@@ -44,7 +44,7 @@ opened mode bytes d b spelled performed rules mode_is number = record {
   performed = performed;
   rules = rules;
   mode_is = mode_is;
-  number = number ∙ ap (λ (n : ℕ). n + 1) (sym (length-map arc_value d.statements.items));
+  number = number ∙ ap (λ (n : ℕ). n + 1) (sym (length-map d.statements.items arc_value));
 }
 
 -- a line with its reply

@@ -77,7 +77,7 @@ impl HeldBook {
     }
 
     /// The reply to a line that isn't too long.
-    #[tactic(auto, using(crate::proofs::Replying::line_reply, crate::proofs::Replying::line_taken))]
+    #[tactic(auto, using(crate::proofs::Replying::line_taken))]
     fn reply_within(&mut self, alloc: Global, line: &[u8]) -> Result<Vec<u8>, AllocError>
         ensures replied { IfOk result (λ v. IsLineReply self.old self.new line.now v.items) }
         ensures taken { HasTaken (AsksFor (asked_of self.old line.now)) (view_of self.old.book) (view_of self.new.book) }
