@@ -110,11 +110,7 @@ fn book_of(held: &Option<Box<Held>>) -> Option<&BookWithReply>
 }
 
 /// Puts the reply that is kept in the buffer, if there is room for it.
-pub(crate) fn reply_held(
-    book: &Option<Box<Held>>,
-    buffer: &mut [u8],
-    reported: &mut usize,
-) -> u8
+pub(crate) fn reply_held(book: &Option<Box<Held>>, buffer: &mut [u8], reported: &mut usize) -> u8
     ensures { IsReplyCall (held_in book.now) buffer.old buffer.new reported.new result }
 {
     *reported = 0;
