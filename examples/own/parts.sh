@@ -4,4 +4,3 @@ jq -c '.entries[] | del(.after)' listing.json
 jq -c '[.entries[] | select(.matched | not) | .statement]' listing.json
 jq -r '.refused[] | "\(.statement) \(.reason)"' listing.json
 jq -j '.texts[] | select(.name == "A") | .text' listing.json > A.new
-./sno_rewrite < examples/recipes/outcomes.json | sed '/^  -> /d'
