@@ -15,6 +15,7 @@ use Rattle.sno_statement.specs.contracts.statements.Statement.TheInside as State
 use Rattle.sno_book.specs.contracts.books.Book as Book
 use Rattle.sno_desk.proofs.Crossings.{book_send, entry_send}
 use Rattle.sno_held_book.specs.contracts.held_book.HeldBook as HeldBook
+use Rattle.sno_c.specs.contracts.held.BookWithReply as BookWithReply
 use Rattle.sno_c.specs.contracts.held.Held.{the_row}
 
 -- definitions
@@ -49,6 +50,10 @@ held_book_send = declared_send HeldBook.the_type (
   (Arc-send Rules.the_row rules_send rules_sync, (search sendable, (search sendable, (search (sendable, crosses) depth 40 fits 100000, tt)))),
 )
 
+-- .. and with the reply to its last line
+book_with_reply_send : IsSend BookWithReply.the_row
+book_with_reply_send = declared_send BookWithReply.the_type (search (sendable, held_book_send) depth 40, (search (sendable, crosses) depth 40 fits 100000, tt))
+
 -- a pattern, a text or a book
 pub held_send : IsSend the_row
-held_send = search (sendable, crosses, file_statement_send, held_book_send) depth 60 fits 100000
+held_send = search (sendable, crosses, file_statement_send, book_with_reply_send) depth 60 fits 100000
