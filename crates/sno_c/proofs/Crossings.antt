@@ -1,6 +1,6 @@
 -- What a handle holds may go to another thread, by its fields.
 use denote.Param.Send.{IsSend, IsSync, sendable, view_send}
-use denote.Param.SendFields.{as_row_send, declared_send}
+use denote.Param.SendFields.{declared_send}
 use Rattle.std.proofs.Crossing.{crosses, Arc-send}
 use Rattle.sno_pattern.proofs.name_list.Names.TheSendSync as names
 use Rattle.sno_pattern.proofs.text_names.TextName.TheSendSync as name
@@ -12,10 +12,6 @@ use Rattle.sno_statement.specs.contracts.file_statements.FileStatement as FileSt
 use Rattle.sno_statement.specs.contracts.file_statements.FileStatement.TheInside as FileStatementInside
 use Rattle.sno_statement.specs.contracts.statements.Statement as Statement
 use Rattle.sno_statement.specs.contracts.statements.Statement.TheInside as StatementInside
-use Rattle.sno_book.specs.contracts.books.Book as Book
-use Rattle.sno_desk.proofs.Crossings.{book_send, entry_send}
-use Rattle.sno_held_book.specs.contracts.held_book.HeldBook as HeldBook
-use Rattle.sno_c.specs.contracts.held.BookWithReply as BookWithReply
 use Rattle.sno_c.specs.contracts.held.Held.{the_row}
 
 -- definitions
@@ -43,17 +39,6 @@ file_statement_send : IsSend FileStatement.the_row
 file_statement_send = view_send _ _ _ _ _ (declared_send FileStatementInside.the_type
     (search (sendable, statement_send) depth 40, (search (sendable, crosses, byte_object.the_send) depth 40 fits 100000, (search (sendable, crosses) depth 40 fits 100000, tt))))
 
--- a book with what its lines are read by
-held_book_send : IsSend HeldBook.the_row
-held_book_send = declared_send HeldBook.the_type (
-  as_row_send Book.the_field (book_send entry_send),
-  (Arc-send Rules.the_row rules_send rules_sync, (search sendable, (search sendable, (search (sendable, crosses) depth 40 fits 100000, tt)))),
-)
-
--- .. and with the reply to its last line
-book_with_reply_send : IsSend BookWithReply.the_row
-book_with_reply_send = declared_send BookWithReply.the_type (search (sendable, held_book_send) depth 40, (search (sendable, crosses) depth 40 fits 100000, tt))
-
--- a pattern, a text or a book
+-- a pattern or a text
 pub held_send : IsSend the_row
-held_send = search (sendable, crosses, file_statement_send, book_with_reply_send) depth 60 fits 100000
+held_send = search (sendable, crosses, file_statement_send) depth 60 fits 100000

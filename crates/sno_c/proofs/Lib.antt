@@ -1,4 +1,3 @@
 mod Crossings
 mod FaultLemmas
-mod OpenedBooks
 mod Values

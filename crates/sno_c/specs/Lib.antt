@@ -1,8 +1,6 @@
 pub mod Listed
 pub mod Assignments
 pub mod Blocks
-pub mod Books
-pub mod Buffers
 pub mod Gatherings
 pub mod Kept
 pub mod Openings
