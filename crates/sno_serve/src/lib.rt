@@ -10,7 +10,7 @@
 //! | `binds` | the texts that names represent in one statement |
 //! | `replies` | the JSON of each reply |
 //! | `reply_lines` | replies as lines |
-//! | `content`, `listed` | what a reply says, which is written without a value; entries of which some are listed |
+//! | `content`, `listed` | what a reply says, which is written without a value; entries that are listed in part |
 //! | `at_seat` | a line with its reply, at a seat |
 //! | `at_desk` | what a call at a desk takes |
 //! | `at_version` | a statement that is accepted only at one version of its text |

@@ -1,10 +1,10 @@
-//! Entries of which some are listed.
+//! Entries that are listed in part.
 ghost use Rattle.std.specs.Prelude.{◌<◌, ◌+◌, ◌^◌, length};
 
 use crate::Excerpt;
 use sno_desk::Entry;
 
-/// Entries of the journal, of which those are listed that an excerpt wants.
+/// Entries of the journal. Those that an excerpt wants are listed.
 #[derive(Drop)]
 pub struct Listed {
     /// The index of the first one.

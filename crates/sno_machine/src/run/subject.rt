@@ -1,12 +1,14 @@
 //! The text that a match goes through, beside what was learnt of it.
-ghost use Rattle.std.specs.Prelude.{◌≡◌, ◌+◌, ◌<◌, ◌≤◌, ◌∷◌, [], drop, length, option_to_list, IfSome, MatchOption};
+ghost use Rattle.std.specs.Prelude.{◌≡◌, ◌+◌, ◌<◌, ◌≤◌, ◌∷◌, [], true, drop, length, option_to_list, IfSome, MatchOption};
 ghost use Rattle.sno_pattern.specs.Ends.{bal_ends, break_ends, span_ends};
 ghost use Rattle.sno_pattern.specs.declared.byte_texts.TheConstants.{MAX_BYTES};
+ghost use Rattle.sno_primitives.specs.Rows.{AreRowsOf};
 ghost use Rattle.sno_primitives.specs.Runs.{run_end};
 
 use crate::run::learnt::Learnt;
+use crate::starts::head_tables::front;
 use sno_pattern::Class;
-use sno_primitives::{Walk, near_run_end, walk_balanced};
+use sno_primitives::{Rows, Walk, near_run_end, walk_balanced};
 use std::marker::Model;
 
 // How many characters a walk goes over before what it finds is worth remembering. A walk for `BAL` is slower than one along a
@@ -14,6 +16,9 @@ use std::marker::Model;
 const NEAR: usize = 63;
 
 const NEAR_BALANCE: usize = 32;
+
+// As `NEAR`, if sixteen characters are looked up at once.
+const NEAR_BY_ROWS: usize = 64;
 
 /// The text that a match goes through, beside what was learnt of it. A step reads the text itself, which stays in registers,
 /// and asks what was learnt only if it has gone far.
@@ -96,6 +101,36 @@ impl<'s, 't, 'a> Subject<'s, 't, 'a> {
     {
         let end = self.run_end(set, true, c);
         if end != c { Some(end) } else { None }
+    }
+
+    /// As `span_end`, by the rows of the set: sixteen characters are looked up at once.
+    #[inline(always)]
+    pub fn span_end_by(&self, set: &'a Class, rows: Rows, c: usize) -> Option<usize>
+        requires within { c ≤ length self.now }
+        requires rows { AreRowsOf set.now rows }
+        ensures exact { option_to_list result ≡ span_ends self.now set.now c }
+        ensures past { IfSome result (λ e. (c ≤ e) × (e ≤ length self.now)) }
+        ensures short { length self.now ≤ MAX_BYTES }
+    {
+        let end = self.run_end_by(set, rows, c);
+        if end != c { Some(end) } else { None }
+    }
+
+    // Where the run inside the set ends from the cursor, by the rows of the set.
+    #[inline(always)]
+    fn run_end_by(&self, set: &'a Class, rows: Rows, c: usize) -> usize
+        requires within { c ≤ length self.now }
+        requires rows { AreRowsOf set.now rows }
+        ensures exact { result ≡ run_end true set.now self.now c }
+        ensures within { (c ≤ result) × (result ≤ length self.now) }
+        ensures short { length self.now ≤ MAX_BYTES }
+    {
+        let run = rows.run(front(self.after(c), NEAR_BY_ROWS), true);
+        if run < NEAR_BY_ROWS {
+            c + run
+        } else {
+            self.learnt.far_run_end(set, true, c + NEAR_BY_ROWS)
+        }
     }
 
     /// Where `BREAK(set)` ends from the cursor; `None` if it fails there.

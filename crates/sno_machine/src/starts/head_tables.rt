@@ -86,9 +86,9 @@ impl HeadTable {
     }
 }
 
-// The first characters, at most this many.
+/// The first characters, at most this many.
 #[inline(always)]
-fn front(characters: &[u8], most: usize) -> &[u8]
+pub fn front(characters: &[u8], most: usize) -> &[u8]
     ensures { result.now ≡ take most characters.now }
 {
     if most < characters.len() {
