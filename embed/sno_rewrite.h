@@ -201,7 +201,7 @@ static inline uint8_t sno_pattern_next(sno_pattern *pattern, sno_text *text, siz
 }
 
 /* Does up to `most` searches at once, each from where the match of the one before leaves off, and gathers what they
- * find: the same as that many calls of sno_pattern_next, of which each takes its cursor from `next` of the one before,
+ * find: the same as that many calls of sno_pattern_next, each with its cursor from `next` of the one before,
  * in a part of the time. A search without a match is the last one. All of them together may take `trials` trials.
  * What was gathered with the pattern before is dropped; each search takes some memory until it is taken.
  *

@@ -74,7 +74,7 @@ static bool is_for_batch(Matches *self) {
     return self->batch;
 }
 
-/* Seeks the next matches at once. The searches of a batch have a limit of trials together, of which each may take all.
+/* Seeks the next matches at once. The searches of a batch have one limit of trials together, and each may take all of it.
  * So if the batch is refused, searches are done alone, which find out whether one of them is. Each time that it happens
  * again there are twice as many of them, so that few trials are in vain. */
 static void next_batch(Matches *self) {

@@ -52,7 +52,7 @@ class Part(bytes):
 
 
 def ways() -> list[Any]:
-    """The modules that seek patterns, of which `_fast` may be missing."""
+    """The modules that seek patterns; `_fast` may be missing."""
     found = [importlib.import_module("sno_rewrite._plain")]
     with suppress(ImportError):
         found.append(importlib.import_module("sno_rewrite._fast"))
@@ -251,7 +251,7 @@ class Variables(unittest.TestCase):
 
 
 def calls_of(pattern: patterns.Pattern, text: str, slow: patterns.Pattern) -> Iterator[Callable[[], Any]]:
-    """Calls with a pattern and a text, some of which are refused."""
+    """Calls with a pattern and a text; some are refused."""
     yield lambda: pattern.search(text)
     yield lambda: pattern.search(text, len(text))
     yield lambda: pattern.match(text, 1)

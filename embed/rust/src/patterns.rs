@@ -418,7 +418,7 @@ pub struct Matches<'p> {
 }
 
 impl Matches<'_> {
-    /// What the next search finds. Gathered searches have a limit of trials together, of which each may take all. So if they
+    /// What the next search finds. Gathered searches have one limit of trials together, and each may take all. So if they
     /// are refused, searches are done alone, which find out whether one of them is.
     fn search(&mut self) -> Result<Option<Match>, Error> {
         loop {
