@@ -79,7 +79,7 @@ fn add_places<'p>(places: &mut Vec<Taken<'p>>, pattern: &'p Pattern) -> Result<b
 }
 
 /// What a reference refers to, over at most 64 others; any other pattern is itself.
-fn referred<'p>(bodies: &[Option<&'p Pattern>], pattern: &'p Pattern) -> &'p Pattern {
+pub(crate) fn referred<'p>(bodies: &[Option<&'p Pattern>], pattern: &'p Pattern) -> &'p Pattern {
     let mut found = pattern;
     for _ in 0..MAX_DEFINITIONS {
         if let Pattern::Ref(number) = found {
@@ -145,7 +145,7 @@ fn is_taken_again(one: &[Taken], later: &[Vec<Taken>], alternatives: &[Vec<Taken
     })
 }
 
-/// Whether rounds of this part can take the same characters in more than one way, as `LEN(1) | LEN(2)`: each such place
+/// Whether rounds of this part can take the same characters in more than one way, as `ARB`, `BAL` or `LEN(1) | LEN(2)`: each such place
 /// doubles the ways that a failing match goes. Only alternatives of a known length are compared: the first 64, up to 32
 /// characters. The part may be a reference, and so may an alternative; `bodies` has the definitions, each if it can be read.
 ///
@@ -155,8 +155,12 @@ pub(crate) fn is_ambiguous<'p>(
     bodies: &[Option<&'p Pattern>],
     part: &'p Pattern,
 ) -> Result<bool, AllocError> {
+    let repeated = referred(bodies, part);
+    if let Pattern::Arb | Pattern::Bal = repeated {
+        return Ok(true);
+    }
     let mut alternatives = Vec::new(alloc);
-    add_alternatives(alloc, bodies, &mut alternatives, referred(bodies, part))?;
+    add_alternatives(alloc, bodies, &mut alternatives, repeated)?;
     for place in 0..alternatives.len() {
         let (_, later) = alternatives.split_at(place + 1);
         if is_taken_again(&alternatives[place], later, &alternatives) {

@@ -1,11 +1,11 @@
 //! What a pattern assigns, refers to and seeks.
 
-use crate::ambiguous::is_ambiguous;
+use crate::ambiguous::{is_ambiguous, referred};
 use crate::edges::{Blocked, blocked_after};
 use sno_pattern::{Name, Pattern};
 use std::alloc::{AllocError, Global};
 
-/// The bit of a definition in a set of definitions, of which there are at most 64.
+/// The bit of a definition in a set of at most 64 definitions.
 pub fn bit(number: usize) -> u64 {
     if number < 64 {
         1u64 << (number as u32)
@@ -25,7 +25,7 @@ pub struct Facts {
     pub range: Option<(u8, u8)>,
     /// The letter after the first backslash of its literals and sets that looks like an escape.
     pub escape: Option<u8>,
-    /// Whether an `ARBNO` in it repeats another `ARBNO`.
+    /// Whether an `ARBNO` in it repeats another `ARBNO`, perhaps by a definition.
     pub repeats_rounds: bool,
     /// Whether the rounds of an `ARBNO` in it can take the same characters in more than one way.
     pub is_ambiguous: bool,
@@ -53,7 +53,7 @@ impl Facts {
         bodies: &[Option<&'p Pattern>],
         part: &'p Pattern,
     ) -> Result<(), AllocError> {
-        if let Pattern::Arbno(_) = part {
+        if let Pattern::Arbno(_) = referred(bodies, part) {
             self.repeats_rounds = true;
         }
         if is_ambiguous(alloc, bodies, part)? {
@@ -168,7 +168,7 @@ fn is_in(sought: &[u8], anchored: bool, characters: &[u8]) -> bool {
     characters.windows(sought.len()).any(|part| part == sought)
 }
 
-/// Whether the pattern is a choice of literals, one of which is in these characters; at their start if it is anchored.
+/// Whether the pattern is a choice of literals, and one of them is in these characters; at their start if it is anchored.
 pub(crate) fn has_what_is_sought(pattern: &Pattern, anchored: bool, characters: &[u8]) -> bool {
     match pattern {
         Pattern::Lit(text) => is_in(text.bytes(), anchored, characters),

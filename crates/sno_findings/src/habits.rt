@@ -120,9 +120,9 @@ fn instead_of_name(is_object: bool, written: &[u8], place: usize) -> Option<&'st
     if advice.is_some() {
         return advice;
     }
-    if before(written, place).ends_with(b"*") && assigns(written, word) {
+    if !is_object && assigns(written, word) {
         return Some(
-            "* refers to a definition; what a variable has just been assigned can't be sought",
+            "a variable is no part of a pattern: what it has just been assigned can't be sought",
         );
     }
     if !is_object && has_equals_sign(written) {
@@ -147,7 +147,7 @@ fn instead_of_next(is_object: bool, front: &[u8], next: u8, after: &[u8]) -> Opt
     match next {
         b'=' => Some("the object is a member of its own, \"object\", and no part of the pattern"),
         b'(' if last_word(front) == "FENCE" => Some(
-            "FENCE takes no argument: it matches the null string, and if the match backs up into it, the whole match fails",
+            "FENCE takes no argument: after P FENCE the whole match fails if what follows does; a P with one way, as SPAN or BREAK, needs no FENCE",
         ),
         b'\'' | b'"' if sign == Some(b'.') || sign == Some(b'$') => {
             Some("a variable is wanted after . and $, and a variable has no quotes")

@@ -92,7 +92,7 @@ fn wanted_for(byte: u8, before: Option<u8>, due: Due) -> &'static str {
     }
 }
 
-/// The trouble at the lexeme that comes after `offset` bytes, of which JSON has none.
+/// The trouble at the lexeme after `offset` bytes, which isn't one of JSON.
 fn lexeme_trouble(bytes: &[u8], offset: usize, due: Due) -> Trouble {
     let before = sign_before(bytes, offset);
     match bytes.get(offset) {

@@ -94,7 +94,7 @@ fn warn_of_streams(
     };
     let word = text_of(name.bytes());
     let message = format!(in findings.alloc;
-        "pattern: {word} is a variable as any other: nothing is written or read; `sno trace` shows how a match goes"
+        "pattern: {word} is a variable as any other: nothing is written or read; a statement for all matches lists each, and `sno trace` shows how one goes"
     )?;
     findings.warn(whose.place(), message)
 }

@@ -270,7 +270,7 @@ pub fn done_members(
     }
 }
 
-/// Returns the objects that the JSON listing has for entries, the first of which is at the index `first`. Refused only if
+/// Returns the objects that the JSON listing has for entries from the index `first` on. Refused only if
 /// memory runs out.
 pub fn entry_values(
     alloc: Global,

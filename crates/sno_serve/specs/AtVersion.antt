@@ -19,7 +19,7 @@ use Rattle.sno_serve.specs.declared.at_version.AtFault.TheVariants as at
 abbrev pub AtResult : Type 0
 AtResult = Result Receipt AtFault
 
--- a commit's refusal, of which a change names the version that the text has
+-- a commit's refusal; a change names the version that the text has
 abbrev pub at_commit : CommitFault → AtFault
 at_commit (commit.Changed seen now) = at.Changed now
 at_commit e = at.Refused (of_commit e)

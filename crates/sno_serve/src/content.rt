@@ -93,7 +93,7 @@ fn put_accepted(out: &mut Writer, id: &Option<Id>, receipt: &Receipt) -> Result<
     Ok(())
 }
 
-/// The first `most` of the entries of a text, the first of which may be at the index `from`, and the bracket after them.
+/// The first `most` of the entries of a text from the index `from` on, and the bracket after them.
 fn put_first(
     out: &mut Writer,
     from: usize,

@@ -39,7 +39,7 @@ fn entry_value(alloc: Global, index: usize, entry: &Entry) -> Result<Value, Allo
     Ok(Value::Object(members))
 }
 
-/// The objects of the first `most` entries of the text, the first of which may be at the index `from`.
+/// The objects of the first `most` entries of the text from the index `from` on.
 fn first_values(
     alloc: Global,
     from: usize,
@@ -73,7 +73,7 @@ pub(crate) fn most_of(limit: Option<u64>, count: usize) -> usize
 }
 
 impl Excerpt {
-    /// The objects of those of the entries that are asked for, the first of which is at the index `from`.
+    /// The objects of those of the entries from the index `from` on that are asked for.
     pub fn values(
         &self,
         alloc: Global,

@@ -54,7 +54,7 @@ fn names_of_definitions(rt: HostRuntime) -> Result<(), Fail> {
     tell_twice(&rt, || make_names(&rt, rt.alloc(), &names))
 }
 
-/// Definitions: their names and their patterns, each of which may name all of them.
+/// Definitions: their names and their patterns. Each may name all of them.
 #[derive(Drop)]
 struct Definitions {
     names: Names,

@@ -1,4 +1,4 @@
-//! Two statements on one text, of which a gate holds one back until the other is accepted.
+//! Two statements on one text. A gate holds one back until the other is accepted.
 ghost use Rattle.std.specs.Prelude.{◌≤◌};
 ghost use Rattle.sno_desk.specs.declared.desk.TheConstants.{MAX_TRIES};
 
@@ -141,7 +141,7 @@ fn check_matched(rt: &impl Abort, outcome: &Outcome, wanted: &str) {
     }
 }
 
-/// Two entries, the second of which saw what the first left.
+/// Two entries. The second saw what the first left.
 fn check_both(rt: &impl Abort, book: &Book) {
     check_text(rt, book, 0, "zz", 2);
     check_eq(rt, &book.journal().len(), &2);

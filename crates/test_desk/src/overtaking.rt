@@ -36,7 +36,7 @@ impl<L: Naming> Gate for Overtaking<'_, L> {
     fn done<R: Wait>(&self, _rt: &R, _number: u32, _accepted: bool) {}
 }
 
-/// The first job is submitted with `tries` tries, each of which the second job overtakes.
+/// The first job is submitted with `tries` tries. The second job overtakes each of them.
 #[derive(Drop)]
 struct Overtaken {
     first: Arc<Statement>,

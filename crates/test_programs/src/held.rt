@@ -10,7 +10,7 @@ const MODE: Mode = Mode {
     trials: 1_000_000,
 };
 
-/// What is left of a text and two statements, of which the second is refused.
+/// What is left of a text and two statements; the second is refused.
 const LISTING: &str =
     r#"{"entries":[{"after":"a cat","bindings":[],"end":3,"entry":0,"matched":true,"start":0,"statement":1,"text":"T","version":0}],"refused":[{"reason":"no text","statement":2}],"texts":[{"name":"T","text":"a cat","version":1}]}"#;
 
