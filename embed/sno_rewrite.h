@@ -1,5 +1,6 @@
-/* Nomyake for C and C++: performs the statements of a document in order and lists what they did; and reads a pattern
- * once, seeks it in any number of texts, and replaces its matches.
+/* Nomyake for C and C++: performs the statements of a document in order and lists what they did; reads a pattern once,
+ * seeks it in any number of texts, and replaces its matches; and keeps a book, whose texts are read and rewritten line
+ * by line.
  *
  * The functions are part of the static library that crates/sno_c makes. They are proved to do what this header says
  * about statuses, numbers and buffers. The text of a fault's line is only tested.
@@ -88,8 +89,8 @@ static inline uint8_t sno_rewrite(const uint8_t *document, size_t document_lengt
 /* What these functions return. SNO_BAD_LIMIT, SNO_NO_MEMORY, SNO_TOO_SHORT and SNO_NULL are returned, too. */
 enum sno_pattern_status {
     SNO_DONE = 0,              /* It is done; of a search, there is a match. */
-    SNO_NOTHING = 1,           /* There is no match, no assignment at this place, or no new text. */
-    SNO_FAULT = 2,             /* The rule or a definition can't be read. */
+    SNO_NOTHING = 1,           /* There is no match, no assignment at this place, no new text, or no reply. */
+    SNO_FAULT = 2,             /* The rule or a definition can't be read; of a book, its document. */
     SNO_CLOSED = 7,            /* A handle is closed, or holds something else. Nothing was done. */
     SNO_TOO_MANY_TRIALS = 8,   /* The search takes more trials than the limit. */
     SNO_TOO_LONG = 9,          /* A text would have more than SNO_LONGEST_TEXT bytes. */
@@ -116,6 +117,10 @@ typedef struct sno_pattern {
 typedef struct sno_text {
     sno_handle handle;
 } sno_text;
+
+typedef struct sno_book {
+    sno_handle handle;
+} sno_book;
 
 /* What a search found. */
 typedef struct sno_match {
@@ -150,6 +155,12 @@ uint8_t sno_handle_assignment(sno_handle *pattern, size_t place, uint8_t *name, 
                               sno_assignment *assignment);
 uint8_t sno_handle_replace(sno_handle *pattern, sno_handle *text, uint32_t trials, uint8_t *buffer, size_t room,
                            sno_replaced *replaced);
+uint8_t sno_handle_open_book(const uint8_t *document, size_t document_length, bool anchor, uint32_t trials,
+                             uint8_t *line, size_t line_room, size_t *line_length, sno_handle *book);
+uint8_t sno_handle_line(sno_handle *book, const uint8_t *line, size_t line_length, uint8_t *reply, size_t room,
+                        size_t *reply_length);
+uint8_t sno_handle_reply(sno_handle *book, uint8_t *reply, size_t room, size_t *reply_length);
+uint8_t sno_handle_listing(sno_handle *book, uint8_t *listing, size_t room, size_t *listing_length);
 void sno_handle_close(sno_handle *handle);
 
 /* Reads a rule in a line, `PATTERN` or `PATTERN = OBJECT` and perhaps fields, as `sno edit -e` does (docs/FORMAT.md
@@ -269,6 +280,94 @@ static inline void sno_pattern_close(sno_pattern *pattern) {
 static inline void sno_text_close(sno_text *text) {
     if (text)
         sno_handle_close(&text->handle);
+}
+
+/* ---- Books ----
+ *
+ * A book has the texts of a document, and a journal of the statements that were accepted on them. It takes the lines of
+ * JSON that `sno serve` takes (docs/SERVE.md has them), and returns the replies that it writes, byte for byte:
+ *
+ *     sno_book book = {{NULL, false}};
+ *     uint8_t reply[65536];
+ *     ...
+ *     status = sno_book_open(document, document_length, false, SNO_USUAL_TRIALS, line, sizeof line, &length, &book);
+ *     status = sno_book_line(&book, statement, statement_length, reply, sizeof reply, &length);
+ *     ... the first `length` bytes of `reply` ...
+ *     sno_book_close(&book);
+ *
+ * What is said of handles above holds for books: one call at a time uses a book. */
+
+/* A longer line gets a reply that says so. */
+#define SNO_LONGEST_LINE 16777216
+
+/* Reads a document, as sno_rewrite does, and performs its statements on its texts. What `anchor` and `trials` say holds
+ * for the statements of lines too.
+ *
+ * - SNO_DONE: `book` is open. Statements of the document that were refused are in its listing. `*line_length` is 0.
+ * - SNO_FAULT: the bytes aren't a document. The first `*line_length` bytes of `line` are the line of the first fault, as
+ *   much of it as there is room for; 128 bytes are enough.
+ * - SNO_BAD_LIMIT, SNO_NO_MEMORY: `*line_length` is 0.
+ *
+ * What the handle held before is closed first. Except for SNO_DONE it is then closed. After the first `*line_length`
+ * bytes the buffer is unchanged. */
+static inline uint8_t sno_book_open(const uint8_t *document, size_t document_length, bool anchor, uint32_t trials,
+                                    uint8_t *line, size_t line_room, size_t *line_length, sno_book *book) {
+    if (!document || !line || !line_length || !book)
+        return SNO_NULL;
+    return sno_handle_open_book(document, document_length, anchor, trials, line, line_room, line_length, &book->handle);
+}
+
+/* Does what a line asks for, once, and puts the reply in `reply`. A statement that is accepted is one entry of the
+ * journal; one that is refused, and each other line, changes nothing. The reply ends in a line feed, which a line needs
+ * not have, and is kept with the book until the next line.
+ *
+ * - SNO_DONE: the first `*reply_length` bytes of `reply` are the reply.
+ * - SNO_TOO_SHORT: the line is done, but the reply has `*reply_length` bytes, which is more than `room`. Don't send the
+ *   line again: sno_book_reply puts the reply in a longer buffer.
+ * - SNO_NO_MEMORY: the journal has one entry more if the line's statement was accepted before memory ran out; a line
+ *   `{"since": N}` shows it. Else texts and journal are unchanged. No reply is kept.
+ * - SNO_CLOSED: nothing was done.
+ *
+ * Except for SNO_DONE the buffer is unchanged, and always after the reply. For the last two `*reply_length` is 0. */
+static inline uint8_t sno_book_line(sno_book *book, const uint8_t *line, size_t line_length, uint8_t *reply, size_t room,
+                                    size_t *reply_length) {
+    if (!book || !line || !reply || !reply_length)
+        return SNO_NULL;
+    return sno_handle_line(&book->handle, line, line_length, reply, room, reply_length);
+}
+
+/* Puts the reply to the last line in `reply` once more. Nothing is done again, and the reply stays.
+ *
+ * - SNO_DONE: the first `*reply_length` bytes of `reply` are the reply.
+ * - SNO_TOO_SHORT: the reply has `*reply_length` bytes, which is more than `room`.
+ * - SNO_NOTHING: there was no line yet, or the last one ran out of memory.
+ * - SNO_CLOSED.
+ *
+ * Except for SNO_DONE the buffer is unchanged, and always after the reply. For the last two `*reply_length` is 0. */
+static inline uint8_t sno_book_reply(sno_book *book, uint8_t *reply, size_t room, size_t *reply_length) {
+    if (!book || !reply || !reply_length)
+        return SNO_NULL;
+    return sno_handle_reply(&book->handle, reply, room, reply_length);
+}
+
+/* Puts the listing as JSON in `listing`: the texts with their versions, the journal, and the statements that were
+ * refused, of the document and of lines. It ends in a line feed.
+ *
+ * - SNO_DONE: the first `*listing_length` bytes of `listing` are the listing.
+ * - SNO_TOO_SHORT: the listing has `*listing_length` bytes, which is more than `room`.
+ * - SNO_NO_MEMORY, SNO_CLOSED: `*listing_length` is 0.
+ *
+ * Except for SNO_DONE the buffer is unchanged, and always after the listing. The book is always unchanged. */
+static inline uint8_t sno_book_listing(sno_book *book, uint8_t *listing, size_t room, size_t *listing_length) {
+    if (!book || !listing || !listing_length)
+        return SNO_NULL;
+    return sno_handle_listing(&book->handle, listing, room, listing_length);
+}
+
+/* Frees the book, as sno_pattern_close frees a pattern. */
+static inline void sno_book_close(sno_book *book) {
+    if (book)
+        sno_handle_close(&book->handle);
 }
 
 #ifdef __cplusplus

@@ -15,8 +15,13 @@
 //     std::string changed;
 //     pattern.replace(text, changed);
 //
-// A result, a pattern and a text own their bytes and can be moved. Several threads may call at once, each with a stack of 2 MiB or more. If
-// the compiler has no exceptions, as by -fno-exceptions, there is try_rewrite alone.
+//     sno::Book book;                                         // keeps texts and a journal, and takes lines as `sno serve` does
+//     std::string reply;
+//     if (book.open(document) == SNO_DONE && book.line(R"({"read":"T"})", reply) == SNO_DONE)
+//         std::cout << reply;
+//
+// A result, a pattern, a text and a book own their bytes and can be moved. Several threads may call at once, each with a
+// stack of 2 MiB or more. If the compiler has no exceptions, as by -fno-exceptions, there is try_rewrite alone.
 #ifndef SNO_REWRITE_HPP
 #define SNO_REWRITE_HPP
 
@@ -364,6 +369,95 @@ private:
 };
 
 inline Matches Pattern::matches(Text &text, std::uint32_t trials) noexcept { return Matches(*this, text, trials); }
+
+// A book: texts with a journal, which takes lines of JSON as `sno serve` does. It may be used by one thread at a time.
+class Book {
+public:
+    Book() noexcept = default;
+    Book(Book &&other) noexcept
+        : book_(std::exchange(other.book_, sno_book())), fault_(std::move(other.fault_)) {}
+    Book &operator=(Book &&other) noexcept {
+        if (this != &other) {
+            sno_book_close(&book_);
+            book_ = std::exchange(other.book_, sno_book());
+            fault_ = std::move(other.fault_);
+        }
+        return *this;
+    }
+    ~Book() { sno_book_close(&book_); }
+
+    // Reads a document and performs its statements: SNO_DONE, SNO_FAULT, SNO_BAD_LIMIT or SNO_NO_MEMORY, as
+    // sno_book_open. `options.json` means nothing here.
+    std::uint8_t open(std::string_view document, const Options &options = {}) {
+        std::uint8_t line[128];
+        std::size_t length = 0;
+        fault_.clear();
+        const std::uint8_t status = sno_book_open(first(document), document.size(), options.anchor, options.trials,
+                                                  line, sizeof line, &length, &book_);
+        fault_.assign(reinterpret_cast<const char *>(line), length);
+        return status;
+    }
+
+    // The line of the fault of the document that was opened last; empty if it has none.
+    const std::string &fault() const noexcept { return fault_; }
+
+    explicit operator bool() const noexcept { return book_.handle.is_open; }
+
+    // Does what a line asks for, once, and puts the reply, which ends in a line feed, in `given`: SNO_DONE,
+    // SNO_NO_MEMORY or SNO_CLOSED, as sno_book_line. Except for SNO_DONE, `given` is unchanged. If a std::bad_alloc is
+    // thrown, the line may be done, and reply() has its reply.
+    std::uint8_t line(std::string_view line, std::string &given) {
+        std::string output(first_room, '\0');
+        std::size_t length = 0;
+        const std::uint8_t status = sno_book_line(&book_, first(line), line.size(), bytes(output), output.size(), &length);
+        return status == SNO_TOO_SHORT ? fill(sno_book_reply, output, length, given) : take(status, output, length, given);
+    }
+
+    // Puts the reply to the last line in `given`: SNO_DONE, SNO_NOTHING or SNO_CLOSED, as sno_book_reply.
+    std::uint8_t reply(std::string &given) {
+        std::string output;
+        return fill(sno_book_reply, output, first_room, given);
+    }
+
+    // Puts the listing as JSON in `given`: SNO_DONE, SNO_NO_MEMORY or SNO_CLOSED, as sno_book_listing.
+    std::uint8_t listing(std::string &given) {
+        std::string output;
+        return fill(sno_book_listing, output, first_room, given);
+    }
+
+private:
+    using Call = std::uint8_t (*)(sno_book *, std::uint8_t *, std::size_t, std::size_t *);
+
+    // A reply and a listing of up to this length take one call.
+    static constexpr std::size_t first_room = 4096;
+
+    static const std::uint8_t *first(std::string_view bytes) noexcept {
+        return reinterpret_cast<const std::uint8_t *>(bytes.empty() ? "" : bytes.data());
+    }
+
+    static std::uint8_t *bytes(std::string &output) noexcept { return reinterpret_cast<std::uint8_t *>(&output[0]); }
+
+    static std::uint8_t take(std::uint8_t status, std::string &output, std::size_t length, std::string &given) {
+        if (status == SNO_DONE) {
+            output.resize(length);
+            given = std::move(output);
+        }
+        return status;
+    }
+
+    // Calls with room for `length` bytes, and once more if there are more.
+    std::uint8_t fill(Call call, std::string &output, std::size_t length, std::string &given) {
+        std::uint8_t status = SNO_TOO_SHORT;
+        while (status == SNO_TOO_SHORT) {
+            output.resize(length);
+            status = call(&book_, bytes(output), output.size(), &length);
+        }
+        return take(status, output, length, given);
+    }
+
+    sno_book book_ = sno_book();
+    std::string fault_;
+};
 
 #if defined(__cpp_exceptions)
 

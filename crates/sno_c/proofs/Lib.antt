@@ -1,3 +1,4 @@
 mod Crossings
 mod FaultLemmas
+mod OpenedBooks
 mod Values

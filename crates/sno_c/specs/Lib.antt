@@ -1,6 +1,8 @@
 pub mod Listed
 pub mod Assignments
 pub mod Blocks
+pub mod Books
+pub mod Buffers
 pub mod Gatherings
 pub mod Kept
 pub mod Openings

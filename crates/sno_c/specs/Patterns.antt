@@ -9,7 +9,7 @@ use Rattle.sno_seek.specs.declared.seeker.Seeker.{Seeker}
 use Rattle.sno_statement.specs.Passes.{next_search, search, search_trials}
 use Rattle.sno_statement.specs.Statement.{Statement, IsLimit}
 use Rattle.sno_c.specs.declared.held.Held.{Held}
-use Rattle.sno_c.specs.declared.held.Held.TheVariants.{Pattern, Text}
+use Rattle.sno_c.specs.declared.held.Held.TheVariants.{Book, Pattern, Text}
 use Rattle.sno_c.specs.declared.searches.FoundMatch.{FoundMatch}
 
 -- the pattern that a handle holds, if it holds one
@@ -17,12 +17,14 @@ abbrev pub pattern_in : Option Held → Option Seeker
 pattern_in None = None
 pattern_in (Some (Pattern p)) = Some p
 pattern_in (Some (Text t)) = None
+pattern_in (Some (Book b)) = None
 
 -- the text that a handle holds, if it holds one
 abbrev pub text_in : Option Held → Option (List ℕ)
 text_in None = None
 text_in (Some (Pattern p)) = None
 text_in (Some (Text t)) = Some t
+text_in (Some (Book b)) = None
 
 -- the pattern and the text of two handles, if the first holds a pattern and the second a text
 abbrev pub both_in : Option Held → Option Held → Option (Seeker × List ℕ)

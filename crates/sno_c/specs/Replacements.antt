@@ -1,5 +1,5 @@
 -- What the calls that replace return.
-use Rattle.std.specs.Prelude.{◌≡◌, ◌<◌, ◌↔◌, ◌⊎◌, ◌≢◌, ◌++◌, ℕ, List, Option, None, Some, Result, Ok, Err, IfSome, drop, length}
+use Rattle.std.specs.Prelude.{◌≡◌, ◌<◌, ◌↔◌, ◌⊎◌, ◌≢◌, ℕ, List, Option, None, Some, Result, Ok, Err, IfSome, length}
 use Rattle.sno_pattern.specs.declared.byte_texts.TheConstants.{MAX_BYTES}
 use Rattle.sno_seek.specs.declared.seeker.Seeker.{Seeker}
 use Rattle.sno_statement.specs.Perform.{perform_within}
@@ -7,6 +7,7 @@ use Rattle.sno_statement.specs.Rewriting.{Rewriting, rewriting}
 use Rattle.sno_statement.specs.Statement.{IsLimit, with_limit}
 use Rattle.sno_statement.specs.declared.outcomes.StatementFault.{StatementFault}
 use Rattle.sno_statement.specs.declared.outcomes.StatementFault.TheVariants.{TextTooLong, TooManyTrials}
+use Rattle.sno_c.specs.Buffers.{IsWritten}
 use Rattle.sno_c.specs.Patterns.{both_in}
 use Rattle.sno_c.specs.declared.held.Held.{Held}
 use Rattle.sno_c.specs.declared.replacements.Replaced.{Replaced}
@@ -18,13 +19,6 @@ nothing_replaced = record { length = 0; matches = 0 }
 -- what the statement of a pattern makes of a text, with these trials: the number of matches, and the new text
 abbrev pub rewritten_by : Seeker → ℕ → List ℕ → Result Rewriting StatementFault
 rewritten_by p trials t = rewriting (perform_within MAX_BYTES (with_limit p.statement trials) t)
-
--- the buffer begins with the text; or it is too short for it, and unchanged
-pub record IsWritten (text before after : List ℕ) (status : ℕ) : Type 0 where
-  pub short : status ≡ 5 ↔ (length before < length text)
-  pub unchanged : status ≡ 5 → after ≡ before
-  pub written : status ≡ 0 → after ≡ text ++ drop (length text) before
-  pub known : (status ≡ 0) ⊎ (status ≡ 5)
 
 -- What the statement of a pattern makes of a text is reported, and the new text is in the buffer if there is room for it; or the
 -- statement is refused, by its cause, and the buffer is unchanged.

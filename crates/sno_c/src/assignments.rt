@@ -79,7 +79,7 @@ pub(crate) fn seeker_of(held: &Option<Box<Held>>) -> Option<&Seeker>
     match held {
         Some(held) => match &**held {
             Held::Pattern(seeker) => Some(seeker),
-            Held::Text(_) => None,
+            Held::Text(_) | Held::Book(_) => None,
         },
         None => None,
     }

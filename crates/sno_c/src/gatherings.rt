@@ -61,7 +61,7 @@ pub(crate) fn gather_held(
     match pattern {
         Some(held) => match &mut **held {
             Held::Pattern(seeker) => gather(alloc, seeker, text, from, trials, most),
-            Held::Text(_) => CLOSED,
+            Held::Text(_) | Held::Book(_) => CLOSED,
         },
         None => CLOSED,
     }
@@ -112,7 +112,7 @@ pub(crate) fn take_held(pattern: &mut Option<Box<Held>>, found: &mut FoundMatch)
     match pattern {
         Some(held) => match &mut **held {
             Held::Pattern(seeker) => take(seeker, found),
-            Held::Text(_) => CLOSED,
+            Held::Text(_) | Held::Book(_) => CLOSED,
         },
         None => CLOSED,
     }

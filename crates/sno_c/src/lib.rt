@@ -1,15 +1,16 @@
 //! The library for callers in C, C++, Rust and Python: a static library.
 //!
 //! [`sno_rewrite_list`] takes the bytes of a document and a buffer, and puts the listing of its serial run in the buffer. The calls
-//! with handles read a pattern once, seek it in any number of texts, and replace its matches. No call makes a thread or waits for
-//! anybody, and several threads may call at once, each with handles of its own. The header `embed/sno_rewrite.h` declares the calls;
-//! `embed/` has callers in C, C++, Rust and Python.
+//! with handles read a pattern once, seek it in any number of texts, and replace its matches; or they keep a book, and do what lines
+//! ask of it. No call makes a thread or waits for anybody, and several threads may call at once, each with handles of its own. The
+//! header `embed/sno_rewrite.h` declares the calls; `embed/` has callers in C, C++, Rust and Python.
 //!
 //! | File | What it holds |
 //! |---|---|
 //! | `listing` | [`sno_rewrite_list`] |
 //! | `handle_calls` | the calls with handles |
-//! | `held` | what a handle holds: a pattern or a text |
+//! | `book_calls`, `books` | the calls with books; a book that is held, with the reply to its last line |
+//! | `held` | what a handle holds: a pattern, a text or a book |
 //! | `handle` | handles, which are places in the caller's memory |
 //! | `kept`, `loose` | a box as its pointer, with and without its type |
 //! | `openings`, `texts` | patterns and texts that are put into handles |
@@ -20,6 +21,8 @@
 #![tactic(auto)]
 
 mod assignments;
+mod book_calls;
+mod books;
 mod buffers;
 mod gatherings;
 mod handle;

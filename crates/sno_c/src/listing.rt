@@ -10,7 +10,7 @@ use sno_rewrite::{MAX_TRIALS, Options, Report, RunFault, run_serial, status_of};
 use std::alloc::Global;
 
 /// Puts the line of a fault in the buffer, as much of it as there is room for, and sets `reported` to that many bytes.
-fn put_fault(alloc: Global, fault: &RunFault, buffer: &mut [u8], reported: &mut usize)
+pub(crate) fn put_fault(alloc: Global, fault: &RunFault, buffer: &mut [u8], reported: &mut usize)
     ensures rest { drop reported.new buffer.new ≡ drop reported.new buffer.old }
     ensures same { length buffer.new ≡ length buffer.old }
     ensures inside { reported.new ≤ length buffer.new }

@@ -7,15 +7,14 @@ ghost use Rattle.sno_statement.specs.Statement.{IsLimit, with_limit};
 ghost use Rattle.sno_statement.specs.declared.outcomes.StatementFault.TheVariants.{TextTooLong, TooManyTrials};
 ghost use Rattle.sno_c.specs.Kept.{held_in};
 ghost use Rattle.sno_c.specs.Patterns.{both_in};
-ghost use Rattle.sno_c.specs.Replacements.{IsReplaced, IsReplacementCall, IsWritten, nothing_replaced, rewritten_by};
+ghost use Rattle.sno_c.specs.Replacements.{IsReplaced, IsReplacementCall, nothing_replaced, rewritten_by};
 
 use crate::assignments::seeker_of;
-use crate::buffers::copy_to;
+use crate::buffers::write;
 use crate::held::Held;
 use crate::searches::text_of;
 use crate::statuses::{
-    BAD_LIMIT, CLOSED, DONE, HISTORY_TOO_LONG, NO_MEMORY, NOTHING, TOO_LONG, TOO_MANY_TRIALS,
-    TOO_SHORT,
+    BAD_LIMIT, CLOSED, HISTORY_TOO_LONG, NO_MEMORY, NOTHING, TOO_LONG, TOO_MANY_TRIALS,
 };
 use sno_pattern::ByteText;
 use sno_seek::Seeker;
@@ -42,17 +41,6 @@ impl Replaced {
             matches: 0,
         }
     }
-}
-
-/// Puts the new text in the buffer if there is room for it.
-fn write(text: &[u8], buffer: &mut [u8]) -> u8
-    ensures { IsWritten text.now buffer.old buffer.new result }
-{
-    if text.len() > buffer.len() {
-        return TOO_SHORT;
-    }
-    copy_to(buffer, text);
-    DONE
 }
 
 /// Puts what the statement of the pattern makes of the text in the buffer, if there is room for it.

@@ -132,7 +132,7 @@ pub(crate) fn text_of(held: &Option<Box<Held>>) -> Option<&ByteText>
     match held {
         Some(held) => match &**held {
             Held::Text(text) => Some(text),
-            Held::Pattern(_) => None,
+            Held::Pattern(_) | Held::Book(_) => None,
         },
         None => None,
     }
@@ -156,7 +156,7 @@ pub(crate) fn search_held(
     match pattern {
         Some(held) => match &mut **held {
             Held::Pattern(seeker) => search(alloc, seeker, text, from, trials, found),
-            Held::Text(_) => CLOSED,
+            Held::Text(_) | Held::Book(_) => CLOSED,
         },
         None => CLOSED,
     }

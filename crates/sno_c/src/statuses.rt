@@ -3,10 +3,10 @@
 /// It is done; of a search, it found a match.
 pub const DONE: u8 = 0;
 
-/// There is no match, no assignment at the place, or nothing to replace.
+/// There is no match, no assignment at the place, nothing to replace, or no reply.
 pub const NOTHING: u8 = 1;
 
-/// The rule or a definition has a fault.
+/// The rule or a definition has a fault; of a book, its document.
 pub const FAULT: u8 = 2;
 
 /// The limit of trials is not one of 1 to 1,000,000,000.

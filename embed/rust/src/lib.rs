@@ -1,5 +1,5 @@
-//! Nomyake for Rust: performs the statements of a document in order and lists what they did; and reads a [`Pattern`] once,
-//! seeks it in any number of texts, and replaces its matches.
+//! Nomyake for Rust: performs the statements of a document in order and lists what they did; reads a [`Pattern`] once, seeks
+//! it in any number of texts, and replaces its matches; and keeps a [`Book`], whose texts are read and rewritten line by line.
 //!
 //! ```
 //! use sno_rewrite::{rewrite, Options};
@@ -16,11 +16,13 @@
 //! `build.rs` links the static library `libsno_rewrite.a`, which it takes from the folder in the environment variable
 //! `SNO_REWRITE_LIB_DIR`, or else from `embed/out` of the repository, or else from the folder that pkg-config names.
 //!
-//! Several threads may call at once, each with patterns and texts of its own, and with a stack of 2 MiB or more, as
+//! Several threads may call at once, each with patterns, texts and books of its own, and with a stack of 2 MiB or more, as
 //! [`std::thread::spawn`] gives it.
 
+mod books;
 mod patterns;
 
+pub use books::Book;
 pub use patterns::{Assignment, Match, Matches, Pattern, Replaced, Text, Value};
 
 use std::fmt;
@@ -99,7 +101,7 @@ impl fmt::Display for Listing {
     }
 }
 
-/// Why there is no listing, no pattern, or nothing that was sought.
+/// Why there is no listing, no book, no pattern, or nothing that was sought.
 #[derive(Clone, Debug, PartialEq, Eq)]
 #[non_exhaustive]
 pub enum Error {
@@ -227,6 +229,8 @@ pub fn rewrite_with_room(
     }
 }
 
+#[cfg(test)]
+mod book_tests;
 #[cfg(test)]
 mod pattern_tests;
 #[cfg(test)]

@@ -2,12 +2,12 @@
 
 use crate::{Error, USUAL_TRIALS};
 
-const DONE: u8 = 0;
+pub(crate) const DONE: u8 = 0;
 const NOTHING: u8 = 1;
 pub(crate) const FAULT: u8 = 2;
 const BAD_LIMIT: u8 = 3;
 const NO_MEMORY: u8 = 4;
-const TOO_SHORT: u8 = 5;
+pub(crate) const TOO_SHORT: u8 = 5;
 pub(crate) const TOO_MANY_TRIALS: u8 = 8;
 pub(crate) const HISTORY_TOO_LONG: u8 = 11;
 const NOTHING_GATHERED: u8 = 12;
@@ -28,7 +28,7 @@ const FIRST_ROOM: usize = 4096;
 const SEARCHES_AT_ONCE: usize = 32;
 
 #[repr(C)]
-struct Handle {
+pub(crate) struct Handle {
     memory: *mut u8,
     is_open: bool,
 }
@@ -108,7 +108,7 @@ extern "C" {
 // two of one call overlap, and nobody else uses them during the call. The library keeps no pointer but in the handle.
 
 impl Handle {
-    fn closed() -> Handle {
+    pub(crate) fn closed() -> Handle {
         Handle {
             memory: std::ptr::null_mut(),
             is_open: false,
@@ -126,7 +126,7 @@ impl Drop for Handle {
 unsafe impl Send for Handle {}
 
 /// The error of a status that isn't a result.
-fn error(status: u8, trials: u32) -> Error {
+pub(crate) fn error(status: u8, trials: u32) -> Error {
     match status {
         BAD_LIMIT => Error::BadLimit(trials),
         NO_MEMORY => Error::NoMemory,

@@ -7,6 +7,7 @@
 """
 
 from ._async_desk import AsyncDesk
+from ._book import Book
 from ._desk import Desk
 from ._documents import Patterns, Statement, Statements, Texts
 from ._library import USUAL_TRIALS
@@ -17,6 +18,7 @@ from ._rewrite import rewrite, rewrite_document
 __all__ = [
     "USUAL_TRIALS",
     "AsyncDesk",
+    "Book",
     "Desk",
     "DeskEnded",
     "DeskError",

@@ -8,14 +8,15 @@ import select
 import subprocess
 import threading
 import time
-from collections.abc import Iterator, Mapping
+from collections.abc import Iterator
 from concurrent.futures import Future
 from contextlib import contextmanager, suppress
 from os import PathLike
 from types import TracebackType
 
+from ._calls import Calls
 from ._lines import DeskEnded, DeskError, DeskTimeout, NamelessError, Reply
-from ._lines import entries, excerpt, read, result, statement, texts, written
+from ._lines import read, result, written
 
 # How many seconds the end of the program is waited for after the end of its output.
 _SOON = 1.0
@@ -32,7 +33,7 @@ class _Deadline:
         return None if self._end is None else max(0.0, self._end - time.monotonic())
 
 
-class Desk:
+class Desk(Calls):
     """Texts that many threads change at once, served by the program `sno`.
 
     Each call sends one line, and waits for the reply with its id. The calls are safe for threads. A call that takes
@@ -63,39 +64,6 @@ class Desk:
         self._ids = itertools.count()
         self._reader = threading.Thread(target=self._take_replies, name="sno replies", daemon=True)
         self._reader.start()
-
-    def submit(
-        self,
-        text: str,
-        pattern: str,
-        object: str | None = None,
-        *,
-        anchored: bool | None = None,
-        repeat: int | None = None,
-        all: bool | None = None,
-        if_version: int | None = None,
-        trials: int | None = None,
-        bind: Mapping[str, str] | None = None,
-        check: bool | None = None,
-    ) -> Reply:
-        """The entry of a statement, or its `reason` if it is refused. If the text's version isn't `if_version`, the
-        reason is `changed`, with that version. A name of `bind` is a literal with its text in pattern and object. With
-        `check` nothing is accepted: the reply is the entry that the statement would be if it came next."""
-        members = {"anchored": anchored, "repeat": repeat, "all": all, "if_version": if_version, "trials": trials}
-        members |= {"bind": None if bind is None else dict(bind), "check": check}
-        return self._ask(statement(text, pattern, object, **members))
-
-    def read(self, text: str, *, at: int | None = None) -> Reply:
-        """The name, characters and version of a text, or a `reason`: as it is, or as it was at a version."""
-        return self._ask({"read": text} if at is None else {"read": text, "at": at})
-
-    def texts(self) -> list[Reply]:
-        """The name, length and version of each text, all at one moment."""
-        return texts(self._ask({"texts": True}))
-
-    def since(self, index: int, *, limit: int | None = None, text: str | None = None) -> list[Reply]:
-        """The entries from this index on: at most `limit`, and of this text alone."""
-        return entries(self._ask(excerpt(index, limit=limit, text=text)))
 
     def close(self) -> int:
         """Ends the input, waits for all replies, and returns the status of the program. If it doesn't end in time, it

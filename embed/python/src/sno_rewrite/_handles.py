@@ -14,7 +14,7 @@ _NAME_ROOM = 64
 _SPARE_ROOM = 1024
 
 
-class _Handle(ctypes.Structure):
+class Handle(ctypes.Structure):
     _fields_ = [("memory", ctypes.c_void_p), ("is_open", ctypes.c_bool)]
 
 
@@ -51,7 +51,7 @@ class Found(NamedTuple):
 _size = ctypes.c_size_t
 _bytes = ctypes.c_char_p
 _buffer = ctypes.POINTER(ctypes.c_char)
-_handle = ctypes.POINTER(_Handle)
+_handle = ctypes.POINTER(Handle)
 
 
 def functions(path: str) -> ctypes.CDLL:
@@ -76,7 +76,7 @@ class _Held:
 
     def __init__(self, functions: Any) -> None:
         self.functions = functions
-        self.handle = _Handle()
+        self.handle = Handle()
         self.reference = ctypes.byref(self.handle)
         self.close = weakref.finalize(self, functions.sno_handle_close, self.reference)
 

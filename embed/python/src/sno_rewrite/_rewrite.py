@@ -13,7 +13,7 @@ _NO_MEMORY = 4
 _USUAL_LINES = {_NO_DOCUMENT: "not a document", _NO_MEMORY: "out of memory"}
 
 
-def _check_options(anchor: object, trials: object) -> None:
+def check_options(anchor: object, trials: object) -> None:
     if not isinstance(anchor, bool):
         raise TypeError(f"anchor has to be bool, and not {type(anchor).__name__}")
     if not isinstance(trials, int) or isinstance(trials, bool):
@@ -36,7 +36,7 @@ def rewrite_document(
         raise TypeError(f"document has to be bytes, and not {type(document).__name__}")
     if not isinstance(json, bool):
         raise TypeError(f"json has to be bool, and not {type(json).__name__}")
-    _check_options(anchor, trials)
+    check_options(anchor, trials)
     status, output = load(library).call(bytes(document), anchor, json, trials)
     if status > 1:
         raise Fault(status, output.decode() or _USUAL_LINES.get(status, f"unexpected status {status}"))
