@@ -40,7 +40,7 @@ fn times_after_name(words: Args) -> Result<Option<u32>, Fault>
     }
 }
 
-/// How often a run does each work, by the program's arguments, the first of which is its name; `None` if nothing is to be timed.
+/// How many times a run does each work, by the program's arguments after its name; `None` if nothing is to be timed.
 ///
 /// Refused: `Usage` for other arguments, also for one that is not a text, and `Memory` if out of memory.
 pub fn times_in(words: io::Result<Args>) -> Result<Option<u32>, Fault>

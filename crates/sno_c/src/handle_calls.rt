@@ -119,7 +119,7 @@ pub extern "C" fn sno_handle_next(
 }
 
 /// Does up to `most` searches for the pattern of a handle in the text of another one, each from where the match of the one before
-/// leaves off, and gathers what they find: the same as that many calls of [`sno_handle_next`], of which each takes its cursor from
+/// leaves off, and gathers what they find: the same as that many calls of [`sno_handle_next`], each with its cursor from
 /// `next` of the one before. A search without a match is the last one. All of them together may take `trials` trials, 1 to
 /// 1,000,000,000. What was gathered with the pattern before is dropped.
 ///

@@ -187,7 +187,7 @@ fn have_cursors(matches: &Matches, wanted: &[(usize, usize)]) -> bool {
     matches.len() == wanted.len()
 }
 
-/// Whether the outcome has the matches with these cursors, of which there may be none.
+/// Whether the outcome has the matches with these cursors; there may be none.
 fn has_matches(outcome: &Outcome, wanted: &[(usize, usize)]) -> bool {
     match outcome {
         Outcome::All { matches, .. } => have_cursors(matches, wanted),
