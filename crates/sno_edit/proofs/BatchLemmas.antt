@@ -1,7 +1,8 @@
 -- A batch is as if each of its files were edited before the next.
-use Rattle.std.proofs.Common.{◌≡◌, ◌≢◌, ℕ, zero, suc, ◌+◌, ◌<◌, ◌≤◌, Bool, true, false, List, [], ◌∷◌, ◌++◌, length, take, drop, get_or, map, not, ◌&&◌, Ok, Err, refl, true≢false, arith, ap, sym, subst, ◌∙◌}
+use Rattle.std.proofs.Common.{◌≡◌, ◌≢◌, ℕ, zero, suc, ◌+◌, ◌<◌, ◌≤◌, Bool, true, false, List, [], ◌∷◌, ◌++◌, length, take, drop, get_or, map, not, ◌&&◌, Result, Ok, Err, refl, true≢false, arith, ap, sym, subst, ◌∙◌}
 use Rattle.std.proofs.lemmas.Bool.{eq-eqb, or_parts}
 use Rattle.std.specs.List.{list_any}
+use Rattle.std.specs.Result.{IsErrAnd}
 use Rattle.std.specs.Borrow.{Bor}
 use Rattle.std.specs.Arc.{arc_value}
 use Rattle.std.proofs.lemmas.List.{append_assoc, append-nil, drop_more, take_more}
@@ -11,8 +12,8 @@ use Rattle.sno_edit.specs.Batches.{Written, End, IsReplaced, AreReplaced, Differ
 use Rattle.sno_edit.specs.Edits.{Edited, edited}
 use Rattle.sno_edit.specs.Faults.{of_write}
 use Rattle.sno_edit.specs.Rules.{FileRules}
-use Rattle.sno_edit.specs.Held.{Held, OthersKept}
-use Rattle.sno_edit.specs.Files.{AreFilesEnds, HasCause, IsDone, IsEdit}
+use Rattle.sno_edit.specs.Held.{Held, Kept, OthersKept}
+use Rattle.sno_edit.specs.Files.{AreFilesEnds, HasCause, IsDone, IsEdit, IsFileEnd}
 use Rattle.sno_edit.specs.declared.files.Done.{Done}
 use Rattle.sno_edit.specs.declared.folders.NewText.{NewText}
 use Rattle.sno_edit.specs.declared.folders.WriteFault.{WriteFault}
@@ -69,7 +70,13 @@ planned_kept rules path before after kept (p ∷ ps) (Ok done ∷ es) ws (other,
   takes_mono done.changed p new ws _ _ (λ w k. planned_kept rules path before after kept ps es w others k) h,
 )
 
--- two texts that are the same
+-- two texts of which it is known whether they are the same
+pub differs : (old new : List ℕ) → true ≡ not (same old new) → same old new ≡ false
+differs old new h = by-not (same old new) h where
+  by-not : (b : Bool) → true ≡ not b → b ≡ false
+  by-not true h = h
+  by-not false h = refl
+
 agrees : (old new : List ℕ) → false ≡ not (same old new) → old ≡ new
 agrees old new h = same_is old new (by-not (same old new) h) where
   by-not : (b : Bool) → false ≡ not b → b ≡ true
@@ -117,6 +124,14 @@ pub unwritten_cause : (rules : FileRules) (path : List ℕ) (before : Held) (e :
     → IsEdit rules path before old (record { text = new; matches = matches }) → same old new ≡ false → HasCause rules path before (of_write e)
 unwritten_cause rules path before (writing.Failed kind) old new matches edit other = (old, record { text = new; matches = matches }, edit, other)
 unwritten_cause rules path before writing.Memory old new matches edit other = tt
+
+-- a write that was refused alone
+pub write_refused : (rules : FileRules) (path : List ℕ) (before after : Held) (r : Result Done FileFault) (e : WriteFault) (old new : List ℕ) (matches : ℕ)
+    → IsErrAnd r (λ y. y ≡ of_write e) → IsEdit rules path before old (record { text = new; matches = matches }) → same old new ≡ false → Kept before after
+    → IsFileEnd rules path before after r
+write_refused rules path before after (Ok done) e old new matches is edit other kept = elim is [ ]
+write_refused rules path before after (Err y) e old new matches is edit other kept =
+    (subst (λ x. HasCause rules path before x) (sym is) (unwritten_cause rules path before e old new matches edit other), kept)
 
 -- the paths that references lead to
 abbrev pub paths_at : List (Bor (List ℕ)) → List (List ℕ)

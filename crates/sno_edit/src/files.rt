@@ -3,7 +3,8 @@ ghost use Rattle.std.specs.Prelude.{◌≡◌, map, not, IsUtf8, IfOk, IfErr, On
 ghost use Rattle.std.specs.Arc.{arc_value};
 ghost use Rattle.sno_pattern.specs.Identifiers.{same};
 ghost use Rattle.sno_pattern.specs.Texts.{byte_text_of};
-ghost use Rattle.sno_edit.specs.Files.{AreFilesEnds, HasCause, HasTextCause, IsPlan};
+ghost use Rattle.sno_edit.specs.Held.{Kept};
+ghost use Rattle.sno_edit.specs.Files.{AreFilesEnds, HasCause, HasTextCause, IsFileEnd, IsPlan};
 ghost use Rattle.sno_edit.specs.Rules.{rules_seen};
 
 use crate::batches::{BATCH, batch_len, edit_batch};
@@ -84,6 +85,28 @@ pub fn plan_file<F: Folder>(
         }),
         Err(fault) => Err(fault),
     }
+}
+
+/// Edits the file with this path by the rules. It is written only if its text changes.
+///
+/// Refused as [`plan_file`] is, or with `Unwritten` if the new text can't be written. Then each file holds what it held.
+pub fn edit_file<F: Folder>(
+    alloc: Global,
+    folder: &mut F,
+    rules: &EditRules,
+    path: &str,
+) -> Result<Done, FileFault>
+    ensures { IsFileEnd (rules_seen rules.now) path.now (F.holds folder.old) (F.holds folder.new) result }
+{
+    let plan = plan_file(alloc, folder, rules, path)?;
+    let changed = plan.changes();
+    if changed {
+        folder.replace(alloc, path, plan.after.bytes())?;
+    }
+    Ok(Done {
+        changed,
+        matches: plan.matches,
+    })
 }
 
 /// Edits the files with these paths by the rules, in order, and returns a report for each, in the same order. A file

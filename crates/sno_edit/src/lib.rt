@@ -24,7 +24,7 @@
 //! | `positions` | `Position`: the line and the column of a place |
 //! | `folders` | `Folder`, and why a file is not read or written |
 //! | `faults` | `FileFault`: why a file stays as it was |
-//! | `files` | `plan_file`, `edit_files` |
+//! | `files` | `plan_file`, `edit_file`, `edit_files` |
 //! | `batches` | files that are planned one after the other and then written together |
 //! | `tallies` | what became of files, counted, and the status to end with |
 //! | `scripts` | the lines that two texts share, and those that only one has |
@@ -48,7 +48,7 @@ mod utf8;
 
 pub use edits::{CutCharacter, RefusedStatement, is_for};
 pub use faults::FileFault;
-pub use files::{Done, Plan, edit_files, plan_file};
+pub use files::{Done, Plan, edit_file, edit_files, plan_file};
 pub use folders::{Folder, NewText, ReadFault, WriteFault};
 pub use hunks::unified_diff;
 pub use line_rules::{definition_row, rule_row};

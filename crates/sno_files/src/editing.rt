@@ -72,8 +72,8 @@ fn edit_once<R: Files<File = File>>(
 /// Edits a file by the rules, and returns what became of it with the text that it held before. It is held while it is edited: a run
 /// that would edit it waits. If another program changes it meanwhile, it is edited anew, up to ten times.
 ///
-/// The refusals are those of `plan_file` of `sno_edit`, with `Unread` also if the path doesn't lead to a regular file. `Unwritten` comes
-/// if the new text can't be written, or if another program changed the file each time; `Reason` says both in words. Then it stays as it was.
+/// The refusals are those of `edit_file` of `sno_edit`, with `Unread` also if the path doesn't lead to a regular file, and
+/// `Unwritten` also if another program changed it each time; `Reason` says both in words. Then it stays as it was.
 pub fn edit_with_text<R: Files<File = File>>(
     rt: &R,
     alloc: Global,
