@@ -50,7 +50,7 @@ fn facts_of_bodies(
     for (place, body) in bodies.iter().enumerate() {
         let mut found = None;
         if let Some(pattern) = *body {
-            let facts = facts_of(findings.alloc, bodies, pattern)?;
+            let facts = facts_of(findings.alloc, bodies, Some(place), pattern)?;
             warn_of_facts(findings, Whose::Definition(place.saturating_add(1)), &facts)?;
             found = Some(facts);
         }

@@ -95,7 +95,7 @@ fn placed(alloc: Global, number: usize, found: Vec<Warning>) -> Result<Vec<Warni
     Ok(warnings)
 }
 
-/// The definitions of a statement, all of which were read.
+/// The definitions of a statement, all read.
 fn bodies_of<'p>(
     alloc: Global,
     statement: &'p Statement,

@@ -126,7 +126,7 @@ pub(crate) fn check_pattern(
     number: usize,
     pattern: &Pattern,
 ) -> Result<Facts, AllocError> {
-    let facts = facts_of(findings.alloc, bodies, pattern)?;
+    let facts = facts_of(findings.alloc, bodies, None, pattern)?;
     warn_of_facts(findings, Whose::Pattern(number), &facts)?;
     Ok(facts)
 }
@@ -147,6 +147,7 @@ pub(crate) fn check_object(
         escape: _,
         repeats_rounds: _,
         is_ambiguous: _,
+        goes_on_ambiguously: _,
         blocked: _,
     } = facts;
     let reached = reach.from(references);

@@ -143,7 +143,7 @@ fn work_all<L: Naming + Send + Sync, G: Gate + Sync, R: Threads + Wait + Sync>(
     thread::for_each_mut(rt, seats, workers, &worker);
 }
 
-/// Submits the jobs through the seats, each of which has a worker of its own. Job `i` goes to the seat `i` modulo their
+/// Submits the jobs through the seats; each has a worker of its own. Job `i` goes to the seat `i` modulo their
 /// number. Each worker submits its jobs in order, with `tries` tries for each. The workers run in threads, or one after
 /// the other if no thread can be made.
 ///

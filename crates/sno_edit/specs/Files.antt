@@ -13,7 +13,7 @@ use Rattle.sno_edit.specs.declared.files.Plan.{Plan}
 use Rattle.sno_edit.specs.declared.faults.FileFault.{FileFault}
 use Rattle.sno_edit.specs.declared.faults.FileFault.TheVariants as fault
 
--- the file held the text `old`, of which the rules make this
+-- the file held the text `old`, and the rules make this of it
 abbrev pub IsEdit : FileRules → List ℕ → Held → List ℕ → Edited → Type 0
 IsEdit rules path before old e = before path old × (byte_text_of old ≡ Ok old) × (edited rules path old ≡ Ok e)
 

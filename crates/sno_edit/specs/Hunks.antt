@@ -39,7 +39,7 @@ AreHunks o n (hunk ∷ hunks) script =
     × (hunk.old_before ≡ o + length between) × (hunk.new_before ≡ n + length between)
     × AreHunks (hunk.old_before + length (old_lines hunk.lines)) (hunk.new_before + length (new_lines hunk.lines)) hunks rest
 
--- Hunks applied to old lines, of which o come before, give new ones, of which n come before: each hunk takes its old lines
+-- Hunks applied to old lines, o lines after the first, give new ones, n lines after the first: each hunk takes its old lines
 -- away at the place that it names, and puts its new ones there. All other lines stay.
 abbrev pub TakeTo : ℕ → ℕ → List Hunk → List (List ℕ) → List (List ℕ) → Type 0
 TakeTo o n [] old new = new ≡ old

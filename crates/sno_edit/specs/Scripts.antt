@@ -8,7 +8,7 @@ use Rattle.sno_edit.specs.declared.scripts.Mark.TheVariants.{Kept, Removed, Adde
 abbrev pub is_line_feed : ℕ → Bool
 is_line_feed x = nat_eq x 10
 
--- lines of which the first has this character more, at its beginning
+-- these lines, with this character more at the beginning of the first
 abbrev pub with_first : ℕ → List (List ℕ) → List (List ℕ)
 with_first x [] = (x ∷ []) ∷ []
 with_first x (line ∷ lines) = (x ∷ line) ∷ lines

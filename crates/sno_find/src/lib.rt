@@ -19,7 +19,7 @@
 //! | `hits` | the matches of each statement, and their order |
 //! | `places` | the position of a place that comes after another |
 //! | `findings` | `Finding`, `find_in` |
-//! | `counts` | `count_in`: how many there are, of which none is kept |
+//! | `counts` | `count_in`: how many there are; none is kept |
 //! | `lines`, `json` | findings as lines, and as JSON |
 //! | `edit_rows` | what rules match that are performed in turn, as JSON |
 //!

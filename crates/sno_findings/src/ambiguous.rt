@@ -1,4 +1,5 @@
-//! Repetitions whose rounds can take the same characters in more than one way.
+//! Repetitions whose rounds can take the same characters in more than one way, by `ARBNO` or by a definition that goes on with
+//! itself.
 
 use sno_pattern::{Class, MAX_DEFINITIONS, Pattern};
 use std::alloc::{AllocError, Global};
@@ -145,9 +146,34 @@ fn is_taken_again(one: &[Taken], later: &[Vec<Taken>], alternatives: &[Vec<Taken
     })
 }
 
-/// Whether rounds of this part can take the same characters in more than one way, as `ARB`, `BAL` or `LEN(1) | LEN(2)`: each such place
-/// doubles the ways that a failing match goes. Only alternatives of a known length are compared: the first 64, up to 32
-/// characters. The part may be a reference, and so may an alternative; `bodies` has the definitions, each if it can be read.
+/// Whether some characters are taken by one of the alternatives, and by others too.
+fn are_ambiguous(alternatives: &[Vec<Taken>]) -> bool {
+    for place in 0..alternatives.len() {
+        let (_, later) = alternatives.split_at(place + 1);
+        if is_taken_again(&alternatives[place], later, alternatives) {
+            return true;
+        }
+    }
+    false
+}
+
+/// Whether the pattern is `ARB` or `BAL`, or one of them with parts after it that each take one known number of characters. What
+/// it takes as one round it also takes as two.
+fn is_loose<'p>(alloc: Global, pattern: &'p Pattern) -> Result<bool, AllocError> {
+    match pattern {
+        Pattern::Arb | Pattern::Bal => Ok(true),
+        Pattern::Seq(first, second) => {
+            let mut places = Vec::new(alloc);
+            Ok(add_places(&mut places, second)? && is_loose(alloc, first)?)
+        }
+        Pattern::Cond(part, _) | Pattern::Imm(part, _) => is_loose(alloc, part),
+        _ => Ok(false),
+    }
+}
+
+/// Whether rounds of this part can take the same characters in more than one way, as `ARB`, `BAL ','` or `LEN(1) | LEN(2)`: each
+/// such place doubles the ways that a failing match goes. Only alternatives of a known length are compared: the first 64, up to
+/// 32 characters. The part may be a reference, and so may an alternative; `bodies` has the definitions, each if it can be read.
 ///
 /// Refused only if memory runs out.
 pub(crate) fn is_ambiguous<'p>(
@@ -156,16 +182,55 @@ pub(crate) fn is_ambiguous<'p>(
     part: &'p Pattern,
 ) -> Result<bool, AllocError> {
     let repeated = referred(bodies, part);
-    if let Pattern::Arb | Pattern::Bal = repeated {
+    if is_loose(alloc, repeated)? {
         return Ok(true);
     }
     let mut alternatives = Vec::new(alloc);
     add_alternatives(alloc, bodies, &mut alternatives, repeated)?;
-    for place in 0..alternatives.len() {
-        let (_, later) = alternatives.split_at(place + 1);
-        if is_taken_again(&alternatives[place], later, &alternatives) {
-            return Ok(true);
+    Ok(are_ambiguous(&alternatives))
+}
+
+/// Adds the alternatives of what comes before the definition itself, wherever its body ends with it. Returns whether one of them
+/// is loose.
+fn add_rounds<'p>(
+    alloc: Global,
+    bodies: &[Option<&'p Pattern>],
+    own: usize,
+    alternatives: &mut Vec<Vec<Taken<'p>>>,
+    body: &'p Pattern,
+) -> Result<bool, AllocError> {
+    match body {
+        Pattern::Alt(first, second) => {
+            let is_first_loose = add_rounds(alloc, bodies, own, alternatives, first)?;
+            Ok(add_rounds(alloc, bodies, own, alternatives, second)? || is_first_loose)
         }
+        Pattern::Seq(first, second) if is_reference_to(own, second) => {
+            let round = referred(bodies, first);
+            add_alternatives(alloc, bodies, alternatives, round)?;
+            is_loose(alloc, round)
+        }
+        _ => Ok(false),
     }
-    Ok(false)
+}
+
+fn is_reference_to(number: usize, pattern: &Pattern) -> bool {
+    match pattern {
+        Pattern::Ref(other) => *other == number,
+        _ => false,
+    }
+}
+
+/// Whether the definition with this number, which goes on with itself as `ARBNO` does with its rounds, can take the same
+/// characters in more than one way, as `R = ('a' | 'aa') *R | ''`. What is compared is as for [`is_ambiguous`].
+///
+/// Refused only if memory runs out.
+pub(crate) fn goes_on_ambiguously<'p>(
+    alloc: Global,
+    bodies: &[Option<&'p Pattern>],
+    own: usize,
+    body: &'p Pattern,
+) -> Result<bool, AllocError> {
+    let mut alternatives = Vec::new(alloc);
+    let is_loose = add_rounds(alloc, bodies, own, &mut alternatives, body)?;
+    Ok(is_loose || are_ambiguous(&alternatives))
 }

@@ -1,6 +1,6 @@
 //! What a pattern assigns, refers to and seeks.
 
-use crate::ambiguous::{is_ambiguous, referred};
+use crate::ambiguous::{goes_on_ambiguously, is_ambiguous, referred};
 use crate::edges::{Blocked, blocked_after};
 use sno_pattern::{Name, Pattern};
 use std::alloc::{AllocError, Global};
@@ -29,6 +29,8 @@ pub struct Facts {
     pub repeats_rounds: bool,
     /// Whether the rounds of an `ARBNO` in it can take the same characters in more than one way.
     pub is_ambiguous: bool,
+    /// Whether it is a definition that goes on with itself, and then can take the same characters in more than one way.
+    pub goes_on_ambiguously: bool,
     /// The first of its parts that never matches after the one before it.
     pub blocked: Option<Blocked>,
 }
@@ -138,10 +140,12 @@ fn range_in(members: &[u8]) -> Option<(u8, u8)> {
     None
 }
 
-/// What the pattern says. `bodies` has the definitions, each if it can be read. Refused only if memory runs out.
+/// What the pattern says. `bodies` has the definitions, each if it can be read; `own` is the number of the definition whose body
+/// the pattern is, if it is one. Refused only if memory runs out.
 pub fn facts_of<'p>(
     alloc: Global,
     bodies: &[Option<&'p Pattern>],
+    own: Option<usize>,
     pattern: &'p Pattern,
 ) -> Result<Facts, AllocError> {
     let mut facts = Facts {
@@ -151,9 +155,13 @@ pub fn facts_of<'p>(
         escape: None,
         repeats_rounds: false,
         is_ambiguous: false,
+        goes_on_ambiguously: false,
         blocked: None,
     };
     facts.gather(alloc, bodies, pattern)?;
+    if let Some(own) = own {
+        facts.goes_on_ambiguously = goes_on_ambiguously(alloc, bodies, own, pattern)?;
+    }
     Ok(facts)
 }
 

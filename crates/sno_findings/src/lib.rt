@@ -14,7 +14,7 @@
 //! | `element_lines` | the lines of a document on which its parts begin |
 //! | `facts`, `edges` | what a pattern assigns, refers to and seeks, and what can't come after its parts |
 //! | `warnings` | what patterns and objects probably don't mean |
-//! | `ambiguous` | repetitions whose rounds can take the same characters in more than one way |
+//! | `ambiguous` | repetitions that can take the same characters in more than one way |
 //! | `found_again` | whether a repeated statement may find again what its object puts in |
 //! | `advice`, `reading` | what to write instead, by a fault of the document or of an expression |
 //! | `habits` | what other languages write, and what is written here instead |

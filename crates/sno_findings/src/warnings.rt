@@ -65,14 +65,14 @@ fn warn_of_rounds(
 fn warn_of_ambiguity(
     findings: &mut Collector,
     whose: Whose,
+    what: &str,
     is_ambiguous: bool,
 ) -> Result<(), AllocError> {
     if !is_ambiguous {
         return Ok(());
     }
-    let message = String::from_str(
-        findings.alloc,
-        "pattern: rounds of ARBNO can take the same characters in more than one way, so a match that fails may reach its limit of trials",
+    let message = format!(in findings.alloc;
+        "pattern: {what} can take the same characters in more than one way, so a match that fails may reach its limit of trials"
     )?;
     findings.warn(whose.place(), message)
 }
@@ -141,7 +141,13 @@ pub fn warn_of_facts(
     warn_of_range(findings, whose, facts.range)?;
     warn_of_escape(findings, whose, facts.escape)?;
     warn_of_rounds(findings, whose, facts.repeats_rounds)?;
-    warn_of_ambiguity(findings, whose, facts.is_ambiguous)?;
+    warn_of_ambiguity(findings, whose, "rounds of ARBNO", facts.is_ambiguous)?;
+    warn_of_ambiguity(
+        findings,
+        whose,
+        "a definition that goes on with itself",
+        facts.goes_on_ambiguously,
+    )?;
     warn_of_streams(findings, whose, &facts.variables)?;
     warn_of_blocked(findings, whose, facts.blocked)
 }

@@ -34,6 +34,7 @@ impl<'a> Model for Code<'a> {
     ghost use Rattle.sno_machine.specs.Beginnings.{AreBeginnings, IsRunStart, cost};
     ghost use Rattle.sno_machine.specs.Code.{IsCompiled};
     ghost use Rattle.sno_machine.specs.Sources.{Source, source_code};
+    ghost use Rattle.sno_machine.specs.declared.starts.heads.TheConstants.{MAX_HEADS};
 
     ghost Value = { Source };
 
@@ -42,7 +43,7 @@ impl<'a> Model for Code<'a> {
     ghost view = { λ s. record { bodies = s.compiled.rules.now.bodies; pattern = tree_of s.compiled.pattern.now } };
 
     ghost invariant = { λ s. IsCompiled s.compiled.rules.now.bodies (tree_of s.compiled.pattern.now) s.compiled.nodes
-        × AreBeginnings s.compiled.rules.now.bodies (tree_of s.compiled.pattern.now) s.compiled.beginnings × (cost s.compiled.beginnings ≤ 64)
+        × AreBeginnings s.compiled.rules.now.bodies (tree_of s.compiled.pattern.now) s.compiled.beginnings × (cost s.compiled.beginnings ≤ MAX_HEADS)
         × IfSome s.compiled.run (IsRunStart s.compiled.rules.now.bodies (tree_of s.compiled.pattern.now)) };
 }
 

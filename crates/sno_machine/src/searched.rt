@@ -32,7 +32,7 @@ impl<'t, 'a> Model for Searched<'t, 'a> {
 }
 
 impl<'t, 'a> Searched<'t, 'a> {
-    /// The text, of which nothing was learnt yet. It takes no memory.
+    /// The text, with nothing learnt of it yet. It takes no memory.
     pub fn new(alloc: Global, text: &'t Text) -> Searched<'t, 'a>
         ensures { result ≡ text.now }
     {

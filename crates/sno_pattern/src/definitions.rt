@@ -53,7 +53,7 @@ impl Rules {
     ///
     /// Refused, in this order:
     /// - `BadRef` with the first definition that refers past the last one;
-    /// - `Unguarded` with a cycle: distinct definitions, each of which refers to the next, and the last to the first. No part
+    /// - `Unguarded` with a cycle: distinct definitions, where each refers to the next, and the last to the first. No part
     ///   before such a reference takes a character. The cycle begins with the first definition that lies on one;
     /// - `Memory`.
     ///

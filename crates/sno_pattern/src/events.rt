@@ -82,7 +82,7 @@ impl Conds {
         &self.parts
     }
 
-    /// The list of which they were made, so that its memory can be used again.
+    /// The list that they were made from, so that its memory can be used again.
     pub fn into_parts(self) -> Vec<(Name, usize, usize)>
         ensures { result.items ≡ self }
     {

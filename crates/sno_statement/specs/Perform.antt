@@ -82,7 +82,7 @@ follow (Ok (Failed bound)) ended go_on = Ok (ended bound)
 follow (Ok (Matched s e bound (Some after))) ended go_on = go_on bound after
 follow round ended go_on = round
 
--- the rounds that are left after n matches, the last of which left these bindings and the text t
+-- the rounds that are left after n matches, where the last one left these bindings and the text t
 abbrev pub rounds_within : ℕ → Statement → ℕ → ℕ → Bindings → List ℕ → Result Outcome StatementFault
 rounds_within longest s zero n bound t = Ok (Repeated n bound t)
 rounds_within longest s (suc left) n bound t = follow (perform_once_within longest s t) (λ _. Repeated n bound t) (rounds_within longest s left (n + 1))

@@ -16,7 +16,7 @@ pub const USUAL_LINES: u32 = 1_000;
 /// The most references for which a line is moved to the right.
 const DEEPEST: usize = 30;
 
-/// Lines, of which only the first ones are kept.
+/// Lines; only the first ones are kept.
 #[derive(Drop)]
 struct Page {
     out: Vec<u8>,

@@ -40,7 +40,7 @@ impl<'s, 't, 'a> Model for Subject<'s, 't, 'a> {
 }
 
 impl<'s, 't, 'a> Subject<'s, 't, 'a> {
-    /// The text, of which this was learnt.
+    /// The text that this was learnt from.
     #[inline(always)]
     pub fn of(text: &'s [u8], learnt: &'s Learnt<'t, 'a>) -> Subject<'s, 't, 'a>
         requires short { length text.now ≤ MAX_BYTES }
