@@ -6,8 +6,8 @@ use crate::edit_options::{EditRequest, edit_command, edit_options, edit_request}
 use crate::find_options::{FindRequest, WITHOUT_RULES, find_command, find_request};
 use crate::rule_options::{TRIALS_OUT_OF_RANGE, WITHOUT_LINES, are_without_lines, trials};
 use crate::serve_command::{
-    SERVE_OUT_OF_RANGE, ServeOptions, StoreOptions, WITHOUT_DOCUMENT, has_seats, serve_command,
-    serve_options, store_options,
+    SERVE_OUT_OF_RANGE, ServeOptions, StoreOptions, WITHOUT_DOCUMENT, serve_command, serve_options,
+    store_options,
 };
 use crate::store_command::{StoreAction, StoreRequest, store_command, store_request};
 use crate::thread_options::{THREADS_OUT_OF_RANGE, are_threads_in_range};
@@ -97,7 +97,6 @@ fn serve_request_in<'a>(
     found: &ArgMatches<'a>,
 ) -> Result<Request<'a>, OptionsFault> {
     let request = match (found.get_str("store"), found.get_str("document")) {
-        (Some(_), _) if has_seats(found) => return Err(refused_with(alloc, WITHOUT_DOCUMENT)),
         (Some(store), _) => store_options(found, store).map(Request::ServeStore),
         (None, Some(document)) => serve_options(found, document).map(Request::Serve),
         (None, None) => return Err(refused_with(alloc, WITHOUT_DOCUMENT)),

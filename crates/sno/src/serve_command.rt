@@ -32,7 +32,7 @@ const TRIALS_HELP: &str =
 const LISTING_HELP: &str = "Writes the listing as JSON to this file at the end of the input";
 
 const STORE_HELP: &str =
-    "Keeps the entries in this file: a reply is written when its entry is on the disk. Takes one seat";
+    "Keeps the entries in this file: a reply is written when its entry is on the disk";
 
 const KEEP_HELP: &str =
     "With this many entries, 1 to 900000, FILE is replaced by a store that goes on, and stays as FILE.1";
@@ -45,9 +45,9 @@ const EXAMPLE: &str = "Example: sno serve --listing listing.json document.json";
 pub(crate) const SERVE_OUT_OF_RANGE: &str =
     "error: '--seats' takes 1 to 16, '--tries' 1 to 1000, '--keep' 1 to 900000, and '--trials' 1 to 1000000000\n\nFor more information, try '--help'.\n";
 
-/// What is written if there is neither a document nor a store, or a store and more than one seat.
+/// What is written if there is neither a document nor a store.
 pub(crate) const WITHOUT_DOCUMENT: &str =
-    "error: a service takes DOCUMENT, or '--store' and one seat\n\nFor more information, try '--help'.\n";
+    "error: a service takes DOCUMENT or '--store'\n\nFor more information, try '--help'.\n";
 
 /// The options of `sno serve`, but for `--keep`.
 const OPTIONS: [CommandOption<'static>; 5] = [
@@ -132,6 +132,10 @@ pub(crate) fn serve_command<'a>(alloc: Global) -> Result<Command<'a>, AllocError
 pub(crate) struct StoreOptions<'a> {
     /// The file of the store.
     pub(crate) store: &'a str,
+    /// How many threads take lines.
+    pub(crate) seats: u32,
+    /// How often a statement is tried.
+    pub(crate) tries: u32,
     /// How many trials a match may take, 1 to 1,000,000,000, if that is asked for.
     pub(crate) trials: Option<u32>,
     /// With how many entries another store goes on, 1 to 900,000, if one is to.
@@ -140,6 +144,8 @@ pub(crate) struct StoreOptions<'a> {
     pub(crate) listing: Option<&'a str>,
     /// The file of the document, if one is given.
     pub(crate) document: Option<&'a str>,
+    ghost few: { (1 ≤ seats) × (seats ≤ MAX_SEATS) },
+    ghost valid: { (1 ≤ tries) × (tries ≤ MAX_TRIES) },
 }
 
 /// The number of trials that is asked for, if there is one; otherwise `None` if it is not in its range.
@@ -162,15 +168,27 @@ fn keep_in(matches: &ArgMatches<'_>) -> Option<Option<u64>> {
     }
 }
 
+/// The number that is asked for, or that of the option without a value, if it is one from 1 on up to the most.
+fn number_up_to(matches: &ArgMatches<'_>, name: &str, most: u32) -> Option<u32>
+    ensures { IfSome result (λ number. (1 ≤ number) × (number ≤ most)) }
+{
+    let number = matches.get_one::<u32>(name)?;
+    if is_up_to(most, number) {
+        Some(number)
+    } else {
+        None
+    }
+}
+
 /// The options that were found; `None` if a number is not in its range.
 pub(crate) fn serve_options<'a>(
     matches: &ArgMatches<'a>,
     document: &'a str,
 ) -> Option<ServeOptions<'a>> {
-    let seats = matches.get_one::<u32>("seats").unwrap_or(0);
-    let tries = matches.get_one::<u32>("tries").unwrap_or(0);
+    let seats = number_up_to(matches, "seats", MAX_SEATS)?;
+    let tries = number_up_to(matches, "tries", MAX_TRIES)?;
     let trials = trials_in(matches)?.unwrap_or(USUAL_TRIALS);
-    if !is_up_to(MAX_SEATS, seats) || !is_up_to(MAX_TRIES, tries) || !is_up_to(MAX_TRIALS, trials) {
+    if !is_up_to(MAX_TRIALS, trials) {
         return None;
     }
     Some(ServeOptions {
@@ -182,21 +200,18 @@ pub(crate) fn serve_options<'a>(
     })
 }
 
-/// The options of a service over this store; `None` if the number is not in its range.
+/// The options of a service over this store; `None` if a number is not in its range.
 pub(crate) fn store_options<'a>(
     matches: &ArgMatches<'a>,
     store: &'a str,
 ) -> Option<StoreOptions<'a>> {
     Some(StoreOptions {
         store,
+        seats: number_up_to(matches, "seats", MAX_SEATS)?,
+        tries: number_up_to(matches, "tries", MAX_TRIES)?,
         trials: trials_in(matches)?,
         keep: keep_in(matches)?,
         listing: matches.get_str("listing"),
         document: matches.get_str("document"),
     })
-}
-
-/// Whether more than one seat is asked for.
-pub(crate) fn has_seats(matches: &ArgMatches<'_>) -> bool {
-    matches.get_one::<u32>("seats") != Some(1)
 }

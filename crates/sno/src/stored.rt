@@ -7,7 +7,7 @@ use crate::listing_files::{ListingFile, open_listing, write_listing};
 use crate::serve_command::StoreOptions;
 use crate::store_command::{StoreAction, StoreRequest};
 use crate::streams::write_all;
-use sno_durable::{Client, DurableFault, Given, Kept, serve_durably};
+use sno_durable::{Client, DurableFault, Given, Kept, Seats, serve_durably, serve_durably_at};
 use sno_store::{File, Lines, OpenFault, Store, open};
 use sqlite_disk::Disk;
 use std::alloc::{AllocError, Global};
@@ -15,6 +15,7 @@ use std::fs;
 use std::io::{Read, Write};
 use std::rt::Files;
 use std::sync::Wait;
+use std::thread::Threads;
 
 /// The status after a store or a document that is refused.
 const INVALID: u8 = 2;
@@ -92,7 +93,12 @@ struct Streams<I: Read + Drop, W: Write + Drop> {
 /// Serves a document over a store, and returns the status: 0 at the end of the input; 2 if the store or the document is
 /// refused; 4 after a fault of the machine. The line of a fault is on `errors`. The listing is written at the end of the
 /// input alone, since otherwise it might show what is not in the store.
-pub(crate) fn run_stored<R: Files + Stores + Wait, I: Read + Drop, W: Write + Drop, E: Write>(
+pub(crate) fn run_stored<
+    R: Files + Stores + Threads + Wait + Sync,
+    I: Read + Send + Drop,
+    W: Write + Send + Drop,
+    E: Write,
+>(
     rt: &R,
     alloc: Global,
     options: &StoreOptions<'_>,
@@ -112,7 +118,12 @@ pub(crate) fn run_stored<R: Files + Stores + Wait, I: Read + Drop, W: Write + Dr
 }
 
 /// Serves the document, or that of the store, and writes the listing.
-fn serve_listed<R: Files + Stores + Wait, I: Read + Drop, W: Write + Drop, E: Write>(
+fn serve_listed<
+    R: Files + Stores + Threads + Wait + Sync,
+    I: Read + Send + Drop,
+    W: Write + Send + Drop,
+    E: Write,
+>(
     rt: &R,
     alloc: Global,
     options: &StoreOptions<'_>,
@@ -129,7 +140,12 @@ fn serve_listed<R: Files + Stores + Wait, I: Read + Drop, W: Write + Drop, E: Wr
 
 /// Opens the store and serves lines until there are no more; if nothing can be served, the line of the fault is written, and the status
 /// comes back.
-fn serve_given<R: Files + Stores + Wait, I: Read + Drop, W: Write + Drop, E: Write>(
+fn serve_given<
+    R: Files + Stores + Threads + Wait + Sync,
+    I: Read + Send + Drop,
+    W: Write + Send + Drop,
+    E: Write,
+>(
     rt: &R,
     alloc: Global,
     options: &StoreOptions<'_>,
@@ -142,7 +158,12 @@ fn serve_given<R: Files + Stores + Wait, I: Read + Drop, W: Write + Drop, E: Wri
 }
 
 /// Opens the store and serves lines until there are no more, or until the store has as many entries as it keeps.
-fn serve_first<R: Stores + Wait, I: Read + Drop, W: Write + Drop, E: Write>(
+fn serve_first<
+    R: Stores + Threads + Wait + Sync,
+    I: Read + Send + Drop,
+    W: Write + Send + Drop,
+    E: Write,
+>(
     rt: &R,
     alloc: Global,
     options: &StoreOptions<'_>,
@@ -157,23 +178,35 @@ fn serve_first<R: Stores + Wait, I: Read + Drop, W: Write + Drop, E: Write>(
         most: options.keep,
     };
     let Streams { input, output } = streams;
-    match Client::new(alloc, input, output) {
-        Ok(client) => serve_opened(rt, alloc, opened, given, client, errors),
-        Err(fault) => Err(refuse(&fault, errors)),
-    }
+    let kept = match Client::new(alloc, input, output) {
+        Ok(client) => serve_opened(rt, alloc, options, opened, given, client),
+        Err(fault) => Err(fault),
+    };
+    served(kept, errors)
 }
 
-/// Serves a client over a store; if nothing can be served, the line of the fault is written, and the status comes back.
-fn serve_opened<R: Wait, I: Read + Drop, W: Write + Drop, E: Write>(
+/// Serves a client over a store, by the seats that are asked for.
+fn serve_opened<R: Threads + Wait + Sync, I: Read + Send + Drop, W: Write + Send + Drop>(
     rt: &R,
     alloc: Global,
+    options: &StoreOptions<'_>,
     opened: Opened,
     given: Given,
     client: Client<I, W>,
+) -> Result<Kept<File, I, W>, DurableFault> {
+    let seats = Seats {
+        count: options.seats as usize,
+        tries: options.tries,
+    };
+    serve_durably_at(rt, alloc, opened, given, seats, client)
+}
+
+/// What a service leaves; if nothing could be served, the line of the fault is written, and the status comes back.
+fn served<I: Read + Drop, W: Write + Drop, E: Write>(
+    served: Result<Kept<File, I, W>, DurableFault>,
     errors: &mut E,
 ) -> Result<Kept<File, I, W>, u8> {
-    let (store, lines) = opened;
-    match serve_durably(rt, alloc, store, lines, given, client) {
+    match served {
         Ok(kept) => Ok(kept),
         Err(fault) => Err(refuse(&fault, errors)),
     }
@@ -181,7 +214,12 @@ fn serve_opened<R: Wait, I: Read + Drop, W: Write + Drop, E: Write>(
 
 /// Serves lines until there are no more. Each time that the store has as many entries as it keeps, another one goes on. If it can't, the
 /// line of the fault is written, and the status comes back.
-fn serve_on<R: Files + Stores + Wait, I: Read + Drop, W: Write + Drop, E: Write>(
+fn serve_on<
+    R: Files + Stores + Threads + Wait + Sync,
+    I: Read + Send + Drop,
+    W: Write + Send + Drop,
+    E: Write,
+>(
     rt: &R,
     alloc: Global,
     options: &StoreOptions<'_>,
@@ -208,7 +246,7 @@ fn has_more<D: Disk, I: Read, W: Write>(kept: &Kept<D, I, W>) -> bool {
 }
 
 /// Serves the client that is left over the store that goes on.
-fn serve_next<R: Wait, I: Read + Drop, W: Write + Drop, E: Write>(
+fn serve_next<R: Threads + Wait + Sync, I: Read + Send + Drop, W: Write + Send + Drop, E: Write>(
     rt: &R,
     alloc: Global,
     options: &StoreOptions<'_>,
@@ -222,7 +260,10 @@ fn serve_next<R: Wait, I: Read + Drop, W: Write + Drop, E: Write>(
         trials: None,
         most: options.keep,
     };
-    serve_opened(rt, alloc, opened, given, client, errors)
+    served(
+        serve_opened(rt, alloc, options, opened, given, client),
+        errors,
+    )
 }
 
 /// Writes the listing, if it is asked for, or the line of the fault that ended the service, and returns the status.

@@ -11,6 +11,10 @@ abbrev pub HasNoted : Lines → Lines → ℕ → ℕ → Type 0
 HasNoted waited waits before after = length (lines_in waits) + before ≡ length (lines_in waited) + after
 
 module _ {D : Type 0} {g : Ghosts D} where
+  -- this number of lines has come to the store, unless the disk has given other bytes than it has
+  abbrev pub HasGained : Store D g → Store D g → ℕ → Type 0
+  HasGained old new n = IsTrue (is_clean new) → length (lines_of new) ≡ n + length (lines_of old)
+
   -- as many lines have come to the store as entries were accepted, unless the disk has given other bytes than it has
   abbrev pub HasKept : Store D g → Store D g → ℕ → ℕ → Type 0
   HasKept old new before after = IsTrue (is_clean new) → length (lines_of new) + before ≡ length (lines_of old) + after

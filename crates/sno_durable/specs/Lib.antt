@@ -1,5 +1,6 @@
 pub mod Compacted
 pub mod Kept
 pub mod Past
+pub mod Queued
 pub mod Records
 pub mod Sought

@@ -1,5 +1,6 @@
 //! Why a durable service didn't begin, or ended early.
 
+use crate::queue::QueueFault;
 use sno_document::DocumentFault;
 use sno_serve::ServeFault;
 use sno_store::{LineFault, StoreFault};
@@ -79,6 +80,15 @@ impl From<LineFault> for DurableFault {
         match fault {
             LineFault::Memory => DurableFault::Memory,
             fault => DurableFault::Line(fault),
+        }
+    }
+}
+
+impl From<QueueFault> for DurableFault {
+    fn from(fault: QueueFault) -> DurableFault {
+        match fault {
+            QueueFault::Line(fault) => DurableFault::from(fault),
+            QueueFault::Index => DurableFault::Desk,
         }
     }
 }

@@ -1,21 +1,19 @@
-//! The lines of a client, their replies, and the store between the two.
+//! The lines of a client, their replies, and the store between the two, at one seat.
 ghost use Rattle.std.specs.Prelude.{◌≡◌, ◌+◌, [], OnOk, IsTrue, length};
-ghost use Rattle.sno_statement.specs.Statement.{IsLimit};
 ghost use Rattle.sno_store.specs.Shown.{lines_in, lines_left};
 ghost use Rattle.sno_store.specs.Store.{is_clean};
-ghost use Rattle.sno_durable.specs.Kept.{AreKept, HasNoted, HasKept};
+ghost use Rattle.sno_durable.specs.Kept.{HasNoted, HasKept};
 
 use crate::DurableFault;
-use crate::past::Past;
-use crate::records::{record_in, record_line};
+use crate::earlier::{ONE_TRY, Reading, begin, record_of};
 use crate::replies::{put_noted, put_reply, too_long};
+use crate::shelf::Shelf;
 use crate::sought::{Shown, reply_here};
-use sno_desk::{Naming, Seat, SubmitFault};
-use sno_document::{Mode, Rules};
+use sno_desk::{Naming, Seat};
 use sno_listing::Refusal;
-use sno_serve::{Asked, AtDesk, Intake, Next, line_in, refusal_in, submit};
+use sno_serve::{Asked, AtDesk, Intake, Next, line_in};
 use sno_statement::Statement;
-use sno_store::{Lines, LinesIter, Store};
+use sno_store::{Lines, LinesIter};
 use sqlite_disk::Disk;
 use std::alloc::Global;
 use std::io::{Read, Write};
@@ -26,9 +24,6 @@ const MAX_LINES: usize = 1_024;
 
 /// No further line is taken into a batch once its replies have as many bytes.
 const MAX_WAITING: usize = 4_194_304;
-
-/// A statement is tried once: no other seat can change its text.
-const TRIES: u32 = 1;
 
 /// What waits for the disk: the records of entries, and the replies that are shown when these are on it.
 #[derive(Drop)]
@@ -67,19 +62,14 @@ impl Waiting {
 /// What is between a client and the desk's only seat.
 #[derive(Drop)]
 pub(crate) struct Keeper<D: Disk, I: Read, W: Write> {
-    pub(crate) rules: Arc<Rules>,
-    pub(crate) mode: Mode,
+    pub(crate) reading: Reading,
     /// The number of the next statement.
     pub(crate) number: u32,
-    pub(crate) store: Store<D>,
-    /// What came before the desk's first entry.
-    pub(crate) past: Past,
+    pub(crate) shelf: Shelf<D, W>,
     /// With this many entries the desk is closed.
     pub(crate) most: u64,
     pub(crate) intake: Intake<I>,
-    pub(crate) writer: W,
     pub(crate) refused: Vec<Refusal>,
-    ghost limit: { IsLimit mode.trials },
 }
 
 impl<D: Disk + Drop, I: Read + Drop, W: Write + Drop> Keeper<D, I, W> {
@@ -92,15 +82,21 @@ impl<D: Disk + Drop, I: Read + Drop, W: Write + Drop> Keeper<D, I, W> {
         waiting: &mut Waiting,
     ) -> Result<(), DurableFault>
         ensures noted { OnOk result (HasNoted waiting.old.records waiting.new.records seat.old.accepted seat.new.accepted) }
-        ensures same { self.new.store ≡ self.old.store }
+        ensures same { self.new.shelf ≡ self.old.shelf }
     {
-        let mut read = line_in(at.alloc, &self.rules, self.mode, self.number, line)?;
+        let mut read = line_in(
+            at.alloc,
+            &self.reading.rules,
+            self.reading.mode,
+            self.number,
+            line,
+        )?;
         let ignored = read.take_ignored(at.alloc);
         if matches!(&read.asked, Asked::Perform(_) | Asked::PerformAt(_, _)) {
             self.number = self.number.saturating_add(1);
         }
         let before = seat.accepted();
-        let Shown { reply, refused } = reply_here(at, seat, &self.past, read, TRIES)?;
+        let Shown { reply, refused } = reply_here(at, seat, &self.reading.past, read, ONE_TRY)?;
         waiting.text.clear();
         reply.put(at.alloc, &mut waiting.text)?;
         put_noted(
@@ -116,10 +112,7 @@ impl<D: Disk + Drop, I: Read + Drop, W: Write + Drop> Keeper<D, I, W> {
         if seat.accepted() == before {
             return Ok(());
         }
-        let Ok(text) = str::from_utf8(line) else {
-            return Err(DurableFault::Read);
-        };
-        let record = record_line(at.alloc, text, &waiting.text)?;
+        let record = record_of(at.alloc, line, &waiting.text)?;
         waiting.records.push(&record)?;
         Ok(())
     }
@@ -132,7 +125,7 @@ impl<D: Disk + Drop, I: Read + Drop, W: Write + Drop> Keeper<D, I, W> {
         waiting: &mut Waiting,
     ) -> Result<bool, DurableFault>
         ensures noted { OnOk result (HasNoted waiting.old.records waiting.new.records seat.old.accepted seat.new.accepted) }
-        ensures same { self.new.store ≡ self.old.store }
+        ensures same { self.new.shelf ≡ self.old.shelf }
     {
         match self.intake.next(at.alloc)? {
             Next::End => Ok(false),
@@ -156,7 +149,7 @@ impl<D: Disk + Drop, I: Read + Drop, W: Write + Drop> Keeper<D, I, W> {
         waiting: &mut Waiting,
     ) -> Result<bool, DurableFault>
         ensures noted { OnOk result (HasNoted waiting.old.records waiting.new.records seat.old.accepted seat.new.accepted) }
-        ensures same { self.new.store ≡ self.old.store }
+        ensures same { self.new.shelf ≡ self.old.shelf }
     {
         for _ in 0..MAX_LINES {
             if !self.take(at, seat, waiting)? {
@@ -169,17 +162,6 @@ impl<D: Disk + Drop, I: Read + Drop, W: Write + Drop> Keeper<D, I, W> {
         Ok(true)
     }
 
-    /// Writes the replies that waited. Their records have to be on the disk.
-    fn show(&mut self, waiting: &Waiting) -> Result<(), DurableFault>
-        requires kept { AreKept self.old.store waiting.now.records }
-        ensures same { self.new.store ≡ self.old.store }
-    {
-        if self.writer.write_all(&waiting.replies).is_err() || self.writer.flush().is_err() {
-            return Err(DurableFault::Write);
-        }
-        Ok(())
-    }
-
     /// Replies to some lines: their entries are put into the store, and when they are on the disk, the replies are written.
     /// Returns whether there may be more lines. What waited before is dropped.
     fn turn<L: Naming, R: Wait>(
@@ -188,13 +170,12 @@ impl<D: Disk + Drop, I: Read + Drop, W: Write + Drop> Keeper<D, I, W> {
         seat: &mut Seat<L>,
         waiting: &mut Waiting,
     ) -> Result<bool, DurableFault>
-        ensures kept { OnOk result (HasKept self.old.store self.new.store seat.old.accepted seat.new.accepted) }
-        ensures clean { OnOk result (IsTrue (is_clean self.new.store) → IsTrue (is_clean self.old.store)) }
+        ensures kept { OnOk result (HasKept self.old.shelf.store self.new.shelf.store seat.old.accepted seat.new.accepted) }
+        ensures clean { OnOk result (IsTrue (is_clean self.new.shelf.store) → IsTrue (is_clean self.old.shelf.store)) }
     {
         waiting.clear(at.alloc);
         let more = self.gather(at, seat, waiting)?;
-        self.store.put(&waiting.records)?;
-        self.show(waiting)?;
+        self.shelf.put(&waiting.records, &waiting.replies)?;
         Ok(more)
     }
 
@@ -205,7 +186,7 @@ impl<D: Disk + Drop, I: Read + Drop, W: Write + Drop> Keeper<D, I, W> {
         at: &AtDesk<'_, L, R>,
         seat: &mut Seat<L>,
     ) -> Result<bool, DurableFault>
-        ensures kept { OnOk result (HasKept self.old.store self.new.store seat.old.accepted seat.new.accepted) }
+        ensures kept { OnOk result (HasKept self.old.shelf.store self.new.shelf.store seat.old.accepted seat.new.accepted) }
     {
         let mut waiting = Waiting::nothing(at.alloc);
         for _ in 0..u64::MAX {
@@ -220,28 +201,15 @@ impl<D: Disk + Drop, I: Read + Drop, W: Write + Drop> Keeper<D, I, W> {
     }
 
     /// Performs the statements of the document.
-    ///
-    /// Refused: `Memory`, if one of them ran out of memory: the next time it might be accepted.
     pub(crate) fn begin<L: Naming, R: Wait>(
         &mut self,
         at: &AtDesk<'_, L, R>,
         seat: &mut Seat<L>,
         statements: &[Arc<Statement>],
     ) -> Result<(), DurableFault>
-        ensures same { self.new.store ≡ self.old.store }
+        ensures same { self.new.shelf ≡ self.old.shelf }
     {
-        for statement in statements {
-            let number = statement.number();
-            let shared = Arc::try_clone(statement)?;
-            let reply = submit(at.rt, at.alloc, at.desk, seat, shared, TRIES);
-            if matches!(&reply, Err(SubmitFault::Memory) | Err(SubmitFault::Stopped)) {
-                return Err(DurableFault::Memory);
-            }
-            if let Some(refused) = refusal_in(number, &reply) {
-                self.refused.push(refused)?;
-            }
-        }
-        Ok(())
+        begin(at, seat, statements, &mut self.refused)
     }
 
     /// Performs the statements of these records again.
@@ -252,46 +220,9 @@ impl<D: Disk + Drop, I: Read + Drop, W: Write + Drop> Keeper<D, I, W> {
         records: LinesIter<'_>,
     ) -> Result<(), DurableFault>
         ensures again { OnOk result (length (lines_left records.entry) + seat.old.accepted ≡ seat.new.accepted) }
-        ensures same { self.new.store ≡ self.old.store }
+        ensures same { self.new.shelf ≡ self.old.shelf }
     {
-        let mut place: u64 = 1;
-        for record in records {
-            place = place.saturating_add(1);
-            self.replay(at, seat, record, place)?;
-        }
-        Ok(())
-    }
-
-    /// Performs the statement of a record again. `place` is the number of its line, from 1.
-    ///
-    /// Refused: `Record` if the line isn't a record; `Outcome` if the statement isn't accepted with the same reply.
-    fn replay<L: Naming, R: Wait>(
-        &mut self,
-        at: &AtDesk<'_, L, R>,
-        seat: &mut Seat<L>,
-        stored: &[u8],
-        place: u64,
-    ) -> Result<(), DurableFault>
-        ensures again { OnOk result (seat.new.accepted ≡ seat.old.accepted + 1) }
-        ensures same { self.new.store ≡ self.old.store }
-    {
-        let Some(record) = record_in(at.alloc, stored)? else {
-            return Err(DurableFault::Record(place));
-        };
-        let line = record.line.as_bytes();
-        let read = line_in(at.alloc, &self.rules, self.mode, record.number, line)?;
-        let before = seat.accepted();
-        let Shown { reply, .. } = reply_here(at, seat, &self.past, read, TRIES)?;
-        if seat.accepted() == before {
-            return Err(DurableFault::Outcome(place));
-        }
-        let mut text = Vec::new(at.alloc);
-        reply.put(at.alloc, &mut text)?;
-        let again = record_line(at.alloc, &record.line, &text)?;
-        if again.as_slice() != stored {
-            return Err(DurableFault::Outcome(place));
-        }
-        self.number = record.number.saturating_add(1);
+        self.number = self.reading.replay_all(at, seat, self.number, records)?;
         Ok(())
     }
 }

@@ -15,19 +15,26 @@
 //! | `sought` | what a line asks of a desk whose numbers begin at 0, and its reply as the client is shown it |
 //! | `compacted` | the first line of a store that goes on from another one |
 //! | `replies` | the lines that a client gets |
-//! | `keeper` | lines with their replies, and the store between the two |
+//! | `earlier` | what lines mean, and what is performed before the first of them |
+//! | `keeper` | lines with their replies, at one seat |
+//! | `seats`, `queue` | lines with their replies, at several seats; what these leave for the disk |
+//! | `shelf` | the store, and the writer of the replies that wait for it |
 //! | `service` | from a store and its document to the book that is left |
 //! | `faults` | why a service didn't begin, or ended early |
 #![tactic(auto)]
 
 mod compacted;
+mod earlier;
 mod faults;
 mod keeper;
 mod past;
+mod queue;
 mod records;
 mod replies;
+mod seats;
 mod service;
+mod shelf;
 mod sought;
 
 pub use faults::DurableFault;
-pub use service::{Client, Ended, Given, Kept, serve_durably};
+pub use service::{Client, Ended, Given, Kept, Seats, serve_durably, serve_durably_at};

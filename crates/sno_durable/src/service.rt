@@ -1,18 +1,24 @@
 //! A service over a store, from its start to its end.
 ghost use Rattle.std.specs.Prelude.{◌≡◌, ◌≤◌, [], true, IfErr, IfOk};
+ghost use Rattle.std.specs.Thread.{IsSend, IsSync};
 ghost use Rattle.sno_book.specs.Books.{view_of};
 ghost use Rattle.sno_book.specs.Views.{IsValid};
 ghost use Rattle.sno_statement.specs.Statement.{IsLimit};
+ghost use Rattle.sno_desk.specs.declared.desk.TheConstants.{MAX_SEATS, MAX_TRIES};
 ghost use Rattle.sno_document.specs.Reads.{IsReady};
 ghost use Rattle.sno_durable.specs.declared.faults.DurableFault.TheVariants.{Memory};
 
 use crate::DurableFault;
+use crate::earlier::Reading;
 use crate::keeper::Keeper;
 use crate::past::Past;
+use crate::queue::Queue;
 use crate::records::{Origin, origin_in, origin_line};
+use crate::seats::{Door, Shared};
+use crate::shelf::Shelf;
 use sno_book::Book;
-use sno_desk::{Blank, Desk, Naming, Seat, SubmitFault, close};
-use sno_document::{Document, DocumentFault, Mode, read_document};
+use sno_desk::{Blank, Desk, Naming, Seat, at_desk, close, may_cross};
+use sno_document::{Document, DocumentFault, Mode, Rules, read_document};
 use sno_listing::Refusal;
 use sno_serve::{AtDesk, Intake};
 use sno_statement::{MAX_TRIALS, Statement, USUAL_TRIALS};
@@ -21,7 +27,8 @@ use sqlite_disk::Disk;
 use std::alloc::{AllocError, Global};
 use std::io::{Read, Write};
 use std::marker::Brand;
-use std::sync::{Arc, Wait};
+use std::sync::{Arc, Mutex, Wait};
+use std::thread::Threads;
 
 /// What a service begins with. What is missing is taken from the store.
 #[derive(Drop)]
@@ -226,6 +233,64 @@ fn beginning(alloc: Global, origin: &Origin, statements: u32) -> Result<(Past, u
     Ok((past, number))
 }
 
+/// What a service has before its desk is opened.
+#[derive(Drop)]
+struct Begun<D: Disk> {
+    store: Store<D>,
+    lines: Lines,
+    origin: Origin,
+    reading: Reading,
+    book: Book,
+    statements: Vec<Arc<Statement>>,
+    /// The number of the statement after those of the document.
+    number: u32,
+    most: u64,
+    ghost empty: { book.journal ≡ [] },
+}
+
+/// Reads what the store was made of, and puts the first line into a new one.
+fn beginning_of<D: Disk + Drop>(
+    alloc: Global,
+    store: Store<D>,
+    lines: Lines,
+    given: Given,
+) -> Result<Begun<D>, DurableFault> {
+    // A file that has something but no lines is another program's, or was cut while it was made.
+    if lines.is_empty() && store.is_torn() {
+        return Err(DurableFault::Format);
+    }
+    let most = given.most.unwrap_or(u64::MAX);
+    let origin = origin_of(alloc, &lines, given)?;
+    if !is_limit(origin.trials) {
+        return Err(DurableFault::Format);
+    }
+    let mode = Mode {
+        anchor: false,
+        trials: origin.trials,
+    };
+    let Document {
+        rules,
+        book,
+        statements,
+    } = document_of(alloc, &origin.document, mode)?;
+    let mut store = store;
+    if lines.is_empty() {
+        begin_store(alloc, &mut store, &origin)?;
+    }
+    let (past, number) = beginning(alloc, &origin, statements.len() as u32)?;
+    let reading = Reading { rules, mode, past };
+    Ok(Begun {
+        store,
+        lines,
+        origin,
+        reading,
+        book,
+        statements,
+        number,
+        most,
+    })
+}
+
 /// Serves the document of a store: performs its statements and those of its records again, then replies to each line of the
 /// client, until there are no more, or the desk has as many entries as are given as the most. A line is that of
 /// [`sno_serve::line_in`], and its reply that of [`sno_serve::reply_to`]; if the store goes on from others, their indices and
@@ -262,39 +327,23 @@ pub fn serve_durably<D: Disk + Drop, I: Read + Drop, W: Write + Drop, R: Wait>(
 ) -> Result<Kept<D, I, W>, DurableFault>
     ensures valid { IfOk result (λ k. IsValid (view_of k.book)) }
 {
-    // A file that has something but no lines is another program's, or was cut while it was made.
-    if lines.is_empty() && store.is_torn() {
-        return Err(DurableFault::Format);
-    }
-    let most = given.most.unwrap_or(u64::MAX);
-    let origin = origin_of(alloc, &lines, given)?;
-    if !is_limit(origin.trials) {
-        return Err(DurableFault::Format);
-    }
-    let mode = Mode {
-        anchor: false,
-        trials: origin.trials,
-    };
-    let Document {
-        rules,
+    let Begun {
+        store,
+        lines,
+        origin,
+        reading,
         book,
         statements,
-    } = document_of(alloc, &origin.document, mode)?;
-    let mut store = store;
-    if lines.is_empty() {
-        begin_store(alloc, &mut store, &origin)?;
-    }
-    let (past, number) = beginning(alloc, &origin, statements.len() as u32)?;
+        number,
+        most,
+    } = beginning_of(alloc, store, lines, given)?;
     let Client { intake, writer } = client;
     let mut keeper = Keeper {
-        rules,
-        mode,
+        reading,
         number,
-        store,
-        past,
+        shelf: Shelf { store, writer },
         most,
         intake,
-        writer,
         refused: Vec::new(alloc),
     };
     let blank = Blank::new(1);
@@ -323,11 +372,10 @@ fn left_by<D: Disk + Drop, I: Read + Drop, W: Write + Drop>(
     ensures { result.book ≡ book }
 {
     let Keeper {
-        store,
+        shelf: Shelf { store, writer },
         refused,
         number,
         intake,
-        writer,
         ..
     } = keeper;
     Kept {
@@ -339,4 +387,137 @@ fn left_by<D: Disk + Drop, I: Read + Drop, W: Write + Drop>(
         client: Client { intake, writer },
         ended,
     }
+}
+
+/// How many seats take lines, and how often each tries a statement.
+#[derive(Clone, Copy)]
+pub struct Seats {
+    /// How many seats there are, 1 to 16.
+    pub count: usize,
+    /// How often a seat may try a statement, 1 to 1,000.
+    pub tries: u32,
+}
+
+/// As [`serve_durably`], with lines taken by several seats, each in a thread of its own.
+///
+/// Replies come as they can be shown, and statements may be performed in another order than their lines have. Records are in the store
+/// in the order of their entries. While one seat writes what all have left and waits for the disk, the others go on. A reply is written
+/// when all entries that its seat had seen are on the disk. Seats wait for the disk once 1,024 replies wait for it, or 4,194,304 bytes
+/// of them.
+///
+/// `opened` is the store with the lines that it had when it was opened. With one seat it is [`serve_durably`]. The most entries are looked at before each line, so there may be as many more as seats.
+pub fn serve_durably_at<
+    D: Disk + Send + Drop,
+    I: Read + Send + Drop,
+    W: Write + Send + Drop,
+    R: Threads + Wait + Sync,
+>(
+    rt: &R,
+    alloc: Global,
+    opened: (Store<D>, Lines),
+    given: Given,
+    seats: Seats,
+    client: Client<I, W>,
+) -> Result<Kept<D, I, W>, DurableFault>
+    requires few { (1 ≤ seats.count) × (seats.count ≤ MAX_SEATS) }
+    requires tries { (1 ≤ seats.tries) × (seats.tries ≤ MAX_TRIES) }
+    ensures valid { IfOk result (λ k. IsValid (view_of k.book)) }
+{
+    let (store, lines) = opened;
+    if seats.count == 1 {
+        return serve_durably(rt, alloc, store, lines, given, client);
+    }
+    let Begun {
+        store,
+        lines,
+        origin,
+        reading,
+        book,
+        statements,
+        number,
+        most,
+    } = beginning_of(alloc, store, lines, given)?;
+    let Client { intake, writer } = client;
+    let door = Door {
+        intake,
+        earlier: Some(lines),
+        first: 0,
+        is_full: false,
+    };
+    let shared = Shared {
+        reading,
+        statements,
+        tries: seats.tries,
+        most,
+        numbers: Mutex::new(number),
+        door: Mutex::new(door),
+        queue: Mutex::new(Queue::new(alloc)),
+        shelf: Mutex::new(Shelf { store, writer }),
+        fault: Mutex::new(None),
+    };
+    // for the proof
+    may_cross::<Statement>();
+    may_cross::<Rules>();
+    may_move::<Door<I>>();
+    may_move::<Queue>();
+    may_move::<Shelf<D, W>>();
+    may_move::<Option<DurableFault>>();
+    may_share::<Reading>();
+    match at_desk(rt, alloc, book, seats.count, &shared) {
+        Ok(book) => left_by_seats(shared, origin, book),
+        Err(_) => Err(DurableFault::Desk),
+    }
+}
+
+/// Says to the prover that a value of this type may go to another thread.
+fn may_move<T: Send>()
+    ensures { IsSend T.row }
+{}
+
+/// Says to the prover that a value of this type may be shared by threads.
+fn may_share<T: Sync>()
+    ensures { IsSync T.row }
+{}
+
+/// What several seats leave.
+fn left_by_seats<D: Disk + Drop, I: Read + Drop, W: Write + Drop>(
+    shared: Shared<D, I, W>,
+    origin: Origin,
+    book: Book,
+) -> Result<Kept<D, I, W>, DurableFault>
+    ensures { IfOk result (λ k. k.book ≡ book) }
+{
+    let Shared {
+        numbers,
+        door,
+        queue,
+        shelf,
+        fault,
+        ..
+    } = shared;
+    let Door {
+        intake,
+        first,
+        is_full,
+        ..
+    } = door.into_inner();
+    let Shelf { store, writer } = shelf.into_inner();
+    let mut refused = queue.into_inner().into_refused();
+    refused.sort_by_key(|r| r.number)?;
+    let ended = match fault.into_inner() {
+        Some(fault) => Err(fault),
+        None => Ok(Ended {
+            first,
+            more: is_full,
+        }),
+    };
+    Ok(Kept {
+        book,
+        refused,
+        store,
+        origin,
+        number: numbers.into_inner(),
+        client: Client { intake, writer },
+        ended,
+    })
 }

@@ -4,4 +4,4 @@ use Rattle.sno_durable.specs.Kept.{HasNoted}
 use Rattle.sno_durable.proofs.keeper.Keeper.gather.Given as goal
 
 abbrev pub invariant-loop : goal.invariant-loop
-invariant-loop g l = HasNoted l.fn.waiting.records l.waiting.records l.fn.seat.accepted l.seat.accepted × (l.self.store ≡ l.fn.self.store)
+invariant-loop g l = HasNoted l.fn.waiting.records l.waiting.records l.fn.seat.accepted l.seat.accepted × (l.self.shelf ≡ l.fn.self.shelf)

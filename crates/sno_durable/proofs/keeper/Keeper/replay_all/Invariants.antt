@@ -1,8 +1,0 @@
--- each record that was gone through was accepted, and the store is the same
-use Rattle.std.proofs.Common.{◌≡◌, ◌+◌, length}
-use Rattle.sno_store.specs.Shown.{lines_left}
-use Rattle.sno_durable.proofs.keeper.Keeper.replay_all.Given as goal
-
-abbrev pub invariant-loop-record : goal.invariant-loop-record
-invariant-loop-record g l =
-    (length (lines_left l.fn.records) + l.fn.seat.accepted ≡ length (lines_left l.record-iterator) + l.seat.accepted) × (l.self.store ≡ l.fn.self.store)
