@@ -276,7 +276,7 @@ class SharedDesk:
         self._pipe.put(raw)
 
     def _take(self, replies: list[bytes]) -> None:
-        """Takes replies that came together: they are in the order of the lines, since a store has one seat."""
+        """Takes replies that came together: they are in the order of the lines, since it has one seat."""
         now, before = asyncio.get_running_loop().time(), self.journal.next
         touched: dict[Owner, float] = {}
         for reply in replies:
