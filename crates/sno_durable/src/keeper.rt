@@ -6,6 +6,7 @@ ghost use Rattle.sno_durable.specs.Kept.{HasNoted, HasKept};
 
 use crate::DurableFault;
 use crate::earlier::{ONE_TRY, Reading, begin, record_of};
+use crate::queue::MAX_WAITING;
 use crate::replies::{put_noted, put_reply, too_long};
 use crate::shelf::Shelf;
 use crate::sought::{Shown, reply_here};
@@ -21,9 +22,6 @@ use std::sync::{Arc, Wait};
 
 /// The most lines that share one wait for the disk.
 const MAX_LINES: usize = 1_024;
-
-/// No further line is taken into a batch once its replies have as many bytes.
-const MAX_WAITING: usize = 4_194_304;
 
 /// What waits for the disk: the records of entries, and the replies that are shown when these are on it.
 #[derive(Drop)]

@@ -3,6 +3,7 @@ ghost use Rattle.std.specs.Prelude.{◌≡◌, ◌++◌, [], OnOk};
 ghost use Rattle.sno_store.specs.Shown.{lines_in};
 ghost use Rattle.sno_durable.specs.Queued.{HasTaken, shown_at, waiting_at};
 
+use sno_book::MAX_ENTRIES;
 use sno_listing::Refusal;
 use sno_serve::MAX_REFUSED;
 use sno_store::{LineFault, Lines};
@@ -13,11 +14,8 @@ use std::mem;
 /// How many replies may wait before a seat lets the disk come first.
 const MAX_REPLIES: usize = 1_024;
 
-/// How many bytes these may have.
-const MAX_WAITING: usize = 4_194_304;
-
-/// No journal has more entries.
-const MAX_ENTRIES: u64 = 1_000_000;
+/// How many bytes of replies may wait before the disk comes first.
+pub(crate) const MAX_WAITING: usize = 4_194_304;
 
 /// Why nothing more can be taken.
 #[derive(Clone, Copy, Debug)]
@@ -168,7 +166,7 @@ impl Queue {
         ensures same { self.new.replies ≡ self.old.replies }
     {
         for _ in 0..self.records.len() {
-            if self.next >= MAX_ENTRIES {
+            if self.next >= MAX_ENTRIES as u64 {
                 return Err(QueueFault::Index);
             }
             let Some(record) = self.records.remove(&self.next) else {

@@ -93,6 +93,17 @@ pub(crate) fn referred<'p>(bodies: &[Option<&'p Pattern>], pattern: &'p Pattern)
     found
 }
 
+/// Adds an alternative with these places, unless they are none or too many, or there are as many alternatives as are compared.
+fn add_alternative<'p>(
+    alternatives: &mut Vec<Vec<Taken<'p>>>,
+    places: Vec<Taken<'p>>,
+) -> Result<(), AllocError> {
+    if alternatives.len() < MOST && !places.is_empty() && places.len() <= LONGEST {
+        alternatives.push(places)?;
+    }
+    Ok(())
+}
+
 /// Adds the places of each alternative that has them, up to the most that are compared.
 fn add_alternatives<'p>(
     alloc: Global,
@@ -113,11 +124,8 @@ fn add_alternatives<'p>(
         }
         _ => {
             let mut places = Vec::new(alloc);
-            if add_places(&mut places, referred(bodies, pattern))?
-                && !places.is_empty()
-                && places.len() <= LONGEST
-            {
-                alternatives.push(places)?;
+            if add_places(&mut places, referred(bodies, pattern))? {
+                add_alternative(alternatives, places)?;
             }
             Ok(())
         }
@@ -157,18 +165,39 @@ fn are_ambiguous(alternatives: &[Vec<Taken>]) -> bool {
     false
 }
 
-/// Whether the pattern is `ARB` or `BAL`, or one of them with parts after it that each take one known number of characters. What
-/// it takes as one round it also takes as two.
-fn is_loose<'p>(alloc: Global, pattern: &'p Pattern) -> Result<bool, AllocError> {
+/// Whether the pattern is `ARB`, alone or among parts that each take one known number of characters.
+fn has_arb<'p>(alloc: Global, pattern: &'p Pattern) -> Result<bool, AllocError> {
     match pattern {
-        Pattern::Arb | Pattern::Bal => Ok(true),
+        Pattern::Arb => Ok(true),
         Pattern::Seq(first, second) => {
             let mut places = Vec::new(alloc);
-            Ok(add_places(&mut places, second)? && is_loose(alloc, first)?)
+            if add_places(&mut places, second)? {
+                return has_arb(alloc, first);
+            }
+            let mut before = Vec::new(alloc);
+            Ok(add_places(&mut before, first)? && has_arb(alloc, second)?)
         }
-        Pattern::Cond(part, _) | Pattern::Imm(part, _) => is_loose(alloc, part),
+        Pattern::Cond(part, _) | Pattern::Imm(part, _) => has_arb(alloc, part),
         _ => Ok(false),
     }
+}
+
+/// Whether the pattern is `BAL`, alone or with parts after it that each take one known number of characters.
+fn begins_with_bal<'p>(alloc: Global, pattern: &'p Pattern) -> Result<bool, AllocError> {
+    match pattern {
+        Pattern::Bal => Ok(true),
+        Pattern::Seq(first, second) => {
+            let mut places = Vec::new(alloc);
+            Ok(add_places(&mut places, second)? && begins_with_bal(alloc, first)?)
+        }
+        Pattern::Cond(part, _) | Pattern::Imm(part, _) => begins_with_bal(alloc, part),
+        _ => Ok(false),
+    }
+}
+
+/// Whether what the pattern takes as one round it also takes as two.
+fn is_loose<'p>(alloc: Global, pattern: &'p Pattern) -> Result<bool, AllocError> {
+    Ok(has_arb(alloc, pattern)? || begins_with_bal(alloc, pattern)?)
 }
 
 /// Whether rounds of this part can take the same characters in more than one way, as `ARB`, `BAL ','` or `LEN(1) | LEN(2)`: each
@@ -190,6 +219,50 @@ pub(crate) fn is_ambiguous<'p>(
     Ok(are_ambiguous(&alternatives))
 }
 
+/// Adds the places of what comes before the definition itself; returns whether that is made of parts that each take one known
+/// number of characters, with the definition at its end.
+fn add_places_before<'p>(
+    own: usize,
+    places: &mut Vec<Taken<'p>>,
+    body: &'p Pattern,
+) -> Result<bool, AllocError> {
+    match body {
+        Pattern::Seq(first, second) => {
+            Ok(add_places(places, first)? && add_places_before(own, places, second)?)
+        }
+        _ => Ok(is_reference_to(own, body)),
+    }
+}
+
+/// Whether `ARB` comes before the definition itself, among parts that each take one known number of characters.
+fn has_arb_before<'p>(alloc: Global, own: usize, body: &'p Pattern) -> Result<bool, AllocError> {
+    match body {
+        Pattern::Seq(first, second) => {
+            let mut after = Vec::new(alloc);
+            if add_places_before(own, &mut after, second)? {
+                return has_arb(alloc, first);
+            }
+            let mut before = Vec::new(alloc);
+            Ok(add_places(&mut before, first)? && has_arb_before(alloc, own, second)?)
+        }
+        _ => Ok(false),
+    }
+}
+
+/// Whether what comes before the definition itself is loose.
+fn is_loose_before<'p>(alloc: Global, own: usize, body: &'p Pattern) -> Result<bool, AllocError> {
+    match body {
+        Pattern::Seq(first, second) => {
+            let mut after = Vec::new(alloc);
+            if add_places_before(own, &mut after, second)? {
+                return is_loose(alloc, first);
+            }
+            has_arb_before(alloc, own, body)
+        }
+        _ => Ok(false),
+    }
+}
+
 /// Adds the alternatives of what comes before the definition itself, wherever its body ends with it. Returns whether one of them
 /// is loose.
 fn add_rounds<'p>(
@@ -208,6 +281,14 @@ fn add_rounds<'p>(
             let round = referred(bodies, first);
             add_alternatives(alloc, bodies, alternatives, round)?;
             is_loose(alloc, round)
+        }
+        Pattern::Seq(_, _) => {
+            let mut places = Vec::new(alloc);
+            if add_places_before(own, &mut places, body)? {
+                add_alternative(alternatives, places)?;
+                return Ok(false);
+            }
+            is_loose_before(alloc, own, body)
         }
         _ => Ok(false),
     }

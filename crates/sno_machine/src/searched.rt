@@ -47,6 +47,19 @@ impl<'t, 'a> Searched<'t, 'a> {
         Searched::of(Workspace::bounded(alloc, MAX_KEPT), text.bytes())
     }
 
+    /// As [`Searched::of_bytes`], by the memory of a workspace, which says how many entries the history may have. It takes no memory.
+    pub fn within(workspace: Workspace<'a>, text: &'t ByteText) -> Searched<'t, 'a>
+        ensures { result ≡ text.now }
+    {
+        Searched::of(workspace, text.bytes())
+    }
+
+    /// The memory of its searches, for those in another text.
+    pub fn into_workspace(self) -> Workspace<'a> {
+        let Searched { workspace, .. } = self;
+        workspace
+    }
+
     /// Whether a search was refused since its history would have had too many entries, and not because memory ran out.
     pub fn is_full(&self) -> bool {
         self.workspace.is_full()

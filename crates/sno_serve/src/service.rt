@@ -80,18 +80,18 @@ impl<I: Read + Drop, W: Write + Drop> Service<I, W> {
         Ok(())
     }
 
-    /// The next line. The first seat that takes one performs the statements of the document before it.
+    /// The next line at the door. The first seat that asks for one performs the statements of the document before it.
     #[tactic(auto, using(crate::proofs::Accepting::served_on, crate::proofs::Accepting::served_self))]
-    fn next<L: Naming, R: Wait>(
+    fn next_at<L: Naming, R: Wait>(
         &self,
         rt: &R,
         alloc: Global,
         desk: &Desk<L>,
         seat: &mut Seat<L>,
+        intake: &mut Intake<I>,
     ) -> Result<Next, ServeFault>
         ensures served { HasServed (IsGiven (arc_value self.now.rules) (map arc_value self.now.statements.items) self.now.mode) (position seat.old.accepted seat.old.seen) (position seat.new.accepted seat.new.seen) }
     {
-        let mut intake = self.intake.lock(rt);
         if !intake.is_begun {
             intake.is_begun = true;
             self.begin(rt, alloc, desk, seat)?;
@@ -101,6 +101,27 @@ impl<I: Read + Drop, W: Write + Drop> Service<I, W> {
         }
         let next = intake.next(alloc)?;
         Ok(next)
+    }
+
+    /// The next line. A fault ends the service before another seat comes to the door, since the desk may be half begun.
+    #[tactic(auto, using(crate::proofs::Accepting::served_on, crate::proofs::Accepting::served_self))]
+    fn next<L: Naming, R: Wait>(
+        &self,
+        rt: &R,
+        alloc: Global,
+        desk: &Desk<L>,
+        seat: &mut Seat<L>,
+    ) -> Next
+        ensures served { HasServed (IsGiven (arc_value self.now.rules) (map arc_value self.now.statements.items) self.now.mode) (position seat.old.accepted seat.old.seen) (position seat.new.accepted seat.new.seen) }
+    {
+        let mut intake = self.intake.lock(rt);
+        match self.next_at(rt, alloc, desk, seat, &mut intake) {
+            Ok(next) => next,
+            Err(fault) => {
+                self.fail(rt, fault);
+                Next::End
+            }
+        }
     }
 
     /// What a line asks for. A statement takes the next number.
@@ -156,7 +177,7 @@ impl<I: Read + Drop, W: Write + Drop> Service<I, W> {
     ) -> Result<bool, ServeFault>
         ensures served { HasServed (IsGiven (arc_value self.now.rules) (map arc_value self.now.statements.items) self.now.mode) (position seat.old.accepted seat.old.seen) (position seat.new.accepted seat.new.seen) }
     {
-        match self.next(rt, alloc, desk, seat)? {
+        match self.next(rt, alloc, desk, seat) {
             Next::End => Ok(false),
             Next::TooLong => {
                 self.refuse_line(rt, alloc)?;

@@ -1,6 +1,6 @@
 //! The option that says how many threads share the files.
 ghost use Rattle.std.specs.Prelude.{◌≡◌, ◌≤◌, ◌<◌};
-ghost use Rattle.sno.specs.declared.thread_options.TheConstants.{MAX_THREADS};
+ghost use Rattle.sno_commands.specs.declared.thread_options.TheConstants.{MAX_THREADS};
 
 use crate::arguments::is_up_to;
 use clap::{Arg, ArgMatches};

@@ -1,6 +1,6 @@
 //! `sno edit`.
 ghost use Rattle.std.specs.Prelude.{◌≡◌, ◌≤◌, ◌<◌};
-ghost use Rattle.sno.specs.declared.thread_options.TheConstants.{MAX_THREADS};
+ghost use Rattle.sno_commands.specs.declared.thread_options.TheConstants.{MAX_THREADS};
 
 use crate::colours::has_colours;
 use crate::edit_options::{EditOptions, EditRequest};

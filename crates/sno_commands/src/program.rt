@@ -23,7 +23,7 @@ use std::thread::Threads;
 const NOT_TEXT: &[u8] = b"error: an argument is not UTF-8\n\nFor more information, try '--help'.\n";
 
 /// What the system does for the program.
-pub(crate) trait System: Files<File = File, Dir: Send>
+pub trait System: Files<File = File, Dir: Send>
     + Env
     + Stores
     + Threads
@@ -165,7 +165,7 @@ fn run_words<
 /// - If the first of them is `run`, the program does what `sno_rewrite` does with the others, byte for byte.
 /// - Otherwise the status is that of the check, the edit, the search, the trace or the service. If that has a fault, the line of
 ///   the fault goes to `errors`, and the status is 4, even if the line can't be printed.
-pub(crate) fn run<
+pub fn run<
     R: System,
     I: Read + Send + Drop,
     W: Write + IsTerminal + Send + Drop,

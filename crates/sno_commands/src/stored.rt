@@ -21,10 +21,10 @@ use std::thread::Threads;
 const INVALID: u8 = 2;
 
 /// A store that was opened, and its lines.
-pub(crate) type Opened = (Store<File>, Lines);
+pub type Opened = (Store<File>, Lines);
 
 /// What opens stores.
-pub(crate) trait Stores {
+pub trait Stores {
     /// Opens the store in a file, which is made if it is missing.
     fn open_store(&self, path: &str) -> Result<Opened, OpenFault>;
 }
