@@ -1,42 +1,13 @@
 /* Refuses each allocation of each call with a book in its turn: the call reports it, and the book is as it was, or has the
- * one entry of the line's statement. Needs glibc, whose functions give the memory of those that are defined here. Ends with 1
- * if something failed. */
+ * one entry of the line's statement. Ends with 1 if something failed. */
 #define _GNU_SOURCE
 #include "../sno_rewrite.h"
 
-#include <stdio.h>
-#include <stdlib.h>
+#include "refusals.h"
+
 #include <string.h>
 
-void *__libc_malloc(size_t size);
-void *__libc_realloc(void *memory, size_t size);
-
-enum { SPACE = 65536, MOST_ALLOCATIONS = 5000 };
-
-static int passed = 0, failed = 0;
-/* How many allocations are given before one is refused; none is if it is negative. */
-static long given = -1;
-
-static bool is_refused(void) {
-    return given >= 0 && given-- == 0;
-}
-
-void *malloc(size_t size) {
-    return is_refused() ? NULL : __libc_malloc(size);
-}
-
-void *realloc(void *memory, size_t size) {
-    return is_refused() ? NULL : __libc_realloc(memory, size);
-}
-
-static void expect(const char *what, bool right) {
-    if (right) {
-        passed++;
-    } else {
-        failed++;
-        printf("FAILED %s\n", what);
-    }
-}
+enum { SPACE = 65536 };
 
 static const uint8_t *bytes_of(const char *text) {
     return (const uint8_t *)text;

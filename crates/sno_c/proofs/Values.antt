@@ -1,4 +1,4 @@
--- The machine values of a `Kept` and of a `Loose`: each is a struct of one pointer. Assumes `Logic`.
+-- The machine values of a `Kept`, which is a struct of one pointer. Assumes `Logic`.
 use Rattle.std.proofs.Common.{◌≡◌, List, [], ◌∷◌, ◌++◌, refl, subst}
 use seplogic.Ra.Ura.{Ura}
 use mir.Val.{Val, vstruct, vcons, vnil, of_list}
@@ -11,16 +11,10 @@ use denote.Steps.{nothing}
 use denote.Struct.Struct.{within}
 use denote.Struct.Owning.{shape}
 use Rattle.std.specs.Prelude.{Option, None, Some, is_some, true}
-use Rattle.std.specs.Box.Ownership.{box_owns}
-use Rattle.sno_c.specs.Blocks.{chunk}
+use Rattle.sno_compiled.proofs.Values.{one}
 use Rattle.sno_c.specs.declared.held.Held.{Held}
 use Rattle.sno_c.specs.Kept.{kept_at}
 use Rattle.sno_c.specs.contracts.kept.Kept as kept
-use Rattle.sno_c.specs.contracts.loose.Loose as loose
-
--- a struct of one field
-abbrev pub one : Val → Val
-one v = vstruct (vcons v vnil)
 
 -- what is some value has a value
 pub value_of : (v : Option Held) → is_some v ≡ true → (x : Held) × (v ≡ Some x)
@@ -39,16 +33,3 @@ module _ {M : Type 1} {𝓤 : Ura M} {𝓛 : Logic 𝓤} {K : Type 0} {Γ : List
   kept_out t d vs k =
       fsplit t $ fpick t (λ vss. fsplit t $ feq_l t (λ e. fsplit t $ feq_l t (λ f. drop t $
       k (subst (λ (ps : List Val). vs ≡ vstruct (of_list (ps ++ [])) ∷ []) f e))))
-
-  module _ (R : RattleType) where
-    pub loose_in : K → (p : Ptr) (x : R.Denot)
-        → Step K 𝓛 (‵ ((loose.the_row R).own_val (record { at = p; value = x }) (one (ptr_val p) ∷ [])) ∷ Γ) G (‵ (box_owns chunk R p x) ∷ Γ) G
-    loose_in t p x = step (λ s. let v : Val = one (ptr_val p) in
-        nothing t $ feq_i t (List Val) (ptr_val p ∷ []) (ptr_val p ∷ []) refl $ fjoin t $ feq_i t (List Val) (v ∷ []) (v ∷ []) refl $ fjoin t $
-        fpack t (Valss (RawPtr ∷ [])) (within (shape (loose.the_type R)) (p, tt) (v ∷ [])) (ptr_val p ∷ [], tt) $ fjoin t $ s)
-
-    pub loose_out : K → (d : (loose.the_row R).Denot) (vs : List Val)
-        → (vs ≡ one (ptr_val d.at) ∷ [] → Seq K 𝓛 (‵ (box_owns chunk R d.at d.value) ∷ Γ) G) → Seq K 𝓛 (‵ ((loose.the_row R).own_val d vs) ∷ Γ) G
-    loose_out t d vs k =
-        fsplit t $ fpick t (λ vss. fsplit t $ feq_l t (λ e. fsplit t $ feq_l t (λ f. drop t $
-        k (subst (λ (ps : List Val). vs ≡ vstruct (of_list (ps ++ [])) ∷ []) f e))))

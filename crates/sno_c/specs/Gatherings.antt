@@ -3,8 +3,8 @@ use Rattle.std.specs.Prelude.{◌≡◌, ◌≢◌, ◌<◌, ◌≤◌, ◌↔�
 use Rattle.sno_pattern.specs.declared.found.Found.{Found}
 use Rattle.sno_pattern.specs.declared.found.Hit.{Hit}
 use Rattle.sno_seek.specs.Assignments.{assignments_of}
-use Rattle.sno_seek.specs.Gathered.{gathered, gathered_trials}
-use Rattle.sno_seek.specs.declared.gathered.Gathered.{Gathered}
+use Rattle.sno_compiled.specs.Gathered.{gathered, gathered_trials}
+use Rattle.sno_compiled.specs.declared.gathered.Gathered.{Gathered}
 use Rattle.sno_seek.specs.declared.seeker.Seeker.{Seeker}
 use Rattle.sno_statement.specs.Statement.{IsLimit}
 use Rattle.sno_c.specs.Patterns.{both_in, no_match, pattern_in, search_status}

@@ -7,7 +7,7 @@ use Rattle.std.specs.Prelude.{Option, None, Some, Box}
 use Rattle.std.specs.Global.{Global}
 use Rattle.std.specs.Option.{option_map}
 use Rattle.std.specs.Box.Ownership.{box_owns}
-use Rattle.sno_c.specs.Blocks.{chunk}
+use Rattle.sno_compiled.specs.Blocks.{chunk}
 use Rattle.sno_c.specs.declared.held.Held.{Held}
 use Rattle.sno_c.specs.contracts.held.Held.{the_row}
 

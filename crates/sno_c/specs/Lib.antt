@@ -1,6 +1,5 @@
 pub mod Listed
 pub mod Assignments
-pub mod Blocks
 pub mod Books
 pub mod Buffers
 pub mod Gatherings

@@ -4,7 +4,7 @@ use Rattle.std.specs.Option.{option_zip}
 use Rattle.sno_pattern.specs.declared.found.Found.{Found}
 use Rattle.sno_pattern.specs.declared.found.Hit.{Hit}
 use Rattle.sno_seek.specs.Assignments.{assignments_of}
-use Rattle.sno_seek.specs.Gathered.{cursor_or_past}
+use Rattle.sno_compiled.specs.Gathered.{cursor_or_past}
 use Rattle.sno_seek.specs.declared.seeker.Seeker.{Seeker}
 use Rattle.sno_statement.specs.Passes.{next_search, search, search_trials}
 use Rattle.sno_statement.specs.Statement.{Statement, IsLimit}

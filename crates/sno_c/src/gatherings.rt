@@ -1,7 +1,7 @@
 //! Searches that are done many at once, and then taken one by one.
 ghost use Rattle.std.specs.Prelude.{◌≡◌, ◌≢◌, ◌<◌, ◌≤◌, ◌↔◌, ◌⊎◌, length, None, Some, [], ◌∷◌};
 ghost use Rattle.std.specs.Option.{option_map};
-ghost use Rattle.sno_seek.specs.Gathered.{gathered, gathered_trials};
+ghost use Rattle.sno_compiled.specs.Gathered.{gathered, gathered_trials};
 ghost use Rattle.sno_statement.specs.Statement.{IsLimit};
 ghost use Rattle.sno_c.specs.Gatherings.{IsGatherCall, IsGathered, IsTakeCall, IsTakenOf, found_seen};
 ghost use Rattle.sno_c.specs.Kept.{held_in};

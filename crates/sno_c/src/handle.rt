@@ -4,7 +4,7 @@ ghost use Rattle.sno_c.specs.Kept.{held_in};
 
 use crate::held::Held;
 use crate::kept::Kept;
-use crate::loose::Loose;
+use sno_compiled::Loose;
 use std::alloc::Global;
 use std::mem;
 

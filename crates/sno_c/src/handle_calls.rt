@@ -230,9 +230,9 @@ pub extern "C" fn sno_handle_replace(
     ensures pattern { pattern.new.kept.value ≡ pattern.old.kept.value }
     ensures text { text.new.kept.value ≡ text.old.kept.value }
 {
-    let sought = pattern.take(alloc);
+    let mut sought = pattern.take(alloc);
     let held = text.take(alloc);
-    let status = replace_held(alloc, &sought, &held, trials, buffer, done);
+    let status = replace_held(alloc, &mut sought, &held, trials, buffer, done);
     pattern.put(sought);
     text.put(held);
     status

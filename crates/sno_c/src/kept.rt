@@ -4,7 +4,7 @@ ghost use Rattle.sno_c.specs.declared.held.Held.{Held};
 ghost use Rattle.std.specs.Prelude.{◌≡◌, Option, None, Some, is_some, true};
 
 use crate::held::Held;
-use crate::loose::Loose;
+use sno_compiled::Loose;
 use std::marker::Model;
 
 /// A box without its type, or nothing.

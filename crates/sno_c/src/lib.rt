@@ -12,7 +12,7 @@
 //! | `book_calls`, `books` | the calls with books; a book that is held, with the reply to its last line |
 //! | `held` | what a handle holds: a pattern, a text or a book |
 //! | `handle` | handles, which are places in the caller's memory |
-//! | `kept`, `loose` | a box as its pointer, with and without its type |
+//! | `kept` | a box as its pointer, without its type |
 //! | `openings`, `texts` | patterns and texts that are put into handles |
 //! | `searches`, `assignments`, `replacements` | what is reported of a search, of an assignment, of a new text |
 //! | `gatherings` | searches that are done many at once, and then taken one by one |
@@ -30,7 +30,6 @@ mod handle_calls;
 mod held;
 mod kept;
 mod listing;
-mod loose;
 mod openings;
 mod replacements;
 mod searches;

@@ -9,7 +9,6 @@ ghost use Rattle.sno_c.specs.Kept.{held_in};
 ghost use Rattle.sno_c.specs.Patterns.{both_in};
 ghost use Rattle.sno_c.specs.Replacements.{IsReplaced, IsReplacementCall, nothing_replaced, rewritten_by};
 
-use crate::assignments::seeker_of;
 use crate::buffers::write;
 use crate::held::Held;
 use crate::searches::text_of;
@@ -46,13 +45,14 @@ impl Replaced {
 /// Puts what the statement of the pattern makes of the text in the buffer, if there is room for it.
 fn replace(
     alloc: Global,
-    seeker: &Seeker,
+    seeker: &mut Seeker,
     text: &ByteText,
     trials: u32,
     buffer: &mut [u8],
     done: &mut Replaced,
 ) -> u8
-    ensures { IsReplaced trials text.now seeker.now buffer.old buffer.new done.new result }
+    ensures replaced { IsReplaced trials text.now seeker.old buffer.old buffer.new done.new result }
+    ensures same { seeker.new ≡ seeker.old }
 {
     *done = Replaced::none();
     if trials == 0 || trials > MAX_TRIALS {
@@ -79,17 +79,24 @@ fn replace(
 /// Puts what the pattern that is held makes of the text that is held in the buffer. Refused if they are something else.
 pub(crate) fn replace_held(
     alloc: Global,
-    pattern: &Option<Box<Held>>,
+    pattern: &mut Option<Box<Held>>,
     text: &Option<Box<Held>>,
     trials: u32,
     buffer: &mut [u8],
     done: &mut Replaced,
 ) -> u8
-    ensures { IsReplacementCall trials (held_in pattern.now) (held_in text.now) buffer.old buffer.new done.new result }
+    ensures call { IsReplacementCall trials (held_in pattern.old) (held_in text.now) buffer.old buffer.new done.new result }
+    ensures same { held_in pattern.new ≡ held_in pattern.old }
 {
     *done = Replaced::none();
-    let (Some(seeker), Some(text)) = (seeker_of(pattern), text_of(text)) else {
+    let Some(text) = text_of(text) else {
         return CLOSED;
     };
-    replace(alloc, seeker, text, trials, buffer, done)
+    match pattern {
+        Some(held) => match &mut **held {
+            Held::Pattern(seeker) => replace(alloc, seeker, text, trials, buffer, done),
+            Held::Text(_) | Held::Book(_) => CLOSED,
+        },
+        None => CLOSED,
+    }
 }

@@ -6,7 +6,7 @@ ghost use Rattle.sno_statement.specs.Passes.{next_search, search, search_trials}
 ghost use Rattle.sno_statement.specs.Statement.{IsLimit};
 ghost use Rattle.sno_c.specs.Kept.{held_in};
 ghost use Rattle.sno_c.specs.Patterns.{IsSearchCall, IsSearched, match_seen, no_match, text_in};
-ghost use Rattle.sno_seek.specs.Gathered.{cursor_or_past};
+ghost use Rattle.sno_compiled.specs.Gathered.{cursor_or_past};
 
 use crate::held::Held;
 use crate::statuses::{
@@ -86,8 +86,12 @@ fn seen(seeker: &Seeker, text: &ByteText) -> FoundMatch
     match &seeker.found {
         None => FoundMatch::none(),
         Some(last) => {
-            let anchored = seeker.statement.search().anchored();
-            reported(anchored, text, seeker.assignments(), last.end.as_ref())
+            reported(
+                seeker.anchored,
+                text,
+                seeker.assignments(),
+                last.end.as_ref(),
+            )
         }
     }
 }
@@ -103,12 +107,13 @@ pub(crate) fn search(
 ) -> u8
     ensures { IsSearched from trials text.now seeker.old seeker.new found.new result }
 {
-    seeker.found = None;
     *found = FoundMatch::none();
     if trials == 0 || trials > MAX_TRIALS {
+        seeker.found = None;
         return BAD_LIMIT;
     }
     if from > text.bytes().len() {
+        seeker.found = None;
         return PAST_END;
     }
     // for the proof

@@ -1,3 +1,2 @@
 pub mod Assignments
-pub mod Gathered
 pub mod Opening

@@ -12,16 +12,14 @@
 //! | File | What it holds |
 //! |---|---|
 //! | `seeker` | [`Seeker`] |
-//! | `gathered` | [`Gathered`]: what searches that follow one another find |
 //! | `opening` | [`open`] and [`NoPattern`] |
 #![tactic(auto)]
 
-mod gathered;
 mod opening;
 mod seeker;
 
-pub use gathered::Gathered;
 pub use opening::{NoPattern, open};
 pub use seeker::Seeker;
+pub use sno_compiled::{CompiledStatement, Gathered};
 pub use sno_pattern::{Assign, ByteText, Found, Hit, Name, What};
 pub use sno_statement::{FileStatement, FileStatementFault, Rewritten};

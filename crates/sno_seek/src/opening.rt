@@ -135,7 +135,10 @@ fn seeker_of(alloc: Global, lines: &SpelledLines<'_>) -> Result<Seeker, NoPatter
     match rules_of_rows(alloc, definitions, rules, USUAL) {
         Err(fault) => Err(faulty(alloc, lines, fault)),
         Ok(rules) => match only_statement(rules) {
-            Some(statement) => Ok(Seeker::new(alloc, statement)),
+            Some(statement) => {
+                let seeker = Seeker::new(alloc, statement)?;
+                Ok(seeker)
+            }
             None => Err(refused(alloc, "rule 1: not one rule\n")),
         },
     }

@@ -8,25 +8,26 @@ ghost use Rattle.sno_statement.specs.Perform.{perform_within};
 ghost use Rattle.sno_statement.specs.Rewriting.{GivesRewritten, rewriting};
 ghost use Rattle.sno_statement.specs.Statement.{with_limit};
 ghost use Rattle.sno_seek.specs.Assignments.{assignments_of, conditional, found_assignments};
-ghost use Rattle.sno_seek.specs.Gathered.{IsTaken, gathered, gathered_trials};
+ghost use Rattle.sno_compiled.specs.Gathered.{IsTaken, gathered, gathered_trials};
 
-use crate::Gathered;
-use crate::gathered::gather;
-use sno_machine::{SearchOutcome, Searched, compile};
+use sno_compiled::{CompiledStatement, Gathered};
 use sno_pattern::{Assign, ByteText, Found, Hit, What};
-use sno_statement::{FileStatement, FileStatementFault, Rewritten, StatementFault, rewrite};
-use std::alloc::Global;
+use sno_statement::{FileStatement, FileStatementFault, Rewritten};
+use std::alloc::{AllocError, Global};
 use std::collections::VecDeque;
 
 /// A statement that is sought in texts, with what its last search found.
 #[derive(Drop)]
 pub struct Seeker {
-    /// The statement. Its object is used by [`Seeker::replaced`] alone.
-    pub statement: FileStatement,
+    /// The statement with its compiled pattern. Its object is used by [`Seeker::replaced`] alone.
+    pub statement: CompiledStatement,
+    /// Whether its matches are anchored.
+    pub anchored: bool,
     /// What the last search found; `None` if there was none yet, or if the last one was refused.
     pub found: Option<Found>,
     /// What was gathered and not taken yet.
     pub ahead: VecDeque<Gathered>,
+    ghost agree: { anchored ≡ statement.anchored },
 }
 
 /// The assignment at a place of a match: first those that were done at once, then the conditional ones.
@@ -63,51 +64,23 @@ fn assignment_count(found: &Found) -> usize
     found.sets.as_slice().len() + conditional_count(found.end.as_ref())
 }
 
-/// What a search for the statement's pattern finds, from a cursor of the text on.
-fn search_in(
-    alloc: Global,
-    statement: &FileStatement,
-    text: &ByteText,
-    from: usize,
-    trials: u32,
-) -> Result<Found, FileStatementFault>
-    requires { from ≤ length text.now }
-    ensures found { IfOk result (λ found. found ≡ search statement.now text.now from) }
-    ensures within { IfOk result (λ _. search_trials statement.now text.now from ≤ trials) }
-    ensures refused { IfErr result (λ e. e ≡ TooManyTrials → trials < search_trials statement.now text.now from) }
-    ensures never { IfErr result (λ e. e ≡ TextTooLong → ⊥) }
-{
-    let sought = statement.search();
-    let code = compile(alloc, sought.rules(), sought.pattern())?;
-    let mut searched = Searched::of_bytes(alloc, text);
-    match code.first_from(alloc, &mut searched, sought.anchored(), from, trials) {
-        Ok(search) => {
-            let SearchOutcome { found, .. } = search;
-            Ok(found)
-        }
-        Err(fault) => {
-            let fault = StatementFault::from(fault);
-            Err(FileStatementFault::of(fault, searched.is_full()))
-        }
-    }
-}
-
 impl Seeker {
-    /// A statement that was not sought yet. It takes no memory.
-    pub fn new(alloc: Global, statement: FileStatement) -> Seeker
-        ensures statement { result.statement ≡ statement }
-        ensures idle { (result.found ≡ None) × (result.ahead.items ≡ []) }
+    /// A statement that was not sought yet. Its pattern is compiled. Refused only if out of memory.
+    pub fn new(alloc: Global, statement: FileStatement) -> Result<Seeker, AllocError>
+        ensures statement { IfOk result (λ s. s.statement ≡ statement) }
+        ensures idle { IfOk result (λ s. (s.found ≡ None) × (s.ahead.items ≡ [])) }
     {
-        Seeker {
-            statement,
+        let anchored = statement.search().anchored();
+        Ok(Seeker {
+            statement: CompiledStatement::of(alloc, statement)?,
+            anchored,
             found: None,
             ahead: VecDeque::new(alloc),
-        }
+        })
     }
 
     /// Seeks the pattern from a cursor of the text on, and keeps what is found. Returns whether there is a match. The object and
-    /// the rounds of the statement are not looked at. The pattern is compiled anew, which takes about as long as a short match. What
-    /// was gathered before stays.
+    /// the rounds of the statement are not looked at. The memory of one search serves the next. What was gathered before stays.
     ///
     /// Refused:
     /// - `TooManyTrials` exactly if the search takes more than `trials` trials, unless one of the others comes first;
@@ -131,8 +104,8 @@ impl Seeker {
         ensures statement { self.new.statement ≡ self.old.statement }
         ensures ahead { self.new.ahead.items ≡ self.old.ahead.items }
     {
-        self.found = None;
-        let found = search_in(alloc, &self.statement, text, from, trials)?;
+        let earlier = self.found.take();
+        let found = self.statement.search(alloc, text, from, trials, earlier)?;
         let matched = found.end.is_some();
         self.found = Some(found);
         Ok(matched)
@@ -140,7 +113,7 @@ impl Seeker {
 
     /// Does up to `most` searches that follow one another, the first of them from a cursor of the text on, and gathers what they find:
     /// what as many calls of [`Seeker::next`] would find, each from where the match before leaves off. After a search without a match
-    /// there is no further one. The pattern is compiled once, and what is learnt of the text serves all of them.
+    /// there is no further one. What is learnt of the text serves all of them.
     ///
     /// Refused:
     /// - `TooManyTrials` exactly if the searches together take more than `trials` trials, unless one of the others comes first;
@@ -164,8 +137,8 @@ impl Seeker {
         ensures nothing { IfErr result (λ _. self.new.ahead.items ≡ []) }
         ensures same { (self.new.statement ≡ self.old.statement) × (self.new.found ≡ self.old.found) }
     {
-        self.ahead = VecDeque::new(alloc);
-        self.ahead = gather(alloc, &self.statement, text, from, trials, most)?;
+        self.ahead.clear();
+        self.ahead = self.statement.gather(alloc, text, from, trials, most)?;
         Ok(())
     }
 
@@ -201,16 +174,17 @@ impl Seeker {
         }
     }
 
-    /// What the statement makes of the text, as [`rewrite`] does.
+    /// What the statement makes of the text, as [`sno_statement::rewrite`] does.
     pub fn replaced(
-        &self,
+        &mut self,
         alloc: Global,
         text: &ByteText,
         trials: u32,
     ) -> Result<Rewritten, FileStatementFault>
-        ensures rewritten { GivesRewritten result (rewriting (perform_within MAX_BYTES (with_limit self.now.statement trials) text.now)) }
+        ensures rewritten { GivesRewritten result (rewriting (perform_within MAX_BYTES (with_limit self.old.statement trials) text.now)) }
         ensures few { IfOk result (λ r. r.matches < 2 ^ 32) }
+        ensures same { self.new ≡ self.old }
     {
-        rewrite(alloc, &self.statement, text, trials)
+        self.statement.replaced(alloc, text, trials)
     }
 }

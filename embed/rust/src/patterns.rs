@@ -23,8 +23,7 @@ const LINE_ROOM: usize = 1024;
 /// A new text of up to this length takes one call of the library.
 const FIRST_ROOM: usize = 4096;
 
-/// As many searches of a pass are done at once. The pattern is compiled once for all of them, which takes longer than a
-/// short search.
+/// As many searches of a pass are done at once: what one learns of the text serves the next.
 const SEARCHES_AT_ONCE: usize = 32;
 
 #[repr(C)]

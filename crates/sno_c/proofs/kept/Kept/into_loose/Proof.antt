@@ -20,15 +20,16 @@ use denote.RawPtr.{Ptr, block_ptr, null_ptr, ptr_val, in_a_block}
 use denote.Steps.{nothing}
 use denote.Triple.Entry.{alive}
 use denote.Triple.Walked.{Stays, stay_dropped, walk_of}
-use Rattle.sno_c.specs.Blocks.{chunk}
+use Rattle.sno_compiled.specs.Blocks.{chunk}
 use Rattle.std.specs.Prelude.{Option, Some, is_some, true}
 use Rattle.std.specs.Box.Ownership.{box_owns}
 use Rattle.std.proofs.alloc.Calls.{Goes-blank}
 use Rattle.std.proofs.raw_atomic.Walks.{proved_at, leaves}
-use Rattle.sno_c.proofs.Values.{one, loose_in, kept_out, value_of}
+use Rattle.sno_compiled.proofs.Values.{one, loose_in}
+use Rattle.sno_c.proofs.Values.{kept_out, value_of}
 use Rattle.sno_c.specs.declared.held.Held.{Held}
 use Rattle.sno_c.specs.contracts.held.Held.{the_row as R}
-use Rattle.sno_c.specs.contracts.loose.Loose as loose
+use Rattle.sno_compiled.specs.contracts.loose.Loose as loose
 use Rattle.sno_c.specs.contracts.kept.Kept.{the_row}
 use Rattle.sno_c.specs.Kept.{kept_at}
 use Rattle.sno_c.specs.contracts.kept.Kept.into_loose.{ended, clauses}

@@ -15,7 +15,8 @@ use denote.Triple.Entry.{alive}
 use denote.Triple.Walked.{walk_of}
 use Rattle.std.specs.Prelude.{None}
 use Rattle.std.proofs.raw_atomic.Walks.{proved, leaves}
-use Rattle.sno_c.proofs.Values.{one, kept_in}
+use Rattle.sno_compiled.proofs.Values.{one}
+use Rattle.sno_c.proofs.Values.{kept_in}
 use Rattle.sno_c.specs.contracts.kept.Kept.{the_row}
 use Rattle.sno_c.specs.contracts.kept.Kept.nothing.{ended, clauses}
 use Rattle.sno_c.specs.contracts.kept.Kept.nothing.Key.{name as #self}

@@ -19,14 +19,15 @@ use denote.RawPtr.{Ptr, block_ptr, null_ptr, ptr_val, in_a_block}
 use denote.Steps.{nothing}
 use denote.Triple.Entry.{alive}
 use denote.Triple.Walked.{Stays, stay_dropped, walk_of}
-use Rattle.sno_c.specs.Blocks.{chunk}
+use Rattle.sno_compiled.specs.Blocks.{chunk}
 use Rattle.std.specs.Prelude.{Some}
 use Rattle.std.specs.Box.Ownership.{box_owns}
 use Rattle.std.proofs.alloc.Calls.{Goes-blank}
 use Rattle.std.proofs.raw_atomic.Walks.{proved_at, leaves}
-use Rattle.sno_c.proofs.Values.{one, kept_in, loose_out}
+use Rattle.sno_compiled.proofs.Values.{one, loose_out}
+use Rattle.sno_c.proofs.Values.{kept_in}
 use Rattle.sno_c.specs.contracts.held.Held.{the_row as R}
-use Rattle.sno_c.specs.contracts.loose.Loose as loose
+use Rattle.sno_compiled.specs.contracts.loose.Loose as loose
 use Rattle.sno_c.specs.contracts.kept.Kept.{the_row}
 use Rattle.sno_c.specs.contracts.kept.Kept.of.{ended, clauses}
 use Rattle.sno_c.specs.contracts.kept.Kept.of.Key.{name as #self}

@@ -5,7 +5,7 @@ use Rattle.sno_pattern.specs.declared.found.Hit.{Hit}
 use Rattle.sno_statement.specs.Passes.{IsCursor, next_search, search, search_trials}
 use Rattle.sno_statement.specs.Statement.{Statement}
 use Rattle.sno_statement.proofs.PassLaws.{lies_at, next_past, past_cursor}
-use Rattle.sno_seek.specs.Gathered.{gathered, gathered_by, gathered_trials, next_after}
+use Rattle.sno_compiled.specs.Gathered.{gathered, gathered_by, gathered_trials, next_after}
 
 module _ (s : Statement) (t : List ℕ) where
   pub none_left : (n : ℕ) → gathered s t n None ≡ []

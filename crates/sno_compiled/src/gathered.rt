@@ -3,9 +3,9 @@ ghost use Rattle.std.specs.Prelude.{◌≡◌, ◌<◌, ◌≤◌, ◌+◌, ◌+
 ghost use Rattle.sno_statement.specs.declared.file_faults.FileStatementFault.TheVariants.{TextTooLong, TooManyTrials};
 ghost use Rattle.sno_statement.specs.Passes.{IsCursor, search, search_trials};
 ghost use Rattle.sno_statement.specs.Perform.{IsCodeOf};
-ghost use Rattle.sno_seek.specs.Gathered.{cursor_or_past, gathered, gathered_by, gathered_trials, next_after};
+ghost use Rattle.sno_compiled.specs.Gathered.{cursor_or_past, gathered, gathered_by, gathered_trials, next_after};
 
-use sno_machine::{Code, SearchOutcome, Searched, compile};
+use sno_machine::{Code, SearchOutcome, Searched};
 use sno_pattern::{ByteText, Found};
 use sno_statement::{FileStatement, FileStatementFault, StatementFault, next_cursor};
 use std::alloc::Global;
@@ -22,13 +22,13 @@ pub struct Gathered {
 
 /// A pattern that is sought in a text, search after search, in one workspace.
 #[derive(Drop)]
-struct Seeking<'c, 't, 'a> {
-    statement: &'c FileStatement,
-    code: &'c Code<'a>,
-    text: &'t ByteText,
-    searched: Searched<'t, 'a>,
+pub(crate) struct Seeking<'c, 't, 'a> {
+    pub(crate) statement: &'c FileStatement,
+    pub(crate) code: &'c Code<'a>,
+    pub(crate) text: &'t ByteText,
+    pub(crate) searched: Searched<'t, 'a>,
     /// How many trials all further searches may take together.
-    left: u32,
+    pub(crate) left: u32,
     ghost agree: { IsCodeOf code.now statement.now × (searched ≡ text.now) },
 }
 
@@ -82,7 +82,7 @@ impl<'c, 't, 'a> Seeking<'c, 't, 'a> {
 
     #[tactic(auto, using(crate::proofs::GatheredLaws::none_left, crate::proofs::GatheredLaws::no_trials, crate::proofs::GatheredLaws::one_more, crate::proofs::GatheredLaws::trials_more, crate::proofs::GatheredLaws::next_cursor, crate::proofs::GatheredLaws::end_inside))]
     /// Puts what at most `most` searches find, the first of them from this cursor on, after what was gathered before.
-    fn gather(
+    pub(crate) fn gather(
         &mut self,
         alloc: Global,
         from: Option<usize>,
@@ -110,34 +110,4 @@ impl<'c, 't, 'a> Seeking<'c, 't, 'a> {
         }
         Ok(())
     }
-}
-
-/// What at most `most` searches find, the first of them from this cursor on. The pattern is compiled once. Refused as
-/// [`crate::Seeker::gather`] is.
-pub(crate) fn gather(
-    alloc: Global,
-    statement: &FileStatement,
-    text: &ByteText,
-    from: usize,
-    trials: u32,
-    most: usize,
-) -> Result<VecDeque<Gathered>, FileStatementFault>
-    requires { from ≤ length text.now }
-    ensures gathered { IfOk result (λ v. v.items ≡ gathered statement.now text.now most (Some from)) }
-    ensures within { IfOk result (λ _. gathered_trials statement.now text.now most (Some from) ≤ trials) }
-    ensures refused { IfErr result (λ e. e ≡ TooManyTrials → trials < gathered_trials statement.now text.now most (Some from)) }
-    ensures never { IfErr result (λ e. e ≡ TextTooLong → ⊥) }
-{
-    let sought = statement.search();
-    let code = compile(alloc, sought.rules(), sought.pattern())?;
-    let mut ahead = VecDeque::new(alloc);
-    let mut seeking = Seeking {
-        statement,
-        code: &code,
-        text,
-        searched: Searched::of_bytes(alloc, text),
-        left: trials,
-    };
-    seeking.gather(alloc, Some(from), most, &mut ahead)?;
-    Ok(ahead)
 }

@@ -1,8 +1,8 @@
 -- What was gathered so far, with what is still to be sought. The trials that are left are those of the searches to come.
 use Rattle.std.proofs.Common.{◌≡◌, ◌+◌, ◌++◌}
 use Rattle.sno_statement.specs.Passes.{IsCursor}
-use Rattle.sno_seek.specs.Gathered.{gathered, gathered_trials}
-use Rattle.sno_seek.proofs.gathered.Seeking.gather.Given as goal
+use Rattle.sno_compiled.specs.Gathered.{gathered, gathered_trials}
+use Rattle.sno_compiled.proofs.gathered.Seeking.gather.Given as goal
 
 abbrev pub invariant-loop-left : goal.invariant-loop-left
 invariant-loop-left l = record {

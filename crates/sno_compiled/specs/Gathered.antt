@@ -4,7 +4,7 @@ use Rattle.sno_pattern.specs.declared.found.Found.{Found}
 use Rattle.sno_pattern.specs.declared.found.Hit.{Hit}
 use Rattle.sno_statement.specs.Passes.{next_search, search, search_trials}
 use Rattle.sno_statement.specs.Statement.{Statement}
-use Rattle.sno_seek.specs.declared.gathered.Gathered.{Gathered}
+use Rattle.sno_compiled.specs.declared.gathered.Gathered.{Gathered}
 
 -- the cursor, or if there is none, one past the end of the text
 abbrev pub cursor_or_past : List ℕ → Option ℕ → ℕ

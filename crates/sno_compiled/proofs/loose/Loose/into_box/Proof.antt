@@ -32,7 +32,7 @@ use denote.Triple.Call.{calls_at_last}
 use denote.Triple.Walked.{Stays, stay_dropped, walk_of, Goes-dropped}
 use Rattle.std.proofs.alloc.Calls.{Goes-blank, handle_tells}
 use denote.Triple.Table.{framed}
-use Rattle.sno_c.specs.Blocks.{chunk}
+use Rattle.sno_compiled.specs.Blocks.{chunk}
 use Rattle.std.specs.Box.Ownership.{box_owns}
 use Rattle.std.specs.contracts.alloc.Global as heap
 use Rattle.std.proofs.alloc.Global.TheLaws as heap_laws
@@ -44,14 +44,14 @@ use Rattle.std.proofs.boxed.Box.from_raw.Met.{met}
 use Rattle.std_alloc.proofs.BoxSteps.Form as box
 use Rattle.std_alloc.proofs.BoxSteps.Steps.{box_out, box_in}
 use Rattle.std.proofs.raw_atomic.Walks.{proved_at, leaves}
-use Rattle.sno_c.proofs.Values.{one, loose_out}
+use Rattle.sno_compiled.proofs.Values.{one, loose_out}
 use Rattle.std.proofs.alloc.Shapes.{after}
-use Rattle.sno_c.specs.contracts.loose.Loose as loose
-use Rattle.sno_c.specs.contracts.loose.Loose.into_box.{ended, clauses}
-use Rattle.sno_c.specs.contracts.loose.Loose.into_box.Key.{name as #self}
-use Rattle.sno_c.proofs.loose.Loose.into_box.Statement.{statement}
-use Rattle.sno_c.proofs.loose.Loose.into_box.Code as code
-use Rattle.sno_c.proofs.Destruct++none.drop.Code as none
+use Rattle.sno_compiled.specs.contracts.loose.Loose as loose
+use Rattle.sno_compiled.specs.contracts.loose.Loose.into_box.{ended, clauses}
+use Rattle.sno_compiled.specs.contracts.loose.Loose.into_box.Key.{name as #self}
+use Rattle.sno_compiled.proofs.loose.Loose.into_box.Statement.{statement}
+use Rattle.sno_compiled.proofs.loose.Loose.into_box.Code as code
+use Rattle.sno_compiled.proofs.Destruct++none.drop.Code as none
 
 pub into_box_spec : {M : Type 1} → statement M
 unfolding none.code
@@ -60,7 +60,7 @@ into_box_spec {M} 𝓤 𝓛 𝓜 𝓡 wired T L dx glue =
     let En = ended T dx in let c = clauses T dx 𝓛 𝓜.mem 𝓡.returns in
     let args : Args = bounded (a_type ∷ []) (T, tt) (dcons dx dnil) in let fn : Fn = inst_fn args code.function in
     let A : RattleType = arg (bare (layout Z)) no Z in let LA = arg_laws (bare (layout Z)) no Z LZ refl in
-    let dd : Dict = impl ("sno_c::Destruct++none::drop" ∷ []) (tcons (layout A) tnil) dnil in
+    let dd : Dict = impl ("sno_compiled::Destruct++none::drop" ∷ []) (tcons (layout A) tnil) dnil in
     let E : box.Bx = record { row = T; laws = L; al = record { row = Z; laws = LZ; g = ghosts; d = dict; drops = dd } } in
     let B : RattleType = boxed.the_row R Z ghosts in let S : RattleType = loose.the_row R in
     let hs : Stays En.signature.params En.kept = (stay_dropped (plain (λ _. S)) no, (stay_dropped (plain (λ _. Z)) yes, tt)) in
@@ -85,7 +85,7 @@ into_box_spec {M} 𝓤 𝓛 𝓜 𝓡 wired T L dx glue =
     nothing ! $ feq_i ! (List Val) (vptr b o ∷ []) (vptr b o ∷ []) refl $ fjoin ! $ move ! (3 ∷ 0 ∷ []) $ fjoin ! $ move ! (2 ∷ 0 ∷ []) $ join ! $ join ! $ use1 𝓛 (raw (k.pre y)) (id⊢ 𝓤 _) $
     calls_at_last ! (framed 𝓤 H 𝓜 𝓣) k (met 𝓤 𝓛 𝓜 𝓡 (code.calls-std_alloc::boxed::Box::from_raw 𝓡.env wired) T A L LA ghosts dict dd
     (passed 𝓡.env (code.calls-std_heap::GlobalAllocator::allocate 𝓡.env wired) (code.calls-std_heap::GlobalAllocator::deallocate 𝓡.env wired) (code.calls-std_heap::GlobalAllocator::grow 𝓡.env wired) (code.calls-std_heap::GlobalAllocator::shrink 𝓡.env wired) M 𝓤 𝓛 𝓜 𝓡)
-    (glues "sno_c::Destruct++none::drop" 𝓡.env (code.calls-sno_c::Destruct++none::drop 𝓡.env wired) A LA M 𝓤 𝓛 𝓜 𝓡))
+    (glues "sno_compiled::Destruct++none::drop" 𝓡.env (code.calls-sno_compiled::Destruct++none::drop 𝓡.env wired) A LA M 𝓤 𝓛 𝓜 𝓡))
     y (and_then ! (get ! refl) (and_then ! (get ! refl) (no_more !))) (λ u.
     use1 𝓛 (later (some (λ (r : B.Denot). ((‵ (flft κ q) ⊛ ‵ (flft ρ full_share) ⊛ ‵ ftrue) ⊛ ‵ (B.own_val r (u ∷ [])))
     ⊛ some (λ (ls : Lasts (callee.ended T A ghosts dict dd) y.0.0 y.0.3). ‵ (lasts (callee.ended T A ghosts dict dd) y.0.0 y.0.3 ls) ⊛ (raw (fact 𝓤 (r.value ≡ d.value)) ⊛ raw (fact 𝓤 (r.alloc ≡ a))))))) (id⊢ 𝓤 (k.post y u)) $

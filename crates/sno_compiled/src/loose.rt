@@ -6,20 +6,23 @@ use std::marker::Model;
 
 /// A box as its pointer. It is taken back by [`Loose::into_box`].
 #[derive(Drop)]
-pub(crate) struct Loose<T> {
-    pub(crate) at: *mut T,
-    pub(crate) ghost value: { T },
+pub struct Loose<T> {
+    /// Where the value lies.
+    pub at: *mut T,
+    /// The value.
+    pub ghost value: { T },
 }
 
 impl<T> Model for Loose<T> {
     ghost use Rattle.std.specs.Box.Ownership.{box_owns};
-    ghost use Rattle.sno_c.specs.Blocks.{chunk};
+    ghost use Rattle.sno_compiled.specs.Blocks.{chunk};
 
     ghost also_owns = { λ l. box_owns chunk T.row l.at l.value };
 }
 
 impl<T: Drop> Loose<T> {
-    pub(crate) fn of(value: Box<T>) -> Loose<T>
+    /// Takes a box apart.
+    pub fn of(value: Box<T>) -> Loose<T>
         ensures { result.value ≡ value.value }
     {
         Loose {
@@ -27,7 +30,8 @@ impl<T: Drop> Loose<T> {
         }
     }
 
-    pub(crate) fn into_box(self, alloc: Global) -> Box<T>
+    /// Makes it a box again, which frees its memory if it is dropped.
+    pub fn into_box(self, alloc: Global) -> Box<T>
         ensures { result.value ≡ self.value }
     {
         let Loose { at } = self;

@@ -4,10 +4,10 @@ use Rattle.sno_pattern.specs.declared.found.Found.{Found}
 use Rattle.sno_pattern.specs.declared.found.Hit.{Hit}
 use Rattle.sno_statement.specs.Passes.{IsCursor, search, search_trials}
 use Rattle.sno_statement.specs.Statement.{Statement}
-use Rattle.sno_seek.specs.Gathered.{cursor_or_past, gathered, gathered_by, gathered_trials, next_after}
-use Rattle.sno_seek.specs.declared.gathered.Gathered.{Gathered}
-use Rattle.sno_seek.proofs.GatheredLaws.{end_inside, next_cursor, no_more_trials, none_left, nothing_more, one_more, trials_more}
-use Rattle.sno_seek.proofs.gathered.Seeking.gather.Goals as goal
+use Rattle.sno_compiled.specs.Gathered.{cursor_or_past, gathered, gathered_by, gathered_trials, next_after}
+use Rattle.sno_compiled.specs.declared.gathered.Gathered.{Gathered}
+use Rattle.sno_compiled.proofs.GatheredLaws.{end_inside, next_cursor, no_more_trials, none_left, nothing_more, one_more, trials_more}
+use Rattle.sno_compiled.proofs.gathered.Seeking.gather.Goals as goal
 
 pub returns-in_default-clause-gathered : goal.returns-in_default-clause-gathered
 returns-in_default-clause-gathered c =
