@@ -11,7 +11,7 @@ ghost use Rattle.sno_compiled.specs.Gathered.{gathered, gathered_trials};
 use crate::gathered::{Gathered, Seeking};
 use crate::loose::Loose;
 use sno_machine::{Code, MAX_KEPT, SearchOutcome, Searched, Workspace, compile};
-use sno_pattern::{ByteText, Found};
+use sno_pattern::{ByteText, Found, a_search_from_the_first_cursor_is_a_match};
 use sno_statement::{FileStatement, FileStatementFault, Rewritten, StatementFault, rewrite};
 use std::alloc::{AllocError, Global};
 use std::collections::VecDeque;
@@ -47,6 +47,39 @@ impl<'a> Ready<'a> {
         mem::replace(&mut self.workspace, Workspace::bounded(alloc, MAX_KEPT))
     }
 
+    /// As [`Ready::search`], from the first cursor on: a match, which needs the workspace alone.
+    fn first(
+        &mut self,
+        alloc: Global,
+        text: &ByteText,
+        trials: u32,
+        earlier: Option<Found>,
+    ) -> Result<Found, FileStatementFault>
+        ensures same { self.new.statement.now ≡ self.old.statement.now }
+        ensures found { IfOk result (λ found. found ≡ search self.old.statement.now text.now 0) }
+        ensures within { IfOk result (λ _. search_trials self.old.statement.now text.now 0 ≤ trials) }
+        ensures refused { IfErr result (λ e. e ≡ TooManyTrials → trials < search_trials self.old.statement.now text.now 0) }
+        ensures never { IfErr result (λ e. e ≡ TextTooLong → ⊥) }
+    {
+        if let Some(found) = earlier {
+            self.workspace.give_back(found);
+        }
+        let anchored = self.statement.search().anchored();
+        // for the proof
+        a_search_from_the_first_cursor_is_a_match();
+        match self
+            .code
+            .first_in_bytes(alloc, &mut self.workspace, text, anchored, trials)
+        {
+            Ok(found) => Ok(found),
+            Err(fault) => {
+                let used = self.take_workspace(alloc);
+                let fault = StatementFault::from(fault);
+                Err(FileStatementFault::of(fault, used.is_full()))
+            }
+        }
+    }
+
     /// What a search finds, from a cursor of the text on. It takes over the memory of what an earlier one found. After a refusal
     /// it leaves no memory for the next one, which might be much.
     pub(crate) fn search(
@@ -64,6 +97,9 @@ impl<'a> Ready<'a> {
         ensures refused { IfErr result (λ e. e ≡ TooManyTrials → trials < search_trials self.old.statement.now text.now from) }
         ensures never { IfErr result (λ e. e ≡ TextTooLong → ⊥) }
     {
+        if from == 0 {
+            return self.first(alloc, text, trials, earlier);
+        }
         let mut searched = Searched::within(self.take_workspace(alloc), text);
         if let Some(found) = earlier {
             searched.give_back(found);

@@ -105,10 +105,14 @@ impl Seeker {
         ensures ahead { self.new.ahead.items ≡ self.old.ahead.items }
     {
         let earlier = self.found.take();
-        let found = self.statement.search(alloc, text, from, trials, earlier)?;
-        let matched = found.end.is_some();
-        self.found = Some(found);
-        Ok(matched)
+        match self.statement.search(alloc, text, from, trials, earlier) {
+            Ok(found) => {
+                let matched = found.end.is_some();
+                self.found = Some(found);
+                Ok(matched)
+            }
+            Err(fault) => Err(fault),
+        }
     }
 
     /// Does up to `most` searches that follow one another, the first of them from a cursor of the text on, and gathers what they find:
