@@ -2,15 +2,16 @@
 ghost use Rattle.std.specs.Prelude.{◌≡◌, ◌<◌, ◌≤◌, ◌^◌, length, Some, IfOk, IfErr};
 ghost use Rattle.sno_pattern.specs.declared.byte_texts.TheConstants.{MAX_BYTES};
 ghost use Rattle.sno_statement.specs.declared.file_faults.FileStatementFault.TheVariants.{TextTooLong, TooManyTrials};
+ghost use Rattle.sno_statement.specs.FileFaults.{plain};
 ghost use Rattle.sno_statement.specs.Passes.{search, search_trials};
-ghost use Rattle.sno_statement.specs.Perform.{IsCodeOf, perform_within};
+ghost use Rattle.sno_statement.specs.Perform.{IsCodeOf, of_match, perform_within};
 ghost use Rattle.sno_statement.specs.Rewriting.{GivesRewritten, rewriting};
 ghost use Rattle.sno_statement.specs.Statement.{with_limit};
 ghost use Rattle.sno_compiled.specs.Gathered.{gathered, gathered_trials};
 
 use crate::gathered::{Gathered, Seeking};
 use crate::loose::Loose;
-use sno_machine::{Code, MAX_KEPT, SearchOutcome, Searched, Workspace, compile};
+use sno_machine::{Code, MAX_KEPT, MatchFault, SearchOutcome, Searched, Workspace, compile};
 use sno_pattern::{ByteText, Found, a_search_from_the_first_cursor_is_a_match};
 use sno_statement::{FileStatement, FileStatementFault, Rewritten, StatementFault, rewrite};
 use std::alloc::{AllocError, Global};
@@ -47,6 +48,16 @@ impl<'a> Ready<'a> {
         mem::replace(&mut self.workspace, Workspace::bounded(alloc, MAX_KEPT))
     }
 
+    /// The fault of a search. Its workspace is given up: it might have taken much memory.
+    #[inline(never)]
+    fn refused(&mut self, alloc: Global, fault: MatchFault) -> FileStatementFault
+        ensures same { self.new.statement.now ≡ self.old.statement.now }
+        ensures fault { plain result ≡ of_match fault }
+    {
+        let used = self.take_workspace(alloc);
+        FileStatementFault::of(StatementFault::from(fault), used.is_full())
+    }
+
     /// As [`Ready::search`], from the first cursor on: a match, which needs the workspace alone.
     fn first(
         &mut self,
@@ -72,10 +83,44 @@ impl<'a> Ready<'a> {
             .first_in_bytes(alloc, &mut self.workspace, text, anchored, trials)
         {
             Ok(found) => Ok(found),
+            Err(fault) => Err(self.refused(alloc, fault)),
+        }
+    }
+
+    /// As [`Ready::search`], from a later cursor on. It is a call of its own: a function pays for the size of what it holds.
+    #[inline(never)]
+    fn search_on(
+        &mut self,
+        alloc: Global,
+        text: &ByteText,
+        from: usize,
+        trials: u32,
+        earlier: Option<Found>,
+    ) -> Result<Found, FileStatementFault>
+        requires { from ≤ length text.now }
+        ensures same { self.new.statement.now ≡ self.old.statement.now }
+        ensures found { IfOk result (λ found. found ≡ search self.old.statement.now text.now from) }
+        ensures within { IfOk result (λ _. search_trials self.old.statement.now text.now from ≤ trials) }
+        ensures refused { IfErr result (λ e. e ≡ TooManyTrials → trials < search_trials self.old.statement.now text.now from) }
+        ensures never { IfErr result (λ e. e ≡ TextTooLong → ⊥) }
+    {
+        let mut searched = Searched::within(self.take_workspace(alloc), text);
+        if let Some(found) = earlier {
+            searched.give_back(found);
+        }
+        let anchored = self.statement.search().anchored();
+        match self
+            .code
+            .first_from(alloc, &mut searched, anchored, from, trials)
+        {
+            Ok(search) => {
+                let SearchOutcome { found, .. } = search;
+                self.workspace = searched.into_workspace();
+                Ok(found)
+            }
             Err(fault) => {
-                let used = self.take_workspace(alloc);
                 let fault = StatementFault::from(fault);
-                Err(FileStatementFault::of(fault, used.is_full()))
+                Err(FileStatementFault::of(fault, searched.is_full()))
             }
         }
     }
@@ -98,26 +143,9 @@ impl<'a> Ready<'a> {
         ensures never { IfErr result (λ e. e ≡ TextTooLong → ⊥) }
     {
         if from == 0 {
-            return self.first(alloc, text, trials, earlier);
-        }
-        let mut searched = Searched::within(self.take_workspace(alloc), text);
-        if let Some(found) = earlier {
-            searched.give_back(found);
-        }
-        let anchored = self.statement.search().anchored();
-        match self
-            .code
-            .first_from(alloc, &mut searched, anchored, from, trials)
-        {
-            Ok(search) => {
-                let SearchOutcome { found, .. } = search;
-                self.workspace = searched.into_workspace();
-                Ok(found)
-            }
-            Err(fault) => {
-                let fault = StatementFault::from(fault);
-                Err(FileStatementFault::of(fault, searched.is_full()))
-            }
+            self.first(alloc, text, trials, earlier)
+        } else {
+            self.search_on(alloc, text, from, trials, earlier)
         }
     }
 
