@@ -2,7 +2,7 @@
 --     Loan               where all lies, the lifetimes, and what is ready now
 --     lends_ready        [a `&mut` to a `Tied`, by its two parts; its token]  becomes  [a `&mut` to what is ready; the `Tied` in memory; the tokens of the loan; what is kept]
 --     takes_ready        [the `Tied` in memory; the last value of the loan; its tokens; what is kept]  becomes  [the `&mut`, by its two parts; its token]
-use Rattle.std.proofs.Common.{◌≡◌, ℕ, List, [], ◌∷◌, ◌++◌, refl, sym, subst, ◌∙◌}
+use Rattle.std.proofs.Common.{◌≡◌, ℕ, List, [], ◌∷◌, refl, sym, subst, ◌∙◌}
 use seplogic.Ra.Ura.{Ura}
 use mir.Raw.{raw as bare}
 use mir.Syntax.{named}
@@ -10,11 +10,11 @@ use mir.Val.{Val, vptr}
 use base.Fraction.{full_share}
 use base.FractionLaws.{common}
 use base.Share.{left, right}
-use base.Logic.{SProp, sep, never, id⊢, fst∗, apply∗}
-use base.Fml.{Fml, Lft, Share, fsep, fex, fwand, flft, flent, fdead, fres, fobs, fauth, fbor, fobor}
+use base.Logic.{sep, never, id⊢, fst∗, apply∗}
+use base.Fml.{Fml, Lft, Share, fsep, fwand, flft, flent, fdead, fres, fobs, fauth, fbor, fobor}
 use base.Stored.{Gv}
 use types.Logic.{Logic, sem}
-use types.Kit.{Item, Goal, Soaks, Seq, Step, step, ‵, ◌⊛◌, some, later, ◌$◌, move, drop, split, fsplit, fsplit3, fjoin, fjoin3, fpick, fpack, pick, rewrite, use1, use2, use3, await, feq_l, feq_i}
+use types.Kit.{Item, Goal, Soaks, Seq, Step, step, ‵, ◌⊛◌, some, later, ◌$◌, move, split, fsplit, fsplit3, fjoin, fpick, fpack, pick, rewrite, use1, use2, use3, await, feq_l, feq_i}
 use types.SemTy.{Body}
 use types.Tokens.{lft_new, lft_end, lft-common}
 use contract.BorrowLft.{◌⊑◌, meet_⊑_left, meet_⊑_right}

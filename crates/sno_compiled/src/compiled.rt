@@ -1,5 +1,5 @@
 //! A statement with its compiled pattern.
-ghost use Rattle.std.specs.Prelude.{◌≡◌, ◌<◌, ◌≤◌, ◌^◌, length, Some, IfOk, IfErr};
+ghost use Rattle.std.specs.Prelude.{◌≡◌, ◌<◌, ◌≤◌, ◌^◌, length, None, Some, IfOk, IfErr};
 ghost use Rattle.sno_pattern.specs.declared.byte_texts.TheConstants.{MAX_BYTES};
 ghost use Rattle.sno_statement.specs.declared.file_faults.FileStatementFault.TheVariants.{TextTooLong, TooManyTrials};
 ghost use Rattle.sno_statement.specs.Passes.{search, search_trials};
@@ -48,31 +48,33 @@ impl CompiledStatement {
         }
     }
 
-    /// What a search for the pattern finds, from a cursor of the text on: the match, or that there is none, with the assignments.
-    /// The object and the rounds of the statement are not looked at. The search takes over the memory of what an earlier one found.
+    /// Puts what a search for the pattern finds, from a cursor of the text on, in place of what an earlier one found, whose memory it
+    /// takes over: the match, or that there is none, with the assignments. The object and the rounds of the statement are not looked
+    /// at.
     ///
     /// Refused:
     /// - `TooManyTrials` exactly if the search takes more than `trials` trials, unless one of the others comes first;
     /// - `HistoryTooLong` only if the search would have to keep more than `sno_machine::MAX_KEPT` entries in its history;
     /// - `Memory` if out of memory.
     ///
-    /// After a refusal no memory is kept for the next search.
+    /// After a refusal nothing is found, and no memory is kept for the next search.
     pub fn search(
         &mut self,
         alloc: Global,
         text: &ByteText,
         from: usize,
         trials: u32,
-        earlier: Option<Found>,
-    ) -> Result<Found, FileStatementFault>
+        found: &mut Option<Found>,
+    ) -> Result<(), FileStatementFault>
         requires { from ≤ length text.now }
-        ensures found { IfOk result (λ found. found ≡ search self.old text.now from) }
+        ensures found { IfOk result (λ _. found.new ≡ Some (search self.old text.now from)) }
         ensures within { IfOk result (λ _. search_trials self.old text.now from ≤ trials) }
         ensures refused { IfErr result (λ e. e ≡ TooManyTrials → trials < search_trials self.old text.now from) }
         ensures never { IfErr result (λ e. e ≡ TextTooLong → ⊥) }
+        ensures nothing { IfErr result (λ _. found.new ≡ None) }
         ensures same { self.new ≡ self.old }
     {
-        self.tied.search(alloc, text, from, trials, earlier)
+        self.tied.search(alloc, text, from, trials, found)
     }
 
     /// What up to `most` searches find that follow one another, the first of them from a cursor of the text on: what as many calls

@@ -1,5 +1,5 @@
 //! A statement whose pattern is compiled, and its searches.
-ghost use Rattle.std.specs.Prelude.{◌≡◌, ◌<◌, ◌≤◌, ◌^◌, length, Some, IfOk, IfErr};
+ghost use Rattle.std.specs.Prelude.{◌≡◌, ◌<◌, ◌≤◌, ◌^◌, length, None, Some, IfOk, IfErr};
 ghost use Rattle.sno_pattern.specs.declared.byte_texts.TheConstants.{MAX_BYTES};
 ghost use Rattle.sno_statement.specs.declared.file_faults.FileStatementFault.TheVariants.{TextTooLong, TooManyTrials};
 ghost use Rattle.sno_statement.specs.FileFaults.{plain};
@@ -64,16 +64,17 @@ impl<'a> Ready<'a> {
         alloc: Global,
         text: &ByteText,
         trials: u32,
-        earlier: Option<Found>,
-    ) -> Result<Found, FileStatementFault>
+        found: &mut Option<Found>,
+    ) -> Result<(), FileStatementFault>
         ensures same { self.new.statement.now ≡ self.old.statement.now }
-        ensures found { IfOk result (λ found. found ≡ search self.old.statement.now text.now 0) }
+        ensures found { IfOk result (λ _. found.new ≡ Some (search self.old.statement.now text.now 0)) }
         ensures within { IfOk result (λ _. search_trials self.old.statement.now text.now 0 ≤ trials) }
         ensures refused { IfErr result (λ e. e ≡ TooManyTrials → trials < search_trials self.old.statement.now text.now 0) }
         ensures never { IfErr result (λ e. e ≡ TextTooLong → ⊥) }
+        ensures nothing { IfErr result (λ _. found.new ≡ None) }
     {
-        if let Some(found) = earlier {
-            self.workspace.give_back(found);
+        if let Some(earlier) = found.take() {
+            self.workspace.give_back(earlier);
         }
         let anchored = self.statement.search().anchored();
         // for the proof
@@ -82,7 +83,10 @@ impl<'a> Ready<'a> {
             .code
             .first_in_bytes(alloc, &mut self.workspace, text, anchored, trials)
         {
-            Ok(found) => Ok(found),
+            Ok(first) => {
+                *found = Some(first);
+                Ok(())
+            }
             Err(fault) => Err(self.refused(alloc, fault)),
         }
     }
@@ -95,18 +99,19 @@ impl<'a> Ready<'a> {
         text: &ByteText,
         from: usize,
         trials: u32,
-        earlier: Option<Found>,
-    ) -> Result<Found, FileStatementFault>
+        found: &mut Option<Found>,
+    ) -> Result<(), FileStatementFault>
         requires { from ≤ length text.now }
         ensures same { self.new.statement.now ≡ self.old.statement.now }
-        ensures found { IfOk result (λ found. found ≡ search self.old.statement.now text.now from) }
+        ensures found { IfOk result (λ _. found.new ≡ Some (search self.old.statement.now text.now from)) }
         ensures within { IfOk result (λ _. search_trials self.old.statement.now text.now from ≤ trials) }
         ensures refused { IfErr result (λ e. e ≡ TooManyTrials → trials < search_trials self.old.statement.now text.now from) }
         ensures never { IfErr result (λ e. e ≡ TextTooLong → ⊥) }
+        ensures nothing { IfErr result (λ _. found.new ≡ None) }
     {
         let mut searched = Searched::within(self.take_workspace(alloc), text);
-        if let Some(found) = earlier {
-            searched.give_back(found);
+        if let Some(earlier) = found.take() {
+            searched.give_back(earlier);
         }
         let anchored = self.statement.search().anchored();
         match self
@@ -114,9 +119,9 @@ impl<'a> Ready<'a> {
             .first_from(alloc, &mut searched, anchored, from, trials)
         {
             Ok(search) => {
-                let SearchOutcome { found, .. } = search;
+                *found = Some(search.found);
                 self.workspace = searched.into_workspace();
-                Ok(found)
+                Ok(())
             }
             Err(fault) => {
                 let fault = StatementFault::from(fault);
@@ -125,27 +130,28 @@ impl<'a> Ready<'a> {
         }
     }
 
-    /// What a search finds, from a cursor of the text on. It takes over the memory of what an earlier one found. After a refusal
-    /// it leaves no memory for the next one, which might be much.
+    /// Puts what a search finds, from a cursor of the text on, in place of what an earlier one found, whose memory it takes over.
+    /// After a refusal there is nothing, and no memory is left for the next one, which might be much.
     pub(crate) fn search(
         &mut self,
         alloc: Global,
         text: &ByteText,
         from: usize,
         trials: u32,
-        earlier: Option<Found>,
-    ) -> Result<Found, FileStatementFault>
+        found: &mut Option<Found>,
+    ) -> Result<(), FileStatementFault>
         requires { from ≤ length text.now }
         ensures same { self.new.statement.now ≡ self.old.statement.now }
-        ensures found { IfOk result (λ found. found ≡ search self.old.statement.now text.now from) }
+        ensures found { IfOk result (λ _. found.new ≡ Some (search self.old.statement.now text.now from)) }
         ensures within { IfOk result (λ _. search_trials self.old.statement.now text.now from ≤ trials) }
         ensures refused { IfErr result (λ e. e ≡ TooManyTrials → trials < search_trials self.old.statement.now text.now from) }
         ensures never { IfErr result (λ e. e ≡ TextTooLong → ⊥) }
+        ensures nothing { IfErr result (λ _. found.new ≡ None) }
     {
         if from == 0 {
-            self.first(alloc, text, trials, earlier)
+            self.first(alloc, text, trials, found)
         } else {
-            self.search_on(alloc, text, from, trials, earlier)
+            self.search_on(alloc, text, from, trials, found)
         }
     }
 

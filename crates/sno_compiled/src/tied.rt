@@ -1,5 +1,5 @@
 //! A statement, and what its pattern is compiled to, which borrows from it.
-ghost use Rattle.std.specs.Prelude.{◌≡◌, ◌<◌, ◌≤◌, ◌^◌, length, Some, IfOk, IfErr};
+ghost use Rattle.std.specs.Prelude.{◌≡◌, ◌<◌, ◌≤◌, ◌^◌, length, None, Some, IfOk, IfErr};
 ghost use Rattle.sno_pattern.specs.declared.byte_texts.TheConstants.{MAX_BYTES};
 ghost use Rattle.sno_statement.specs.declared.file_faults.FileStatementFault.TheVariants.{TextTooLong, TooManyTrials};
 ghost use Rattle.sno_statement.specs.Passes.{search, search_trials};
@@ -60,17 +60,18 @@ impl Tied {
         text: &ByteText,
         from: usize,
         trials: u32,
-        earlier: Option<Found>,
-    ) -> Result<Found, FileStatementFault>
+        found: &mut Option<Found>,
+    ) -> Result<(), FileStatementFault>
         requires { from ≤ length text.now }
         ensures same { self.new.value ≡ self.old.value }
-        ensures found { IfOk result (λ found. found ≡ search self.old.value text.now from) }
+        ensures found { IfOk result (λ _. found.new ≡ Some (search self.old.value text.now from)) }
         ensures within { IfOk result (λ _. search_trials self.old.value text.now from ≤ trials) }
         ensures refused { IfErr result (λ e. e ≡ TooManyTrials → trials < search_trials self.old.value text.now from) }
         ensures never { IfErr result (λ e. e ≡ TextTooLong → ⊥) }
+        ensures nothing { IfErr result (λ _. found.new ≡ None) }
     {
         let ready = self.ready as *mut Ready<'_>;
-        unsafe { (*ready).search(alloc, text, from, trials, earlier) }
+        unsafe { (*ready).search(alloc, text, from, trials, found) }
     }
 
     /// As [`Ready::gather`].

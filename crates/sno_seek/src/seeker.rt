@@ -104,14 +104,11 @@ impl Seeker {
         ensures statement { self.new.statement ≡ self.old.statement }
         ensures ahead { self.new.ahead.items ≡ self.old.ahead.items }
     {
-        let earlier = self.found.take();
-        match self.statement.search(alloc, text, from, trials, earlier) {
-            Ok(found) => {
-                let matched = found.end.is_some();
-                self.found = Some(found);
-                Ok(matched)
-            }
-            Err(fault) => Err(fault),
+        self.statement
+            .search(alloc, text, from, trials, &mut self.found)?;
+        match &self.found {
+            Some(found) => Ok(found.end.is_some()),
+            None => Ok(false),
         }
     }
 

@@ -1,5 +1,5 @@
 -- Each search is gathered, and the next one begins where it says. At the end none is left to be done.
-use Rattle.std.proofs.Common.{◌≡◌, ◌≤◌, ◌<◌, ◌+◌, ◌-◌, ◌++◌, ◌∷◌, [], ℕ, Bool, List, length, Option, Some, IfSome, ap, sym, subst, ◌∙◌, arith, append_assoc, append-nil}
+use Rattle.std.proofs.Common.{◌≡◌, ◌≤◌, ◌<◌, ◌+◌, ◌-◌, ◌++◌, ◌∷◌, [], ℕ, Bool, List, length, Option, IfSome, ap, sym, subst, ◌∙◌, arith, append_assoc, append-nil}
 use Rattle.sno_pattern.specs.declared.found.Found.{Found}
 use Rattle.sno_pattern.specs.declared.found.Hit.{Hit}
 use Rattle.sno_statement.specs.Passes.{IsCursor, search, search_trials}

@@ -1,5 +1,5 @@
 -- It may go to another thread: what is borrowed and what borrows may.
-use Rattle.std.proofs.Common.{ℕ, [], ◌∷◌}
+use Rattle.std.proofs.Common.{[], ◌∷◌}
 use mir.Raw.{raw}
 use mir.Syntax.{named}
 use base.Fml.{Fml}

@@ -2,13 +2,13 @@
 use Rattle.std.proofs.Common.{◌≡◌, ℕ, List, [], ◌∷◌, ◌++◌, refl, sym, ap, subst, ◌∙◌, lit<}
 use mir.Raw.{raw as bare}
 use mir.Syntax.{tcons, tnil, ty_ptr, named, Body}
-use mir.Val.{Val, vptr, vstruct, vnil, vcons, of_list}
+use mir.Val.{Val, vptr, vstruct, vnil, of_list}
 use base.Fraction.{full_share}
 use base.Logic.{SProp, ent, emp, never, id⊢, fst∗}
-use base.Fml.{Fml, Lft, Incl-refl, ftrue, fsep, fex, flft, flent}
+use base.Fml.{Lft, Incl-refl, ftrue, flft, flent}
 use prog.Wp.{WpFn, Wp, after_seq, at_return}
 use types.Logic.{sem}
-use types.Kit.{‵, raw, ◌⊛◌, some, later, ◌$◌, ◌∵◌, !, qed, by, move, keep, drop, split, split3, join, fsplit, fsplit3, fjoin, fjoin3, fpick, fpack, pick, rewrite, suffices, use0, use1, use2, await, feq_l, feq_i, at_ret, any_q}
+use types.Kit.{‵, raw, ◌⊛◌, some, later, ◌$◌, ◌∵◌, !, qed, by, move, keep, drop, split, join, fsplit, fsplit3, fjoin, fpick, fpack, pick, suffices, use0, use1, use2, await, feq_l, feq_i, at_ret, any_q}
 use types.Match.{live, vrt, in_variant}
 use types.Run.{stop, fld, lit, addr, of_opd, no_more, and_then, returns, enter, first, blocks, exec, switches_on}
 use types.ByLocal.{alloc_all, pass_all, free_all, look_at, get, get_in, get_tag, through, sets, sets_last, lands_as, env}
@@ -21,9 +21,9 @@ use denote.Exit.{yes}
 use denote.Lend.{lends_shr}
 use denote.Memory.{part_at}
 use denote.Ref.{Bor, ShrRef}
-use denote.RattleType.{RattleType, Valss, owns}
+use denote.RattleType.{RattleType, owns}
 use denote.Signature.{types_at, plain}
-use denote.RawPtr.{Ptr, block_ptr, null_ptr, ptr_val, in_a_block, lies_at}
+use denote.RawPtr.{Ptr, block_ptr, null_ptr, ptr_val, in_a_block}
 use denote.Steps.{nothing, only, heard}
 use denote.Triple.Clauses.{Lasts, lasts}
 use denote.Triple.Entry.{alive}
@@ -32,7 +32,7 @@ use denote.Triple.Call.{calls_at}
 use denote.Triple.Walked.{Stays, stay_dropped, walk_of, Goes-dropped}
 use denote.Triple.Table.{framed}
 use Rattle.sno_compiled.specs.Blocks.{chunk}
-use Rattle.std.specs.Prelude.{Result, Ok, Err, IfOk, IfErr}
+use Rattle.std.specs.Prelude.{Ok, Err, IfOk, IfErr}
 use Rattle.std.specs.Box.Ownership.{box_owns}
 use Rattle.std.specs.contracts.alloc.AllocError.{the_row as AE}
 use Rattle.std.specs.contracts.result.Result as result
@@ -42,7 +42,7 @@ use Rattle.std.proofs.alloc.Calls.{Goes-blank, handle_tells}
 use Rattle.std.proofs.raw_atomic.Walks.{proved_at, leaves}
 use Rattle.sno_compiled.proofs.Heap.{global}
 use Rattle.sno_compiled.proofs.Values.{one, two, loose_in, loose_out, tied_in, result_out}
-use Rattle.sno_compiled.specs.Owned.{tied_at, life_owns, ready_owns, ready_row}
+use Rattle.sno_compiled.specs.Owned.{life_owns, ready_owns, ready_row}
 use Rattle.sno_compiled.specs.declared.ready.Ready.{Ready}
 use Rattle.sno_statement.specs.Statement.{Statement}
 use Rattle.sno_statement.specs.contracts.file_statements.FileStatement.{the_row as S}

@@ -1,14 +1,14 @@
 -- `untie` frees what borrows, and ends its lifetime.
-use Rattle.std.proofs.Common.{◌≡◌, ℕ, List, [], ◌∷◌, ◌++◌, refl, sym, ap, subst}
+use Rattle.std.proofs.Common.{◌≡◌, List, [], ◌∷◌, ◌++◌, refl, sym, ap, subst}
 use mir.Raw.{raw as bare}
 use mir.Syntax.{tcons, tnil, ty_ptr}
 use mir.Val.{Val, vptr}
 use base.Fraction.{full_share}
 use base.Logic.{SProp, ent, emp, never, id⊢, fst∗}
-use base.Fml.{Fml, ftrue, fsep, fex, flft, flent}
+use base.Fml.{ftrue, flft}
 use prog.Wp.{WpFn}
 use types.Logic.{sem}
-use types.Kit.{‵, raw, ◌⊛◌, some, later, ◌$◌, ◌∵◌, !, qed, by, move, keep, drop, split, split3, join, fsplit, fsplit3, fjoin, fjoin3, fpick, pick, rewrite, suffices, use0, use1, await, feq_l}
+use types.Kit.{‵, raw, ◌⊛◌, some, later, ◌$◌, ◌∵◌, !, qed, by, move, keep, drop, split, join, fsplit, fsplit3, fjoin, fpick, pick, suffices, use0, use1, await, feq_l}
 use types.Run.{stop, fld, of_opd, no_more, and_then, returns, enter}
 use types.ByLocal.{alloc_all, pass_all, free_all, look_at, get, get_in, sets, lands_as}
 use types.Part.{agg, sub, whole}
@@ -19,8 +19,8 @@ use denote.Exit.{yes}
 use denote.Builtin.{unit}
 use denote.RattleType.{RattleType, owns}
 use denote.Signature.{types_at, plain}
-use denote.RawPtr.{Ptr, block_ptr, null_ptr, ptr_val, in_a_block, lies_at}
-use denote.Steps.{nothing, only, heard}
+use denote.RawPtr.{Ptr, block_ptr, null_ptr, ptr_val, in_a_block}
+use denote.Steps.{nothing, only}
 use denote.Triple.Clauses.{Lasts, lasts}
 use denote.Triple.Entry.{alive}
 use denote.Triple.Spec.{triple_of}
@@ -33,8 +33,7 @@ use Rattle.std.proofs.alloc.Calls.{Goes-blank, handle_tells}
 use Rattle.std.proofs.raw_atomic.Walks.{proved_at, leaves}
 use Rattle.sno_compiled.proofs.Heap.{global}
 use Rattle.sno_compiled.proofs.Values.{one, two, loose_in, tied_out}
-use Rattle.sno_compiled.specs.Owned.{tied_at, life_owns, ready_owns, ready_row}
-use Rattle.sno_compiled.specs.declared.ready.Ready.{Ready}
+use Rattle.sno_compiled.specs.Owned.{tied_at, ready_row}
 use Rattle.sno_statement.specs.contracts.file_statements.FileStatement.{the_row as S}
 use Rattle.sno_compiled.specs.contracts.loose.Loose as loose
 use Rattle.sno_compiled.specs.contracts.tied.Tied.{the_row}
