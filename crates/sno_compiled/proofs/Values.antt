@@ -66,9 +66,3 @@ module _ {M : Type 1} {𝓤 : Ura M} {𝓛 : Logic 𝓤} {K : Type 0} {Γ : List
       ok x refl vss.0 (subst (λ (vs : List Val). u ∷ [] ≡ live 0 (of_list vs) ∷ []) f e)))))
   result_out t (Err x) u ok err = fpick t (λ us. fsplit t $ feq_l t (λ e. fpick t (λ vss. fsplit t $ feq_l t (λ f. fsplit t $ move t (1 ∷ []) $ drop t $
       err x refl vss.0 (subst (λ (vs : List Val). u ∷ [] ≡ live 1 (of_list vs) ∷ []) f e)))))
-
--- one machine value, of its type
-pub alone : (τ : Ty) (vs : List Val) → Typed (τ ∷ []) vs → (v : Val) × ((vs ≡ v ∷ []) × (Holds (has_ty τ v) × WT v))
-alone τ [] t = absurd t
-alone τ (v ∷ []) t = (v, (refl, t.0))
-alone τ (v ∷ u ∷ vs) t = absurd t.1

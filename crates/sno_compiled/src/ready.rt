@@ -11,9 +11,9 @@ ghost use Rattle.sno_compiled.specs.Gathered.{gathered, gathered_trials};
 
 use crate::gathered::{Gathered, Seeking};
 use crate::loose::Loose;
-use sno_machine::{Code, MAX_KEPT, MatchFault, SearchOutcome, Searched, Workspace, compile};
-use sno_pattern::{ByteText, Found, a_search_from_the_first_cursor_is_a_match};
-use sno_statement::{FileStatement, FileStatementFault, Rewritten, StatementFault, rewrite};
+use sno_machine::{Code, MAX_KEPT, MatchFault, Searched, Workspace, compile};
+use sno_pattern::{ByteText, Found};
+use sno_statement::{FileStatement, FileStatementFault, Rewritten, StatementFault, rewrite_with};
 use std::alloc::{AllocError, Global};
 use std::collections::VecDeque;
 use std::mem;
@@ -58,78 +58,6 @@ impl<'a> Ready<'a> {
         FileStatementFault::of(StatementFault::from(fault), used.is_full())
     }
 
-    /// As [`Ready::search`], from the first cursor on: a match, which needs the workspace alone.
-    fn first(
-        &mut self,
-        alloc: Global,
-        text: &ByteText,
-        trials: u32,
-        found: &mut Option<Found>,
-    ) -> Result<(), FileStatementFault>
-        ensures same { self.new.statement.now ≡ self.old.statement.now }
-        ensures found { IfOk result (λ _. found.new ≡ Some (search self.old.statement.now text.now 0)) }
-        ensures within { IfOk result (λ _. search_trials self.old.statement.now text.now 0 ≤ trials) }
-        ensures refused { IfErr result (λ e. e ≡ TooManyTrials → trials < search_trials self.old.statement.now text.now 0) }
-        ensures never { IfErr result (λ e. e ≡ TextTooLong → ⊥) }
-        ensures nothing { IfErr result (λ _. found.new ≡ None) }
-    {
-        if let Some(earlier) = found.take() {
-            self.workspace.give_back(earlier);
-        }
-        let anchored = self.statement.search().anchored();
-        // for the proof
-        a_search_from_the_first_cursor_is_a_match();
-        match self
-            .code
-            .first_in_bytes(alloc, &mut self.workspace, text, anchored, trials)
-        {
-            Ok(first) => {
-                *found = Some(first);
-                Ok(())
-            }
-            Err(fault) => Err(self.refused(alloc, fault)),
-        }
-    }
-
-    /// As [`Ready::search`], from a later cursor on. It is a call of its own: a function pays for the size of what it holds.
-    #[inline(never)]
-    fn search_on(
-        &mut self,
-        alloc: Global,
-        text: &ByteText,
-        from: usize,
-        trials: u32,
-        found: &mut Option<Found>,
-    ) -> Result<(), FileStatementFault>
-        requires { from ≤ length text.now }
-        ensures same { self.new.statement.now ≡ self.old.statement.now }
-        ensures found { IfOk result (λ _. found.new ≡ Some (search self.old.statement.now text.now from)) }
-        ensures within { IfOk result (λ _. search_trials self.old.statement.now text.now from ≤ trials) }
-        ensures refused { IfErr result (λ e. e ≡ TooManyTrials → trials < search_trials self.old.statement.now text.now from) }
-        ensures never { IfErr result (λ e. e ≡ TextTooLong → ⊥) }
-        ensures nothing { IfErr result (λ _. found.new ≡ None) }
-    {
-        let mut searched = Searched::within(self.take_workspace(alloc), text);
-        if let Some(earlier) = found.take() {
-            searched.give_back(earlier);
-        }
-        let anchored = self.statement.search().anchored();
-        match self
-            .code
-            .first_from(alloc, &mut searched, anchored, from, trials)
-        {
-            Ok(search) => {
-                *found = Some(search.found);
-                self.workspace = searched.into_workspace();
-                Ok(())
-            }
-            Err(fault) => {
-                let fault = StatementFault::from(fault);
-                Err(FileStatementFault::of(fault, searched.is_full()))
-            }
-        }
-    }
-
     /// Puts what a search finds, from a cursor of the text on, in place of what an earlier one found, whose memory it takes over.
     /// After a refusal there is nothing, and no memory is left for the next one, which might be much.
     pub(crate) fn search(
@@ -148,10 +76,19 @@ impl<'a> Ready<'a> {
         ensures never { IfErr result (λ e. e ≡ TextTooLong → ⊥) }
         ensures nothing { IfErr result (λ _. found.new ≡ None) }
     {
-        if from == 0 {
-            self.first(alloc, text, trials, found)
-        } else {
-            self.search_on(alloc, text, from, trials, found)
+        if let Some(earlier) = found.take() {
+            self.workspace.give_back(earlier);
+        }
+        let anchored = self.statement.search().anchored();
+        match self
+            .code
+            .search_in_bytes(alloc, &mut self.workspace, text, anchored, from, trials)
+        {
+            Ok(sought) => {
+                *found = Some(sought);
+                Ok(())
+            }
+            Err(fault) => Err(self.refused(alloc, fault)),
         }
     }
 
@@ -197,7 +134,7 @@ impl<'a> Ready<'a> {
         ensures rewritten { GivesRewritten result (rewriting (perform_within MAX_BYTES (with_limit self.old.statement.now trials) text.now)) }
         ensures few { IfOk result (λ r. r.matches < 2 ^ 32) }
     {
-        rewrite(alloc, self.statement, text, trials)
+        rewrite_with(alloc, self.statement, &self.code, text, trials)
     }
 }
 

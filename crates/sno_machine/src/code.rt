@@ -124,7 +124,11 @@ impl<'a> Code<'a> {
         ensures within { IfOk result (λ _. trials text.now self.now.bodies self.now.pattern anchored ≤ limit) }
         ensures refused { IfErr result (λ e. e ≡ TooManyTrials → limit < trials text.now self.now.bodies self.now.pattern anchored) }
     {
-        let found = self.first_of(alloc, workspace, text.bytes(), anchored, limit)?;
+        // for the proof
+        self.compiled.rules.bodies();
+        a_greater_depth_changes_no_outcome();
+        a_search_from_the_first_cursor_is_a_match();
+        let found = self.first_of(alloc, workspace, text.bytes(), anchored, 0, limit)?;
         Ok(found)
     }
 
@@ -142,31 +146,53 @@ impl<'a> Code<'a> {
         ensures within { IfOk result (λ _. trials text.now self.now.bodies self.now.pattern anchored ≤ limit) }
         ensures refused { IfErr result (λ e. e ≡ TooManyTrials → limit < trials text.now self.now.bodies self.now.pattern anchored) }
     {
-        let found = self.first_of(alloc, workspace, text.bytes(), anchored, limit)?;
+        // for the proof
+        self.compiled.rules.bodies();
+        a_greater_depth_changes_no_outcome();
+        a_search_from_the_first_cursor_is_a_match();
+        let found = self.first_of(alloc, workspace, text.bytes(), anchored, 0, limit)?;
         Ok(found)
     }
 
-    // The outcome of a match with these characters.
+    /// The outcome of a search in a text of bytes from a cursor on, by the memory of a workspace. It is that of [`Code::first_from`],
+    /// which serves better where one text is searched often.
+    ///
+    /// Refused as [`Code::first`] is, for the trials of this search.
+    pub fn search_in_bytes(
+        &self,
+        alloc: Global,
+        workspace: &mut Workspace<'a>,
+        text: &ByteText,
+        anchored: bool,
+        from: usize,
+        limit: u32,
+    ) -> Result<Found, MatchFault>
+        requires { from ≤ length text.now }
+        ensures found { IfOk result (λ found. found ≡ outcome_from text.now self.now.bodies self.now.pattern anchored from) }
+        ensures within { IfOk result (λ _. trials_from text.now self.now.bodies self.now.pattern anchored from ≤ limit) }
+        ensures refused { IfErr result (λ e. e ≡ TooManyTrials → limit < trials_from text.now self.now.bodies self.now.pattern anchored from) }
+    {
+        self.first_of(alloc, workspace, text.bytes(), anchored, from, limit)
+    }
+
+    // The outcome of a search in these characters from this cursor on.
     fn first_of(
         &self,
         alloc: Global,
         workspace: &mut Workspace<'a>,
         text: &[u8],
         anchored: bool,
+        from: usize,
         limit: u32,
     ) -> Result<Found, MatchFault>
         requires short { length text.now ≤ MAX_BYTES }
-        ensures found { IfOk result (λ found. found ≡ outcome text.now self.now.bodies self.now.pattern anchored) }
-        ensures deep { IfOk result (λ found. (k : ℕ) → enough_depth text.now self.now.bodies ≤ k → found ≡ outcome_at text.now self.now.bodies k self.now.pattern anchored) }
-        ensures within { IfOk result (λ _. trials text.now self.now.bodies self.now.pattern anchored ≤ limit) }
-        ensures refused { IfErr result (λ e. e ≡ TooManyTrials → limit < trials text.now self.now.bodies self.now.pattern anchored) }
+        requires inside { from ≤ length text.now }
+        ensures found { IfOk result (λ found. found ≡ outcome_from text.now self.now.bodies self.now.pattern anchored from) }
+        ensures within { IfOk result (λ _. trials_from text.now self.now.bodies self.now.pattern anchored from ≤ limit) }
+        ensures refused { IfErr result (λ e. e ≡ TooManyTrials → limit < trials_from text.now self.now.bodies self.now.pattern anchored from) }
     {
         let history = &mut workspace.history;
         let mut learnt = Learnt::nothing_of(text);
-        // for the proof
-        self.compiled.rules.bodies();
-        a_greater_depth_changes_no_outcome();
-        a_search_from_the_first_cursor_is_a_match();
         let first = search(
             alloc,
             &self.compiled,
@@ -174,7 +200,7 @@ impl<'a> Code<'a> {
             text,
             &mut learnt,
             anchored,
-            0,
+            from,
             limit,
         )?;
         let SearchOutcome { found, .. } = first;

@@ -2,10 +2,8 @@
 use Rattle.std.proofs.Common.{◌≡◌, ℕ, zero, suc, ◌-◌, ◌<◌, List, Result, Ok, Err, refl, arith}
 use Rattle.sno_pattern.specs.Tree.{Tree, Alt}
 use Rattle.sno_read.specs.declared.faults.ReadFault.{ReadFault}
-use Rattle.sno_read.specs.declared.faults.Stop.{Stop}
-use Rattle.sno_read.specs.declared.faults.Stop.TheVariants as stop
 use Rattle.sno_read.specs.declared.characters.Following.TheVariants as follows
-use Rattle.sno_read.specs.Gives.{◌>>=◌, Stops}
+use Rattle.sno_read.specs.Gives.{◌>>=◌}
 use Rattle.sno_read.specs.Characters.{what_follows}
 use Rattle.sno_read.specs.Reading.{Env, Read, sign_at, targets_at, target_by, items_at, item_by, parts_at, next_part_by, inside, alternation_at}
 
@@ -24,25 +22,13 @@ unfolding parts_at
 parts_step env part zero text m h = absurd (omega arith)
 parts_step env part (suc n) text m h = let e : suc n - 1 ≡ n = omega arith in rw e refl
 
--- a tree and the one after it, as an alternation
-abbrev made : Tree → Tree × List ℕ → Read Tree
-made t y = Ok (Alt t y.0, y.1)
+-- what comes after a bar is read, and then made one with the tree before it
+read_then : (r : Result (List ℕ) ReadFault) (more : List ℕ → Read Tree) (made : Tree × List ℕ → Read Tree) → (r >>= λ a. more a >>= made) ≡ ((r >>= more) >>= made)
+read_then (Err d) more made = refl
+read_then (Ok a) more made = refl
 
-joined_stops : (s : Stop) (r : Result (List ℕ) ReadFault) (more : List ℕ → Read Tree) (t : Tree) → Stops s (r >>= more) → Stops {Y = Tree × List ℕ} s (r >>= λ a. more a >>= λ y. made t y)
-joined_stops stop.Memory r more t h = tt
-joined_stops (stop.Fault e) (Err d) more t h = cc
-joined_stops (stop.Fault e) (Ok a) more t h = rw h refl
-
-joined_found : (r : Result (List ℕ) ReadFault) (more : List ℕ → Read Tree) (t : Tree) (y : Tree × List ℕ) → (r >>= more) ≡ Ok y → (r >>= λ a. more a >>= λ z. made t z) ≡ made t y
-joined_found (Err d) more t y h = cc
-joined_found (Ok a) more t y h = rw h refl
-
--- the fault of a bar and of what comes after it, or what they make of the tree before them
-pub bar_stops : (env : Env) (more : List ℕ → Read Tree) (x : Tree × List ℕ) (s : Stop) → Stops s (sign_at env x.1 >>= more) → Stops s (next_part_by env more x follows.Bar)
-bar_stops env more x s h = joined_stops s (sign_at env x.1) more x.0 h
-
-pub bar_found : (env : Env) (more : List ℕ → Read Tree) (x : Tree × List ℕ) (y : Tree × List ℕ) → (sign_at env x.1 >>= more) ≡ Ok y → next_part_by env more x follows.Bar ≡ Ok (Alt x.0 y.0, y.1)
-bar_found env more x y h = joined_found (sign_at env x.1) more x.0 y h
+pub bar_then : (env : Env) (more : List ℕ → Read Tree) (x : Tree × List ℕ) → next_part_by env more x follows.Bar ≡ ((sign_at env x.1 >>= more) >>= λ y. Ok (Alt x.0 y.0, y.1))
+bar_then env more x = read_then (sign_at env x.1) more (λ y. Ok (Alt x.0 y.0, y.1))
 
 pub inside_step : (env : Env) (room : ℕ) (text : List ℕ) → 0 < room → inside env room text ≡ alternation_at env (room - 1) (inside env (room - 1)) text
 unfolding inside

@@ -13,7 +13,7 @@ use sno_pattern::{is_letter, is_name_char};
 pub const MAX_NUMBER: u32 = 65_536;
 
 /// What kind of element begins at a place.
-#[derive(Clone, Copy, Debug, PartialEq, Eq)]
+#[derive(Clone, Copy)]
 pub enum Start {
     Quote,
     At,
@@ -24,7 +24,7 @@ pub enum Start {
 }
 
 /// What follows an item.
-#[derive(Clone, Copy, Debug, PartialEq, Eq)]
+#[derive(Clone, Copy)]
 pub enum Following {
     Nothing,
     Dot,

@@ -44,7 +44,7 @@ pub enum ReadFault {
 }
 
 /// Why reading stops: out of memory, or a fault of the text.
-#[derive(Clone, Copy, Debug, PartialEq, Eq)]
+#[derive(Clone, Copy)]
 pub enum Stop {
     /// Out of memory.
     Memory,

@@ -9,7 +9,7 @@ ghost use Rattle.sno_read.specs.Keywords.{keyword_of, word_tree, number_tree, se
 use sno_pattern::{Class, Pattern};
 
 /// A word that is a pattern on its own.
-#[derive(Clone, Copy, Debug, PartialEq, Eq)]
+#[derive(Clone, Copy)]
 pub enum Word {
     Arb,
     Bal,
@@ -20,7 +20,7 @@ pub enum Word {
 }
 
 /// A primitive whose argument is a number.
-#[derive(Clone, Copy, Debug, PartialEq, Eq)]
+#[derive(Clone, Copy)]
 pub enum NumberCall {
     Len,
     Pos,
@@ -30,7 +30,7 @@ pub enum NumberCall {
 }
 
 /// A primitive whose argument is a set of characters.
-#[derive(Clone, Copy, Debug, PartialEq, Eq)]
+#[derive(Clone, Copy)]
 pub enum SetCall {
     AnyOf,
     NoneOf,
@@ -39,7 +39,7 @@ pub enum SetCall {
 }
 
 /// What a reserved word is.
-#[derive(Clone, Copy, Debug, PartialEq, Eq)]
+#[derive(Clone, Copy)]
 pub enum Keyword {
     Primitive(Word),
     Counted(NumberCall),

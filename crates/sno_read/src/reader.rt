@@ -1,11 +1,11 @@
 //! The reader of patterns: a method for each rule of the grammar.
-ghost use Rattle.std.specs.Prelude.{◌≡◌, ℕ, ◌<◌, ◌≤◌, length, IfOk, Ok};
-ghost use Rattle.sno_pattern.specs.Tree.{tree_of, Lit, Cond, Imm};
+ghost use Rattle.std.specs.Prelude.{◌≡◌, ℕ, List, ◌<◌, ◌≤◌, length, IfOk, Ok};
+ghost use Rattle.sno_pattern.specs.Tree.{Tree, tree_of, Alt, Lit, Cond, Imm, Seq};
 ghost use Rattle.sno_read.specs.Characters.{skip};
 ghost use Rattle.sno_read.specs.Gives.{Gives, ◌>>=◌ as ◌and_then◌};
-ghost use Rattle.sno_read.specs.Reading.{place, sign_at, cursor_at, reference_at, plain_of, number_call_at, set_call_at, group_at, repetition_at, from_name_at, quotation_at, element_at, targets_at, item_at, items_at, parts_at, concatenation_at, inside};
+ghost use Rattle.sno_read.specs.Reading.{Read, place, sign_at, cursor_at, reference_at, plain_of, number_call_at, set_call_at, group_at, repetition_at, from_name_at, quotation_at, element_at, targets_at, item_at, items_at, parts_at, concatenation_at, inside};
 ghost use Rattle.sno_read.specs.Views.{env_of};
-ghost use Rattle.sno_read.specs.declared.characters.Following.TheVariants.{Dot, Dollar};
+ghost use Rattle.sno_read.specs.declared.characters.Following.TheVariants.{Bar, Dot, Dollar, Item};
 ghost use Rattle.sno_read.specs.declared.faults.ReadFault.TheVariants.{UnknownName};
 
 use crate::characters::{self, Following, Start};
@@ -27,6 +27,18 @@ pub struct Reader<'a> {
     pub total: usize,
     /// Whether it is the text of a rule for files: then sets may have several literals.
     pub in_rule: bool,
+}
+
+// A part that is assigned: at once after a dollar sign, and later after a period.
+fn assigned(sign: Following, part: Box<Pattern>, name: Name) -> Pattern
+    ensures at_once { sign ≡ Dollar → tree_of result ≡ Imm (tree_of part.value) name }
+    ensures later { sign ≡ Dot → tree_of result ≡ Cond (tree_of part.value) name }
+{
+    if matches!(sign, Following::Dollar) {
+        Pattern::Imm(part, name)
+    } else {
+        Pattern::Cond(part, name)
+    }
 }
 
 impl<'a> Reader<'a> {
@@ -64,19 +76,6 @@ impl<'a> Reader<'a> {
         Ok((call.pattern(members), rest))
     }
 
-    // A part that is assigned: at once after a dollar sign, and later after a period.
-    fn assigned(&self, sign: Following, part: Pattern, name: Name) -> Result<Pattern, Stop>
-        ensures at_once { sign ≡ Dollar → Gives tree_of result (Ok (Imm (tree_of part) name)) }
-        ensures later { sign ≡ Dot → Gives tree_of result (Ok (Cond (tree_of part) name)) }
-    {
-        let part = Box::new(self.alloc, part)?;
-        if sign == Following::Dollar {
-            Ok(Pattern::Imm(part, name))
-        } else {
-            Ok(Pattern::Cond(part, name))
-        }
-    }
-
     // The targets of a pattern, the leftmost innermost.
     fn targets(&self, pattern: Pattern, rest: Piece<'a>) -> Result<(Pattern, Piece<'a>), Stop>
         ensures read { (n : ℕ) → length rest.entry.characters.now < n → Gives (λ p. (tree_of p.0, p.1.characters.now)) result (targets_at (env_of self.now) n (tree_of pattern) rest.entry.characters.now) }
@@ -85,13 +84,36 @@ impl<'a> Reader<'a> {
         let follows = characters::what_follows(rest.characters);
         match follows {
             Following::Dot | Following::Dollar => {
+                // Boxed at once, since an early exit drops a box by one call, and a pattern by its variants.
+                let part = Box::new(self.alloc, pattern)?;
                 let rest = self.sign(rest)?;
                 let name = self.variable(rest)?;
-                let part = self.assigned(follows, pattern, name)?;
-                let read = self.targets(part, rest.after_name())?;
+                let read = self.targets(assigned(follows, part, name), rest.after_name())?;
                 Ok(read)
             }
             Following::Nothing | Following::Bar | Following::Item => Ok((pattern, rest)),
+        }
+    }
+
+    // A pattern and what was read after it, as one: after a bar it is the other choice, and otherwise it comes next.
+    fn both(
+        &self,
+        sign: Following,
+        first: Pattern,
+        others: Result<(Pattern, Piece<'a>), Stop>,
+    ) -> Result<(Pattern, Piece<'a>), Stop>
+        ensures either { sign ≡ Bar → (reading : Read Tree) → Gives (λ p. (tree_of p.0, p.1.characters.now)) others.entry reading → Gives {Y = Tree × List ℕ} (λ p. (tree_of p.0, p.1.characters.now)) result (reading and_then λ y. Ok (Alt (tree_of first) y.0, y.1)) }
+        ensures next { sign ≡ Item → (reading : Read Tree) → Gives (λ p. (tree_of p.0, p.1.characters.now)) others.entry reading → Gives {Y = Tree × List ℕ} (λ p. (tree_of p.0, p.1.characters.now)) result (reading and_then λ y. Ok (Seq (tree_of first) y.0, y.1)) }
+        ensures shorter { (n : ℕ) → IfOk others.entry (λ p. length p.1.characters.now < n) → IfOk result (λ p. length p.1.characters.now < n) }
+    {
+        // Boxed at once, as in `targets`.
+        let first = Box::new(self.alloc, first)?;
+        let (second, rest) = others?;
+        let second = Box::new(self.alloc, second)?;
+        if matches!(sign, Following::Bar) {
+            Ok((Pattern::Alt(first, second), rest))
+        } else {
+            Ok((Pattern::Seq(first, second), rest))
         }
     }
 
@@ -229,8 +251,7 @@ impl<'a> Reader<'a> {
         ensures shorter { IfOk result (λ p. length p.1.characters.now < length rest.entry.characters.now) }
     {
         let (pattern, rest) = self.element(room, rest)?;
-        let read = self.targets(pattern, rest)?;
-        Ok(read)
+        self.targets(pattern, rest)
     }
 
     // Items, joined from the right.
@@ -240,17 +261,11 @@ impl<'a> Reader<'a> {
         ensures shorter { IfOk result (λ p. length p.1.characters.now < length rest.entry.characters.now) }
     {
         let (pattern, rest) = self.item(room, rest)?;
-        match characters::what_follows(rest.characters) {
-            Following::Item => {
-                let (others, rest) = self.concatenation(room, rest.after_blanks())?;
-                let first = Box::new(self.alloc, pattern)?;
-                let second = Box::new(self.alloc, others)?;
-                Ok((Pattern::Seq(first, second), rest))
-            }
-            Following::Nothing | Following::Dot | Following::Dollar | Following::Bar => Ok((
-                pattern, rest,
-            )),
-        }
+        let Following::Item = characters::what_follows(rest.characters) else {
+            return Ok((pattern, rest));
+        };
+        let others = self.concatenation(room, rest.after_blanks());
+        self.both(Following::Item, pattern, others)
     }
 
     // What comes after a bar: an alternation.
@@ -271,16 +286,10 @@ impl<'a> Reader<'a> {
         ensures shorter { IfOk result (λ p. length p.1.characters.now < length rest.entry.characters.now) }
     {
         let (pattern, rest) = self.concatenation(room, rest)?;
-        match characters::what_follows(rest.characters) {
-            Following::Bar => {
-                let (others, rest) = self.otherwise(room, rest)?;
-                let first = Box::new(self.alloc, pattern)?;
-                let second = Box::new(self.alloc, others)?;
-                Ok((Pattern::Alt(first, second), rest))
-            }
-            Following::Nothing | Following::Dot | Following::Dollar | Following::Item => Ok((
-                pattern, rest,
-            )),
-        }
+        let Following::Bar = characters::what_follows(rest.characters) else {
+            return Ok((pattern, rest));
+        };
+        let others = self.otherwise(room, rest);
+        self.both(Following::Bar, pattern, others)
     }
 }

@@ -110,6 +110,40 @@ impl Assigned {
         Ok(())
     }
 
+    /// Assigns few assignments, before any other. Each variable is looked up in the list.
+    #[inline]
+    fn assign_few(
+        &mut self,
+        subject: &[u8],
+        sets: &[Assign],
+        conds: &[(Name, usize, usize)],
+    ) -> Result<(), AllocError>
+        requires first { self.old ≡ [] }
+        requires short { length subject.now ≤ MAX_BYTES }
+        requires lie { SetsLie subject.now sets.now }
+        ensures { OnOk result (values_of_last subject.now self.new ≡ bind_conds subject.now (bind_sets subject.now [] sets.now) conds.now) }
+    {
+        self.assign_at_once(subject, sets)?;
+        self.assign_later(conds)
+    }
+
+    /// Assigns many assignments, before any other. Each variable is looked up by its hash.
+    fn assign_many(
+        &mut self,
+        alloc: Global,
+        subject: &[u8],
+        sets: &[Assign],
+        conds: &[(Name, usize, usize)],
+    ) -> Result<(), AllocError>
+        requires first { self.old ≡ [] }
+        requires short { length subject.now ≤ MAX_BYTES }
+        requires lie { SetsLie subject.now sets.now }
+        ensures { OnOk result (values_of_last subject.now self.new ≡ bind_conds subject.now (bind_sets subject.now [] sets.now) conds.now) }
+    {
+        let lasts = LastAssignments::of_match(alloc, subject, sets, conds)?;
+        self.add(&lasts)
+    }
+
     /// What one match assigned: first at once, then conditionally. What was assigned before is dropped.
     #[inline(always)]
     pub(crate) fn replace(
@@ -126,18 +160,11 @@ impl Assigned {
         self.list.clear();
         if sets.is_empty() && conds.len() == 1 {
             // the most usual search: one conditional assignment
-            self.assign_only(conds)?;
-            return Ok(());
+            self.assign_only(conds)
+        } else if sets.len() < MANY && conds.len() < MANY {
+            self.assign_few(subject, sets, conds)
+        } else {
+            self.assign_many(alloc, subject, sets, conds)
         }
-        if sets.len() < MANY && conds.len() < MANY {
-            self.assign_at_once(subject, sets)?;
-            self.assign_later(conds)?;
-            return Ok(());
-        }
-        let mut lasts = LastAssignments::new(alloc);
-        lasts.note_at_once(subject, sets)?;
-        lasts.note_later(conds)?;
-        self.add(&lasts)?;
-        Ok(())
     }
 }

@@ -4,7 +4,7 @@ ghost use Rattle.std.specs.Option.{option_map};
 ghost use Rattle.sno_pattern.specs.CursorLaws.{SetsLie};
 ghost use Rattle.sno_statement.specs.declared.file_faults.FileStatementFault.TheVariants.{TooManyTrials, TextTooLong};
 ghost use Rattle.sno_statement.specs.Bindings.{lookup};
-ghost use Rattle.sno_statement.specs.BytePasses.{byte_match, first_match, first_trials};
+ghost use Rattle.sno_statement.specs.BytePasses.{byte_match, first_match, first_trials, match_found};
 ghost use Rattle.sno_statement.specs.Passes.{begun, cursors_left, match_by, matches_left, trials_together};
 ghost use Rattle.sno_statement.specs.Perform.{IsCodeOf};
 ghost use Rattle.sno_statement.specs.Spans.{value_lent};
@@ -12,12 +12,12 @@ ghost use Rattle.sno_statement.specs.Statement.{with_limit};
 
 use crate::assigned::Assigned;
 use crate::binding_refs::last_of;
-use crate::file_searches::first_in;
+use crate::file_searches::first_alone;
 use crate::searches::Searches;
 use crate::spans::SpanValue;
 use crate::{FileStatement, FileStatementFault};
-use sno_machine::{Code, MAX_KEPT, Workspace};
-use sno_pattern::{Assigns, ByteText, Hit, Name};
+use sno_machine::Code;
+use sno_pattern::{Assigns, ByteText, Found, Hit, Name};
 use std::alloc::{AllocError, Global};
 use std::marker::Model;
 
@@ -166,7 +166,7 @@ impl<'c, 't, 'a> BytePass<'c, 't, 'a> {
     ///
     /// Refused:
     /// - `TooManyTrials` only if all searches of the pass together take more trials than the limit;
-    /// - `HistoryTooLong` only if a search would have to keep more than [`MAX_KEPT`] entries in its history;
+    /// - `HistoryTooLong` only if a search would have to keep more than [`sno_machine::MAX_KEPT`] entries in its history;
     /// - `Memory` if out of memory.
     ///
     /// After a refusal no further match should be asked for: the search that was refused would be tried again.
@@ -210,12 +210,27 @@ fn match_in<'t>(
     })
 }
 
+/// The match of a search, if it found one.
+fn match_of<'t>(
+    alloc: Global,
+    subject: &'t ByteText,
+    found: &Found,
+) -> Result<Option<ByteMatch<'t>>, AllocError>
+    requires { SetsLie subject.now found.now.sets }
+    ensures { IfOk result (λ m. option_map byte_match m ≡ match_found subject.now found.now found.now.end) }
+{
+    match &found.end {
+        None => Ok(None),
+        Some(hit) => Ok(Some(match_in(alloc, subject, &found.sets, hit)?)),
+    }
+}
+
 /// The first match of a statement in the content of a file, whether or not the statement is for all matches; `None` if nothing
 /// matches. It is sought as the statement's first round is. The code is that of the statement's pattern, compiled with its definitions.
 ///
 /// Refused:
 /// - `TooManyTrials` exactly if the match takes more than `trials` trials, unless one of the others comes first;
-/// - `HistoryTooLong` only if the search would have to keep more than [`MAX_KEPT`] entries in its history;
+/// - `HistoryTooLong` only if the search would have to keep more than [`sno_machine::MAX_KEPT`] entries in its history;
 /// - `Memory` if out of memory.
 pub fn first_match<'t>(
     alloc: Global,
@@ -230,14 +245,8 @@ pub fn first_match<'t>(
     ensures refused { IfErr result (λ e. e ≡ TooManyTrials → trials < first_trials statement.now text.now) }
     ensures never { IfErr result (λ e. e ≡ TextTooLong → ⊥) }
 {
-    let mut workspace = Workspace::bounded(alloc, MAX_KEPT);
     let anchored = statement.search().anchored();
-    let found = first_in(alloc, code, &mut workspace, text, anchored, trials)?;
-    match &found.end {
-        None => Ok(None),
-        Some(hit) => {
-            let first = match_in(alloc, text, &found.sets, hit)?;
-            Ok(Some(first))
-        }
-    }
+    let found = first_alone(alloc, code, text, anchored, trials)?;
+    let first = match_of(alloc, text, &found)?;
+    Ok(first)
 }

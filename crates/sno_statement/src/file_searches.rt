@@ -5,7 +5,7 @@ ghost use Rattle.sno_pattern.specs.Outcome.{outcome, trials};
 ghost use Rattle.sno_statement.specs.declared.file_faults.FileStatementFault.TheVariants.{TextTooLong, TooManyTrials};
 
 use crate::{FileStatementFault, StatementFault};
-use sno_machine::{Code, Workspace};
+use sno_machine::{Code, MAX_KEPT, Workspace};
 use sno_pattern::{ByteText, Found, cursors_lie_within_the_text};
 use std::alloc::Global;
 
@@ -38,4 +38,23 @@ pub(crate) fn first_in<'a>(
             Err(FileStatementFault::of(fault, workspace.is_full()))
         }
     }
+}
+
+/// As [`first_in`], with a workspace for this search alone.
+#[inline]
+pub(crate) fn first_alone(
+    alloc: Global,
+    code: &Code<'_>,
+    text: &ByteText,
+    anchored: bool,
+    limit: u32,
+) -> Result<Found, FileStatementFault>
+    ensures found { IfOk result (λ found. found ≡ outcome text.now code.now.bodies code.now.pattern anchored) }
+    ensures lies { IfOk result (λ found. SetsLie text.now found.sets) }
+    ensures within { IfOk result (λ _. trials text.now code.now.bodies code.now.pattern anchored ≤ limit) }
+    ensures refused { IfErr result (λ e. e ≡ TooManyTrials → limit < trials text.now code.now.bodies code.now.pattern anchored) }
+    ensures never { IfErr result (λ e. e ≡ TextTooLong → ⊥) }
+{
+    let mut workspace = Workspace::bounded(alloc, MAX_KEPT);
+    first_in(alloc, code, &mut workspace, text, anchored, limit)
 }

@@ -1,10 +1,10 @@
 //! Statements for files.
-ghost use Rattle.std.specs.Prelude.{◌≡◌, map, IfOk, IfSome, MatchOption, None, true, false};
+ghost use Rattle.std.specs.Prelude.{◌≡◌, map, IfOk, IfSome, MatchOption, None, Some, true, false};
 ghost use Rattle.std.specs.List.{list_all};
 ghost use Rattle.std.specs.Option.{option_map};
 ghost use Rattle.sno_read.specs.ByteParts.{part_of};
-ghost use Rattle.sno_statement.specs.FileStatements.{is_plain, searching, with_object};
-ghost use Rattle.sno_statement.specs.Statement.{IsLimit, IsRepeat, with_all, with_limit, with_repeat};
+ghost use Rattle.sno_statement.specs.FileStatements.{is_plain, searching, with_object, with_object_and_repeat};
+ghost use Rattle.sno_statement.specs.Statement.{IsLimit, IsOneWay, IsRepeat, with_all, with_limit, with_repeat};
 
 use crate::Statement;
 use sno_pattern::{ByteText, Text};
@@ -47,9 +47,9 @@ fn plain_part(alloc: Global, part: &BytePart) -> Result<Option<Part>, AllocError
     }
 }
 
-/// The parts of an object as those whose literals are texts; `None` if a literal is not a text.
-fn plain_parts(alloc: Global, parts: &[BytePart]) -> Result<Option<Vec<Part>>, AllocError>
-    ensures { IfOk result (λ plain. MatchOption plain (list_all is_plain (map part_of parts.now) ≡ false) (λ v. v.items ≡ map part_of parts.now)) }
+/// The object of these parts as one whose literals are texts; `None` if a literal is not a text.
+fn plain_object(alloc: Global, parts: &[BytePart]) -> Result<Option<Object>, AllocError>
+    ensures { IfOk result (λ plain. MatchOption plain (list_all is_plain (map part_of parts.now) ≡ false) (λ o. o ≡ map part_of parts.now)) }
 {
     let mut plain = Vec::new(alloc);
     for part in parts {
@@ -58,7 +58,25 @@ fn plain_parts(alloc: Global, parts: &[BytePart]) -> Result<Option<Vec<Part>>, A
             Some(part) => plain.push(part)?,
         }
     }
-    Ok(Some(plain))
+    Ok(Some(Object::of(plain)))
+}
+
+/// A statement that finds what `search` finds, and replaces it by the value of an object for files, repeated at most this often if at
+/// all; `None` if a literal of the object is not a text.
+fn replacing_plain(
+    alloc: Global,
+    search: Statement,
+    object: &ByteObject,
+    repeat: Option<u32>,
+) -> Result<Option<Statement>, AllocError>
+    requires repeat { IfSome repeat (λ r. IsRepeat (Some object.now) r) }
+    requires one_way { IsOneWay repeat search.all }
+    ensures { IfOk result (λ s. MatchOption s (list_all is_plain object.now ≡ false) (λ s. s ≡ with_object_and_repeat search (Some object.now) repeat)) }
+{
+    match plain_object(alloc, object.parts())? {
+        None => Ok(None),
+        Some(object) => Ok(Some(search.replacing(Some(object), repeat))),
+    }
 }
 
 /// A part of an object, for files.
@@ -191,12 +209,9 @@ impl FileStatement {
             object,
             repeat,
         } = self;
-        let Some(object) = object else {
-            return Ok(Some(search.replacing(None, repeat)));
-        };
-        match plain_parts(alloc, object.parts())? {
-            None => Ok(None),
-            Some(parts) => Ok(Some(search.replacing(Some(Object::of(parts)), repeat))),
+        match &object {
+            None => Ok(Some(search.replacing(None, repeat))),
+            Some(object) => replacing_plain(alloc, search, object, repeat),
         }
     }
 }

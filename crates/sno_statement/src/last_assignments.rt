@@ -16,7 +16,7 @@ use std::alloc::{AllocError, Global};
 use std::marker::Model;
 
 /// What a variable was assigned last.
-#[derive(Clone, Copy, Debug, PartialEq, Eq)]
+#[derive(Clone, Copy)]
 pub(crate) enum Last {
     /// The characters between two cursors.
     Part(usize, usize),
@@ -50,7 +50,7 @@ impl Last {
     }
 
     /// The value, with its string cut from the subject.
-    pub(crate) fn value(self, alloc: Global, subject: &Text) -> Result<Datum, AllocError>
+    fn value(self, alloc: Global, subject: &Text) -> Result<Datum, AllocError>
         ensures { IfOk result (λ d. d ≡ value_of_last subject.now self) }
     {
         match self {
@@ -60,6 +60,20 @@ impl Last {
             }
             Last::Cursor(cursor) => Ok(Datum::Int(cursor)),
         }
+    }
+
+    /// Binds a variable to the value, after what is already bound.
+    pub(crate) fn bind_in(
+        self,
+        alloc: Global,
+        subject: &Text,
+        name: Name,
+        bindings: &mut Bindings,
+    ) -> Result<(), AllocError>
+        ensures { OnOk result (bindings.new ≡ bind bindings.old name (value_of_last subject.now self)) }
+    {
+        let value = self.value(alloc, subject)?;
+        bindings.set(name, value)
     }
 }
 
@@ -81,7 +95,7 @@ impl Model for LastAssignments {
 
 impl LastAssignments {
     /// No variable was assigned yet.
-    pub(crate) fn new(alloc: Global) -> LastAssignments
+    fn new(alloc: Global) -> LastAssignments
         ensures { result ≡ [] }
     {
         LastAssignments {
@@ -99,7 +113,7 @@ impl LastAssignments {
     }
 
     /// Notes the immediate assignments, after what was noted already.
-    pub(crate) fn note_at_once(&mut self, subject: &[u8], sets: &[Assign]) -> Result<(), AllocError>
+    fn note_at_once(&mut self, subject: &[u8], sets: &[Assign]) -> Result<(), AllocError>
         requires short { length subject.now ≤ MAX_BYTES }
         requires lie { SetsLie subject.now sets.now }
         ensures { OnOk result (values_of_last subject.now self.new ≡ bind_sets subject.now (values_of_last subject.now self.old) sets.now) }
@@ -111,13 +125,30 @@ impl LastAssignments {
     }
 
     /// Notes the conditional assignments, after what was noted already.
-    pub(crate) fn note_later(&mut self, conds: &[(Name, usize, usize)]) -> Result<(), AllocError>
+    fn note_later(&mut self, conds: &[(Name, usize, usize)]) -> Result<(), AllocError>
         ensures { OnOk result ((t : List ℕ) → values_of_last t self.new ≡ bind_conds t (values_of_last t self.old) conds.now) }
     {
         for (name, from, to) in conds {
             self.note(*name, Last::Part(*from, *to))?;
         }
         Ok(())
+    }
+
+    /// The last assignments of a match: of those at once, and then of the conditional ones.
+    pub(crate) fn of_match(
+        alloc: Global,
+        subject: &[u8],
+        sets: &[Assign],
+        conds: &[(Name, usize, usize)],
+    ) -> Result<LastAssignments, AllocError>
+        requires short { length subject.now ≤ MAX_BYTES }
+        requires lie { SetsLie subject.now sets.now }
+        ensures { IfOk result (λ lasts. values_of_last subject.now lasts ≡ bind_conds subject.now (bind_sets subject.now [] sets.now) conds.now) }
+    {
+        let mut lasts = LastAssignments::new(alloc);
+        lasts.note_at_once(subject, sets)?;
+        lasts.note_later(conds)?;
+        Ok(lasts)
     }
 
     /// How many variables were assigned. They are distinct.
@@ -139,14 +170,13 @@ impl LastAssignments {
 
     /// The bindings: each variable's value, with its string cut from the subject.
     #[tactic(auto, using(crate::proofs::LastValues::next_value, crate::proofs::LastValues::no_value_left, crate::proofs::LastValues::bind_all_values))]
-    pub(crate) fn into_bindings(self, alloc: Global, subject: &Text) -> Result<Bindings, AllocError>
-        ensures { IfOk result (λ b. b ≡ values_of_last subject.now self) }
+    pub(crate) fn to_bindings(&self, alloc: Global, subject: &Text) -> Result<Bindings, AllocError>
+        ensures { IfOk result (λ b. b ≡ values_of_last subject.now self.now) }
     {
         let mut bindings = Bindings::new(alloc);
         for place in 0..self.len() {
             let (name, last) = self.at(place);
-            let value = last.value(alloc, subject)?;
-            bindings.set(name, value)?;
+            last.bind_in(alloc, subject, name, &mut bindings)?;
         }
         Ok(bindings)
     }

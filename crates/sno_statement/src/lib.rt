@@ -56,7 +56,7 @@
 //! - `src/byte_passes.rt`: [`BytePass`], the same in the content of a file, and [`first_match`] alone; each has a [`ByteMatch`].
 //! - `src/match_lists.rt`: [`Match`], [`Matches`] and [`MatchRef`]; `src/gathered.rt`: matches as they are found, and
 //!   `src/assigned.rt`: what one search assigned.
-//! - `src/rewriting.rt`: [`rewrite`]; `src/spans.rt`: the values of one search, as spans of its bytes.
+//! - `src/rewriting.rt`: [`rewrite`] and [`rewrite_with`]; `src/spans.rt`: the values of one search, as spans of its bytes.
 //! - `src/laws.rt`: what follows of matches, for callers' proofs.
 //! - `src/last_assignments.rt`: the last assignment of each variable, for a match that assigns often.
 //! - `src/lengths.rt`: how many characters the new text has, counted before any is copied.
@@ -109,7 +109,7 @@ pub use match_lists::{Match, MatchRef, Matches};
 pub use outcomes::{Outcome, StatementFault};
 pub use passes::{Pass, counts, next_cursor, next_search};
 pub use performing::{perform, perform_shared};
-pub use rewriting::{Rewritten, rewrite};
+pub use rewriting::{Rewritten, rewrite, rewrite_with};
 pub use sno_machine::MatchFault;
 pub use sno_pattern::{ByteText, Name, Pattern, Rules, Text, TextName};
 pub use sno_read::{ByteObject, BytePart, Object, Part};

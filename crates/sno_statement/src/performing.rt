@@ -7,7 +7,7 @@ ghost use Rattle.sno_statement.specs.declared.outcomes.StatementFault.{Statement
 ghost use Rattle.sno_statement.specs.declared.outcomes.StatementFault.TheVariants.{TooManyTrials, TextTooLong};
 ghost use Rattle.sno_statement.specs.declared.match_lists.Match.{Match};
 ghost use Rattle.sno_statement.specs.Gathered.{AreGathered};
-ghost use Rattle.sno_statement.specs.Passes.{match_by, matches_left, replaced, trials_together};
+ghost use Rattle.sno_statement.specs.Passes.{begun, match_by, matches_left, replaced, trials_together};
 ghost use Rattle.sno_statement.specs.Bindings.{bind_sets, bind_conds};
 ghost use Rattle.sno_statement.specs.Value.{value_of, new_text};
 ghost use Rattle.sno_statement.specs.Perform.{Failed, Repeated, Gives, GivesText, IsCodeOf, NextRound, outcome_seen, finish, finish_found, finish_all, follow, left_by, perform, perform_all, perform_once, perform_times, rounds};
@@ -18,8 +18,8 @@ use crate::last_assignments::{Last, LastAssignments};
 use crate::lengths::{new_length, replaced_length};
 use crate::match_lists::Matches;
 use crate::searches::Searches;
-use crate::values::{copy_of, part, replace, replace_all, text_of};
-use crate::{Bindings, Datum, Outcome, Statement, StatementFault};
+use crate::values::{copy_of, replace, replace_all, text_of};
+use crate::{Bindings, Outcome, Statement, StatementFault};
 use sno_machine::{Code, Workspace, compile};
 use sno_pattern::{Assign, Assigns, Found, Hit, Name, Text, cursors_lie_within_the_text};
 use sno_read::{Object, Part};
@@ -37,8 +37,7 @@ fn bind_at_once(
     ensures { OnOk result (bindings.new ≡ bind_sets subject.now bindings.old sets.now) }
 {
     for set in sets {
-        let value = Last::of(subject.bytes(), set.what).value(alloc, subject)?;
-        bindings.set(set.name, value)?;
+        Last::of(subject.bytes(), set.what).bind_in(alloc, subject, set.name, bindings)?;
     }
     Ok(())
 }
@@ -53,10 +52,26 @@ fn bind_later(
     ensures { OnOk result (bindings.new ≡ bind_conds subject.now bindings.old conds.now) }
 {
     for (name, from, to) in conds {
-        let text = part(alloc, subject, *from, *to)?;
-        bindings.set(*name, Datum::Str(text))?;
+        Last::Part(*from, *to).bind_in(alloc, subject, *name, bindings)?;
     }
     Ok(())
+}
+
+/// What the variables are bound to after few assignments.
+#[inline]
+fn bind_few(
+    alloc: Global,
+    subject: &Text,
+    sets: &[Assign],
+    conds: &[(Name, usize, usize)],
+) -> Result<Bindings, AllocError>
+    requires { SetsLie subject.now sets.now }
+    ensures { IfOk result (λ b. b ≡ bind_conds subject.now (bind_sets subject.now [] sets.now) conds.now) }
+{
+    let mut bindings = Bindings::new(alloc);
+    bind_at_once(alloc, subject, &mut bindings, sets)?;
+    bind_later(alloc, subject, &mut bindings, conds)?;
+    Ok(bindings)
 }
 
 /// What the variables are bound to after these assignments. Of `MANY`, only the last one of each variable is bound.
@@ -70,15 +85,10 @@ pub(crate) fn bindings_of(
     ensures { IfOk result (λ b. b ≡ bind_conds subject.now (bind_sets subject.now [] sets.now) conds.now) }
 {
     if sets.len() < MANY && conds.len() < MANY {
-        let mut bindings = Bindings::new(alloc);
-        bind_at_once(alloc, subject, &mut bindings, sets)?;
-        bind_later(alloc, subject, &mut bindings, conds)?;
-        return Ok(bindings);
+        return bind_few(alloc, subject, sets, conds);
     }
-    let mut lasts = LastAssignments::new(alloc);
-    lasts.note_at_once(subject.bytes(), sets)?;
-    lasts.note_later(conds)?;
-    lasts.into_bindings(alloc, subject)
+    let lasts = LastAssignments::of_match(alloc, subject.bytes(), sets, conds)?;
+    lasts.to_bindings(alloc, subject)
 }
 
 /// What a success does: its bindings, and the new text if there is an object.
@@ -121,6 +131,15 @@ fn new_text(
     Ok(Arc::new(alloc, text_of(characters))?)
 }
 
+/// What a search that failed does: what it assigned at once stays bound.
+fn failed(alloc: Global, subject: &Text, sets: &[Assign]) -> Result<Outcome, StatementFault>
+    requires { SetsLie subject.now sets.now }
+    ensures { Gives result (Ok (Failed (bind_conds subject.now (bind_sets subject.now [] sets.now) []))) }
+{
+    let bindings = bindings_of(alloc, subject, sets, &[])?;
+    Ok(Outcome::Failed { bindings })
+}
+
 /// What is done to the text after a match with this outcome.
 fn finish(
     alloc: Global,
@@ -133,10 +152,7 @@ fn finish(
 {
     let sets = found.sets.as_slice();
     match &found.end {
-        None => {
-            let bindings = bindings_of(alloc, subject, sets, &[])?;
-            Ok(Outcome::Failed { bindings })
-        }
+        None => failed(alloc, subject, sets),
         Some(hit) => {
             let bindings = bindings_of(alloc, subject, sets, hit.conds.as_slice())?;
             succeed(alloc, object, subject, hit, bindings)
@@ -329,30 +345,58 @@ fn gathered(
     Ok(found.into_matches(shared))
 }
 
-/// Performs a statement for all matches. The code is that of the statement's pattern.
+/// Performs a statement for all matches, by a pass that has just begun.
+fn perform_pass(
+    alloc: Global,
+    statement: &Statement,
+    subject: &Text,
+    shared: &Arc<Text>,
+    pass: &mut Searches<'_, '_, '_>,
+) -> Result<Outcome, StatementFault>
+    requires same { arc_value shared.now ≡ subject.now }
+    requires begun { pass.old ≡ begun statement.now subject.now }
+    ensures { Gives result (perform_all statement.now subject.now) }
+{
+    let found = pass.search(alloc, 0)?;
+    match &found.end {
+        None => failed(alloc, subject, found.sets.as_slice()),
+        Some(hit) => {
+            let matches = gathered(alloc, subject, shared, pass, &found.sets, hit)?;
+            finish_all(alloc, statement.object(), subject, matches)
+        }
+    }
+}
+
+/// Performs a statement for all matches.
 fn perform_all(
     alloc: Global,
-    code: &Code<'_>,
     statement: &Statement,
     subject: &Text,
     shared: &Arc<Text>,
 ) -> Result<Outcome, StatementFault>
-    requires code { IsCodeOf code.now statement.now }
-    requires same { arc_value shared.now ≡ subject.now }
+    requires { arc_value shared.now ≡ subject.now }
     ensures { Gives result (perform_all statement.now subject.now) }
 {
-    let mut pass = Searches::in_text(alloc, statement, code, subject);
-    let found = pass.search(alloc, 0)?;
-    match &found.end {
-        None => {
-            let bindings = bindings_of(alloc, subject, found.sets.as_slice(), &[])?;
-            let failed = Outcome::Failed { bindings };
-            Ok(failed)
-        }
-        Some(hit) => {
-            let matches = gathered(alloc, subject, shared, &mut pass, &found.sets, hit)?;
-            finish_all(alloc, statement.object(), subject, matches)
-        }
+    let code = compile(alloc, statement.rules(), statement.pattern())?;
+    let mut pass = Searches::in_text(alloc, statement, &code, subject);
+    perform_pass(alloc, statement, subject, shared, &mut pass)
+}
+
+/// As [`perform_rounds`], with the code of the statement's pattern.
+fn perform_times<'a>(
+    alloc: Global,
+    code: &Code<'a>,
+    workspace: &mut Workspace<'a>,
+    statement: &Statement,
+    subject: &Text,
+) -> Result<Outcome, StatementFault>
+    requires { IsCodeOf code.now statement.now }
+    ensures { Gives result (perform_times statement.now statement.now.repeat subject.now) }
+{
+    let first = perform_once(alloc, code, workspace, statement, subject)?;
+    match statement.repeat() {
+        None => Ok(first),
+        Some(times) => follow(alloc, code, workspace, statement, first, times),
     }
 }
 
@@ -366,11 +410,7 @@ fn perform_rounds(
 {
     let code = compile(alloc, statement.rules(), statement.pattern())?;
     let mut workspace = Workspace::new(alloc);
-    let first = perform_once(alloc, &code, &mut workspace, statement, subject)?;
-    match statement.repeat() {
-        None => Ok(first),
-        Some(times) => follow(alloc, &code, &mut workspace, statement, first, times),
-    }
+    perform_times(alloc, &code, &mut workspace, statement, subject)
 }
 
 /// Performs a statement on a text: matches the pattern and binds the variables. If the statement has an object and the match
@@ -428,8 +468,7 @@ pub fn perform_shared(
     ensures { Gives result (perform statement.now (arc_value subject.now)) }
 {
     if statement.is_for_all() {
-        let code = compile(alloc, statement.rules(), statement.pattern())?;
-        return perform_all(alloc, &code, statement, subject, subject);
+        return perform_all(alloc, statement, subject, subject);
     }
     perform_rounds(alloc, statement, subject)
 }

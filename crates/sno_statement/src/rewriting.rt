@@ -5,14 +5,14 @@ ghost use Rattle.sno_pattern.specs.Ends.{part};
 ghost use Rattle.sno_pattern.specs.declared.byte_texts.TheConstants.{MAX_BYTES};
 ghost use Rattle.sno_statement.specs.declared.outcomes.StatementFault.TheVariants.{TooManyTrials, TextTooLong};
 ghost use Rattle.sno_statement.specs.FileFaults.{plain};
-ghost use Rattle.sno_statement.specs.Passes.{match_by, matches_left, replaced, trials_together};
+ghost use Rattle.sno_statement.specs.Passes.{begun, match_by, matches_left, replaced, trials_together};
 ghost use Rattle.sno_statement.specs.Perform.{IsCodeOf, finish_found_within, perform_all_within, perform_once_within, perform_times_within, perform_within};
 ghost use Rattle.sno_statement.specs.Rewriting.{GivesBytes, GivesRewritten, GivesRound, IsReplaced, finished, left_by, rewriting};
 ghost use Rattle.sno_statement.specs.Statement.{with_limit};
 ghost use Rattle.sno_statement.specs.Value.{new_text, value_of};
 
 use crate::assigned::Assigned;
-use crate::file_searches::first_in;
+use crate::file_searches::{first_alone, first_in};
 use crate::searches::Searches;
 use crate::spans::Spans;
 use crate::values::{back, between, front};
@@ -60,6 +60,25 @@ fn text_of(bytes: Vec<u8>) -> ByteText
     }
 }
 
+/// The object's value, with what comes before and after it. If `size` is the length of all, their memory is taken at once.
+fn joined(
+    alloc: Global,
+    before: &[u8],
+    object: &ByteObject,
+    values: &Spans<'_>,
+    after: &[u8],
+    size: usize,
+) -> Result<ByteText, AllocError>
+    requires { length before.now + length after.now + length (value_of values.now object.now) ≤ MAX_BYTES }
+    ensures { IfOk result (λ text. text ≡ before.now ++ (value_of values.now object.now ++ after.now)) }
+{
+    let mut bytes = Vec::with_capacity(alloc, size)?;
+    bytes.extend_from_slice(before)?;
+    values.put(alloc, object.parts(), &mut bytes)?;
+    bytes.extend_from_slice(after)?;
+    Ok(text_of(bytes))
+}
+
 /// The text in which the object's value replaces the match of a search. Its length is known before any of it is written.
 fn new_text(
     alloc: Global,
@@ -77,14 +96,11 @@ fn new_text(
     let values = Spans::of(subject, one.as_slice());
     let before = front(subject, hit.start);
     let after = back(subject, hit.end);
-    let Some(length) = values.length_with(before.len() + after.len(), object.parts()) else {
+    let Some(size) = values.length_with(before.len() + after.len(), object.parts()) else {
         return Err(FileStatementFault::TextTooLong);
     };
-    let mut bytes = Vec::with_capacity(alloc, length)?;
-    bytes.extend_from_slice(before)?;
-    values.put(alloc, object.parts(), &mut bytes)?;
-    bytes.extend_from_slice(after)?;
-    Ok(text_of(bytes))
+    let new = joined(alloc, before, object, &values, after, size)?;
+    Ok(new)
 }
 
 /// What is done to the text after a search of a statement with an object: the new text, or `None` if the search failed.
@@ -210,9 +226,8 @@ fn match_once(
     ensures rewritten { GivesRewritten result (rewriting (perform_once_within MAX_BYTES (with_limit statement.now trials) subject.now)) }
     ensures few { IfOk result (λ r. r.matches < 2 ^ 32) }
 {
-    let mut workspace = Workspace::bounded(alloc, MAX_KEPT);
     let anchored = statement.search().anchored();
-    let found = first_in(alloc, code, &mut workspace, subject, anchored, trials)?;
+    let found = first_alone(alloc, code, subject, anchored, trials)?;
     let matches = if found.end.is_some() { 1 } else { 0 };
     Ok(Rewritten {
         matches,
@@ -314,10 +329,12 @@ fn replace_left(
             sets: &sets,
             hit: &hit,
         };
-        text = with_hit(alloc, text, cursor, object, &mut one, found)?;
+        let added = with_hit(alloc, text, cursor, object, &mut one, found);
         cursor = hit.end;
         matches += 1;
+        // The match is given back before an early exit, which would have to drop it.
         pass.give_back(sets, hit);
+        text = added?;
     }
     let end = back(subject, cursor);
     let text = with_end(text, end)?;
@@ -350,6 +367,34 @@ fn finished(
     }
 }
 
+/// As [`rewrite`], of a statement for all matches, by a pass that has just begun.
+fn rewrite_pass(
+    alloc: Global,
+    statement: &FileStatement,
+    subject: &ByteText,
+    pass: &mut Searches<'_, '_, '_>,
+    trials: u32,
+) -> Result<Rewritten, FileStatementFault>
+    requires { pass.old ≡ begun (with_limit statement.now trials) subject.now }
+    ensures rewritten { GivesRewritten result (rewriting (perform_all_within MAX_BYTES (with_limit statement.now trials) subject.now)) }
+    ensures few { IfOk result (λ r. r.matches < 2 ^ 32) }
+{
+    let bytes = subject.bytes();
+    match statement.object() {
+        None => {
+            let matches = pass.count_in_file(alloc)?;
+            Ok(Rewritten {
+                matches,
+                after: None,
+            })
+        }
+        Some(object) => {
+            let (matches, text) = replace_left(alloc, bytes, pass, object)?;
+            finished(alloc, matches, text)
+        }
+    }
+}
+
 /// As [`rewrite`], of a statement for all matches. The code is that of the statement's pattern.
 fn rewrite_all(
     alloc: Global,
@@ -363,18 +408,32 @@ fn rewrite_all(
     ensures few { IfOk result (λ r. r.matches < 2 ^ 32) }
 {
     let mut pass = Searches::in_bytes(alloc, statement, code, subject, trials);
-    let bytes = subject.bytes();
+    rewrite_pass(alloc, statement, subject, &mut pass, trials)
+}
+
+/// As [`rewrite`], of a statement that is not for all matches: once, or in rounds.
+fn rewrite_times(
+    alloc: Global,
+    code: &Code<'_>,
+    statement: &FileStatement,
+    subject: &ByteText,
+    trials: u32,
+) -> Result<Rewritten, FileStatementFault>
+    requires { IsCodeOf code.now statement.now }
+    ensures rewritten { GivesRewritten result (rewriting (perform_times_within MAX_BYTES (with_limit statement.now trials) statement.now.repeat subject.now)) }
+    ensures few { IfOk result (λ r. r.matches < 2 ^ 32) }
+{
     match statement.object() {
-        None => {
-            let matches = pass.count_in_file(alloc)?;
-            Ok(Rewritten {
-                matches,
-                after: None,
-            })
-        }
+        None => match_once(alloc, code, statement, subject, trials),
         Some(object) => {
-            let (matches, text) = replace_left(alloc, bytes, &mut pass, object)?;
-            finished(alloc, matches, text)
+            let times = rounds_of(statement);
+            let rounds = Rounds {
+                code,
+                statement,
+                object,
+                trials,
+            };
+            rewrite_rounds(alloc, rounds, subject, times)
         }
     }
 }
@@ -403,20 +462,24 @@ pub fn rewrite(
 {
     let search = statement.search();
     let code = compile(alloc, search.rules(), search.pattern())?;
-    if search.is_for_all() {
-        return rewrite_all(alloc, &code, statement, subject, trials);
-    }
-    match statement.object() {
-        None => match_once(alloc, &code, statement, subject, trials),
-        Some(object) => {
-            let times = rounds_of(statement);
-            let rounds = Rounds {
-                code: &code,
-                statement,
-                object,
-                trials,
-            };
-            rewrite_rounds(alloc, rounds, subject, times)
-        }
+    rewrite_with(alloc, statement, &code, subject, trials)
+}
+
+/// As [`rewrite`], with the code of the statement's pattern, which is compiled with its definitions.
+pub fn rewrite_with(
+    alloc: Global,
+    statement: &FileStatement,
+    code: &Code<'_>,
+    subject: &ByteText,
+    trials: u32,
+) -> Result<Rewritten, FileStatementFault>
+    requires { IsCodeOf code.now statement.now }
+    ensures rewritten { GivesRewritten result (rewriting (perform_within MAX_BYTES (with_limit statement.now trials) subject.now)) }
+    ensures few { IfOk result (λ r. r.matches < 2 ^ 32) }
+{
+    if statement.search().is_for_all() {
+        rewrite_all(alloc, code, statement, subject, trials)
+    } else {
+        rewrite_times(alloc, code, statement, subject, trials)
     }
 }

@@ -61,8 +61,9 @@ impl HeadTable {
     fn first_by_table(&self, text: &[u8]) -> Option<usize>
         ensures { IsFirstByte (λ x. not (is_passed self.now x)) text.now result }
     {
+        let passed = &self.passed;
         text.iter()
-            .position(|character| !self.passed[*character as usize])
+            .position(|character| !passed[*character as usize])
     }
 
     // By rows up to a character that they don't have, and by the table over the next ones. So a few characters above 127 keep no

@@ -1,8 +1,9 @@
 //! The characters with which a match can begin.
-ghost use Rattle.std.specs.Prelude.{◌≡◌, ◌+◌, ◌≤◌, true, [], ◌∷◌, ◌++◌, length, IfOk, IfSome};
-ghost use Rattle.sno_pattern.specs.Tree.{tree_of, trees};
+ghost use Rattle.std.specs.Prelude.{◌≡◌, ◌+◌, ◌≤◌, ℕ, List, true, [], ◌∷◌, ◌++◌, length, IfOk, IfSome};
+ghost use Rattle.sno_pattern.specs.Tree.{Tree, tree_of, trees};
 ghost use Rattle.sno_machine.specs.Beginnings.{first_part, AreHeads, Collected};
 ghost use Rattle.sno_machine.specs.declared.starts.heads.TheConstants.{MAX_HEADS};
+ghost use Rattle.sno_machine.specs.declared.starts.heads.Head.{Head};
 
 use sno_pattern::{Class, Pattern};
 use std::alloc::{AllocError, Global};
@@ -62,17 +63,11 @@ impl<'a> Collector<'a> {
         ensures less { IfOk result (λ _. self.new.room ≤ self.old.room) }
         ensures known { self.new.known ≡ self.old.known }
     {
-        match first_part(pattern) {
-            Pattern::Lit(literal) => match literal.bytes().first() {
-                None => Ok(false),
-                Some(first) => self.put(Head::Byte(*first)),
-            },
-            Pattern::Bytes(literal) => match literal.bytes().first() {
-                None => Ok(false),
-                Some(first) => self.put(Head::Byte(*first)),
-            },
-            Pattern::AnyOf(class) | Pattern::Span(class) => self.put(Head::OneOf(class)),
-            Pattern::NoneOf(class) => self.put(Head::NoneOf(class)),
+        let part = first_part(pattern);
+        if let Some(head) = head_of(part) {
+            return self.put(head);
+        }
+        match part {
             Pattern::Alt(first, second) if self.room > 0 => {
                 self.room -= 1;
                 let begun = self.collect(first, depth)?;
@@ -100,6 +95,25 @@ impl<'a> Collector<'a> {
     {
         self.heads.push(head)?;
         Ok(true)
+    }
+}
+
+// The head of the leaf, if it has one.
+fn head_of(leaf: &Pattern) -> Option<Head<'_>>
+    ensures { (known : List Tree) (depth : ℕ) (old : List Head) → IfSome result (λ head. Collected known depth (tree_of leaf.now) old (old ++ head ∷ [])) }
+{
+    match leaf {
+        Pattern::Lit(literal) => match literal.bytes().first() {
+            None => None,
+            Some(first) => Some(Head::Byte(*first)),
+        },
+        Pattern::Bytes(literal) => match literal.bytes().first() {
+            None => None,
+            Some(first) => Some(Head::Byte(*first)),
+        },
+        Pattern::AnyOf(class) | Pattern::Span(class) => Some(Head::OneOf(class)),
+        Pattern::NoneOf(class) => Some(Head::NoneOf(class)),
+        _ => None,
     }
 }
 

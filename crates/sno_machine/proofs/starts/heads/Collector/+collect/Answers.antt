@@ -1,9 +1,10 @@
 -- The heads of each kind of pattern.
-use Rattle.std.proofs.Common.{◌≡◌, Bool, true, Result, IfOk, slice_get, inl, inr, refl, sym, ap, ◌∙◌, arith, ◌-◌}
+use Rattle.std.proofs.Common.{◌≡◌, Bool, true, Result, IfOk, subst, sym, ap, ◌∙◌, arith, ◌-◌}
 use Rattle.std.proofs.lemmas.Bool.{ltb-true}
 use Rattle.std.proofs.lemmas.Result.{IfOk-weaker}
 use Rattle.sno_pattern.specs.Tree.{tree_of, trees}
-use Rattle.sno_machine.proofs.HeadLaws.{body_at, literal_collected, any_collected, none_collected, span_collected, part_collected, both_collected, ref_collected}
+use Rattle.sno_machine.specs.Beginnings.{Collected}
+use Rattle.sno_machine.proofs.HeadLaws.{body_at, part_collected, both_collected, ref_collected}
 use Rattle.sno_machine.proofs.starts.heads.Collector.+collect.Goals as goal
 
 -- what follows if the result is that all are there
@@ -24,39 +25,24 @@ collect-requires-in-Some-get t c = (omega (arith, c.decreases, c.if-self-gt0-2.t
 
 pub returns-in-Some-clause-collected : goal.returns-in-Some-clause-collected
 returns-in-Some-clause-collected t c = where_put _ c.put.ensures.added (λ added.
-    part_collected (trees c.args.self.now.known.now) c.args.depth (tree_of c.args.pattern.now) _ _ _ (sym (ap tree_of c.in-Lit.is) ∙ c.first_part.ensures)
-    (literal_collected (trees c.args.self.now.known.now) c.args.depth c.in-Lit.literal c.in-Some.first.now _ _ added (c.in-Some.ensures.value ∙ ap (λ z. slice_get z 0) c.bytes.ensures.value)))
-
-pub returns-in-Some-first-clause-collected : goal.returns-in-Some-first-clause-collected
-returns-in-Some-first-clause-collected t c = where_put _ c.put-in-Some-first.ensures.added (λ added.
-    part_collected (trees c.args.self.now.known.now) c.args.depth (tree_of c.args.pattern.now) _ _ _ (sym (ap tree_of c.in-Bytes.is) ∙ c.first_part.ensures)
-    (literal_collected (trees c.args.self.now.known.now) c.args.depth c.in-Bytes.literal c.in-Some-first.first.now _ _ added (c.in-Some-first.ensures.value ∙ ap (λ z. slice_get z 0) c.bytes-in-Bytes.ensures.value)))
-
-pub returns-in-AnyOf-clause-collected : goal.returns-in-AnyOf-clause-collected
-returns-in-AnyOf-clause-collected t c = where_put _ c.put-in-AnyOf.ensures.added (λ added. elim c.in-AnyOf.is [
-  | inl is ↦ part_collected (trees c.args.self.now.known.now) c.args.depth (tree_of c.args.pattern.now) _ _ _ (sym (ap tree_of is) ∙ c.first_part.ensures)
-      (any_collected (trees c.args.self.now.known.now) c.args.depth c.in-AnyOf.class _ _ _ added (λ x. refl))
-  | inr is ↦ part_collected (trees c.args.self.now.known.now) c.args.depth (tree_of c.args.pattern.now) _ _ _ (sym (ap tree_of is) ∙ c.first_part.ensures)
-      (span_collected (trees c.args.self.now.known.now) c.args.depth c.in-AnyOf.class _ _ _ added (λ x. refl))
-])
-
-pub returns-in-NoneOf-clause-collected : goal.returns-in-NoneOf-clause-collected
-returns-in-NoneOf-clause-collected t c = where_put _ c.put-in-NoneOf.ensures.added (λ added.
-    part_collected (trees c.args.self.now.known.now) c.args.depth (tree_of c.args.pattern.now) _ _ _ (sym (ap tree_of c.in-NoneOf.is) ∙ c.first_part.ensures)
-    (none_collected (trees c.args.self.now.known.now) c.args.depth c.in-NoneOf.class _ _ _ added (λ x. refl)))
+    let known = trees c.args.self.now.known.now in
+    let part = tree_of c.first_part-part.result.now in
+    let old = c.args.self.now.heads.items in
+    part_collected known c.args.depth (tree_of c.args.pattern.now) part _ _ c.first_part-part.ensures
+    (subst (λ l. Collected known c.args.depth part old l) (sym added) (c.in-Some.ensures known c.args.depth old)))
 
 pub returns-else-not-begun-clause-collected : goal.returns-else-not-begun-clause-collected
 returns-else-not-begun-clause-collected t c = where_whole _ c.collect-in-Alt.ensures.collected (λ collected.
     let known = trees c.args.self.now.known.now in
     let first = rw c.deref.ensures at (c.in_ok-begun-in-Alt.ensures.collected c.if-not-begun.false) in
     let second = rw (c.deref-in-Alt.ensures, c.collect.ensures.known) at collected in
-    part_collected known c.args.depth (tree_of c.args.pattern.now) _ _ _ (sym (ap tree_of c.in-Alt.is) ∙ c.first_part.ensures)
+    part_collected known c.args.depth (tree_of c.args.pattern.now) _ _ _ (sym (ap tree_of c.in-Alt.is) ∙ c.first_part-part.ensures)
     (both_collected known c.args.depth (tree_of c.in-Alt.first.value) (tree_of c.in-Alt.second.value) _ _ _ first second))
 
 pub returns-in-Some-get-clause-collected : goal.returns-in-Some-get-clause-collected
 returns-in-Some-get-clause-collected t c = where_whole _ c.collect-in-Some-get.ensures.collected (λ collected.
     let known = trees c.args.self.now.known.now in
-    part_collected known c.args.depth (tree_of c.args.pattern.now) _ _ _ (sym (ap tree_of c.in-Ref.is) ∙ c.first_part.ensures)
+    part_collected known c.args.depth (tree_of c.args.pattern.now) _ _ _ (sym (ap tree_of c.in-Ref.is) ∙ c.first_part-part.ensures)
     (ref_collected known c.args.depth (c.args.depth - 1) c.in-Ref.number (tree_of c.in-Some-get.body.now) _ _ (omega (arith, c.if-depth-gt0.true))
     (body_at c.args.self.now.known.now c.in-Ref.number c.in-Some-get.body.now (ltb-true _ _ (sym c.in-Some-get.ensures.lookup.0)) c.in-Some-get.ensures.lookup.1)
     collected))

@@ -3,7 +3,7 @@ use Rattle.std.proofs.Common.{◌≡◌, ◌++◌, drop, map}
 use Rattle.std.specs.List.{list_all}
 use Rattle.sno_read.specs.ByteParts.{part_of}
 use Rattle.sno_statement.specs.FileStatements.{is_plain}
-use Rattle.sno_statement.proofs.file_statements.plain_parts.Given as goal
+use Rattle.sno_statement.proofs.file_statements.plain_object.Given as goal
 
 abbrev pub invariant-loop-part : goal.invariant-loop-part
 invariant-loop-part l = record {
