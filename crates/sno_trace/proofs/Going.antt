@@ -1,55 +1,65 @@
 -- Going on from the Ends of a list, one event at a time, within a limit of trials.
-use Rattle.std.proofs.Common.{◌≡◌, ℕ, zero, suc, ◌+◌, ◌-◌, ◌<◌, ◌≤◌, true, false, cond, List, [], ◌∷◌, ◌++◌, length, drop, get_or, nat_lt, ap, sym, subst, ◌∙◌, arith, append_assoc}
+use Rattle.std.proofs.Common.{◌≡◌, ℕ, zero, suc, ◌+◌, ◌-◌, ◌<◌, ◌≤◌, true, false, cond, List, [], ◌∷◌, ◌++◌, length, drop, get_or, nat_lt, ap, sym, subst, ◌∙◌, arith, refl, append_assoc}
 use Rattle.std.proofs.Math.Numerals.{sub-one}
 use Rattle.std.proofs.lemmas.List.{drop_more, drop_all, append-nil}
 use Rattle.std.specs.List.{list_any}
 use Rattle.sno_pattern.specs.Events.{CondList}
 use Rattle.sno_pattern.specs.Laws.{AllEnds}
-use Rattle.sno_pattern.specs.declared.events.Assign.{Assign}
-use Rattle.sno_trace.specs.declared.events.Trial.{Trial}
 use Rattle.sno_trace.specs.declared.events.Marked.{Marked}
 use Rattle.sno_trace.specs.declared.events.Landmark.TheVariants.{NullRound}
 use Rattle.sno_trace.specs.declared.events.Noted.{Noted}
 use Rattle.sno_trace.specs.declared.events.Noted.TheVariants.{Try, Set, Mark, End, Halt, Stop}
 use Rattle.sno_trace.specs.Noted.{cut, put_before, spread, go_on, upto, erase, marked, noted_rounds}
 use Rattle.sno_trace.specs.Steps.{is_last, trials_of}
-use Rattle.sno_trace.proofs.NotedLaws.{go_on_ended, go_on_unended, upto_one, upto_none}
+use Rattle.sno_trace.proofs.NotedLaws.{go_on_ended, go_on_unended}
 use Rattle.sno_trace.proofs.Limit.{enough}
 
 -- the event at an index is the first of what is left there
 pub left_at : (l : List Noted) (i : ℕ) (x y : Noted) → i < length l → x ≡ get_or l i x → x ≡ y → drop i l ≡ y ∷ drop (i + 1) l
 left_at l i x y h is_item is = drop_more l i x h ∙ ap (λ z. z ∷ drop (i + 1) l) (sym is_item ∙ is)
 
+-- going on from an event that isn't an End, and ends nothing ..
+other_unended : (f : ℕ → List Noted) (n : ℕ) (x : Noted) (rest : List Noted) → ((e : ℕ) (a : CondList) → x ≡ End e a → ⊥) → false ≡ list_any is_last (upto n (go_on (x ∷ []) (λ c. [])))
+    → upto n (go_on (x ∷ rest) f) ≡ upto n (go_on (x ∷ []) (λ c. [])) ++ upto (n - trials_of (x ∷ [])) (go_on rest f)
+other_unended f zero (Try x) rest other going = cc
+other_unended f (suc n) (Try x) rest other going = ap (λ k. Try x ∷ upto k (go_on rest f)) (sym (sub-one (suc n)))
+other_unended f n (Set t) rest other going = ap (λ k. Set t ∷ upto k (go_on rest f)) (let e : n ≡ n - 0 = omega arith in e)
+other_unended f n (Mark d) rest other going = ap (λ k. Mark d ∷ upto k (go_on rest f)) (let e : n ≡ n - 0 = omega arith in e)
+other_unended f n (End e a) rest other going = absurd (other e a refl)
+other_unended f n Halt rest other going = cc
+other_unended f n Stop rest other going = cc
+
+-- .. and from one that does
+other_ended : (f : ℕ → List Noted) (n : ℕ) (x : Noted) (rest : List Noted) → ((e : ℕ) (a : CondList) → x ≡ End e a → ⊥) → true ≡ list_any is_last (upto n (go_on (x ∷ []) (λ c. [])))
+    → upto n (go_on (x ∷ rest) f) ≡ upto n (go_on (x ∷ []) (λ c. []))
+other_ended f zero (Try x) rest other ended = refl
+other_ended f (suc n) (Try x) rest other ended = cc
+other_ended f n (Set t) rest other ended = cc
+other_ended f n (Mark d) rest other ended = cc
+other_ended f n (End e a) rest other ended = absurd (other e a refl)
+other_ended f n Halt rest other ended = refl
+other_ended f n Stop rest other ended = refl
+
+-- a list that both goes on and ends is all there is, since there is none
+pub not_both : (l m : List Noted) → true ≡ false → l ≡ m
+not_both l m h = cc
+
 module _ (f : ℕ → List Noted) (total : List Noted) where
-  -- a trial is added
-  pub go_on_tried : (n k : ℕ) (all new l rest : List Noted) (x : Trial) → l ≡ Try x ∷ rest → 0 < n → k ≡ n - 1 → new ≡ all ++ Try x ∷ [] → all ++ upto n (go_on l f) ≡ total → new ++ upto k (go_on rest f) ≡ total
-  go_on_tried n k all new l rest x is some less added e =
-      ap (λ m. m ++ upto k (go_on rest f)) added ∙ append_assoc all (Try x ∷ []) (upto k (go_on rest f))
-      ∙ ap (λ j. all ++ Try x ∷ upto j (go_on rest f)) less
-      ∙ sym (ap (λ m. all ++ m) (upto_one n x (go_on rest f) some))
+  -- an event that isn't an End is added ..
+  pub go_on_other : (n k : ℕ) (all new l rest : List Noted) (x : Noted) → l ≡ x ∷ rest → ((e : ℕ) (a : CondList) → x ≡ End e a → ⊥) → false ≡ list_any is_last (upto n (go_on (x ∷ []) (λ c. []))) → k ≡ n - trials_of (x ∷ []) → new ≡ all ++ upto n (go_on (x ∷ []) (λ c. []))
+      → all ++ upto n (go_on l f) ≡ total → new ++ upto k (go_on rest f) ≡ total
+  go_on_other n k all new l rest x is other going less added e =
+      ap (λ m. m ++ upto k (go_on rest f)) added
+      ∙ append_assoc all (upto n (go_on (x ∷ []) (λ c. []))) (upto k (go_on rest f))
+      ∙ ap (λ j. all ++ (upto n (go_on (x ∷ []) (λ c. [])) ++ upto j (go_on rest f))) less
+      ∙ sym (ap (λ m. all ++ m) (other_unended f n x rest other going))
       ∙ sym (ap (λ m. all ++ upto n (go_on m f)) is) ∙ e
 
-  -- no trial is left
-  pub go_on_stopped : (n : ℕ) (all new l rest : List Noted) (x : Trial) → l ≡ Try x ∷ rest → n ≡ 0 → new ≡ all ++ Stop ∷ [] → all ++ upto n (go_on l f) ≡ total → new ≡ total
-  go_on_stopped n all new l rest x is none added e =
-      added ∙ sym (ap (λ m. all ++ m) (upto_none n x (go_on rest f) none)) ∙ sym (ap (λ m. all ++ upto n (go_on m f)) is) ∙ e
-
-  -- an assignment is added
-  pub go_on_set : (n : ℕ) (all new l rest : List Noted) (t : Assign) → l ≡ Set t ∷ rest → new ≡ all ++ Set t ∷ [] → all ++ upto n (go_on l f) ≡ total → new ++ upto n (go_on rest f) ≡ total
-  go_on_set n all new l rest t is added e =
-      ap (λ m. m ++ upto n (go_on rest f)) added ∙ append_assoc all (Set t ∷ []) (upto n (go_on rest f)) ∙ sym (ap (λ m. all ++ upto n (go_on m f)) is) ∙ e
-
-  -- a mark is added
-  pub go_on_mark : (n : ℕ) (all new l rest : List Noted) (t : Marked) → l ≡ Mark t ∷ rest → new ≡ all ++ Mark t ∷ [] → all ++ upto n (go_on l f) ≡ total → new ++ upto n (go_on rest f) ≡ total
-  go_on_mark n all new l rest t is added e =
-      ap (λ m. m ++ upto n (go_on rest f)) added ∙ append_assoc all (Mark t ∷ []) (upto n (go_on rest f)) ∙ sym (ap (λ m. all ++ upto n (go_on m f)) is) ∙ e
-
-  -- a Halt is the last event, and so is a Stop
-  pub go_on_halt : (n : ℕ) (all new l rest : List Noted) → l ≡ Halt ∷ rest → new ≡ all ++ Halt ∷ [] → all ++ upto n (go_on l f) ≡ total → new ≡ total
-  go_on_halt n all new l rest is added e = added ∙ sym (ap (λ m. all ++ upto n (go_on m f)) is) ∙ e
-
-  pub go_on_stop : (n : ℕ) (all new l rest : List Noted) → l ≡ Stop ∷ rest → new ≡ all ++ Stop ∷ [] → all ++ upto n (go_on l f) ≡ total → new ≡ total
-  go_on_stop n all new l rest is added e = added ∙ sym (ap (λ m. all ++ upto n (go_on m f)) is) ∙ e
+  -- .. and it is the last
+  pub go_on_other_last : (n : ℕ) (all new l rest : List Noted) (x : Noted) → l ≡ x ∷ rest → ((e : ℕ) (a : CondList) → x ≡ End e a → ⊥) → true ≡ list_any is_last (upto n (go_on (x ∷ []) (λ c. []))) → new ≡ all ++ upto n (go_on (x ∷ []) (λ c. []))
+      → all ++ upto n (go_on l f) ≡ total → new ≡ total
+  go_on_other_last n all new l rest x is other ended added e =
+      added ∙ sym (ap (λ m. all ++ m) (other_ended f n x rest other ended)) ∙ sym (ap (λ m. all ++ upto n (go_on m f)) is) ∙ e
 
   -- what follows an End is added
   pub go_on_end : (n k : ℕ) (all new l rest later : List Noted) (c : ℕ) (a : CondList) → l ≡ End c a ∷ rest → later ≡ upto n (f c) → false ≡ list_any is_last later → k ≡ n - trials_of later → new ≡ all ++ cut (put_before a later) → all ++ upto n (go_on l f) ≡ total

@@ -1,8 +1,8 @@
 -- How deep calls are nested, from how deep they are within.
-use Rattle.std.proofs.Common.{◌≡◌, ◌≤◌, ℕ, zero, suc, ◌+◌, ◌-◌, ◌<◌, ◌⊎◌, inl, inr, List, [], ◌∷◌, Some, Result, Ok, Err, drop, slice_get, refl, ap, sym, subst, ◌∙◌, arith}
+use Rattle.std.proofs.Common.{◌≡◌, ◌≤◌, ℕ, zero, suc, ◌+◌, ◌-◌, ◌<◌, ◌⊎◌, inl, inr, List, [], ◌∷◌, Some, Result, Ok, Err, Vec, Global, drop, slice_get, refl, ap, sym, subst, ◌∙◌, arith}
 use Rattle.std.proofs.Math.Numerals.{sub-one}
 use Rattle.std.specs.List.{Contains, range_with_len}
-use Rattle.std.specs.Result.{IfErr, IsErrAnd}
+use Rattle.std.specs.Result.{IfOk, IfErr, IsErrAnd}
 use Rattle.sno_pattern.specs.Events.{CondList}
 use Rattle.sno_pattern.specs.Tree.{Tree, Seq, Alt, Arbno, Cond, Imm, Ref}
 use Rattle.sno_trace.specs.declared.events.Noted.{Noted}
@@ -11,6 +11,15 @@ use Rattle.sno_trace.specs.declared.faults.TraceFault.{TraceFault}
 use Rattle.sno_trace.specs.declared.faults.TraceFault.TheVariants.{TooDeep}
 use Rattle.sno_trace.specs.Noted.{noted, upto}
 use Rattle.sno_trace.specs.Depth.{EndsAt, Nests}
+
+-- what is known of a list or a fault, in other words
+pub list_as : (result : Result (Vec Noted Global) TraceFault) (l m : List Noted) → IfOk result (λ v. v.items ≡ l) → ((z : List Noted) → z ≡ l → z ≡ m) → IfOk result (λ v. v.items ≡ m)
+list_as (Ok v) l m h f = f v.items h
+list_as (Err e) l m h f = tt
+
+pub deep_as : {A : Type 0} (result : Result A TraceFault) (P Q : Type 0) → IfErr result (λ e. e ≡ TooDeep → P) → (P → Q) → IfErr result (λ e. e ≡ TooDeep → Q)
+deep_as (Ok x) P Q h f = tt
+deep_as (Err e) P Q h f = λ deep. f (h deep)
 
 -- a fault that is passed on
 pub passed_on : {A : Type 0} (result : Result A TraceFault) (e : TraceFault) (P : Type 0) → IsErrAnd result (λ d. d ≡ e) → (e ≡ TooDeep → P) → IfErr result (λ d. d ≡ TooDeep → P)

@@ -1,9 +1,9 @@
 -- What patterns do, from what their parts do, within a limit of trials.
-use Rattle.std.proofs.Common.{◌≡◌, ℕ, zero, suc, ◌-◌, ◌<◌, ◌≤◌, true, false, cond, List, [], ◌∷◌, ◌++◌, length, Some, None, slice_get, ap, sym, subst, ◌∙◌, arith}
+use Rattle.std.proofs.Common.{◌≡◌, ℕ, zero, suc, ◌+◌, ◌-◌, ◌<◌, ◌≤◌, true, false, cond, List, [], ◌∷◌, ◌++◌, length, Some, None, slice_get, ap, sym, subst, ◌∙◌, arith}
 use Rattle.std.proofs.Math.Numerals.{sub-one}
 use Rattle.std.proofs.lemmas.Bool.{lt-ltb, le-ltb}
 use Rattle.std.specs.List.{list_any}
-use Rattle.sno_pattern.specs.Tree.{Tree, Seq, Alt, Cond, Imm, Ref}
+use Rattle.sno_pattern.specs.Tree.{Tree, Seq, Alt, Arbno, Cond, Imm, Ref}
 use Rattle.sno_pattern.specs.Results.{results}
 use Rattle.sno_pattern.specs.Laws.{AllEnds, Within}
 use Rattle.sno_pattern.proofs.EachEnd.{AllEnds-map}
@@ -58,6 +58,16 @@ seq_does t bodies k n c whole left right p q l m z is same_left same_right same 
     ∙ enough (noted t bodies k left c) (noted t bodies k right) n n (omega arith)
     ∙ sym (ap (λ x. upto n (noted t bodies k x c)) is)
 
+-- rounds
+pub arbno_does : (t : List ℕ) (bodies : List Tree) (k n c : ℕ) (whole child p : Tree) (bytes : List ℕ) (z : List Noted) → whole ≡ Arbno child → p ≡ child → bytes ≡ t
+    → z ≡ upto n (noted_rounds k (noted t bodies k p) (length bytes - c + 1) c) → z ≡ upto n (noted t bodies k whole c)
+unfolding noted_of
+arbno_does t bodies k n c whole child p bytes z is same_child same does_z =
+    does_z
+    ∙ ap (λ x. upto n (noted_rounds k (noted t bodies k p) (length x - c + 1) c)) same
+    ∙ ap (λ x. upto n (noted_rounds k (noted t bodies k x) (length t - c + 1) c)) same_child
+    ∙ sym (ap (λ x. upto n (noted t bodies k x c)) is)
+
 -- assignments
 pub cond_does : (t : List ℕ) (bodies : List Tree) (k n c : ℕ) (whole child p : Tree) (v : List ℕ) (l m z : List Noted) → whole ≡ Cond child v → p ≡ child
     → m ≡ l → l ≡ upto n (noted t bodies k p c) → z ≡ assign_later v c m → z ≡ upto n (noted t bodies k whole c)
@@ -98,8 +108,8 @@ named_does t bodies (suc k) n i c p l h is does =
     does ∙ ap (λ j. upto n (noted t bodies j p c)) (sub-one (suc k)) ∙ ap (λ b. upto n (noted_body (noted_of t (noted_definition t bodies k) k) b c)) is
 
 -- a round that took a character is followed by more
-pub round_taken : (limit k : ℕ) (once : ℕ → List Noted) (n c e : ℕ) (l m : List Noted) → c < e → l ≡ m → m ≡ upto limit (noted_rounds k once (n - 1) e) → l ≡ upto limit (next_round k once n c e)
-round_taken limit k once n c e l m h same is = same ∙ is ∙ sym (ap (λ b. upto limit (cond b (noted_rounds k once (n - 1) e) (marked k NullRound e ∷ []))) (lt-ltb c e h))
+pub round_taken : (limit k : ℕ) (once : ℕ → List Noted) (n c e : ℕ) (l : List Noted) → c < e → l ≡ upto limit (noted_rounds k once (n - 1) e) → l ≡ upto limit (next_round k once n c e)
+round_taken limit k once n c e l h is = is ∙ sym (ap (λ b. upto limit (cond b (noted_rounds k once (n - 1) e) (marked k NullRound e ∷ []))) (lt-ltb c e h))
 
 -- one that took no character is dropped
 pub round_dropped : (k : ℕ) (once : ℕ → List Noted) (n c e : ℕ) → e ≤ c → next_round k once n c e ≡ marked k NullRound e ∷ []

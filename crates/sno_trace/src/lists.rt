@@ -1,11 +1,11 @@
 //! Lists of noted events.
-ghost use Rattle.std.specs.Prelude.{◌≡◌, ◌≤◌, ◌++◌, ◌∷◌, IfOk, OnOk, [], position, length};
+ghost use Rattle.std.specs.Prelude.{◌≡◌, ◌≤◌, ◌-◌, ◌++◌, ◌∷◌, IfOk, OnOk, [], false, position, length};
 ghost use Rattle.std.specs.List.{list_any};
-ghost use Rattle.sno_trace.specs.Noted.{cut, put_before, assign_later, assign_now, marked, leave_each, leave_last, within_definition};
+ghost use Rattle.sno_trace.specs.Noted.{cut, put_before, go_on, upto, assign_later, assign_now, marked, leave_each, leave_last, within_definition};
 ghost use Rattle.sno_trace.specs.Steps.{is_last, trials_of};
 ghost use Rattle.sno_trace.specs.declared.events.Landmark.TheVariants.{NullRound};
 
-use crate::events::{Landmark, Marked, Noted, Trial};
+use crate::events::{Landmark, Marked, Noted};
 use sno_pattern::{Assign, Conds, Name, What};
 use std::alloc::{AllocError, Global};
 
@@ -29,33 +29,57 @@ pub fn push_end<'a>(
     Ok(())
 }
 
-// The calls that add one event aren't inlined: what a failed push returns would take room on the stack of each call of a walk.
-
-// Adds a trial.
-#[inline(never)]
-pub fn push_try<'a>(events: &mut Vec<Noted<'a>>, trial: &Trial<'a>) -> Result<(), AllocError>
-    ensures { OnOk result (events.new.items ≡ events.old.items ++ Noted.Try trial.now ∷ []) }
+// Adds an event.
+fn push<'a>(events: &mut Vec<Noted<'a>>, event: Noted<'a>) -> Result<(), AllocError>
+    ensures { OnOk result (events.new.items ≡ events.old.items ++ event.entry ∷ []) }
 {
-    events.push(Noted::Try(trial.copied()))?;
+    events.push(event)?;
     Ok(())
 }
 
-// Adds an assignment.
-#[inline(never)]
-pub fn push_set<'a>(events: &mut Vec<Noted<'a>>, assign: &Assign) -> Result<(), AllocError>
-    ensures { OnOk result (events.new.items ≡ events.old.items ++ Noted.Set assign.now ∷ []) }
-{
-    events.push(Noted::Set(*assign))?;
-    Ok(())
-}
+// The calls that add one event in a walk aren't inlined: what a failed push returns would take room on the stack of each call of it.
 
-// Adds a mark.
+// Adds an event that isn't an End, with `left` trials left: a Stop if it is a trial and none is left. Of an End it adds nothing.
+// Returns whether nothing comes after what it added.
 #[inline(never)]
-pub fn push_mark<'a>(events: &mut Vec<Noted<'a>>, mark: &Marked) -> Result<(), AllocError>
-    ensures { OnOk result (events.new.items ≡ events.old.items ++ Noted.Mark mark.now ∷ []) }
+#[tactic(auto, using(crate::proofs::NotedLaws::upto_one, crate::proofs::NotedLaws::upto_none))]
+pub fn push_other<'a>(
+    events: &mut Vec<Noted<'a>>,
+    event: &Noted<'a>,
+    left: &mut usize,
+) -> Result<bool, AllocError>
+    ensures added { OnOk result (events.new.items ≡ events.old.items ++ upto left.old (go_on (event.now ∷ []) (λ c. []))) }
+    ensures left { OnOk result (left.new ≡ left.old - trials_of (event.now ∷ [])) }
+    ensures ended { IfOk result (λ b. b ≡ list_any is_last (upto left.old (go_on (event.now ∷ []) (λ c. [])))) }
 {
-    events.push(Noted::Mark(*mark))?;
-    Ok(())
+    match event {
+        Noted::Try(trial) => {
+            if *left == 0 {
+                push(events, Noted::Stop)?;
+                return Ok(true);
+            }
+            push(events, Noted::Try(trial.copied()))?;
+            *left -= 1;
+            Ok(false)
+        }
+        Noted::Set(assign) => {
+            push(events, Noted::Set(*assign))?;
+            Ok(false)
+        }
+        Noted::Mark(mark) => {
+            push(events, Noted::Mark(*mark))?;
+            Ok(false)
+        }
+        Noted::End(_, _) => Ok(false),
+        Noted::Halt => {
+            push(events, Noted::Halt)?;
+            Ok(true)
+        }
+        Noted::Stop => {
+            push(events, Noted::Stop)?;
+            Ok(true)
+        }
+    }
 }
 
 // Adds the mark of a null round. `below` more references may be nested.
@@ -68,24 +92,6 @@ pub fn push_null_round<'a>(
     ensures { OnOk result (events.new.items ≡ events.old.items ++ marked below NullRound cursor ∷ []) }
 {
     events.push(mark_at(below, Landmark::NullRound, cursor))?;
-    Ok(())
-}
-
-// Adds a Halt.
-#[inline(never)]
-pub fn push_halt<'a>(events: &mut Vec<Noted<'a>>) -> Result<(), AllocError>
-    ensures { OnOk result (events.new.items ≡ events.old.items ++ Noted.Halt ∷ []) }
-{
-    events.push(Noted::Halt)?;
-    Ok(())
-}
-
-// Adds a Stop.
-#[inline(never)]
-pub fn push_stop<'a>(events: &mut Vec<Noted<'a>>) -> Result<(), AllocError>
-    ensures { OnOk result (events.new.items ≡ events.old.items ++ Noted.Stop ∷ []) }
-{
-    events.push(Noted::Stop)?;
     Ok(())
 }
 
@@ -178,9 +184,8 @@ fn put_before<'a>(alloc: Global, conds: &Conds, event: &Noted<'a>) -> Result<Not
 }
 
 // Adds what follows an End with these assignments, up to the first Halt or Stop, and returns whether there is one.
-#[inline(never)]
 #[tactic(auto, using(crate::proofs::Copies::cut_first, crate::proofs::Copies::cut_last))]
-pub fn add_after<'a>(
+fn add_after<'a>(
     alloc: Global,
     conds: &Conds,
     later: &[Noted<'a>],
@@ -196,6 +201,27 @@ pub fn add_after<'a>(
         }
     }
     Ok(false)
+}
+
+// The same, and takes its trials from those that are left unless there is one.
+#[inline(never)]
+pub fn add_later<'a>(
+    alloc: Global,
+    conds: &Conds,
+    later: Vec<Noted<'a>>,
+    all: &mut Vec<Noted<'a>>,
+    left: &mut usize,
+) -> Result<bool, AllocError>
+    requires { trials_of later.items ≤ left.now }
+    ensures added { OnOk result (all.new.items ≡ all.old.items ++ cut (put_before conds.now later.entry.items)) }
+    ensures ended { IfOk result (λ b. b ≡ list_any is_last later.entry.items) }
+    ensures left { IfOk result (λ b. b ≡ false → left.new ≡ left.old - trials_of later.entry.items) }
+{
+    let ended = add_after(alloc, conds, &later, all)?;
+    if !ended {
+        *left -= count_trials(&later);
+    }
+    Ok(ended)
 }
 
 // The event, of an End with the part from `start` to it assigned to the name if the whole match succeeds.
@@ -243,12 +269,12 @@ fn push_assigned<'a>(
     ensures { OnOk result (events.new.items ++ event.now ∷ [] ≡ events.old.items ++ assign_now name start (event.now ∷ [])) }
 {
     match event {
-        Noted::End(end, _) => push_set(
+        Noted::End(end, _) => push(
             events,
-            &Assign {
+            Noted::Set(Assign {
                 name,
                 what: What::Part(start, *end),
-            },
+            }),
         ),
         Noted::Try(_) | Noted::Set(_) | Noted::Mark(_) | Noted::Halt | Noted::Stop => Ok(()),
     }

@@ -174,6 +174,30 @@ fn put_assigned(out: &mut Vec<u8>, sign: &[u8], name: Name) -> Result<(), AllocE
     put(out, name.bytes())
 }
 
+/// What a pattern begins with here, before its parts.
+fn opening(pattern: &Pattern, around: Around) -> &'static [u8] {
+    if is_bracketed(pattern, around) {
+        return b"(";
+    }
+    match pattern {
+        Pattern::Arbno(_) => b"ARBNO(",
+        _ => b"",
+    }
+}
+
+/// Adds what a pattern ends with here, after its parts.
+fn put_closing(out: &mut Vec<u8>, pattern: &Pattern, around: Around) -> Result<(), AllocError> {
+    if is_bracketed(pattern, around) {
+        return put(out, b")");
+    }
+    match pattern {
+        Pattern::Arbno(_) => put(out, b")"),
+        Pattern::Cond(_, name) => put_assigned(out, b" . ", *name),
+        Pattern::Imm(_, name) => put_assigned(out, b" $ ", *name),
+        _ => Ok(()),
+    }
+}
+
 /// Adds a pattern, in parentheses if it needs them here.
 fn put_within(
     out: &mut Vec<u8>,
@@ -181,36 +205,26 @@ fn put_within(
     pattern: &Pattern,
     around: Around,
 ) -> Result<(), AllocError> {
-    let is_bracketed = is_bracketed(pattern, around);
-    put(out, if is_bracketed { b"(" } else { b"" })?;
-    match pattern {
+    put(out, opening(pattern, around))?;
+    let parts = match pattern {
         Pattern::Seq(left, right) => {
             put_within(out, rules, left, Around::Joined)?;
             put(out, b" ")?;
-            put_within(out, rules, right, Around::Joined)?;
+            put_within(out, rules, right, Around::Joined)
         }
         Pattern::Alt(left, right) => {
             put_within(out, rules, left, Around::Nothing)?;
             put(out, b" | ")?;
-            put_within(out, rules, right, Around::Nothing)?;
+            put_within(out, rules, right, Around::Nothing)
         }
-        Pattern::Arbno(part) => {
-            put(out, b"ARBNO(")?;
-            put_within(out, rules, part, Around::Nothing)?;
-            put(out, b")")?;
-        }
-        Pattern::Cond(part, name) => {
-            put_within(out, rules, part, Around::Assigned)?;
-            put_assigned(out, b" . ", *name)?;
-        }
-        Pattern::Imm(part, name) => {
-            put_within(out, rules, part, Around::Assigned)?;
-            put_assigned(out, b" $ ", *name)?;
-        }
-        Pattern::Ref(number) => put_reference(out, rules, *number)?,
-        _ => put_leaf(out, pattern)?,
-    }
-    put(out, if is_bracketed { b")" } else { b"" })
+        Pattern::Arbno(part) => put_within(out, rules, part, Around::Nothing),
+        Pattern::Cond(part, _) => put_within(out, rules, part, Around::Assigned),
+        Pattern::Imm(part, _) => put_within(out, rules, part, Around::Assigned),
+        Pattern::Ref(number) => put_reference(out, rules, *number),
+        _ => put_leaf(out, pattern),
+    };
+    parts?;
+    put_closing(out, pattern, around)
 }
 
 /// A pattern as it is written, with as few parentheses as it needs. References are to these definitions.

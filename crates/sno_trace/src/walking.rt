@@ -10,8 +10,8 @@ use crate::events::Noted;
 use crate::faults::{TraceFault, deeper};
 use crate::leaves::leaf;
 use crate::lists::{
-    add_after, assign_later, assign_now, count_trials, cut, has_last, push_end, push_halt,
-    push_mark, push_null_round, push_set, push_stop, push_try, within_definition,
+    add_later, assign_later, assign_now, count_trials, cut, has_last, push_end, push_null_round,
+    push_other, within_definition,
 };
 use sno_pattern::{Pattern, Rules, Text};
 use std::alloc::Global;
@@ -51,8 +51,7 @@ pub fn walk<'a>(
     match pattern {
         Pattern::Seq(left, right) => {
             let first = walk(alloc, setting, inside, limit, left, c)?;
-            let events = follow(alloc, setting, inside, limit, &first, right)?;
-            Ok(events)
+            follow(alloc, setting, inside, limit, &first, right)
         }
         Pattern::Alt(left, right) => {
             let mut events = walk(alloc, setting, inside, limit, left, c)?;
@@ -69,8 +68,7 @@ pub fn walk<'a>(
                 part,
                 count: left + 1,
             };
-            let events = repeat(alloc, setting, room, limit, rounds, c)?;
-            Ok(events)
+            repeat(alloc, setting, room, limit, rounds, c)
         }
         Pattern::Cond(part, name) => {
             let inner = walk(alloc, setting, inside, limit, part, c)?;
@@ -127,8 +125,7 @@ fn named<'a>(
                 rules: setting.rules,
                 depth: setting.depth - 1,
             };
-            let events = walk(alloc, &below, room, limit, body, c)?;
-            Ok(events)
+            walk(alloc, &below, room, limit, body, c)
         }
     }
 }
@@ -151,32 +148,15 @@ fn follow<'a>(
     let mut all = Vec::new(alloc);
     let mut left = limit;
     for event in first {
-        match event {
-            Noted::Try(trial) => {
-                if left == 0 {
-                    push_stop(&mut all)?;
-                    return Ok(all);
-                }
-                push_try(&mut all, trial)?;
-                left -= 1;
-            }
-            Noted::Set(assign) => push_set(&mut all, assign)?,
-            Noted::Mark(mark) => push_mark(&mut all, mark)?,
+        let ended = match event {
             Noted::End(end, conds) => {
                 let later = walk(alloc, setting, room, left, pattern, *end)?;
-                if add_after(alloc, conds, &later, &mut all)? {
-                    return Ok(all);
-                }
-                left -= count_trials(&later);
+                add_later(alloc, conds, later, &mut all, &mut left)?
             }
-            Noted::Halt => {
-                push_halt(&mut all)?;
-                return Ok(all);
-            }
-            Noted::Stop => {
-                push_stop(&mut all)?;
-                return Ok(all);
-            }
+            _ => push_other(&mut all, event, &mut left)?,
+        };
+        if ended {
+            return Ok(all);
         }
     }
     Ok(all)
@@ -198,26 +178,16 @@ fn repeat<'a>(
     ensures done { IfOk result (λ v. v.items ≡ upto limit (noted_rounds setting.now.depth (noted setting.now.text.now setting.now.rules.now.bodies setting.now.depth (tree_of rounds.entry.part.now)) rounds.entry.count c)) }
     ensures deep { IfErr result (λ e. e ≡ TooDeep → Nests setting.now.text.now setting.now.rules.now.bodies room setting.now.depth (Arbno (tree_of rounds.entry.part.now)) c) }
 {
-    let mut all = Vec::new(alloc);
     if rounds.count == 0 {
-        return Ok(all);
+        return Ok(Vec::new(alloc));
     }
     let inside = deeper(room)?;
+    let mut all = Vec::new(alloc);
     push_end(alloc, &mut all, c)?;
     let once = walk(alloc, setting, inside, limit, rounds.part, c)?;
     let mut left = limit;
     for event in once.as_slice() {
-        match event {
-            Noted::Try(trial) => {
-                if left == 0 {
-                    push_stop(&mut all)?;
-                    return Ok(all);
-                }
-                push_try(&mut all, trial)?;
-                left -= 1;
-            }
-            Noted::Set(assign) => push_set(&mut all, assign)?,
-            Noted::Mark(mark) => push_mark(&mut all, mark)?,
+        let ended = match event {
             Noted::End(end, conds) => {
                 if c < *end {
                     let rest = Rounds {
@@ -225,22 +195,16 @@ fn repeat<'a>(
                         count: rounds.count - 1,
                     };
                     let later = repeat(alloc, setting, inside, left, rest, *end)?;
-                    if add_after(alloc, conds, &later, &mut all)? {
-                        return Ok(all);
-                    }
-                    left -= count_trials(&later);
+                    add_later(alloc, conds, later, &mut all, &mut left)?
                 } else {
                     push_null_round(&mut all, setting.depth, *end)?;
+                    false
                 }
             }
-            Noted::Halt => {
-                push_halt(&mut all)?;
-                return Ok(all);
-            }
-            Noted::Stop => {
-                push_stop(&mut all)?;
-                return Ok(all);
-            }
+            _ => push_other(&mut all, event, &mut left)?,
+        };
+        if ended {
+            return Ok(all);
         }
     }
     Ok(all)

@@ -1,18 +1,18 @@
 -- Each call has less to do than the one that makes it, and what each adds is what the definitions say.
-use Rattle.std.proofs.Common.{◌+◌, ◌-◌, [], ◌∷◌, ◌++◌, length, drop, arith, ap, sym, ◌∙◌, inl, inr}
+use Rattle.std.proofs.Common.{◌+◌, ◌-◌, [], ◌∷◌, ◌++◌, length, drop, arith, refl, ap, sym, ◌∙◌, inl, inr}
 use Rattle.std.specs.List.{list_any}
 use Rattle.sno_pattern.specs.Tree.{tree_of}
 use Rattle.sno_pattern.specs.Laws.{Within}
-use Rattle.sno_trace.specs.declared.events.Noted.TheVariants.{Try, Set, Mark, End}
+use Rattle.sno_trace.specs.declared.events.Noted.TheVariants.{End}
 use Rattle.sno_trace.specs.Noted.{go_on, noted, noted_rounds, upto}
 use Rattle.sno_trace.specs.Steps.{is_last, trials_of}
 use Rattle.sno_trace.proofs.NotedLaws.{few_trials}
-use Rattle.sno_trace.proofs.Parts.{inside, both_sides, one_side, seq_does, cond_does, imm_does, ref_does, named_no_more, named_missing, named_does, round_taken, round_dropped}
-use Rattle.sno_trace.proofs.Going.{left_at, go_on_tried, go_on_set, go_on_mark, go_on_marked, go_on_end, go_on_last, AllEnds-tail, AllEnds-head, next_round, rounds_begun}
-use Rattle.sno_trace.proofs.Nesting.{passed_on, nests_none, in_first, in_second, in_either, in_other, in_part, in_assigned, in_named, in_body, in_round, in_later_round, found_end}
+use Rattle.sno_trace.proofs.Parts.{inside, both_sides, one_side, seq_does, arbno_does, cond_does, imm_does, ref_does, named_no_more, named_missing, named_does, round_taken, round_dropped}
+use Rattle.sno_trace.proofs.Going.{left_at, go_on_other, go_on_other_last, go_on_marked, go_on_end, go_on_last, not_both, AllEnds-tail, AllEnds-head, next_round, rounds_begun}
+use Rattle.sno_trace.proofs.Nesting.{list_as, deep_as, passed_on, nests_none, in_first, in_second, in_either, in_other, in_part, in_assigned, in_named, in_body, in_round, in_later_round, found_end}
 use Rattle.sno_trace.proofs.Work.{nodes, work_round, work_body, falls, nodes_of_seq, nodes_of_alt, nodes_of_arbno, nodes_of_cond, nodes_of_imm, some_nodes}
 use Rattle.sno_trace.proofs.walking.+walk.Goals as goal
-use Rattle.sno_trace.proofs.walking.+walk.Goals.{walk-then-not-has_last+in_ok-others-in-Alt+in_ok-append-in-Alt, walk-else-not-has_last, follow-in-Try+else-left-eq0+in_ok-push_try-in-Try, follow-in-Set+in_ok-push_set-in-Set, follow-in-Mark+in_ok-push_mark-in-Mark, follow-in-End+in_ok-later-in-End+in_ok-add_after-in-End+else-branch, repeat-in-Try+else-left-eq0+in_ok-push_try-in-Try, repeat-in-Set+in_ok-push_set-in-Set, repeat-in-Mark+in_ok-push_mark-in-Mark, repeat-in-End+then-c-end+in_ok-later-in-End+in_ok-add_after-in-End+else-branch, repeat-in-End+else-c-end+in_ok-push_null_round-in-End}
+use Rattle.sno_trace.proofs.walking.+walk.Goals.{walk-then-not-has_last+in_ok-others-in-Alt+in_ok-append-in-Alt, walk-else-not-has_last, follow-in-End+in_ok-later-in-End+in_ok-ended-in-End, follow-in_default+in_ok-ended-in_default, repeat-in-End+then-c-end+in_ok-later-in-End+in_ok-ended-in-End, repeat-in-End+else-c-end+in_ok-push_null_round-in-End, repeat-in_default+in_ok-ended-in_default}
 
 pub follow-walk-requires : goal.follow-walk-requires
 follow-walk-requires t c = (
@@ -20,39 +20,34 @@ follow-walk-requires t c = (
   (AllEnds-head (Within c.args.setting.now.text.now 0) _ _ _ _ (left_at c.args.first.now c.loop-event.event-index _ (End c.in-End.end c.in-End.conds) c.loop-event-test.true c.event-item.is c.in-End.is) c.loop-event.invariant.inside).1,
 )
 
-pub follow-returns-then-branch-clause-done : goal.follow-returns-then-branch-clause-done
-follow-returns-then-branch-clause-done t c =
-    go_on_last (noted c.args.setting.now.text.now c.args.setting.now.rules.now.bodies c.args.setting.now.depth (tree_of c.args.pattern.now)) _ c.loop-event.left _ _ _ _ _ _ _ (left_at c.args.first.now c.loop-event.event-index _ (End c.in-End.end c.in-End.conds) c.loop-event-test.true c.event-item.is c.in-End.is) (c.deref.ensures.value ∙ c.in_ok-later-in-End.ensures.done)
-    (sym c.if-branch.true ∙ c.in_ok-add_after-in-End.ensures.ended) c.in_ok-add_after-in-End.ensures.added c.loop-event.invariant.added
+pub follow-returns-then-ended-clause-done : goal.follow-returns-then-ended-clause-done
+follow-returns-then-ended-clause-done t c =
+    elim c.match-event.branch [
+      | follow-in-End+in_ok-later-in-End+in_ok-ended-in-End w ↦
+          go_on_last (noted c.args.setting.now.text.now c.args.setting.now.rules.now.bodies c.args.setting.now.depth (tree_of c.args.pattern.now)) _ c.loop-event.left _ _ _ _ _ _ _ (left_at c.args.first.now c.loop-event.event-index _ (End w.in-End.end w.in-End.conds) c.loop-event-test.true c.event-item.is w.in-End.is) w.in_ok-later-in-End.ensures.done
+          (sym c.if-ended.true ∙ w.ended-is ∙ w.in_ok-ended-in-End.ensures.ended) (ap (λ v. v.items) w.all-is ∙ w.in_ok-ended-in-End.ensures.added) c.loop-event.invariant.added
+      | follow-in_default+in_ok-ended-in_default w ↦
+          go_on_other_last (noted c.args.setting.now.text.now c.args.setting.now.rules.now.bodies c.args.setting.now.depth (tree_of c.args.pattern.now)) _ c.loop-event.left _ _ _ _ _ (left_at c.args.first.now c.loop-event.event-index _ c.event-item.result c.loop-event-test.true c.event-item.is refl) w.in_default.not-End
+          (sym c.if-ended.true ∙ w.ended-is ∙ w.in_ok-ended-in_default.ensures.ended) (ap (λ v. v.items) w.all-is ∙ w.in_ok-ended-in_default.ensures.added) c.loop-event.invariant.added
+    ]
 
-pub follow-overflow_sub-left-in-End : goal.follow-overflow_sub-left-in-End
-follow-overflow_sub-left-in-End t c =
-    omega (arith, few_trials c.loop-event.left ((noted c.args.setting.now.text.now c.args.setting.now.rules.now.bodies c.args.setting.now.depth (tree_of c.args.pattern.now)) c.in-End.end), c.count_trials-left.ensures.value, ap trials_of (c.deref-in-End.ensures.value ∙ c.in_ok-later-in-End.ensures.done))
+pub follow-add_later-requires : goal.follow-add_later-requires
+follow-add_later-requires t c =
+    omega (arith, few_trials c.loop-event.left (noted c.args.setting.now.text.now c.args.setting.now.rules.now.bodies c.args.setting.now.depth (tree_of c.args.pattern.now) c.in-End.end), ap trials_of c.in_ok-later-in-End.ensures.done)
 
 pub follow-loop-event-preserved : goal.follow-loop-event-preserved
 follow-loop-event-preserved t c =
     elim c.match-event.branch [
-      | follow-in-Try+else-left-eq0+in_ok-push_try-in-Try w ↦ record {
-        added = go_on_tried (noted c.args.setting.now.text.now c.args.setting.now.rules.now.bodies c.args.setting.now.depth (tree_of c.args.pattern.now)) _ c.loop-event.left _ _ _ _ _ _ (left_at c.args.first.now c.loop-event.event-index _ (Try w.in-Try.trial) c.loop-event-test.true c.event-item.is w.in-Try.is) (omega (arith, w.if-left-eq0.false)) w.left-is
-            (ap (λ v. v.items) w.all-is ∙ w.in_ok-push_try-in-Try.ensures) c.loop-event.invariant.added;
-        inside = AllEnds-tail (Within c.args.setting.now.text.now 0) _ _ _ (left_at c.args.first.now c.loop-event.event-index _ (Try w.in-Try.trial) c.loop-event-test.true c.event-item.is w.in-Try.is) c.loop-event.invariant.inside;
-      }
-      | follow-in-Set+in_ok-push_set-in-Set w ↦ record {
-        added = ap (λ j. c.match-event.all.items ++ upto j (go_on (drop (c.loop-event.event-index + 1) c.args.first.now) (noted c.args.setting.now.text.now c.args.setting.now.rules.now.bodies c.args.setting.now.depth (tree_of c.args.pattern.now)))) w.left-is
-            ∙ go_on_set (noted c.args.setting.now.text.now c.args.setting.now.rules.now.bodies c.args.setting.now.depth (tree_of c.args.pattern.now)) _ c.loop-event.left _ _ _ _ _ (left_at c.args.first.now c.loop-event.event-index _ (Set w.in-Set.assign) c.loop-event-test.true c.event-item.is w.in-Set.is) (ap (λ v. v.items) w.all-is ∙ w.in_ok-push_set-in-Set.ensures) c.loop-event.invariant.added;
-        inside = AllEnds-tail (Within c.args.setting.now.text.now 0) _ _ _ (left_at c.args.first.now c.loop-event.event-index _ (Set w.in-Set.assign) c.loop-event-test.true c.event-item.is w.in-Set.is) c.loop-event.invariant.inside;
-      }
-      | follow-in-Mark+in_ok-push_mark-in-Mark w ↦ record {
-        added = ap (λ j. c.match-event.all.items ++ upto j (go_on (drop (c.loop-event.event-index + 1) c.args.first.now) (noted c.args.setting.now.text.now c.args.setting.now.rules.now.bodies c.args.setting.now.depth (tree_of c.args.pattern.now)))) w.left-is
-            ∙ go_on_mark (noted c.args.setting.now.text.now c.args.setting.now.rules.now.bodies c.args.setting.now.depth (tree_of c.args.pattern.now)) _ c.loop-event.left _ _ _ _ _ (left_at c.args.first.now c.loop-event.event-index _ (Mark w.in-Mark.mark) c.loop-event-test.true c.event-item.is w.in-Mark.is) (ap (λ v. v.items) w.all-is ∙ w.in_ok-push_mark-in-Mark.ensures) c.loop-event.invariant.added;
-        inside = AllEnds-tail (Within c.args.setting.now.text.now 0) _ _ _ (left_at c.args.first.now c.loop-event.event-index _ (Mark w.in-Mark.mark) c.loop-event-test.true c.event-item.is w.in-Mark.is) c.loop-event.invariant.inside;
-      }
-      | follow-in-End+in_ok-later-in-End+in_ok-add_after-in-End+else-branch w ↦ record {
-        added = go_on_end (noted c.args.setting.now.text.now c.args.setting.now.rules.now.bodies c.args.setting.now.depth (tree_of c.args.pattern.now)) _ c.loop-event.left _ _ _ _ _ _ _ _ (left_at c.args.first.now c.loop-event.event-index _ (End w.in-End.end w.in-End.conds) c.loop-event-test.true c.event-item.is w.in-End.is) (w.deref.ensures.value ∙ w.in_ok-later-in-End.ensures.done)
-            (sym w.if-branch.false ∙ w.in_ok-add_after-in-End.ensures.ended)
-            (w.left-is ∙ ap (λ j. c.loop-event.left - j) (w.count_trials-left.ensures.value ∙ ap trials_of (w.deref-in-End.ensures.value ∙ sym w.deref.ensures.value)))
-            (ap (λ v. v.items) w.all-is ∙ w.in_ok-add_after-in-End.ensures.added) c.loop-event.invariant.added;
+      | follow-in-End+in_ok-later-in-End+in_ok-ended-in-End w ↦ record {
+        added = go_on_end (noted c.args.setting.now.text.now c.args.setting.now.rules.now.bodies c.args.setting.now.depth (tree_of c.args.pattern.now)) _ c.loop-event.left _ _ _ _ _ _ _ _ (left_at c.args.first.now c.loop-event.event-index _ (End w.in-End.end w.in-End.conds) c.loop-event-test.true c.event-item.is w.in-End.is) w.in_ok-later-in-End.ensures.done
+            (sym c.if-ended.false ∙ w.ended-is ∙ w.in_ok-ended-in-End.ensures.ended)
+            (w.left-is ∙ w.in_ok-ended-in-End.ensures.left (sym w.ended-is ∙ c.if-ended.false)) (ap (λ v. v.items) w.all-is ∙ w.in_ok-ended-in-End.ensures.added) c.loop-event.invariant.added;
         inside = AllEnds-tail (Within c.args.setting.now.text.now 0) _ _ _ (left_at c.args.first.now c.loop-event.event-index _ (End w.in-End.end w.in-End.conds) c.loop-event-test.true c.event-item.is w.in-End.is) c.loop-event.invariant.inside;
+      }
+      | follow-in_default+in_ok-ended-in_default w ↦ record {
+        added = go_on_other (noted c.args.setting.now.text.now c.args.setting.now.rules.now.bodies c.args.setting.now.depth (tree_of c.args.pattern.now)) _ c.loop-event.left _ _ _ _ _ _ (left_at c.args.first.now c.loop-event.event-index _ c.event-item.result c.loop-event-test.true c.event-item.is refl) w.in_default.not-End
+            (sym c.if-ended.false ∙ w.ended-is ∙ w.in_ok-ended-in_default.ensures.ended) (w.left-is ∙ w.in_ok-ended-in_default.ensures.left) (ap (λ v. v.items) w.all-is ∙ w.in_ok-ended-in_default.ensures.added) c.loop-event.invariant.added;
+        inside = AllEnds-tail (Within c.args.setting.now.text.now 0) _ _ _ (left_at c.args.first.now c.loop-event.event-index _ c.event-item.result c.loop-event-test.true c.event-item.is refl) c.loop-event.invariant.inside;
       }
     ]
 
@@ -70,13 +65,13 @@ pub named-returns-in-None-clause-done : goal.named-returns-in-None-clause-done
 named-returns-in-None-clause-done t c =
     named_missing c.args.setting.now.text.now c.args.setting.now.rules.now.bodies c.args.setting.now.depth c.args.limit c.args.number c.args.c _ c.new-in-None.ensures.items c.in-None.ensures
 
-pub named-returns-in_ok-events-in-Some-clause-done : goal.named-returns-in_ok-events-in-Some-clause-done
-named-returns-in_ok-events-in-Some-clause-done t c =
-    named_does c.args.setting.now.text.now c.args.setting.now.rules.now.bodies c.args.setting.now.depth c.args.limit c.args.number c.args.c (tree_of c.in-Some.body.now) _ (omega arith) c.in-Some.ensures c.in_ok-events-in-Some.ensures.done
+pub named-returns-in-Some-clause-done : goal.named-returns-in-Some-clause-done
+named-returns-in-Some-clause-done t c =
+    list_as c.walk.result _ _ c.walk.ensures.done (λ z is. named_does c.args.setting.now.text.now c.args.setting.now.rules.now.bodies c.args.setting.now.depth c.args.limit c.args.number c.args.c (tree_of c.in-Some.body.now) z (omega arith) c.in-Some.ensures is)
 
-pub named-returns-in_err-events-in-Some-clause-deep : goal.named-returns-in_err-events-in-Some-clause-deep
-named-returns-in_err-events-in-Some-clause-deep t c =
-    passed_on _ _ _ c.from_residual.ensures.1 (λ is. in_body c.args.setting.now.text.now c.args.setting.now.rules.now.bodies c.args.room c.args.setting.now.depth c.args.number c.args.c (tree_of c.in-Some.body.now) (omega arith) c.in-Some.ensures (c.in_err-events-in-Some.ensures.deep is))
+pub named-returns-in-Some-clause-deep : goal.named-returns-in-Some-clause-deep
+named-returns-in-Some-clause-deep t c =
+    deep_as c.walk.result _ _ c.walk.ensures.deep (λ h. in_body c.args.setting.now.text.now c.args.setting.now.rules.now.bodies c.args.room c.args.setting.now.depth c.args.number c.args.c (tree_of c.in-Some.body.now) (omega arith) c.in-Some.ensures h)
 
 pub repeat-walk-requires : goal.repeat-walk-requires
 repeat-walk-requires t c = (
@@ -98,44 +93,40 @@ repeat-repeat-requires t c = (
   (AllEnds-head (Within c.args.setting.now.text.now 0) _ _ _ _ (left_at c.as_slice-event-items.result.now c.loop-event.event-index _ (End c.in-End.end c.in-End.conds) c.loop-event-test.true c.event-item.is c.in-End.is) c.loop-event.invariant.inside).1,
 )
 
-pub repeat-returns-then-branch-clause-done : goal.repeat-returns-then-branch-clause-done
-repeat-returns-then-branch-clause-done t c =
-    go_on_last (next_round c.args.setting.now.depth (noted c.args.setting.now.text.now c.args.setting.now.rules.now.bodies c.args.setting.now.depth (tree_of c.args.rounds.part.now)) c.args.rounds.count c.args.c) _ c.loop-event.left _ _ _ _ _ _ _ (left_at c.as_slice-event-items.result.now c.loop-event.event-index _ (End c.in-End.end c.in-End.conds) c.loop-event-test.true c.event-item.is c.in-End.is) (round_taken c.loop-event.left c.args.setting.now.depth (noted c.args.setting.now.text.now c.args.setting.now.rules.now.bodies c.args.setting.now.depth (tree_of c.args.rounds.part.now)) c.args.rounds.count c.args.c c.in-End.end _ _ c.if-c-end.true c.deref.ensures.value c.in_ok-later-in-End.ensures.done)
-    (sym c.if-branch.true ∙ c.in_ok-add_after-in-End.ensures.ended) c.in_ok-add_after-in-End.ensures.added c.loop-event.invariant.added
+pub repeat-returns-then-ended-clause-done : goal.repeat-returns-then-ended-clause-done
+repeat-returns-then-ended-clause-done t c =
+    elim c.match-event.branch [
+      | repeat-in-End+then-c-end+in_ok-later-in-End+in_ok-ended-in-End w ↦
+          go_on_last (next_round c.args.setting.now.depth (noted c.args.setting.now.text.now c.args.setting.now.rules.now.bodies c.args.setting.now.depth (tree_of c.args.rounds.part.now)) c.args.rounds.count c.args.c) _ c.loop-event.left _ _ _ _ _ _ _ (left_at c.as_slice-event-items.result.now c.loop-event.event-index _ (End w.in-End.end w.in-End.conds) c.loop-event-test.true c.event-item.is w.in-End.is) (round_taken c.loop-event.left c.args.setting.now.depth (noted c.args.setting.now.text.now c.args.setting.now.rules.now.bodies c.args.setting.now.depth (tree_of c.args.rounds.part.now)) c.args.rounds.count c.args.c w.in-End.end _ w.if-c-end.true w.in_ok-later-in-End.ensures.done)
+          (sym c.if-ended.true ∙ w.ended-is ∙ w.in_ok-ended-in-End.ensures.ended) (ap (λ v. v.items) w.all-is ∙ w.in_ok-ended-in-End.ensures.added) c.loop-event.invariant.added
+      | repeat-in-End+else-c-end+in_ok-push_null_round-in-End w ↦ not_both _ _ (sym c.if-ended.true ∙ w.ended-is)
+      | repeat-in_default+in_ok-ended-in_default w ↦
+          go_on_other_last (next_round c.args.setting.now.depth (noted c.args.setting.now.text.now c.args.setting.now.rules.now.bodies c.args.setting.now.depth (tree_of c.args.rounds.part.now)) c.args.rounds.count c.args.c) _ c.loop-event.left _ _ _ _ _ (left_at c.as_slice-event-items.result.now c.loop-event.event-index _ c.event-item.result c.loop-event-test.true c.event-item.is refl) w.in_default.not-End
+          (sym c.if-ended.true ∙ w.ended-is ∙ w.in_ok-ended-in_default.ensures.ended) (ap (λ v. v.items) w.all-is ∙ w.in_ok-ended-in_default.ensures.added) c.loop-event.invariant.added
+    ]
 
-pub repeat-overflow_sub-left-then-c-end : goal.repeat-overflow_sub-left-then-c-end
-repeat-overflow_sub-left-then-c-end t c =
-    omega (arith, few_trials c.loop-event.left (noted_rounds c.args.setting.now.depth (noted c.args.setting.now.text.now c.args.setting.now.rules.now.bodies c.args.setting.now.depth (tree_of c.args.rounds.part.now)) (c.args.rounds.count - 1) c.in-End.end), c.count_trials-left.ensures.value, ap trials_of (c.deref-then-c-end.ensures.value ∙ c.in_ok-later-in-End.ensures.done))
+pub repeat-add_later-requires : goal.repeat-add_later-requires
+repeat-add_later-requires t c =
+    omega (arith, few_trials c.loop-event.left (noted_rounds c.args.setting.now.depth (noted c.args.setting.now.text.now c.args.setting.now.rules.now.bodies c.args.setting.now.depth (tree_of c.args.rounds.part.now)) (c.args.rounds.count - 1) c.in-End.end), ap trials_of c.in_ok-later-in-End.ensures.done)
 
 pub repeat-loop-event-preserved : goal.repeat-loop-event-preserved
 repeat-loop-event-preserved t c =
     elim c.match-event.branch [
-      | repeat-in-Try+else-left-eq0+in_ok-push_try-in-Try w ↦ record {
-        added = go_on_tried (next_round c.args.setting.now.depth (noted c.args.setting.now.text.now c.args.setting.now.rules.now.bodies c.args.setting.now.depth (tree_of c.args.rounds.part.now)) c.args.rounds.count c.args.c) _ c.loop-event.left _ _ _ _ _ _ (left_at c.as_slice-event-items.result.now c.loop-event.event-index _ (Try w.in-Try.trial) c.loop-event-test.true c.event-item.is w.in-Try.is) (omega (arith, w.if-left-eq0.false)) w.left-is
-            (ap (λ v. v.items) w.all-is ∙ w.in_ok-push_try-in-Try.ensures) c.loop-event.invariant.added;
-        inside = AllEnds-tail (Within c.args.setting.now.text.now 0) _ _ _ (left_at c.as_slice-event-items.result.now c.loop-event.event-index _ (Try w.in-Try.trial) c.loop-event-test.true c.event-item.is w.in-Try.is) c.loop-event.invariant.inside;
-      }
-      | repeat-in-Set+in_ok-push_set-in-Set w ↦ record {
-        added = ap (λ j. c.match-event.all.items ++ upto j (go_on (drop (c.loop-event.event-index + 1) c.as_slice-event-items.result.now) (next_round c.args.setting.now.depth (noted c.args.setting.now.text.now c.args.setting.now.rules.now.bodies c.args.setting.now.depth (tree_of c.args.rounds.part.now)) c.args.rounds.count c.args.c))) w.left-is
-            ∙ go_on_set (next_round c.args.setting.now.depth (noted c.args.setting.now.text.now c.args.setting.now.rules.now.bodies c.args.setting.now.depth (tree_of c.args.rounds.part.now)) c.args.rounds.count c.args.c) _ c.loop-event.left _ _ _ _ _ (left_at c.as_slice-event-items.result.now c.loop-event.event-index _ (Set w.in-Set.assign) c.loop-event-test.true c.event-item.is w.in-Set.is) (ap (λ v. v.items) w.all-is ∙ w.in_ok-push_set-in-Set.ensures) c.loop-event.invariant.added;
-        inside = AllEnds-tail (Within c.args.setting.now.text.now 0) _ _ _ (left_at c.as_slice-event-items.result.now c.loop-event.event-index _ (Set w.in-Set.assign) c.loop-event-test.true c.event-item.is w.in-Set.is) c.loop-event.invariant.inside;
-      }
-      | repeat-in-Mark+in_ok-push_mark-in-Mark w ↦ record {
-        added = ap (λ j. c.match-event.all.items ++ upto j (go_on (drop (c.loop-event.event-index + 1) c.as_slice-event-items.result.now) (next_round c.args.setting.now.depth (noted c.args.setting.now.text.now c.args.setting.now.rules.now.bodies c.args.setting.now.depth (tree_of c.args.rounds.part.now)) c.args.rounds.count c.args.c))) w.left-is
-            ∙ go_on_mark (next_round c.args.setting.now.depth (noted c.args.setting.now.text.now c.args.setting.now.rules.now.bodies c.args.setting.now.depth (tree_of c.args.rounds.part.now)) c.args.rounds.count c.args.c) _ c.loop-event.left _ _ _ _ _ (left_at c.as_slice-event-items.result.now c.loop-event.event-index _ (Mark w.in-Mark.mark) c.loop-event-test.true c.event-item.is w.in-Mark.is) (ap (λ v. v.items) w.all-is ∙ w.in_ok-push_mark-in-Mark.ensures) c.loop-event.invariant.added;
-        inside = AllEnds-tail (Within c.args.setting.now.text.now 0) _ _ _ (left_at c.as_slice-event-items.result.now c.loop-event.event-index _ (Mark w.in-Mark.mark) c.loop-event-test.true c.event-item.is w.in-Mark.is) c.loop-event.invariant.inside;
-      }
-      | repeat-in-End+then-c-end+in_ok-later-in-End+in_ok-add_after-in-End+else-branch w ↦ record {
-        added = go_on_end (next_round c.args.setting.now.depth (noted c.args.setting.now.text.now c.args.setting.now.rules.now.bodies c.args.setting.now.depth (tree_of c.args.rounds.part.now)) c.args.rounds.count c.args.c) _ c.loop-event.left _ _ _ _ _ _ _ _ (left_at c.as_slice-event-items.result.now c.loop-event.event-index _ (End w.in-End.end w.in-End.conds) c.loop-event-test.true c.event-item.is w.in-End.is) (round_taken c.loop-event.left c.args.setting.now.depth (noted c.args.setting.now.text.now c.args.setting.now.rules.now.bodies c.args.setting.now.depth (tree_of c.args.rounds.part.now)) c.args.rounds.count c.args.c w.in-End.end _ _ w.if-c-end.true w.deref.ensures.value w.in_ok-later-in-End.ensures.done)
-            (sym w.if-branch.false ∙ w.in_ok-add_after-in-End.ensures.ended)
-            (w.left-is ∙ ap (λ j. c.loop-event.left - j) (w.count_trials-left.ensures.value ∙ ap trials_of (w.deref-then-c-end.ensures.value ∙ sym w.deref.ensures.value)))
-            (ap (λ v. v.items) w.all-is ∙ w.in_ok-add_after-in-End.ensures.added) c.loop-event.invariant.added;
+      | repeat-in-End+then-c-end+in_ok-later-in-End+in_ok-ended-in-End w ↦ record {
+        added = go_on_end (next_round c.args.setting.now.depth (noted c.args.setting.now.text.now c.args.setting.now.rules.now.bodies c.args.setting.now.depth (tree_of c.args.rounds.part.now)) c.args.rounds.count c.args.c) _ c.loop-event.left _ _ _ _ _ _ _ _ (left_at c.as_slice-event-items.result.now c.loop-event.event-index _ (End w.in-End.end w.in-End.conds) c.loop-event-test.true c.event-item.is w.in-End.is) (round_taken c.loop-event.left c.args.setting.now.depth (noted c.args.setting.now.text.now c.args.setting.now.rules.now.bodies c.args.setting.now.depth (tree_of c.args.rounds.part.now)) c.args.rounds.count c.args.c w.in-End.end _ w.if-c-end.true w.in_ok-later-in-End.ensures.done)
+            (sym c.if-ended.false ∙ w.ended-is ∙ w.in_ok-ended-in-End.ensures.ended)
+            (w.left-is ∙ w.in_ok-ended-in-End.ensures.left (sym w.ended-is ∙ c.if-ended.false)) (ap (λ v. v.items) w.all-is ∙ w.in_ok-ended-in-End.ensures.added) c.loop-event.invariant.added;
         inside = AllEnds-tail (Within c.args.setting.now.text.now 0) _ _ _ (left_at c.as_slice-event-items.result.now c.loop-event.event-index _ (End w.in-End.end w.in-End.conds) c.loop-event-test.true c.event-item.is w.in-End.is) c.loop-event.invariant.inside;
       }
       | repeat-in-End+else-c-end+in_ok-push_null_round-in-End w ↦ record {
         added = ap (λ j. c.match-event.all.items ++ upto j (go_on (drop (c.loop-event.event-index + 1) c.as_slice-event-items.result.now) (next_round c.args.setting.now.depth (noted c.args.setting.now.text.now c.args.setting.now.rules.now.bodies c.args.setting.now.depth (tree_of c.args.rounds.part.now)) c.args.rounds.count c.args.c))) w.left-is
             ∙ go_on_marked (next_round c.args.setting.now.depth (noted c.args.setting.now.text.now c.args.setting.now.rules.now.bodies c.args.setting.now.depth (tree_of c.args.rounds.part.now)) c.args.rounds.count c.args.c) _ c.loop-event.left _ _ _ _ _ _ _ (left_at c.as_slice-event-items.result.now c.loop-event.event-index _ (End w.in-End.end w.in-End.conds) c.loop-event-test.true c.event-item.is w.in-End.is) (round_dropped c.args.setting.now.depth (noted c.args.setting.now.text.now c.args.setting.now.rules.now.bodies c.args.setting.now.depth (tree_of c.args.rounds.part.now)) c.args.rounds.count c.args.c w.in-End.end w.if-c-end.false) (ap (λ v. v.items) w.all-is ∙ w.in_ok-push_null_round-in-End.ensures) c.loop-event.invariant.added;
         inside = AllEnds-tail (Within c.args.setting.now.text.now 0) _ _ _ (left_at c.as_slice-event-items.result.now c.loop-event.event-index _ (End w.in-End.end w.in-End.conds) c.loop-event-test.true c.event-item.is w.in-End.is) c.loop-event.invariant.inside;
+      }
+      | repeat-in_default+in_ok-ended-in_default w ↦ record {
+        added = go_on_other (next_round c.args.setting.now.depth (noted c.args.setting.now.text.now c.args.setting.now.rules.now.bodies c.args.setting.now.depth (tree_of c.args.rounds.part.now)) c.args.rounds.count c.args.c) _ c.loop-event.left _ _ _ _ _ _ (left_at c.as_slice-event-items.result.now c.loop-event.event-index _ c.event-item.result c.loop-event-test.true c.event-item.is refl) w.in_default.not-End
+            (sym c.if-ended.false ∙ w.ended-is ∙ w.in_ok-ended-in_default.ensures.ended) (w.left-is ∙ w.in_ok-ended-in_default.ensures.left) (ap (λ v. v.items) w.all-is ∙ w.in_ok-ended-in_default.ensures.added) c.loop-event.invariant.added;
+        inside = AllEnds-tail (Within c.args.setting.now.text.now 0) _ _ _ (left_at c.as_slice-event-items.result.now c.loop-event.event-index _ c.event-item.result c.loop-event-test.true c.event-item.is refl) c.loop-event.invariant.inside;
       }
     ]
 
@@ -167,10 +158,10 @@ pub walk-named-requires : goal.walk-named-requires
 walk-named-requires t c =
     (falls _ _ _ _ _ 0 t c.decreases (some_nodes (tree_of c.args.pattern.now)) (omega arith), c.requires)
 
-pub walk-returns-in_ok-events-in-Seq-clause-done : goal.walk-returns-in_ok-events-in-Seq-clause-done
-walk-returns-in_ok-events-in-Seq-clause-done t c =
-    seq_does c.args.setting.now.text.now c.args.setting.now.rules.now.bodies c.args.setting.now.depth c.args.limit c.args.c (tree_of c.args.pattern.now) (tree_of c.in-Seq.left.value) (tree_of c.in-Seq.right.value) (tree_of c.deref.result.now) (tree_of c.deref-in-Seq-2.result.now) _ _ _
-    (ap tree_of c.in-Seq.is) (ap tree_of c.deref.ensures) (ap tree_of c.deref-in-Seq-2.ensures) c.deref-in-Seq.ensures.value c.in_ok-first-in-Seq.ensures.done c.in_ok-events-in-Seq.ensures.done
+pub walk-returns-in_ok-first-in-Seq-clause-done : goal.walk-returns-in_ok-first-in-Seq-clause-done
+walk-returns-in_ok-first-in-Seq-clause-done t c =
+    list_as c.follow.result _ _ c.follow.ensures.done (λ z is. seq_does c.args.setting.now.text.now c.args.setting.now.rules.now.bodies c.args.setting.now.depth c.args.limit c.args.c (tree_of c.args.pattern.now) (tree_of c.in-Seq.left.value) (tree_of c.in-Seq.right.value) (tree_of c.deref.result.now) (tree_of c.deref-in-Seq-2.result.now) _ _ z
+    (ap tree_of c.in-Seq.is) (ap tree_of c.deref.ensures) (ap tree_of c.deref-in-Seq-2.ensures) c.deref-in-Seq.ensures.value c.in_ok-first-in-Seq.ensures.done is)
 
 pub walk-returns-in_ok-events-in-Cond-clause-done : goal.walk-returns-in_ok-events-in-Cond-clause-done
 walk-returns-in_ok-events-in-Cond-clause-done t c =
@@ -212,7 +203,7 @@ walk-returns-after-not-has_last-clause-done t c =
 
 pub follow-returns-in_err-later-in-End-clause-deep : goal.follow-returns-in_err-later-in-End-clause-deep
 follow-returns-in_err-later-in-End-clause-deep t c =
-    passed_on _ _ _ c.from_residual-in_err-later-in-End.ensures.1 (λ is. (c.in-End.end, found_end c.args.first.now c.loop-event.event-index _ c.in-End.end c.in-End.conds (left_at c.args.first.now c.loop-event.event-index _ (End c.in-End.end c.in-End.conds) c.loop-event-test.true c.event-item.is c.in-End.is), c.in_err-later-in-End.ensures.deep is))
+    passed_on _ _ _ c.from_residual.ensures.1 (λ is. (c.in-End.end, found_end c.args.first.now c.loop-event.event-index _ c.in-End.end c.in-End.conds (left_at c.args.first.now c.loop-event.event-index _ (End c.in-End.end c.in-End.conds) c.loop-event-test.true c.event-item.is c.in-End.is), c.in_err-later-in-End.ensures.deep is))
 
 pub repeat-returns-in_err-inside-clause-deep : goal.repeat-returns-in_err-inside-clause-deep
 repeat-returns-in_err-inside-clause-deep t c = passed_on _ _ _ c.from_residual.ensures.1 (λ is. nests_none c.args.setting.now.text.now c.args.setting.now.rules.now.bodies c.args.room c.args.setting.now.depth _ c.args.c c.in_err-inside.ensures.used_up)
@@ -232,10 +223,10 @@ pub walk-returns-in_err-first-in-Seq-clause-deep : goal.walk-returns-in_err-firs
 walk-returns-in_err-first-in-Seq-clause-deep t c =
     passed_on _ _ _ c.from_residual-in_err-first-in-Seq.ensures.1 (λ is. in_first c.args.setting.now.text.now c.args.setting.now.rules.now.bodies c.args.room _ c.args.setting.now.depth c.args.c _ _ _ _ (ap tree_of c.in-Seq.is) (ap tree_of c.deref.ensures) c.in_ok-inside.ensures.left (c.in_err-first-in-Seq.ensures.deep is))
 
-pub walk-returns-in_err-events-in-Seq-clause-deep : goal.walk-returns-in_err-events-in-Seq-clause-deep
-walk-returns-in_err-events-in-Seq-clause-deep t c =
-    passed_on _ _ _ c.from_residual-in_err-events-in-Seq.ensures.1 (λ is. in_second c.args.setting.now.text.now c.args.setting.now.rules.now.bodies c.args.room _ c.args.setting.now.depth c.args.limit c.args.c _ _ _ _ _ _ _ (ap tree_of c.in-Seq.is) (ap tree_of c.deref.ensures) (ap tree_of c.deref-in-Seq-2.ensures) c.in_ok-inside.ensures.left
-    c.deref-in-Seq.ensures.value c.in_ok-first-in-Seq.ensures.done (c.in_err-events-in-Seq.ensures.deep is))
+pub walk-returns-in_ok-first-in-Seq-clause-deep : goal.walk-returns-in_ok-first-in-Seq-clause-deep
+walk-returns-in_ok-first-in-Seq-clause-deep t c =
+    deep_as c.follow.result _ _ c.follow.ensures.deep (λ h. in_second c.args.setting.now.text.now c.args.setting.now.rules.now.bodies c.args.room _ c.args.setting.now.depth c.args.limit c.args.c _ _ _ _ _ _ _ (ap tree_of c.in-Seq.is) (ap tree_of c.deref.ensures) (ap tree_of c.deref-in-Seq-2.ensures) c.in_ok-inside.ensures.left
+    c.deref-in-Seq.ensures.value c.in_ok-first-in-Seq.ensures.done h)
 
 pub walk-returns-in_err-events-in-Alt-clause-deep : goal.walk-returns-in_err-events-in-Alt-clause-deep
 walk-returns-in_err-events-in-Alt-clause-deep t c =
@@ -245,9 +236,14 @@ pub walk-returns-in_err-others-in-Alt-clause-deep : goal.walk-returns-in_err-oth
 walk-returns-in_err-others-in-Alt-clause-deep t c =
     passed_on _ _ _ c.from_residual-in_err-others-in-Alt.ensures.1 (λ is. in_other c.args.setting.now.text.now c.args.setting.now.rules.now.bodies c.args.room _ c.args.setting.now.depth c.args.c _ _ _ _ (ap tree_of c.in-Alt.is) (ap tree_of c.deref-then-not-has_last-2.ensures) c.in_ok-inside.ensures.left (c.in_err-others-in-Alt.ensures.deep is))
 
-pub walk-returns-in_err-events-in-Arbno-clause-deep : goal.walk-returns-in_err-events-in-Arbno-clause-deep
-walk-returns-in_err-events-in-Arbno-clause-deep t c =
-    passed_on _ _ _ c.from_residual-in_err-events-in-Arbno.ensures.1 (λ is. in_part c.args.setting.now.text.now c.args.setting.now.rules.now.bodies c.args.room c.args.setting.now.depth c.args.c _ _ _ (ap tree_of c.in-Arbno.is) (ap tree_of c.deref-in-Arbno.ensures) (c.in_err-events-in-Arbno.ensures.deep is))
+pub walk-returns-in-Arbno-clause-done : goal.walk-returns-in-Arbno-clause-done
+walk-returns-in-Arbno-clause-done t c =
+    list_as c.repeat.result _ _ c.repeat.ensures.done (λ z is. arbno_does c.args.setting.now.text.now c.args.setting.now.rules.now.bodies c.args.setting.now.depth c.args.limit c.args.c (tree_of c.args.pattern.now) (tree_of c.in-Arbno.part.value) (tree_of c.deref-in-Arbno.result.now) c.bytes.result.now z
+    (ap tree_of c.in-Arbno.is) (ap tree_of c.deref-in-Arbno.ensures) c.bytes.ensures.value is)
+
+pub walk-returns-in-Arbno-clause-deep : goal.walk-returns-in-Arbno-clause-deep
+walk-returns-in-Arbno-clause-deep t c =
+    deep_as c.repeat.result _ _ c.repeat.ensures.deep (λ h. in_part c.args.setting.now.text.now c.args.setting.now.rules.now.bodies c.args.room c.args.setting.now.depth c.args.c _ _ _ (ap tree_of c.in-Arbno.is) (ap tree_of c.deref-in-Arbno.ensures) h)
 
 pub walk-returns-in_err-inner-in-Cond-clause-deep : goal.walk-returns-in_err-inner-in-Cond-clause-deep
 walk-returns-in_err-inner-in-Cond-clause-deep t c =
