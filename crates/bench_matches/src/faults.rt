@@ -10,7 +10,7 @@ use thiserror::Error;
 #[derive(Clone, Copy, Debug, PartialEq, Eq, Error)]
 pub enum Fault {
     /// The arguments are invalid.
-    #[error("usage: bench_matches [--times N] < document.json, where N is a number from 1 to 1000000")]
+    #[error("usage: bench_matches [--times N] < document.json, where N is how often each is timed: a number from 1 to 1000000")]
     Usage,
     /// The bytes are not a document.
     #[error("{0}")]
