@@ -4,3 +4,4 @@ pub mod Past
 pub mod Queued
 pub mod Records
 pub mod Sought
+pub mod Relations

@@ -12,6 +12,7 @@
 //! |---|---|
 //! | `records` | the lines of a store, as JSON |
 //! | `past` | what came before the first entry of a store, and the numbers that a client is shown |
+//! | `relations` | what a store beside another one is to it |
 //! | `sought` | what a line asks of a desk whose numbers begin at 0, and its reply as the client is shown it |
 //! | `compacted` | the first line of a store that goes on from another one |
 //! | `replies` | the lines that a client gets |
@@ -30,6 +31,7 @@ mod keeper;
 mod past;
 mod queue;
 mod records;
+mod relations;
 mod replies;
 mod seats;
 mod service;
@@ -37,4 +39,5 @@ mod shelf;
 mod sought;
 
 pub use faults::DurableFault;
+pub use relations::{Relation, StoreFacts};
 pub use service::{Client, Ended, Given, Kept, Seats, serve_durably, serve_durably_at};

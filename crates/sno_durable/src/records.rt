@@ -247,3 +247,14 @@ pub(crate) fn record_in(alloc: Global, line: &[u8]) -> Result<Option<Record>, Al
         _ => Ok(None),
     }
 }
+
+/// The index that the entry after a record's has; nothing if the line isn't a record.
+pub(crate) fn next_after(alloc: Global, line: &[u8]) -> Result<Option<u64>, AllocError> {
+    let Some(value) = value_of(alloc, line)? else {
+        return Ok(None);
+    };
+    let entry = value
+        .get("reply")
+        .and_then(|reply| number_at(reply, "entry"));
+    Ok(entry.and_then(|entry| entry.checked_add(1)))
+}
