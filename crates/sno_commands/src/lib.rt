@@ -31,13 +31,17 @@
 //! | `trace_command`, `trace_modes`, `traces` | `sno trace`: its arguments; a statement or a rule is traced by `sno_traces` |
 //! | `serve_command`, `serves` | `sno serve`: its arguments; a document is served by `sno_serve`, and the listing written |
 //! | `listing_files` | the file of a listing |
-//! | `store_command`, `stored` | `sno serve --store` and `sno store`: a document is served over a store by `sno_durable`, and a store looked at |
+//! | `stored` | `sno serve --store`: a document is served over a store by `sno_durable` |
+//! | `store_command`, `looks` | `sno store`: its arguments; a store is looked at, made short or saved |
+//! | `store_names`, `beside` | the names that a store uses in its folder; what is under one of them |
 //! | `compactions` | a store that replaces the one from which it goes on |
+//! | `starts` | what a crash has left beside a store is put right |
 //! | `progress` | how many files are done, on a terminal |
 //! | `program` | from the arguments and the streams to the status |
 #![tactic(auto)]
 
 mod arguments;
+mod beside;
 mod check_command;
 mod checks;
 mod colours;
@@ -59,6 +63,7 @@ mod found_files;
 mod given_lines;
 mod line_checks;
 mod listing_files;
+mod looks;
 mod match_rows;
 mod program;
 mod progress;
@@ -73,7 +78,9 @@ mod serves;
 mod shared_edits;
 mod shared_files;
 mod shared_finds;
+mod starts;
 mod store_command;
+mod store_names;
 mod stored;
 mod streams;
 mod thread_options;

@@ -49,6 +49,10 @@ pub(crate) const SERVE_OUT_OF_RANGE: &str =
 pub(crate) const WITHOUT_DOCUMENT: &str =
     "error: a service takes DOCUMENT or '--store'\n\nFor more information, try '--help'.\n";
 
+/// What is written if the listing would be written over a file of the store.
+pub(crate) const LISTING_ON_STORE: &str =
+    "error: '--listing' names a file of the store\n\nFor more information, try '--help'.\n";
+
 /// The options of `sno serve`, but for `--keep`.
 const OPTIONS: [CommandOption<'static>; 5] = [
     CommandOption {

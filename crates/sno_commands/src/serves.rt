@@ -72,6 +72,7 @@ fn serve_document<R: Files + Threads + Wait + Sync, I: Read + Send + Drop, W: Wr
         mode: mode_of(options),
         seats: options.seats as usize,
         tries: options.tries,
+        lists: options.listing.is_some(),
     };
     match serve(rt, alloc, document, terms, input, output) {
         Ok(served) => end(rt, alloc, options, &served, listing),

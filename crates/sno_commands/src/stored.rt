@@ -1,37 +1,65 @@
-//! `sno serve --store` and `sno store`: a document over a store, and a store looked at.
+//! `sno serve --store`: a document over a store.
 
 use crate::checks::document_bytes;
 use crate::compactions::compact;
-use crate::faults::{FAILED, ProgramFault};
+use crate::faults::{FAILED, MISUSED, ProgramFault};
 use crate::listing_files::{ListingFile, open_listing, write_listing};
-use crate::serve_command::StoreOptions;
-use crate::store_command::{StoreAction, StoreRequest};
+use crate::serve_command::{LISTING_ON_STORE, StoreOptions};
+use crate::starts::opened_to_go_on;
+use crate::store_names::{StoreNames, names_of, place_of};
 use crate::streams::write_all;
-use sno_durable::{Client, DurableFault, Given, Kept, Seats, serve_durably, serve_durably_at};
-use sno_store::{File, Lines, OpenFault, Store, open};
+use os::RangeLock;
+use sno_durable::{Client, DurableFault, Given, Kept, Seats, serve_durably_at};
+use sno_sealed::Sealed;
+use sno_store::{Lines, OpenFault, Store, open};
 use sqlite_disk::Disk;
 use std::alloc::{AllocError, Global};
 use std::fs;
+use std::fs::OpenOptions;
+use std::io;
 use std::io::{Read, Write};
+use std::os::fd::AsRawFd;
 use std::rt::Files;
 use std::sync::Wait;
 use std::thread::Threads;
 
 /// The status after a store or a document that is refused.
-const INVALID: u8 = 2;
+pub(crate) const INVALID: u8 = 2;
 
-/// A store that was opened, and its lines.
-pub type Opened = (Store<File>, Lines);
+/// A store that was opened, and its lines without their sums.
+pub(crate) type Opened = (Sealed<sno_store::File>, Lines);
+
+/// The bytes of a store's file that a store locks: those that SQLite locks.
+const LOCKED_FROM: u64 = 1 << 30;
+
+/// How many they are.
+const LOCKED: u64 = 512;
 
 /// What opens stores.
 pub trait Stores {
-    /// Opens the store in a file, which is made if it is missing.
-    fn open_store(&self, path: &str) -> Result<Opened, OpenFault>;
+    /// Opens the store in a file, which is made if it is missing, and reads its lines.
+    fn open_store(&self, path: &str) -> Result<(Store<sno_store::File>, Lines), OpenFault>;
+
+    /// Opens a file, whatever names it has, and locks it as a store is locked, as long as it is open.
+    fn hold_store(&self, path: &str) -> Result<fs::File, OpenFault>;
 }
 
 impl Stores for HostRuntime {
-    fn open_store(&self, path: &str) -> Result<Opened, OpenFault> {
+    fn open_store(&self, path: &str) -> Result<(Store<sno_store::File>, Lines), OpenFault> {
         open(self, path)
+    }
+
+    fn hold_store(&self, path: &str) -> Result<fs::File, OpenFault> {
+        let file = OpenOptions::new().read(true).write(true).open(self, path)?;
+        if os::try_lock_range(file.as_raw_fd(), RangeLock::Exclusive, LOCKED_FROM, LOCKED) == 0 {
+            return Ok(file);
+        }
+        let error = io::Error::from_raw_os_error(os::errno());
+        if error.kind() == io::ErrorKind::WouldBlock {
+            Err(OpenFault::Busy)
+        } else {
+            Err(OpenFault::Io(error))
+        }
     }
 }
 
@@ -50,6 +78,7 @@ fn status_of(fault: &DurableFault) -> u8 {
         | DurableFault::OtherDocument
         | DurableFault::OtherTrials(_)
         | DurableFault::TextsTooLong
+        | DurableFault::Damaged(_)
         | DurableFault::Record(_)
         | DurableFault::Outcome(_) => INVALID,
     }
@@ -61,24 +90,63 @@ pub(crate) fn refuse<E: Write>(fault: &DurableFault, errors: &mut E) -> u8 {
     status_of(fault)
 }
 
-/// Opens a store; if it can't be opened, its line is written, and the status comes back.
+/// Opens a store; if it can't be opened, or a line of it is damaged, the line of the fault is written, and the status comes back.
 pub(crate) fn opened<R: Stores, E: Write>(
     rt: &R,
+    alloc: Global,
     path: &str,
     errors: &mut E,
 ) -> Result<Opened, u8> {
-    match rt.open_store(path) {
-        Ok(opened) => Ok(opened),
+    let (store, lines) = match rt.open_store(path) {
+        Ok(opened) => opened,
         Err(fault) => {
             let _printed = writeln!(errors, "store: {fault}");
-            Err(FAILED)
+            return Err(FAILED);
         }
+    };
+    match Sealed::of(alloc, store, lines) {
+        Ok(opened) => Ok(opened),
+        Err(fault) => Err(refuse(&DurableFault::from(fault), errors)),
     }
 }
 
 /// Whether there is something with this path.
 fn is_there<R: Files>(rt: &R, path: &str) -> bool {
     fs::metadata(rt, path).is_ok()
+}
+
+/// Whether the file of the listing, or the new file that takes its place, is one of the store's.
+fn lists_onto<R: Files>(
+    rt: &R,
+    alloc: Global,
+    names: &StoreNames,
+    listing: &str,
+) -> Result<bool, AllocError> {
+    let place = place_of(rt, alloc, listing)?;
+    let new = format!(in alloc; "{place}.new")?;
+    Ok(names.has(&place) || names.has(&new))
+}
+
+/// The status if a store can't have its names: those of a new one would be too long, or the listing would be written over it. The line of
+/// the fault is written.
+fn refused_names<R: Files, E: Write>(
+    rt: &R,
+    alloc: Global,
+    options: &StoreOptions<'_>,
+    names: &StoreNames,
+    errors: &mut E,
+) -> Result<Option<u8>, ProgramFault> {
+    if let Some(listing) = options.listing {
+        if lists_onto(rt, alloc, names, listing)? {
+            let _printed = write_all(errors, LISTING_ON_STORE.as_bytes());
+            return Ok(Some(MISUSED));
+        }
+    }
+    if !is_there(rt, &names.store) && names.are_too_long(rt, alloc)? {
+        let _printed = errors.writeln("store: its name is too long");
+        return Ok(Some(FAILED));
+    }
+    Ok(None)
 }
 
 /// The streams of a service.
@@ -106,6 +174,10 @@ pub(crate) fn run_stored<
     output: W,
     errors: &mut E,
 ) -> Result<u8, ProgramFault> {
+    let names = names_of(rt, alloc, options.store)?;
+    if let Some(status) = refused_names(rt, alloc, options, &names, errors)? {
+        return Ok(status);
+    }
     let document = match options.document {
         None if !is_there(rt, options.store) => {
             return Ok(refuse(&DurableFault::NoDocument, errors));
@@ -152,14 +224,14 @@ fn serve_given<
     document: Option<Vec<u8>>,
     streams: Streams<I, W>,
     errors: &mut E,
-) -> Result<Kept<File, I, W>, u8> {
+) -> Result<Kept<sno_store::File, I, W>, u8> {
     let kept = serve_first(rt, alloc, options, document, streams, errors)?;
     serve_on(rt, alloc, options, kept, errors)
 }
 
 /// Opens the store and serves lines until there are no more, or until the store has as many entries as it keeps.
 fn serve_first<
-    R: Stores + Threads + Wait + Sync,
+    R: Files + Stores + Threads + Wait + Sync,
     I: Read + Send + Drop,
     W: Write + Send + Drop,
     E: Write,
@@ -170,12 +242,13 @@ fn serve_first<
     document: Option<Vec<u8>>,
     streams: Streams<I, W>,
     errors: &mut E,
-) -> Result<Kept<File, I, W>, u8> {
-    let opened = opened(rt, options.store, errors)?;
+) -> Result<Kept<sno_store::File, I, W>, u8> {
+    let opened = opened_to_go_on(rt, alloc, options.store, errors)?;
     let given = Given {
         document,
         trials: options.trials,
         most: options.keep,
+        listing: options.listing.is_some(),
     };
     let Streams { input, output } = streams;
     let kept = match Client::new(alloc, input, output) {
@@ -193,7 +266,7 @@ fn serve_opened<R: Threads + Wait + Sync, I: Read + Send + Drop, W: Write + Send
     opened: Opened,
     given: Given,
     client: Client<I, W>,
-) -> Result<Kept<File, I, W>, DurableFault> {
+) -> Result<Kept<sno_store::File, I, W>, DurableFault> {
     let seats = Seats {
         count: options.seats as usize,
         tries: options.tries,
@@ -203,9 +276,9 @@ fn serve_opened<R: Threads + Wait + Sync, I: Read + Send + Drop, W: Write + Send
 
 /// What a service leaves; if nothing could be served, the line of the fault is written, and the status comes back.
 fn served<I: Read + Drop, W: Write + Drop, E: Write>(
-    served: Result<Kept<File, I, W>, DurableFault>,
+    served: Result<Kept<sno_store::File, I, W>, DurableFault>,
     errors: &mut E,
-) -> Result<Kept<File, I, W>, u8> {
+) -> Result<Kept<sno_store::File, I, W>, u8> {
     match served {
         Ok(kept) => Ok(kept),
         Err(fault) => Err(refuse(&fault, errors)),
@@ -223,9 +296,9 @@ fn serve_on<
     rt: &R,
     alloc: Global,
     options: &StoreOptions<'_>,
-    kept: Kept<File, I, W>,
+    kept: Kept<sno_store::File, I, W>,
     errors: &mut E,
-) -> Result<Kept<File, I, W>, u8> {
+) -> Result<Kept<sno_store::File, I, W>, u8> {
     let mut kept = kept;
     for _ in 0..u64::MAX {
         if !has_more(&kept) {
@@ -250,15 +323,16 @@ fn serve_next<R: Threads + Wait + Sync, I: Read + Send + Drop, W: Write + Send +
     rt: &R,
     alloc: Global,
     options: &StoreOptions<'_>,
-    kept: Kept<File, I, W>,
+    kept: Kept<sno_store::File, I, W>,
     opened: Opened,
     errors: &mut E,
-) -> Result<Kept<File, I, W>, u8> {
+) -> Result<Kept<sno_store::File, I, W>, u8> {
     let Kept { client, .. } = kept;
     let given = Given {
         document: None,
         trials: None,
         most: options.keep,
+        listing: options.listing.is_some(),
     };
     served(
         serve_opened(rt, alloc, options, opened, given, client),
@@ -283,90 +357,4 @@ fn end<R: Files, D: Disk, I: Read, W: Write, E: Write>(
     let bytes = kept.listing(alloc)?;
     write_listing(rt, listing, &bytes)?;
     Ok(0)
-}
-
-/// No lines, for a store that is only looked at.
-const NO_LINES: &[u8] = &[];
-
-/// What a store leaves that no line is added to.
-type Looked = Kept<File, &'static [u8], Vec<u8>>;
-
-/// Performs the statements of a store again.
-fn replay<R: Wait>(rt: &R, alloc: Global, opened: Opened) -> Result<Looked, DurableFault> {
-    let (store, lines) = opened;
-    let client = Client::new(alloc, NO_LINES, Vec::new(alloc))?;
-    let given = Given {
-        document: None,
-        trials: None,
-        most: None,
-    };
-    serve_durably(rt, alloc, store, lines, given, client)
-}
-
-/// Opens a store and performs its statements again; if that fails, the line of the fault is written, and the status comes back.
-fn replayed<R: Stores + Wait, E: Write>(
-    rt: &R,
-    alloc: Global,
-    path: &str,
-    errors: &mut E,
-) -> Result<Looked, u8> {
-    let opened = opened(rt, path, errors)?;
-    match replay(rt, alloc, opened) {
-        Ok(kept) => Ok(kept),
-        Err(fault) => Err(refuse(&fault, errors)),
-    }
-}
-
-/// What is written of a store: its listing, or how many entries it has.
-fn shown(alloc: Global, action: StoreAction, kept: &Looked) -> Result<Vec<u8>, AllocError> {
-    match action {
-        StoreAction::List => kept.listing(alloc),
-        StoreAction::Check | StoreAction::Compact => {
-            let count = kept.entries();
-            let line = format!(in alloc; "{count} entries\n")?;
-            Ok(line.into_bytes())
-        }
-    }
-}
-
-/// Does with a store what is asked for, and returns the status.
-fn show<R: Files + Stores, W: Write, E: Write>(
-    rt: &R,
-    alloc: Global,
-    request: &StoreRequest<'_>,
-    kept: &Looked,
-    output: &mut W,
-    errors: &mut E,
-) -> Result<u8, ProgramFault> {
-    if let Err(fault) = &kept.ended {
-        return Ok(refuse(fault, errors));
-    }
-    if matches!(request.action, StoreAction::Compact) {
-        match compact(rt, alloc, request.store, kept, errors) {
-            Ok(_) => {}
-            Err(status) => return Ok(status),
-        }
-    }
-    let shown = shown(alloc, request.action, kept)?;
-    write_all(output, &shown)?;
-    Ok(0)
-}
-
-/// Performs the statements of a store again, and returns the status: 0 if each has the outcome that is stored, otherwise as of
-/// [`run_stored`]. The number of entries, or the listing, goes to the output. Nothing is written to the store. If it is to be compacted,
-/// another one takes its place.
-pub(crate) fn run_store<R: Files + Stores + Wait, W: Write, E: Write>(
-    rt: &R,
-    alloc: Global,
-    request: &StoreRequest<'_>,
-    output: &mut W,
-    errors: &mut E,
-) -> Result<u8, ProgramFault> {
-    if !is_there(rt, request.store) {
-        return Err(ProgramFault::Read);
-    }
-    match replayed(rt, alloc, request.store, errors) {
-        Ok(kept) => show(rt, alloc, request, &kept, output, errors),
-        Err(status) => Ok(status),
-    }
 }

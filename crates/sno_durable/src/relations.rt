@@ -3,7 +3,7 @@ ghost use Rattle.std.specs.Prelude.{◌≡◌};
 ghost use Rattle.sno_durable.specs.Relations.{relation_of, end_of};
 
 use crate::records::{next_after, origin_in};
-use sno_store::Lines;
+use sno_store::LinesIter;
 use std::alloc::{AllocError, Global};
 
 /// What a store says of itself.
@@ -34,8 +34,8 @@ pub enum Relation {
 
 impl StoreFacts {
     /// What these lines of a store say of it; nothing if the first of them isn't that of a store. Refused only if memory runs out.
-    pub fn of(alloc: Global, lines: &Lines) -> Result<Option<StoreFacts>, AllocError> {
-        let mut rest = lines.iter();
+    pub fn of(alloc: Global, lines: LinesIter<'_>) -> Result<Option<StoreFacts>, AllocError> {
+        let mut rest = lines;
         let Some(first) = rest.next() else {
             return Ok(None);
         };

@@ -12,14 +12,17 @@ pub const MAX_REFUSED: usize = 1_000_000;
 #[derive(Drop)]
 pub(crate) struct Outlet<W: Write> {
     writer: W,
+    /// Whether there will be a listing.
+    lists: bool,
     refused: Vec<Refusal>,
     fault: Option<ServeFault>,
 }
 
 impl<W: Write + Drop> Outlet<W> {
-    pub(crate) fn new(alloc: Global, writer: W) -> Outlet<W> {
+    pub(crate) fn new(alloc: Global, writer: W, lists: bool) -> Outlet<W> {
         Outlet {
             writer,
+            lists,
             refused: Vec::new(alloc),
             fault: None,
         }
@@ -42,11 +45,14 @@ impl<W: Write + Drop> Outlet<W> {
         }
     }
 
-    /// Takes what the listing has of a refused statement.
+    /// Takes what the listing has of a refused statement, if there will be one.
     pub(crate) fn refuse(&mut self, refused: Option<Refusal>) {
         let Some(refusal) = refused else {
             return;
         };
+        if !self.lists {
+            return;
+        }
         if self.refused.len() < MAX_REFUSED && self.refused.push(refusal).is_err() {
             self.fail(ServeFault::Memory);
         }

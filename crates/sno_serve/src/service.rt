@@ -225,6 +225,8 @@ pub struct Terms {
     pub seats: usize,
     /// How often a seat may try a statement, 1 to 1,000.
     pub tries: u32,
+    /// Whether there will be a listing. Without one nothing is kept of refused statements.
+    pub lists: bool,
 }
 
 /// Serves a document: performs its statements, then replies to each line of the reader by a line of the writer, until there
@@ -272,7 +274,7 @@ pub fn serve<I: Read + Send + Drop, W: Write + Send + Drop, R: Threads + Wait + 
         tries: terms.tries,
         numbers: Mutex::new(first),
         intake: Mutex::new(Intake::new(alloc, reader)?),
-        outlet: Mutex::new(Outlet::new(alloc, writer)),
+        outlet: Mutex::new(Outlet::new(alloc, writer, terms.lists)),
     };
     let book = match at_desk(rt, alloc, book, terms.seats, &service) {
         Ok(book) => book,

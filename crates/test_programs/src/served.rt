@@ -113,6 +113,7 @@ fn lines_get_replies(rt: HostRuntime) -> Result<(), Fail> {
         mode,
         seats: 1,
         tries: 100,
+        lists: true,
     };
     let served = serve(&rt, alloc, document, terms, input.as_slice(), &mut output)
         .ok()

@@ -1,0 +1,193 @@
+//! `sno store`: a store is looked at, made short, or saved as far as it is whole.
+
+use crate::beside::bytes_of;
+use crate::compactions::compact;
+use crate::faults::{FAILED, ProgramFault};
+use crate::starts::opened_to_go_on;
+use crate::store_command::{StoreAction, StoreRequest};
+use crate::stored::{Stores, refuse};
+use crate::streams::write_all;
+use sno_durable::{Client, DurableFault, Given, Kept, serve_durably};
+use sno_sealed::{Sealed, SealFault, read_file};
+use sno_store::{Lines, Store};
+use sqlite_disk::{Disk, Memory};
+use std::alloc::{AllocError, Global};
+use std::fs::{OpenFile, OpenOptions};
+use std::io;
+use std::io::{ErrorKind, Write};
+use std::os::unix::fs::OpenOptionsExt;
+use std::rt::Files;
+use std::sync::Wait;
+
+/// How many times a file is read that seems damaged: a service may be writing to it.
+const READINGS: u32 = 10;
+
+/// No lines, for a store that is only looked at.
+const NO_LINES: &[u8] = &[];
+
+/// What a store leaves that no line is added to.
+type Looked<D> = Kept<D, &'static [u8], Vec<u8>>;
+
+/// Performs the statements of a store again.
+fn replay<R: Wait, D: Disk + Drop>(
+    rt: &R,
+    alloc: Global,
+    store: Sealed<D>,
+    lines: Lines,
+) -> Result<Looked<D>, DurableFault> {
+    let client = Client::new(alloc, NO_LINES, Vec::new(alloc))?;
+    let given = Given {
+        document: None,
+        trials: None,
+        most: None,
+        listing: true,
+    };
+    serve_durably(rt, alloc, store, lines, given, client)
+}
+
+/// The lines of a store's file, which is only read, without their sums. A service may be writing to it: so it is damaged only if it seems so at
+/// the same line each time.
+///
+/// Refused with `Read`. If a line is damaged, the line of the fault is written, and the status comes back.
+fn lines_read<R: Files, E: Write>(
+    rt: &R,
+    alloc: Global,
+    path: &str,
+    errors: &mut E,
+) -> Result<Result<Lines, u8>, ProgramFault> {
+    let mut damaged = 0;
+    for _ in 0..READINGS {
+        let Ok(bytes) = bytes_of(rt, alloc, path) else {
+            return Err(ProgramFault::Read);
+        };
+        match read_file(alloc, &bytes) {
+            Ok(lines) => return Ok(Ok(lines)),
+            Err(SealFault::Damaged(line)) if line != damaged => damaged = line,
+            Err(fault) => return Ok(Err(refuse(&DurableFault::from(fault), errors))),
+        }
+    }
+    Ok(Err(refuse(&DurableFault::Damaged(damaged), errors)))
+}
+
+/// What is written of a store: its listing, or how many entries it has.
+fn shown<D: Disk>(
+    alloc: Global,
+    action: StoreAction,
+    kept: &Looked<D>,
+) -> Result<Vec<u8>, AllocError> {
+    match action {
+        StoreAction::List => kept.listing(alloc),
+        StoreAction::Check | StoreAction::Compact | StoreAction::Salvage => {
+            let count = kept.entries();
+            let line = format!(in alloc; "{count} entries\n")?;
+            Ok(line.into_bytes())
+        }
+    }
+}
+
+/// Performs the statements of a store's lines again, and writes what is asked for. Nothing is written to the store.
+fn look<R: Files + Wait, W: Write, E: Write>(
+    rt: &R,
+    alloc: Global,
+    request: &StoreRequest<'_>,
+    output: &mut W,
+    errors: &mut E,
+) -> Result<u8, ProgramFault> {
+    let lines = match lines_read(rt, alloc, request.store, errors)? {
+        Ok(lines) => lines,
+        Err(status) => return Ok(status),
+    };
+    if lines.is_empty() {
+        return Ok(refuse(&DurableFault::Format, errors));
+    }
+    let store = Sealed::closed(Store::new(Memory::new(alloc)));
+    let kept = match replay(rt, alloc, store, lines) {
+        Ok(kept) => kept,
+        Err(fault) => return Ok(refuse(&fault, errors)),
+    };
+    if let Err(fault) = &kept.ended {
+        return Ok(refuse(fault, errors));
+    }
+    write_all(output, &shown(alloc, request.action, &kept)?)?;
+    Ok(0)
+}
+
+/// Replaces a store by one that goes on from it, and writes how many entries there are.
+fn make_short<R: Files + Stores + Wait, W: Write, E: Write>(
+    rt: &R,
+    alloc: Global,
+    request: &StoreRequest<'_>,
+    output: &mut W,
+    errors: &mut E,
+) -> Result<u8, ProgramFault> {
+    let (store, lines) = match opened_to_go_on(rt, alloc, request.store, errors) {
+        Ok(opened) => opened,
+        Err(status) => return Ok(status),
+    };
+    let kept = match replay(rt, alloc, store, lines) {
+        Ok(kept) => kept,
+        Err(fault) => return Ok(refuse(&fault, errors)),
+    };
+    if let Err(fault) = &kept.ended {
+        return Ok(refuse(fault, errors));
+    }
+    if let Err(status) = compact(rt, alloc, request.store, &kept, errors) {
+        return Ok(status);
+    }
+    write_all(output, &shown(alloc, request.action, &kept)?)?;
+    Ok(0)
+}
+
+/// Makes a file of these bytes, and waits until it is on the disk. Refused if something has the name.
+fn put_new<R: Files>(rt: &R, path: &str, bytes: &[u8]) -> io::Result<()> {
+    let mut file = OpenOptions::new()
+        .write(true)
+        .create_new(true)
+        .mode(0o600)
+        .open(rt, path)?;
+    match write_all(&mut file, bytes) {
+        Ok(()) => file.sync_all(),
+        Err(_) => Err(io::Error::from(ErrorKind::WriteZero)),
+    }
+}
+
+/// Writes the lines before the first damaged one to a new file, and how many they are.
+fn salvage<R: Files, W: Write, E: Write>(
+    rt: &R,
+    alloc: Global,
+    request: &StoreRequest<'_>,
+    output: &mut W,
+    errors: &mut E,
+) -> Result<u8, ProgramFault> {
+    let Ok(bytes) = bytes_of(rt, alloc, request.store) else {
+        return Err(ProgramFault::Read);
+    };
+    let whole = whole_part(alloc, &bytes)?;
+    let (lines, _) = bytes.split_at(whole.end);
+    if let Err(error) = put_new(rt, request.out, lines) {
+        let _printed = writeln!(errors, "{}: {}", request.out, error.kind());
+        return Ok(FAILED);
+    }
+    let line = format!(in alloc; "{} lines\n", whole.lines)?;
+    write_all(output, line.as_bytes())?;
+    Ok(0)
+}
+
+/// Does with a store what is asked for, and returns the status: 0 if each statement has the outcome that is stored; 2 if the store is refused; 4
+/// after a fault of the machine. The number of entries, or the listing, goes to the output. A store that is checked or listed is only read.
+pub(crate) fn run_store<R: Files + Stores + Wait, W: Write, E: Write>(
+    rt: &R,
+    alloc: Global,
+    request: &StoreRequest<'_>,
+    output: &mut W,
+    errors: &mut E,
+) -> Result<u8, ProgramFault> {
+    if rt.metadata(request.store).is_err() {
+        return Err(ProgramFault::Read);
+    }
+    match request.action {
+        StoreAction::Check | StoreAction::List => look(rt, alloc, request, output, errors),
+        StoreAction::Compact => make_short(rt, alloc, request, output, errors),
+        StoreAction::Salvage => salvage(rt, alloc, request, output, errors),
+    }
+}

@@ -1,0 +1,195 @@
+//! What a crash has left beside a store is put right before a service begins.
+
+use crate::beside::{Beside, beside};
+use crate::compactions::{discard, take_place};
+use crate::faults::FAILED;
+use crate::store_names::{StoreNames, SystemCalls, names_of};
+use crate::stored::{INVALID, Opened, Stores, opened, refuse};
+use crate::streams::write_all;
+use sno_durable::{DurableFault, Relation, StoreFacts};
+use sno_replace::Folder;
+use sno_sealed::Sealed;
+use sno_store::File;
+use std::alloc::Global;
+use std::fmt::Display;
+use std::fs::{Metadata, OpenFile, OpenOptions};
+use std::io;
+use std::io::Write;
+use std::os::unix::fs::{MetadataExt, OpenOptionsExt};
+use std::rt::Files;
+
+/// Writes a line on a file beside a store.
+fn say<E: Write, W: Display>(path: &str, what: W, errors: &mut E) {
+    let _printed = writeln!(errors, "store: {path}: {what}");
+}
+
+/// Whether both are of one file.
+fn is_same_file(a: &Metadata, b: &Metadata) -> bool {
+    a.dev() == b.dev() && a.ino() == b.ino()
+}
+
+/// Whether the store's file has the name of the old one too: a crash came between the two calls that replace it.
+fn has_second_name<R: Files>(rt: &R, names: &StoreNames) -> bool {
+    match (
+        rt.symlink_metadata(&names.store),
+        rt.symlink_metadata(&names.old),
+    ) {
+        (Ok(store), Ok(old)) => is_same_file(&store, &old),
+        _ => false,
+    }
+}
+
+/// Removes the second name of a store's file. The file is locked meanwhile.
+fn mend<R: Files + Stores, E: Write>(
+    rt: &R,
+    alloc: Global,
+    names: &StoreNames,
+    errors: &mut E,
+) -> Result<(), u8> {
+    if !has_second_name(rt, names) {
+        return Ok(());
+    }
+    let held = match rt.hold_store(&names.store) {
+        Ok(held) => held,
+        Err(fault) => {
+            let _printed = writeln!(errors, "store: {fault}");
+            return Err(FAILED);
+        }
+    };
+    let mended = if has_second_name(rt, names) {
+        Folder::new(alloc, SystemCalls { rt, names }).mend()
+    } else {
+        Ok(())
+    };
+    drop(held);
+    match mended {
+        Ok(()) => Ok(()),
+        Err(error) => {
+            say(&names.old, error.kind(), errors);
+            Err(FAILED)
+        }
+    }
+}
+
+/// What the store says of itself, by its lines.
+fn facts_of<E: Write>(
+    alloc: Global,
+    opened: &Opened,
+    errors: &mut E,
+) -> Result<Option<StoreFacts>, u8> {
+    match StoreFacts::of(alloc, opened.1.iter()) {
+        Ok(facts) => Ok(facts),
+        Err(_) => Err(refuse(&DurableFault::Memory, errors)),
+    }
+}
+
+/// The new store that a crash has left, in the place of the store from which it goes on.
+fn taken<R: Files + Stores, E: Write>(
+    rt: &R,
+    alloc: Global,
+    names: &StoreNames,
+    facts: &StoreFacts,
+    errors: &mut E,
+) -> Result<Opened, u8> {
+    let new = opened(rt, alloc, &names.new, errors)?;
+    take_place(rt, alloc, names, facts, errors)?;
+    say(
+        &names.new,
+        "goes on from the store, and has taken its place",
+        errors,
+    );
+    Ok(new)
+}
+
+/// The store that has more entries: this one, or a new one that a crash has left beside it.
+fn newest<R: Files + Stores, E: Write>(
+    rt: &R,
+    alloc: Global,
+    names: &StoreNames,
+    store: Opened,
+    errors: &mut E,
+) -> Result<Opened, u8> {
+    let Some(facts) = facts_of(alloc, &store, errors)? else {
+        return Ok(store);
+    };
+    let relation = match beside(rt, alloc, &names.new) {
+        Ok(Beside::Nothing) | Ok(Beside::Other) => Relation::Other,
+        Ok(Beside::Cut) => Relation::Leftover,
+        Ok(Beside::Store(new)) => facts.relation(&new),
+        Err(_) => return Err(refuse(&DurableFault::Memory, errors)),
+    };
+    match relation {
+        Relation::Other => Ok(store),
+        Relation::Leftover => {
+            discard(rt, alloc, names, errors)?;
+            Ok(store)
+        }
+        Relation::Further => taken(rt, alloc, names, &facts, errors),
+        Relation::Apart => {
+            say(
+                &names.new,
+                "has entries that don't go on from the store's",
+                errors,
+            );
+            Err(INVALID)
+        }
+    }
+}
+
+/// Writes a file whole, and waits until it is on the disk.
+fn put_whole<R: Files>(rt: &R, path: &str, bytes: &[u8]) -> io::Result<()> {
+    let mut file = OpenOptions::new()
+        .write(true)
+        .create(true)
+        .truncate(true)
+        .mode(0o600)
+        .open(rt, path)?;
+    match write_all(&mut file, bytes) {
+        Ok(()) => file.sync_all(),
+        Err(_) => Err(io::Error::from(io::ErrorKind::WriteZero)),
+    }
+}
+
+/// Copies what a crash has cut into a file beside the store, before it is overwritten.
+fn keep_tail<R: Files, E: Write>(
+    rt: &R,
+    alloc: Global,
+    names: &StoreNames,
+    store: &mut Sealed<File>,
+    errors: &mut E,
+) -> Result<(), u8> {
+    if !store.is_torn() {
+        return Ok(());
+    }
+    let tail = match store.tail(alloc) {
+        Ok(tail) => tail,
+        Err(fault) => return Err(refuse(&DurableFault::from(fault), errors)),
+    };
+    match put_whole(rt, &names.torn, &tail) {
+        Ok(()) => Ok(()),
+        Err(error) => {
+            say(&names.torn, error.kind(), errors);
+            Err(FAILED)
+        }
+    }
+}
+
+/// Opens a store to which lines are to be added. What a crash has left of a compaction is put right first: a second name is removed, a new store
+/// without entries of its own too, and one that has more entries takes the place. What was cut is copied to `FILE.torn`.
+///
+/// If that fails, the line of the fault is written, and the status comes back.
+pub(crate) fn opened_to_go_on<R: Files + Stores, E: Write>(
+    rt: &R,
+    alloc: Global,
+    path: &str,
+    errors: &mut E,
+) -> Result<Opened, u8> {
+    let Ok(names) = names_of(rt, alloc, path) else {
+        return Err(refuse(&DurableFault::Memory, errors));
+    };
+    mend(rt, alloc, &names, errors)?;
+    let store = opened(rt, alloc, &names.store, errors)?;
+    let mut store = newest(rt, alloc, &names, store, errors)?;
+    keep_tail(rt, alloc, &names, &mut store.0, errors)?;
+    Ok(store)
+}
