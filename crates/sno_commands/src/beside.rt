@@ -3,11 +3,10 @@
 use sno_durable::StoreFacts;
 use sno_store::LinesIter;
 use std::alloc::{AllocError, Global};
-use std::fs;
 use std::fs::OpenOptions;
-use std::io;
 use std::io::{ErrorKind, Read};
 use std::rt::Files;
+use std::{fs, io};
 
 /// How the first line of a store begins.
 const BEGINNING: &[u8] = b"{\"document\":";

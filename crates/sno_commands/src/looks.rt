@@ -8,7 +8,7 @@ use crate::store_command::{StoreAction, StoreRequest};
 use crate::stored::{Stores, refuse};
 use crate::streams::write_all;
 use sno_durable::{Client, DurableFault, Given, Kept, serve_durably};
-use sno_sealed::{Sealed, SealFault, read_file};
+use sno_sealed::{SealFault, Sealed, read_file};
 use sno_store::{Lines, Store};
 use sqlite_disk::{Disk, Memory};
 use std::alloc::{AllocError, Global};

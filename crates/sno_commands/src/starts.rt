@@ -3,13 +3,13 @@
 use crate::beside::{Beside, beside};
 use crate::compactions::{discard, take_place};
 use crate::faults::FAILED;
-use crate::store_names::{StoreNames, SystemCalls, names_of};
+use crate::store_names::{StoreNames, SystemCalls, is_named, names_of};
 use crate::stored::{INVALID, Opened, Stores, opened, refuse};
 use crate::streams::write_all;
 use sno_durable::{DurableFault, Relation, StoreFacts};
 use sno_replace::Folder;
 use sno_sealed::Sealed;
-use sno_store::File;
+use sno_store::{File, Store};
 use std::alloc::Global;
 use std::fmt::Display;
 use std::fs::{Metadata, OpenFile, OpenOptions};
@@ -39,7 +39,25 @@ fn has_second_name<R: Files>(rt: &R, names: &StoreNames) -> bool {
     }
 }
 
-/// Removes the second name of a store's file. The file is locked meanwhile.
+/// Locks the new store, if there is one: whoever is replacing the store has it locked.
+fn new_store<R: Files + Stores, E: Write>(
+    rt: &R,
+    names: &StoreNames,
+    errors: &mut E,
+) -> Result<Option<Store<File>>, u8> {
+    if !is_named(rt, &names.new) {
+        return Ok(None);
+    }
+    match rt.open_store(&names.new) {
+        Ok((store, _)) => Ok(Some(store)),
+        Err(fault) => {
+            say(&names.new, fault, errors);
+            Err(FAILED)
+        }
+    }
+}
+
+/// Removes the second name of a store's file, unless somebody is replacing the store just now.
 fn mend<R: Files + Stores, E: Write>(
     rt: &R,
     alloc: Global,
@@ -49,21 +67,13 @@ fn mend<R: Files + Stores, E: Write>(
     if !has_second_name(rt, names) {
         return Ok(());
     }
-    let held = match rt.hold_store(&names.store) {
-        Ok(held) => held,
-        Err(fault) => {
-            let _printed = writeln!(errors, "store: {fault}");
-            return Err(FAILED);
-        }
-    };
-    let mended = if has_second_name(rt, names) {
-        Folder::new(alloc, SystemCalls { rt, names }).mend()
-    } else {
-        Ok(())
-    };
+    let held = new_store(rt, names, errors)?;
+    let mended = Folder::new(alloc, SystemCalls { rt, names }).mend();
     drop(held);
     match mended {
         Ok(()) => Ok(()),
+        // Another start has removed it meanwhile.
+        Err(_) if !is_named(rt, &names.old) => Ok(()),
         Err(error) => {
             say(&names.old, error.kind(), errors);
             Err(FAILED)

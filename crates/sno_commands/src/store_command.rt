@@ -111,9 +111,7 @@ fn with_out<'a>(
 }
 
 /// What is to be done, and the arguments of that subcommand.
-fn action_in<'m, 'a>(
-    matches: &'m ArgMatches<'a>,
-) -> (StoreAction, Option<&'m ArgMatches<'a>>) {
+fn action_in<'m, 'a>(matches: &'m ArgMatches<'a>) -> (StoreAction, Option<&'m ArgMatches<'a>>) {
     if let Some(found) = matches.subcommand_matches(LIST) {
         return (StoreAction::List, Some(found));
     }

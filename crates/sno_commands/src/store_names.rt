@@ -2,11 +2,10 @@
 
 use sno_replace::Calls;
 use std::alloc::{AllocError, Global};
-use std::fs;
 use std::fs::{OpenFile, OpenOptions};
-use std::io;
 use std::io::ErrorKind;
 use std::rt::Files;
+use std::{fs, io};
 
 /// The paths of a store and of what is put beside it.
 #[derive(Drop)]
@@ -79,11 +78,7 @@ impl StoreNames {
     }
 
     /// Whether the folder can't have the longest name that a store needs: opening the new store looks for one that ends with `-journal`.
-    pub(crate) fn are_too_long<R: Files>(
-        &self,
-        rt: &R,
-        alloc: Global,
-    ) -> Result<bool, AllocError> {
+    pub(crate) fn are_too_long<R: Files>(&self, rt: &R, alloc: Global) -> Result<bool, AllocError> {
         let longest = format!(in alloc; "{}-journal", self.new)?;
         match rt.symlink_metadata(&longest) {
             Ok(_) => Ok(false),

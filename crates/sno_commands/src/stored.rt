@@ -8,17 +8,13 @@ use crate::serve_command::{LISTING_ON_STORE, StoreOptions};
 use crate::starts::opened_to_go_on;
 use crate::store_names::{StoreNames, names_of, place_of};
 use crate::streams::write_all;
-use os::RangeLock;
 use sno_durable::{Client, DurableFault, Given, Kept, Seats, serve_durably_at};
 use sno_sealed::Sealed;
-use sno_store::{Lines, OpenFault, Store, open};
+use sno_store::{File, Lines, OpenFault, Store, open};
 use sqlite_disk::Disk;
 use std::alloc::{AllocError, Global};
 use std::fs;
-use std::fs::OpenOptions;
-use std::io;
 use std::io::{Read, Write};
-use std::os::fd::AsRawFd;
 use std::rt::Files;
 use std::sync::Wait;
 use std::thread::Threads;
@@ -27,39 +23,17 @@ use std::thread::Threads;
 pub(crate) const INVALID: u8 = 2;
 
 /// A store that was opened, and its lines without their sums.
-pub(crate) type Opened = (Sealed<sno_store::File>, Lines);
-
-/// The bytes of a store's file that a store locks: those that SQLite locks.
-const LOCKED_FROM: u64 = 1 << 30;
-
-/// How many they are.
-const LOCKED: u64 = 512;
+pub(crate) type Opened = (Sealed<File>, Lines);
 
 /// What opens stores.
 pub trait Stores {
     /// Opens the store in a file, which is made if it is missing, and reads its lines.
-    fn open_store(&self, path: &str) -> Result<(Store<sno_store::File>, Lines), OpenFault>;
-
-    /// Opens a file, whatever names it has, and locks it as a store is locked, as long as it is open.
-    fn hold_store(&self, path: &str) -> Result<fs::File, OpenFault>;
+    fn open_store(&self, path: &str) -> Result<(Store<File>, Lines), OpenFault>;
 }
 
 impl Stores for HostRuntime {
-    fn open_store(&self, path: &str) -> Result<(Store<sno_store::File>, Lines), OpenFault> {
+    fn open_store(&self, path: &str) -> Result<(Store<File>, Lines), OpenFault> {
         open(self, path)
-    }
-
-    fn hold_store(&self, path: &str) -> Result<fs::File, OpenFault> {
-        let file = OpenOptions::new().read(true).write(true).open(self, path)?;
-        if os::try_lock_range(file.as_raw_fd(), RangeLock::Exclusive, LOCKED_FROM, LOCKED) == 0 {
-            return Ok(file);
-        }
-        let error = io::Error::from_raw_os_error(os::errno());
-        if error.kind() == io::ErrorKind::WouldBlock {
-            Err(OpenFault::Busy)
-        } else {
-            Err(OpenFault::Io(error))
-        }
     }
 }
 
@@ -224,7 +198,7 @@ fn serve_given<
     document: Option<Vec<u8>>,
     streams: Streams<I, W>,
     errors: &mut E,
-) -> Result<Kept<sno_store::File, I, W>, u8> {
+) -> Result<Kept<File, I, W>, u8> {
     let kept = serve_first(rt, alloc, options, document, streams, errors)?;
     serve_on(rt, alloc, options, kept, errors)
 }
@@ -242,7 +216,7 @@ fn serve_first<
     document: Option<Vec<u8>>,
     streams: Streams<I, W>,
     errors: &mut E,
-) -> Result<Kept<sno_store::File, I, W>, u8> {
+) -> Result<Kept<File, I, W>, u8> {
     let opened = opened_to_go_on(rt, alloc, options.store, errors)?;
     let given = Given {
         document,
@@ -266,7 +240,7 @@ fn serve_opened<R: Threads + Wait + Sync, I: Read + Send + Drop, W: Write + Send
     opened: Opened,
     given: Given,
     client: Client<I, W>,
-) -> Result<Kept<sno_store::File, I, W>, DurableFault> {
+) -> Result<Kept<File, I, W>, DurableFault> {
     let seats = Seats {
         count: options.seats as usize,
         tries: options.tries,
@@ -276,9 +250,9 @@ fn serve_opened<R: Threads + Wait + Sync, I: Read + Send + Drop, W: Write + Send
 
 /// What a service leaves; if nothing could be served, the line of the fault is written, and the status comes back.
 fn served<I: Read + Drop, W: Write + Drop, E: Write>(
-    served: Result<Kept<sno_store::File, I, W>, DurableFault>,
+    served: Result<Kept<File, I, W>, DurableFault>,
     errors: &mut E,
-) -> Result<Kept<sno_store::File, I, W>, u8> {
+) -> Result<Kept<File, I, W>, u8> {
     match served {
         Ok(kept) => Ok(kept),
         Err(fault) => Err(refuse(&fault, errors)),
@@ -296,9 +270,9 @@ fn serve_on<
     rt: &R,
     alloc: Global,
     options: &StoreOptions<'_>,
-    kept: Kept<sno_store::File, I, W>,
+    kept: Kept<File, I, W>,
     errors: &mut E,
-) -> Result<Kept<sno_store::File, I, W>, u8> {
+) -> Result<Kept<File, I, W>, u8> {
     let mut kept = kept;
     for _ in 0..u64::MAX {
         if !has_more(&kept) {
@@ -323,10 +297,10 @@ fn serve_next<R: Threads + Wait + Sync, I: Read + Send + Drop, W: Write + Send +
     rt: &R,
     alloc: Global,
     options: &StoreOptions<'_>,
-    kept: Kept<sno_store::File, I, W>,
+    kept: Kept<File, I, W>,
     opened: Opened,
     errors: &mut E,
-) -> Result<Kept<sno_store::File, I, W>, u8> {
+) -> Result<Kept<File, I, W>, u8> {
     let Kept { client, .. } = kept;
     let given = Given {
         document: None,
