@@ -16,7 +16,7 @@ use std::io::{Read, Write};
 use std::rt::Files;
 
 /// Writes why a store isn't replaced, which names a file beside it, and returns the status.
-fn refuse_for<E: Write, W: Display>(path: &str, why: W, errors: &mut E) -> u8 {
+fn refuse_for<E: Write, W: Display + Drop>(path: &str, why: W, errors: &mut E) -> u8 {
     let _printed = writeln!(errors, "store: not replaced: {path}: {why}");
     FAILED
 }

@@ -33,6 +33,7 @@
 //! | `listing_files` | the file of a listing |
 //! | `stored` | `sno serve --store`: a document is served over a store by `sno_durable` |
 //! | `store_command`, `looks` | `sno store`: its arguments; a store is looked at, made short or saved |
+//! | `read_only` | the bytes of a file, as a disk to which nothing can be written |
 //! | `store_names`, `beside` | the names that a store uses in its folder; what is under one of them |
 //! | `compactions` | a store that replaces the one from which it goes on |
 //! | `starts` | what a crash has left beside a store is put right |
@@ -67,6 +68,7 @@ mod looks;
 mod match_rows;
 mod program;
 mod progress;
+mod read_only;
 mod ready_files;
 mod rounds_left;
 mod row_edits;

@@ -3,14 +3,15 @@
 use crate::beside::bytes_of;
 use crate::compactions::compact;
 use crate::faults::{FAILED, ProgramFault};
+use crate::read_only::ReadOnly;
 use crate::starts::opened_to_go_on;
 use crate::store_command::{StoreAction, StoreRequest};
 use crate::stored::{Stores, refuse};
 use crate::streams::write_all;
 use sno_durable::{Client, DurableFault, Given, Kept, serve_durably};
-use sno_sealed::{SealFault, Sealed, read_file};
+use sno_sealed::{SealFault, Sealed, undamaged};
 use sno_store::{Lines, Store};
-use sqlite_disk::{Disk, Memory};
+use sqlite_disk::Disk;
 use std::alloc::{AllocError, Global};
 use std::fs::{OpenFile, OpenOptions};
 use std::io;
@@ -32,8 +33,7 @@ type Looked<D> = Kept<D, &'static [u8], Vec<u8>>;
 fn replay<R: Wait, D: Disk + Drop>(
     rt: &R,
     alloc: Global,
-    store: Sealed<D>,
-    lines: Lines,
+    opened: (Sealed<D>, Lines),
 ) -> Result<Looked<D>, DurableFault> {
     let client = Client::new(alloc, NO_LINES, Vec::new(alloc))?;
     let given = Given {
@@ -42,26 +42,35 @@ fn replay<R: Wait, D: Disk + Drop>(
         most: None,
         listing: true,
     };
-    serve_durably(rt, alloc, store, lines, given, client)
+    serve_durably(rt, alloc, opened, given, client)
 }
 
-/// The lines of a store's file, which is only read, without their sums. A service may be writing to it: so it is damaged only if it seems so at
-/// the same line each time.
+/// The store in a file that is only read, with its lines.
+fn opened_to_look(alloc: Global, bytes: Vec<u8>) -> Result<(Sealed<ReadOnly>, Lines), SealFault> {
+    let mut store = Store::new(ReadOnly::new(bytes));
+    let lines = match store.load(alloc) {
+        Ok(lines) => lines,
+        Err(fault) => return Err(SealFault::Store(fault)),
+    };
+    Sealed::of(alloc, store, lines)
+}
+
+/// The store in a file that is only read. A service may be writing to it: so it is damaged only if it seems so at the same line each time.
 ///
 /// Refused with `Read`. If a line is damaged, the line of the fault is written, and the status comes back.
-fn lines_read<R: Files, E: Write>(
+fn read_store<R: Files, E: Write>(
     rt: &R,
     alloc: Global,
     path: &str,
     errors: &mut E,
-) -> Result<Result<Lines, u8>, ProgramFault> {
+) -> Result<Result<(Sealed<ReadOnly>, Lines), u8>, ProgramFault> {
     let mut damaged = 0;
     for _ in 0..READINGS {
         let Ok(bytes) = bytes_of(rt, alloc, path) else {
             return Err(ProgramFault::Read);
         };
-        match read_file(alloc, &bytes) {
-            Ok(lines) => return Ok(Ok(lines)),
+        match opened_to_look(alloc, bytes) {
+            Ok(opened) => return Ok(Ok(opened)),
             Err(SealFault::Damaged(line)) if line != damaged => damaged = line,
             Err(fault) => return Ok(Err(refuse(&DurableFault::from(fault), errors))),
         }
@@ -93,15 +102,14 @@ fn look<R: Files + Wait, W: Write, E: Write>(
     output: &mut W,
     errors: &mut E,
 ) -> Result<u8, ProgramFault> {
-    let lines = match lines_read(rt, alloc, request.store, errors)? {
-        Ok(lines) => lines,
+    let opened = match read_store(rt, alloc, request.store, errors)? {
+        Ok(opened) => opened,
         Err(status) => return Ok(status),
     };
-    if lines.is_empty() {
+    if opened.1.is_empty() {
         return Ok(refuse(&DurableFault::Format, errors));
     }
-    let store = Sealed::closed(Store::new(Memory::new(alloc)));
-    let kept = match replay(rt, alloc, store, lines) {
+    let kept = match replay(rt, alloc, opened) {
         Ok(kept) => kept,
         Err(fault) => return Ok(refuse(&fault, errors)),
     };
@@ -120,11 +128,11 @@ fn make_short<R: Files + Stores + Wait, W: Write, E: Write>(
     output: &mut W,
     errors: &mut E,
 ) -> Result<u8, ProgramFault> {
-    let (store, lines) = match opened_to_go_on(rt, alloc, request.store, errors) {
+    let opened = match opened_to_go_on(rt, alloc, request.store, errors) {
         Ok(opened) => opened,
         Err(status) => return Ok(status),
     };
-    let kept = match replay(rt, alloc, store, lines) {
+    let kept = match replay(rt, alloc, opened) {
         Ok(kept) => kept,
         Err(fault) => return Ok(refuse(&fault, errors)),
     };
@@ -162,8 +170,10 @@ fn salvage<R: Files, W: Write, E: Write>(
     let Ok(bytes) = bytes_of(rt, alloc, request.store) else {
         return Err(ProgramFault::Read);
     };
-    let whole = whole_part(alloc, &bytes)?;
-    let (lines, _) = bytes.split_at(whole.end);
+    let Ok(whole) = undamaged(alloc, &bytes) else {
+        return Err(ProgramFault::Memory);
+    };
+    let (lines, _) = bytes.split_at(whole.end.min(bytes.len()));
     if let Err(error) = put_new(rt, request.out, lines) {
         let _printed = writeln!(errors, "{}: {}", request.out, error.kind());
         return Ok(FAILED);

@@ -19,7 +19,7 @@ use std::os::unix::fs::{MetadataExt, OpenOptionsExt};
 use std::rt::Files;
 
 /// Writes a line on a file beside a store.
-fn say<E: Write, W: Display>(path: &str, what: W, errors: &mut E) {
+fn say<E: Write, W: Display + Drop>(path: &str, what: W, errors: &mut E) {
     let _printed = writeln!(errors, "store: {path}: {what}");
 }
 

@@ -1,4 +1,7 @@
 //! `sno serve --store`: a document over a store.
+ghost use Rattle.std.specs.Prelude.{◌≡◌, IfOk, IsTrue};
+ghost use Rattle.sno_store.specs.Shown.{lines_in};
+ghost use Rattle.sno_store.specs.Store.{is_clean, lines_of};
 
 use crate::checks::document_bytes;
 use crate::compactions::compact;
@@ -28,7 +31,8 @@ pub(crate) type Opened = (Sealed<File>, Lines);
 /// What opens stores.
 pub trait Stores {
     /// Opens the store in a file, which is made if it is missing, and reads its lines.
-    fn open_store(&self, path: &str) -> Result<(Store<File>, Lines), OpenFault>;
+    fn open_store(&self, path: &str) -> Result<(Store<File>, Lines), OpenFault>
+        ensures lines { IfOk result (λ it. IsTrue (is_clean it.0) → lines_in it.1 ≡ lines_of it.0) };
 }
 
 impl Stores for HostRuntime {
