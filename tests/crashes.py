@@ -10,7 +10,7 @@ import subprocess
 from pathlib import Path
 
 SECTOR = 512
-# So many sets of what is lost are tried, all of them if there are no more.
+# How many sets of what is lost are tried at most; if there are no more, all of them.
 MOST_SETS = 1 << 10
 TRACED = (
     "open,openat,creat,write,pwrite64,writev,pwritev,pwritev2,ftruncate,truncate,fallocate,fsync,fdatasync,sync_file_range,syncfs,sync,"
@@ -90,7 +90,7 @@ class State:
         self.names, self.contents = names, contents
 
     def key(self):
-        """States with equal keys can't be told apart."""
+        """States with equal keys have the same files."""
         numbers = {}
         return tuple((name, numbers.setdefault(self.names[name], len(numbers)), self.contents[self.names[name]].key()) for name in sorted(self.names))
 

@@ -42,7 +42,7 @@ def sum_after(before, data):
 
 
 def sealed(payloads, batches, before=0, number=0):
-    """The lines with their seals, after this sum and so many lines."""
+    """The lines with their seals, after this sum and this number of lines."""
     lines, rest = [], iter(payloads)
     for size in batches:
         first, last = number + 1, number + size
