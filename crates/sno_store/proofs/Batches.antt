@@ -1,8 +1,8 @@
 -- What a crash leaves of lines that are written over zeros, and of zeros that are written over other bytes.
-use Rattle.std.proofs.Common.{◌≡◌, ◌⊎◌, inl, inr, ℕ, zero, suc, ◌+◌, ◌<◌, ◌≤◌, Bool, true, false, List, [], ◌∷◌, ◌++◌, length, take, get_or, replicate, Option, Some, None, refl, sym, ◌∙◌, ap, arith, append_assoc, ◌==◌}
+use Rattle.std.proofs.Common.{◌≡◌, ◌⊎◌, inl, inr, ℕ, zero, suc, ◌<◌, ◌≤◌, List, [], ◌∷◌, ◌++◌, length, take, get_or, replicate, Option, Some, None, refl, sym, ◌∙◌, ap, arith, append_assoc, ◌==◌}
 use Rattle.std.proofs.lemmas.List.{append-nil}
 use Rattle.std.proofs.lemmas.Bool.{cases_Bool}
-use Rattle.sno_store.specs.Lines.{lines_after, recovered, bytes_of, IsPlain, IsLine}
+use Rattle.sno_store.specs.Lines.{lines_after, recovered, bytes_of, IsPlain}
 use Rattle.sno_store.proofs.Scans.{AreLines}
 
 -- each byte is a NUL or that of the other list

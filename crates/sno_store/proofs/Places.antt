@@ -1,11 +1,11 @@
 -- What a disk says of places, in terms of lists: what a write leaves of a file of lines.
-use Rattle.std.proofs.Common.{◌≡◌, ◌⊎◌, inl, inr, ⊎_elim, ℕ, zero, suc, refl, ◌+◌, ◌-◌, ◌<◌, ◌≤◌, max, List, [], ◌∷◌, ◌++◌, length, length-append, take, drop, get_or, replicate, sym, subst, ◌∙◌, ap, arith, ext_get_or, get_or-take, get_or-drop, take-append-drop, length-drop, append_assoc}
+use Rattle.std.proofs.Common.{◌≡◌, inl, inr, ℕ, refl, ◌+◌, ◌-◌, ◌<◌, ◌≤◌, max, List, [], ◌∷◌, ◌++◌, length, length-append, take, drop, get_or, replicate, sym, subst, ◌∙◌, ap, arith, ext_get_or, get_or-take, get_or-drop, take-append-drop, length-drop, append_assoc}
 use Rattle.std.proofs.lemmas.List.{length-take, drop-drop, take_at, drop_at, take_all, drop_all, append-nil, length-replicate, drop-replicate, replicate-append-replicate}
 use Rattle.std.proofs.lemmas.Bool.{cases_lt}
 use Rattle.sqlite_disk.specs.Disk.{Holds, Torn, Mixed}
 use Rattle.sno_store.specs.Lines.{recovered, bytes_of, IsWhole}
 use Rattle.sno_store.specs.Store.{HasFirst}
-use Rattle.sno_store.proofs.Scans.{AreLines, are_lines, bytes_of-append, recovered-front, split, front, tail, within}
+use Rattle.sno_store.proofs.Scans.{AreLines, are_lines, bytes_of-append, recovered-front, split, front, tail}
 use Rattle.sno_store.proofs.Batches.{Mix, mix_of, torn_batch, torn_tail, one_byte, zeros_hold_none, only_zeros_hold_none, get_or-zeros, zeros_some}
 
 -- ---- one write, in three parts

@@ -61,6 +61,28 @@ module _ {D : Type 0} (g : Ghosts D) where
   IsPutFault was_open n old new (Sync e) = IsWriteFault old new (Sync e)
   IsPutFault was_open n old new (Read e) = ⊥
 
+  -- the causes of a read of a part of the file
+  abbrev pub IsPartFault : D → D → StoreFault → Type 0
+  IsPartFault old new Memory = ⊤
+  IsPartFault old new (Read e) = MoreFaults (g.faults old) (g.faults new)
+  IsPartFault old new Closed = ⊥
+  IsPartFault old new Unsupported = ⊥
+  IsPartFault old new TooLong = ⊥
+  IsPartFault old new NoRoom = ⊥
+  IsPartFault old new (Write e) = ⊥
+  IsPartFault old new (Sync e) = ⊥
+
+  -- the causes why what comes after the lines of a store, which was open or not, isn't read
+  abbrev pub IsTailFault : Bool → D → D → StoreFault → Type 0
+  IsTailFault was_open old new Closed = was_open ≡ false
+  IsTailFault was_open old new Memory = ⊤
+  IsTailFault was_open old new (Read e) = IsPartFault old new (Read e)
+  IsTailFault was_open old new Unsupported = ⊥
+  IsTailFault was_open old new TooLong = ⊥
+  IsTailFault was_open old new NoRoom = ⊥
+  IsTailFault was_open old new (Write e) = ⊥
+  IsTailFault was_open old new (Sync e) = ⊥
+
   -- the disk has not failed between these two moments
   pub record IsSteady (old new : D) : Type 0 where
     pub faults : g.faults new ≡ g.faults old

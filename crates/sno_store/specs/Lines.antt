@@ -1,5 +1,5 @@
 -- Which lines a file holds. A line begins with `{`, 123, and has neither a line feed, 10, nor a NUL, 0. A line feed ends it.
-use Rattle.std.specs.Prelude.{◌≡◌, ℕ, Bool, false, List, [], ◌∷◌, ◌++◌, replicate, if◌then◌else◌, ◌==◌, ⊤}
+use Rattle.std.specs.Prelude.{◌≡◌, ℕ, false, List, [], ◌∷◌, ◌++◌, replicate, if◌then◌else◌, ◌==◌, ⊤}
 
 -- The lines of the rest of a file, if this much of a line came before it. They end at a byte that begins no line, at a NUL, and at the
 -- end of the file. A line that is cut there doesn't count.

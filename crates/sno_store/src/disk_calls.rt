@@ -1,7 +1,7 @@
 //! Calls of a disk in pairs: a whole file is read; bytes are written and waited for.
-ghost use Rattle.std.specs.Prelude.{◌≡◌, ◌+◌, ◌<◌, ◌≤◌, ◌^◌, List, ℕ, length, IsTrue, OnOk, IfOk, IfErr};
+ghost use Rattle.std.specs.Prelude.{◌≡◌, ◌+◌, ◌<◌, ◌≤◌, ◌^◌, List, ℕ, length, drop, IsTrue, OnOk, IfOk, IfErr};
 ghost use Rattle.sqlite_disk.specs.Disk.{Holds, Torn, Mixed, Follows, Only};
-ghost use Rattle.sno_store.specs.Faults.{IsWriteFault, IsSteady, IsReadFault};
+ghost use Rattle.sno_store.specs.Faults.{IsWriteFault, IsSteady, IsReadFault, IsPartFault};
 
 use crate::StoreFault;
 use crate::faults::{sync_fault, write_fault};
@@ -62,6 +62,32 @@ pub(crate) fn read_all<D: Disk>(alloc: Global, disk: &mut D) -> Result<Vec<u8>, 
         return Err(StoreFault::Memory);
     };
     match disk.read_at(0, &mut bytes) {
+        Ok(()) => Ok(bytes),
+        Err(error) => Err(StoreFault::Read(error)),
+    }
+}
+
+/// The last bytes of the file, from a place on: as many as it has there. Nothing is changed.
+pub(crate) fn read_part<D: Disk>(
+    alloc: Global,
+    disk: &mut D,
+    at: usize,
+    len: usize,
+) -> Result<Vec<u8>, StoreFault>
+    requires usable { IsTrue (D.is_usable disk.old) }
+    requires last { IsTrue (D.is_clean disk.old) → at + len ≡ length (D.seen disk.old) }
+    ensures bytes { IfOk result (λ bytes. IsTrue (D.is_clean disk.new) → bytes.items ≡ drop at (D.seen disk.old)) }
+    ensures usable { IsTrue (D.is_usable disk.new) }
+    ensures seen { D.seen disk.new ≡ D.seen disk.old }
+    ensures crash { (c : List ℕ) → D.may_leave disk.new c → D.may_leave disk.old c }
+    ensures clean { IsTrue (D.is_clean disk.new) → IsTrue (D.is_clean disk.old) }
+    ensures steady { OnOk result (IsSteady D.Disk disk.old disk.new) }
+    ensures cause { IfErr result (λ fault. IsPartFault D.Disk disk.old disk.new fault) }
+{
+    let Ok(mut bytes) = vec![in alloc; 0; len] else {
+        return Err(StoreFault::Memory);
+    };
+    match disk.read_at(at, &mut bytes) {
         Ok(()) => Ok(bytes),
         Err(error) => Err(StoreFault::Read(error)),
     }

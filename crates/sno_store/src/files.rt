@@ -3,7 +3,7 @@ ghost use Rattle.std.specs.Prelude.{◌≡◌, true, false, IsTrue, IfOk};
 ghost use Rattle.sqlite_std_file.specs.File.{IsFresh};
 ghost use Rattle.sno_store.specs.Lines.{recovered};
 ghost use Rattle.sno_store.specs.Shown.{lines_in};
-ghost use Rattle.sno_store.specs.Store.{takes_lines, is_clean, file_of, IsOnDisk};
+ghost use Rattle.sno_store.specs.Store.{takes_lines, is_clean, file_of, lines_of, IsOnDisk};
 
 use crate::{Lines, OpenFault, Store};
 use sqlite_disk::{Disk, Files, Start, Unknown};
@@ -32,7 +32,8 @@ const OPENINGS: u32 = 1_000;
 ///
 /// After each refusal the file has what it had. A missing one may have been made, empty.
 pub fn open(rt: &HostRuntime, path: &str) -> Result<(Store<File>, Lines), OpenFault>
-    ensures { IfOk result (λ it. takes_lines it.0 ≡ true) }
+    ensures open { IfOk result (λ it. takes_lines it.0 ≡ true) }
+    ensures lines { IfOk result (λ it. IsTrue (is_clean it.0) → lines_in it.1 ≡ lines_of it.0) }
 {
     for _ in 0..OPENINGS {
         match open_from(rt, path, Unknown) {

@@ -91,6 +91,17 @@ pub struct LinesIter<'a> {
     rest: &'a [u8],
 }
 
+impl<'a> LinesIter<'a> {
+    ghost use Rattle.sno_store.specs.Shown.{lines_left};
+
+    /// The whole lines at the beginning of a file with these bytes.
+    pub fn of_file(bytes: &'a [u8]) -> LinesIter<'a>
+        ensures { lines_left result ≡ recovered bytes.now }
+    {
+        LinesIter { rest: bytes }
+    }
+}
+
 impl<'a> Iterator for LinesIter<'a> {
     ghost use Rattle.std.specs.Iterator.{item_count};
     ghost use Rattle.std.specs.Option.{option_map};

@@ -5,7 +5,7 @@ ghost use Rattle.sno_store.specs.States.{is_open, is_found, is_ready};
 ghost use Rattle.sno_store.specs.Lines.{recovered, bytes_of};
 
 use crate::content::content_of;
-use crate::disk_calls::{MAX_BYTES, read_all, write_through};
+use crate::disk_calls::{MAX_BYTES, read_all, read_part, write_through};
 use crate::{Lines, StoreFault};
 use sqlite_disk::Disk;
 use std::alloc::Global;
@@ -52,7 +52,7 @@ impl<D: Disk> Store<D> {
     ghost use Rattle.sno_store.specs.declared.faults.StoreFault.TheVariants.{Closed};
     ghost use Rattle.sno_store.specs.Lines.{recovered, bytes_of, IsWhole};
     ghost use Rattle.sno_store.specs.Shown.{lines_in};
-    ghost use Rattle.sno_store.specs.Faults.{IsSteady, IsWriteFault, IsLoadFault, IsPutFault};
+    ghost use Rattle.sno_store.specs.Faults.{IsSteady, IsWriteFault, IsLoadFault, IsPutFault, IsTailFault};
     ghost use Rattle.sno_store.specs.Store.{disk_of, takes_lines, is_settled, is_clean, file_of, lines_of, leaves_open, Leaves, LeavesLines, IsOnDisk, HasFirst};
 
     /// A store on this disk. It is closed until it is loaded.
@@ -141,6 +141,31 @@ impl<D: Disk> Store<D> {
             State::Found
         };
         Ok(content.lines)
+    }
+
+    /// Reads what comes after the lines: zeros, or what a crash has left of a batch. Nothing is written, and the store is as it was.
+    /// The refusals, in their order:
+    ///
+    /// - `Closed`: the store is closed.
+    /// - `Memory`: there is no memory for these bytes.
+    /// - `Read`: they could not be read.
+    pub fn tail(&mut self, alloc: Global) -> Result<Vec<u8>, StoreFault>
+        ensures tail { IfOk result (λ tail. IsTrue (is_clean self.new) → file_of self.old ≡ bytes_of (lines_of self.old) ++ tail.items) }
+        ensures same { file_of self.new ≡ file_of self.old }
+        ensures durable { IsTrue (takes_lines self.new) → IsTrue (is_clean self.new) → IsOnDisk self.new }
+        ensures crash { (c : List ℕ) → Leaves self.new c → Leaves self.old c }
+        ensures clean { IsTrue (is_clean self.new) → IsTrue (is_clean self.old) }
+        ensures open { takes_lines self.new ≡ takes_lines self.old }
+        ensures settled { is_settled self.new ≡ is_settled self.old }
+        ensures closed { takes_lines self.old ≡ false → (result ≡ Err Closed) × (self.new ≡ self.old) }
+        ensures steady { OnOk result (IsSteady D.Disk (disk_of self.old) (disk_of self.new)) }
+        ensures cause { IfErr result (λ fault. IsTailFault D.Disk (takes_lines self.old) (disk_of self.old) (disk_of self.new) fault) }
+    {
+        if !self.is_open() {
+            return Err(StoreFault::Closed);
+        }
+        let tail = read_part(alloc, &mut self.disk, self.end, self.room)?;
+        Ok(tail)
     }
 
     /// Makes sure that zeros come after the lines, at least one, and nothing else. They are on the disk then.

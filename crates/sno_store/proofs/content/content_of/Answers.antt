@@ -1,5 +1,5 @@
 -- The lines are the beginning of the file.
-use Rattle.std.proofs.Common.{◌≡◌, ◌+◌, ◌-◌, ◌≤◌, ℕ, List, length, take, sym, ◌∙◌, ap, arith}
+use Rattle.std.proofs.Common.{◌≡◌, ℕ, List, length, sym, ◌∙◌, ap, arith}
 use Rattle.sno_store.specs.Lines.{recovered, bytes_of}
 use Rattle.sno_store.proofs.Scans.{front, within, are_lines, recovered-bytes_of}
 use Rattle.sno_store.proofs.content.content_of.Goals as goal

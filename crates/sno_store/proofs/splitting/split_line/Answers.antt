@@ -1,7 +1,6 @@
 -- A line ends at the first line feed or NUL, if that is a line feed.
-use Rattle.std.proofs.Common.{◌≡◌, refl, sym, ◌∙◌, ap, arith, length, get_or, take, drop, ◌∷◌, ◌++◌, ℕ, List, ◌<◌}
-use Rattle.sno_store.specs.Lines.{recovered}
-use Rattle.sno_store.proofs.Splits.{found, not_begun, cut_by_nul, not_ended, first_is_nul}
+use Rattle.std.proofs.Common.{arith, length, get_or, ◌<◌}
+use Rattle.sno_store.proofs.Splits.{found, cut_by_nul, not_ended, first_is_nul}
 use Rattle.sno_store.proofs.splitting.split_line.Goals as goal
 
 pub returns : goal.returns

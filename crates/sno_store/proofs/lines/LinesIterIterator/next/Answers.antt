@@ -1,5 +1,5 @@
 -- The first line of what is left.
-use Rattle.std.proofs.Common.{ap, length, arith, rules}
+use Rattle.std.proofs.Common.{ap, length, rules}
 use Rattle.sno_store.specs.Shown.{lines_left}
 use Rattle.sno_store.proofs.lines.LinesIterIterator.next.Goals as goal
 

@@ -1,7 +1,7 @@
 -- Lines over zeros.
-use Rattle.std.proofs.Common.{◌≡◌, ◌+◌, ◌-◌, ◌≤◌, ◌<◌, ◌++◌, ℕ, true, false, List, length, replicate, refl, sym, ◌∙◌, ap, subst, arith, append_assoc}
+use Rattle.std.proofs.Common.{◌≡◌, ◌+◌, ◌-◌, ◌++◌, ℕ, true, false, List, length, subst, arith}
 use Rattle.sqlite_disk.specs.Disk.{Mixed}
-use Rattle.sno_store.specs.Lines.{recovered, bytes_of}
+use Rattle.sno_store.specs.Lines.{recovered}
 use Rattle.sno_store.proofs.Scans.{are_lines, AreLines-append}
 use Rattle.sno_store.proofs.Causes.{ready_is_open}
 use Rattle.sno_store.proofs.Places.{batch_crash, batch_added, its_lines, its_end, its_length, its_zeros, file_is}

@@ -1,5 +1,5 @@
 -- A file isn't whole if something follows its lines that isn't zeros.
-use Rattle.std.proofs.Common.{◌≡◌, ◌<◌, ◌∙◌, ap, refl, inl, inr, true, false, ℕ, arith, nat_lt, IsTrue}
+use Rattle.std.proofs.Common.{◌≡◌, ap, inl, inr, true, false, arith}
 use Rattle.std.proofs.lemmas.Bool.{cases_lt, lt-ltb, ltb-true}
 use Rattle.sno_store.specs.States.{is_found, is_ready}
 use Rattle.sno_store.proofs.Places.{whole_if, whole_then, file_is}

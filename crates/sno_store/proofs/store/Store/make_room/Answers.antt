@@ -1,7 +1,7 @@
 -- Zeros past the end leave the lines.
-use Rattle.std.proofs.Common.{◌≡◌, ◌+◌, ◌-◌, ◌≤◌, ◌<◌, ◌++◌, ℕ, true, false, List, length, replicate, refl, sym, ◌∙◌, ap, subst, arith}
+use Rattle.std.proofs.Common.{◌≡◌, ◌+◌, ℕ, true, false, List, ◌∙◌, subst, arith}
 use Rattle.sqlite_disk.specs.Disk.{Mixed}
-use Rattle.sno_store.specs.Lines.{recovered, bytes_of}
+use Rattle.sno_store.specs.Lines.{recovered}
 use Rattle.sno_store.proofs.Scans.{are_lines}
 use Rattle.sno_store.proofs.Causes.{ready_is_open}
 use Rattle.sno_store.proofs.Places.{grown_crash, grown_done, its_lines, its_end, its_length, its_zeros, file_is}

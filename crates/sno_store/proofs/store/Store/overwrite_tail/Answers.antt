@@ -1,13 +1,13 @@
 -- Zeros over the tail of a file leave its lines.
-use Rattle.std.proofs.Common.{◌≡◌, ◌+◌, ◌≤◌, ◌<◌, ℕ, max, List, IsTrue, length, replicate, drop, refl, sym, ◌∙◌, ap, subst, arith}
+use Rattle.std.proofs.Common.{◌≡◌, ℕ, List, length, replicate, ◌∙◌, ap, subst, arith}
 use Rattle.std.proofs.lemmas.List.{length-replicate}
 use Rattle.std.proofs.lemmas.Result.{err_from_is_err_and}
-use Rattle.sqlite_disk.specs.Disk.{Mixed, Torn, Holds}
+use Rattle.sqlite_disk.specs.Disk.{Mixed}
 use Rattle.sno_store.specs.States.{is_open}
-use Rattle.sno_store.specs.Lines.{recovered, bytes_of}
+use Rattle.sno_store.specs.Lines.{recovered}
 use Rattle.sno_store.proofs.Scans.{are_lines}
 use Rattle.sno_store.proofs.Causes.{put_fault}
-use Rattle.sno_store.proofs.Places.{over_crash, over_done, its_lines, its_end, its_length, its_zeros}
+use Rattle.sno_store.proofs.Places.{over_crash, over_done, its_lines, its_end, its_zeros}
 use Rattle.sno_store.proofs.store.Store.overwrite_tail.Goals as goal
 
 pub returns-in_err-write_through-clause-crash : goal.returns-in_err-write_through-clause-crash
