@@ -1,8 +1,9 @@
 -- A chain of sums with one line more.
-use Rattle.std.proofs.Common.{◌≡◌, refl, sym, ◌∙◌, ap, arith, ℕ, zero, suc, ◌+◌, ◌<◌, Bool, false, List, [], ◌∷◌, ◌++◌, append_assoc, length, length-append, subst}
+use Rattle.std.proofs.Common.{take, ◌≡◌, refl, sym, ◌∙◌, ap, arith, ℕ, zero, suc, ◌+◌, ◌<◌, Bool, false, List, [], ◌∷◌, ◌++◌, append_assoc, length, length-append, subst}
 use Rattle.std.proofs.lemmas.List.{append-nil}
 use Rattle.sno_sealed.specs.declared.chain.Chain.{Chain}
-use Rattle.sno_sealed.specs.Seals.{sum_after}
+use Rattle.sno_sealed.specs.Seals.{sealed_line, sum_after, summed}
+use Rattle.sno_sealed.specs.Batches.{sealed_lines, sealed_sum}
 use Rattle.sno_sealed.specs.Chains.{AreSealed, ArePlain, IsChain, IsSealedBy, looks_sealed, plain_sum, start}
 
 pub sealed_push : (before count : ℕ) (lines payloads : List (List ℕ)) (after : ℕ) (line payload : List ℕ) (sum : ℕ)
@@ -68,3 +69,42 @@ takes_plain lines payloads old new line c none is sum more plain =
       plain = length-append c.plains (line ∷ []) ∙ ap (λ (k : ℕ). k + 1) c.plain ∙ sym plain;
       count = length-append lines (line ∷ []) ∙ ap (λ (k : ℕ). k + 1) c.count ∙ sym more;
     }
+
+-- ---- lines that are sealed together
+
+pub first_sealed : (before count : ℕ) (first last : List ℕ) (k : ℕ) (news : List (List ℕ))
+    → take k (sealed_lines before count first last news) ≡ sealed_lines before count first last (take k news)
+first_sealed before count first last zero news = refl
+first_sealed before count first last (suc k) [] = refl
+first_sealed before count first last (suc k) (p ∷ news) =
+    ap (λ (ls : List (List ℕ)). sealed_line before (count + 1) first last p ∷ ls) (first_sealed (sum_after before (summed (count + 1) first last p)) (count + 1) first last k news)
+
+pub same_count : (before count : ℕ) (first last : List ℕ) (news : List (List ℕ)) → length (sealed_lines before count first last news) ≡ length news
+same_count before count first last [] = refl
+same_count before count first last (p ∷ news) = ap suc (same_count (sum_after before (summed (count + 1) first last p)) (count + 1) first last news)
+
+pub lines_more : (lines payloads : List (List ℕ)) (ch : Chain) (first last : List ℕ) (news : List (List ℕ)) → IsChain lines payloads ch
+    → IsChain (lines ++ sealed_lines ch.sum ch.lines first last news) (payloads ++ news)
+        (record { sum = sealed_sum ch.sum ch.lines first last news; lines = ch.lines + length news; plain = ch.plain })
+lines_more lines payloads ch first last [] is = record {
+  plains = is.plains;
+  sealed = is.sealed;
+  opened = is.opened;
+  lines_are = append-nil lines ∙ is.lines_are;
+  payloads_are = append-nil payloads ∙ is.payloads_are;
+  none = is.none;
+  sums = is.sums;
+  plain = is.plain;
+  count = let e : ch.lines ≡ ch.lines + 0 = omega arith in ap length (append-nil lines) ∙ is.count ∙ e;
+}
+lines_more lines payloads ch first last (p ∷ news) is =
+    let line = sealed_line ch.sum (ch.lines + 1) first last p in
+    let mid : Chain = record { sum = sum_after ch.sum (summed (ch.lines + 1) first last p); lines = ch.lines + 1; plain = ch.plain } in
+    let one = takes_sealed lines payloads ch mid line p is (record { first = first; last = last; is = refl; own = refl }) refl refl in
+    let more = lines_more (lines ++ line ∷ []) (payloads ++ p ∷ []) mid first last news one in
+    let later = sealed_lines mid.sum mid.lines first last news in
+    let end = λ (n : ℕ). record { sum = sealed_sum mid.sum mid.lines first last news; lines = n; plain = ch.plain } in
+    let e : (ch.lines + 1) + length news ≡ ch.lines + suc (length news) = omega arith in
+    subst (λ (n : ℕ). IsChain (lines ++ line ∷ later) (payloads ++ p ∷ news) (end n)) e
+    (subst (λ (ls : List (List ℕ)). IsChain ls (payloads ++ p ∷ news) (end ((ch.lines + 1) + length news))) (append_assoc lines (line ∷ []) later)
+     (subst (λ (ps : List (List ℕ)). IsChain ((lines ++ line ∷ []) ++ later) ps (end ((ch.lines + 1) + length news))) (append_assoc payloads (p ∷ []) news) more))

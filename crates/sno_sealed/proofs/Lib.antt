@@ -1,2 +1,3 @@
-mod SealLemmas
-mod ChainLemmas
+pub mod SealLemmas
+pub mod LineLemmas
+pub mod ChainLemmas

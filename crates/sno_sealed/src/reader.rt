@@ -46,9 +46,17 @@ impl Reader {
         }
     }
 
+    /// The number of the next line.
+    pub(crate) fn next(&self) -> u64
+        requires { self.now.chain.lines + 1 < 2 ^ 64 }
+        ensures { result ≡ self.now.chain.lines + 1 }
+    {
+        self.chain.lines + 1
+    }
+
     /// Opens a sealed line into `self.payload`. Returns its sum, or nothing if it isn't sealed as the next one.
     fn open(&mut self, line: &[u8]) -> Result<Option<u64>, AllocError>
-        requires { self.old.chain.lines < 2 ^ 63 }
+        requires { self.old.chain.lines + 1 < 2 ^ 64 }
         ensures opened { IfOk result (λ sum. IfSome sum (λ sum. IsSealedBy self.old.chain.sum (self.old.chain.lines + 1) line.now self.new.payload.items sum)) }
         ensures same { (self.new.chain ≡ self.old.chain) × (self.new.payloads ≡ self.old.payloads) }
     {
@@ -70,7 +78,7 @@ impl Reader {
 
     /// Takes the next line. Returns whether it is right: sealed as the next one, or, if no sealed one has come before, without a sum.
     pub(crate) fn take(&mut self, line: &[u8]) -> Result<bool, AllocError>
-        requires { self.old.chain.lines < 2 ^ 63 }
+        requires { self.old.chain.lines + 1 < 2 ^ 64 }
         ensures taken { IfOk result (λ right. IsTrue right → (lines : List (List ℕ)) → IsChain lines (lines_in self.old.payloads) self.old.chain → IsChain (lines ++ line.now ∷ []) (lines_in self.new.payloads) self.new.chain) }
         ensures count { IfOk result (λ right. IsTrue right → self.new.chain.lines ≡ self.old.chain.lines + 1) }
     {
@@ -93,7 +101,7 @@ impl Reader {
 
     /// Takes the next line as one without a sum.
     fn take_plain(&mut self, line: &[u8]) -> Result<bool, AllocError>
-        requires short { self.old.chain.lines < 2 ^ 63 }
+        requires short { self.old.chain.lines + 1 < 2 ^ 64 }
         requires none { self.old.chain.lines ≡ self.old.chain.plain }
         requires plain { looks_sealed line.now ≡ false }
         ensures taken { IfOk result (λ right. IsTrue right → (lines : List (List ℕ)) → IsChain lines (lines_in self.old.payloads) self.old.chain → IsChain (lines ++ line.now ∷ []) (lines_in self.new.payloads) self.new.chain) }
