@@ -103,7 +103,7 @@ lines_more lines payloads ch first last (p ∷ news) is =
     let one = takes_sealed lines payloads ch mid line p is (record { first = first; last = last; is = refl; own = refl }) refl refl in
     let more = lines_more (lines ++ line ∷ []) (payloads ++ p ∷ []) mid first last news one in
     let later = sealed_lines mid.sum mid.lines first last news in
-    let end = λ (n : ℕ). record { sum = sealed_sum mid.sum mid.lines first last news; lines = n; plain = ch.plain } in
+    let end : ℕ → Chain = λ (n : ℕ). record { sum = sealed_sum mid.sum mid.lines first last news; lines = n; plain = ch.plain } in
     let e : (ch.lines + 1) + length news ≡ ch.lines + suc (length news) = omega arith in
     subst (λ (n : ℕ). IsChain (lines ++ line ∷ later) (payloads ++ p ∷ news) (end n)) e
     (subst (λ (ls : List (List ℕ)). IsChain ls (payloads ++ p ∷ news) (end ((ch.lines + 1) + length news))) (append_assoc lines (line ∷ []) later)
