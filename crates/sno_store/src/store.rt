@@ -48,7 +48,7 @@ pub struct Store<D: Disk> {
 }
 
 impl<D: Disk> Store<D> {
-    ghost use Rattle.std.specs.Prelude.{◌≡◌, ◌<◌, ◌++◌, ℕ, List, true, false, length, is_ok, IsTrue, ◌↔◌, OnOk, IfOk, IfErr, Err};
+    ghost use Rattle.std.specs.Prelude.{◌≡◌, ◌<◌, ◌++◌, ℕ, List, true, false, length, is_ok, IsTrue, ◌↔◌, OnOk, OnErr, IfOk, IfErr, Err};
     ghost use Rattle.sno_store.specs.declared.faults.StoreFault.TheVariants.{Closed};
     ghost use Rattle.sno_store.specs.Lines.{recovered, bytes_of, IsWhole};
     ghost use Rattle.sno_store.specs.Shown.{lines_in};
@@ -183,6 +183,7 @@ impl<D: Disk> Store<D> {
         ensures clean { IsTrue (is_clean self.new) → IsTrue (is_clean self.old) }
         ensures steady { OnOk result (IsSteady D.Disk (disk_of self.old) (disk_of self.new)) }
         ensures open { IfErr result (λ fault. IsTrue (leaves_open fault) → self.new ≡ self.old) }
+        ensures shut { IfErr result (λ fault. leaves_open fault ≡ false → takes_lines self.new ≡ false) }
         ensures closed { takes_lines self.old ≡ false → (result ≡ Err Closed) × (self.new ≡ self.old) }
         ensures cause { IfErr result (λ fault. IsPutFault D.Disk (takes_lines self.old) 0 (disk_of self.old) (disk_of self.new) fault) }
     {
@@ -212,6 +213,7 @@ impl<D: Disk> Store<D> {
         ensures open { OnOk result (is_settled self.new ≡ true) }
         ensures steady { OnOk result (IsSteady D.Disk (disk_of self.old) (disk_of self.new)) }
         ensures kept { IfErr result (λ fault. IsTrue (leaves_open fault) → (takes_lines self.new ≡ true) × (IsTrue (is_clean self.new) → lines_of self.new ≡ lines_of self.old)) }
+        ensures shut { IfErr result (λ fault. leaves_open fault ≡ false → takes_lines self.new ≡ false) }
         ensures closed { takes_lines self.old ≡ false → (result ≡ Err Closed) × (self.new ≡ self.old) }
         ensures cause { IfErr result (λ fault. IsPutFault D.Disk (takes_lines self.old) (length (bytes_of (lines_in lines.now))) (disk_of self.old) (disk_of self.new) fault) }
     {
@@ -234,6 +236,7 @@ impl<D: Disk> Store<D> {
         ensures clean { IsTrue (is_clean self.new) → IsTrue (is_clean self.old) }
         ensures steady { OnOk result (IsSteady D.Disk (disk_of self.old) (disk_of self.new)) }
         ensures open { IfErr result (λ fault. IsTrue (leaves_open fault) → self.new ≡ self.old) }
+        ensures shut { IfErr result (λ fault. leaves_open fault ≡ false → takes_lines self.new ≡ false) }
         ensures cause { IfErr result (λ fault. IsPutFault D.Disk (takes_lines self.old) 0 (disk_of self.old) (disk_of self.new) fault) }
     {
         let zeros = zeros(alloc, self.room.max(1))?;
@@ -254,6 +257,7 @@ impl<D: Disk> Store<D> {
         ensures clean { IsTrue (is_clean self.new) → IsTrue (is_clean self.old) }
         ensures steady { OnOk result (IsSteady D.Disk (disk_of self.old) (disk_of self.new)) }
         ensures open { IfErr result (λ fault. IsTrue (leaves_open fault) → self.new ≡ self.old) }
+        ensures shut { IfErr result (λ fault. leaves_open fault ≡ false → takes_lines self.new ≡ false) }
         ensures cause { IfErr result (λ fault. IsPutFault D.Disk (takes_lines self.old) count (disk_of self.old) (disk_of self.new) fault) }
     {
         if count < self.room {
@@ -283,6 +287,7 @@ impl<D: Disk> Store<D> {
         ensures crash { IsTrue (is_clean self.new) → (c : List ℕ) → Leaves self.new c → HasFirst (lines_of self.old) (recovered bytes.now) c }
         ensures clean { IsTrue (is_clean self.new) → IsTrue (is_clean self.old) }
         ensures steady { OnOk result (IsSteady D.Disk (disk_of self.old) (disk_of self.new)) }
+        ensures shut { OnErr result (takes_lines self.new ≡ false) }
         ensures cause { IfErr result (λ fault. IsWriteFault D.Disk (disk_of self.old) (disk_of self.new) fault) }
     {
         self.state = State::Closed;

@@ -1,0 +1,4 @@
+pub mod SealLemmas
+pub mod LineLemmas
+pub mod ChainLemmas
+pub mod PutLemmas

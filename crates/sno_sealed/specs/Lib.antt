@@ -1,0 +1,4 @@
+pub mod Seals
+pub mod Chains
+pub mod Batches
+pub mod Sealed

@@ -1,0 +1,104 @@
+//! A store of lines with sums.
+ghost use Rattle.std.specs.Prelude.{◌≡◌, length, IsTrue};
+ghost use Rattle.sno_store.specs.Store as base;
+
+use crate::SealFault;
+use crate::batches::{Batch, batch_of};
+use crate::chain::Chain;
+use crate::reading::read_lines;
+use sno_store::{Lines, Store, StoreFault};
+use sqlite_disk::Disk;
+use std::alloc::Global;
+
+/// Lines with sums in a file.
+///
+/// What the clauses say of contents holds if the disk is clean, as for [`Store`].
+#[derive(Drop)]
+pub struct Sealed<D: Disk> {
+    store: Store<D>,
+    chain: Chain,
+    ghost counted: { IsTrue (base.takes_lines store) → IsTrue (base.is_clean store) → length (base.lines_of store) ≡ chain.lines },
+}
+
+impl<D: Disk + Drop> Sealed<D> {
+    ghost use Rattle.std.specs.Prelude.{◌≡◌, ◌++◌, ℕ, List, true, false, length, is_ok, IsTrue, ◌↔◌, OnOk, IfOk, IfErr, Err};
+    ghost use Rattle.sno_store.specs.declared.faults.StoreFault.TheVariants.{Closed};
+    ghost use Rattle.sno_store.specs.Lines.{bytes_of, recovered, IsWhole};
+    ghost use Rattle.sno_store.specs.Shown.{lines_in};
+    ghost use Rattle.sno_store.specs.Faults.{IsPutFault, IsSteady};
+    ghost use Rattle.sno_sealed.specs.Chains.{IsChain};
+    ghost use Rattle.sno_sealed.specs.Sealed.{store_of, chain_of, takes_lines, is_clean, lines_of, sealed_now, Holds, HoldsFirst, IsOnDisk, Leaves};
+
+    /// Checks the lines of a store that was opened with them, and returns it with their payloads.
+    pub fn of(alloc: Global, store: Store<D>, lines: Lines) -> Result<(Sealed<D>, Lines), SealFault>
+        requires { IsTrue (base.is_clean store) → lines_in lines ≡ base.lines_of store }
+        ensures payloads { IfOk result (λ it. IsChain (lines_in lines) (lines_in it.1) (chain_of it.0)) }
+        ensures same { IfOk result (λ it. base.file_of (store_of it.0) ≡ base.file_of store) }
+        ensures open { IfOk result (λ it. takes_lines it.0 ≡ base.takes_lines store) }
+        ensures clean { IfOk result (λ it. IsTrue (is_clean it.0) → IsTrue (base.is_clean store)) }
+        ensures crash { IfOk result (λ it. (c : List ℕ) → Leaves it.0 c → base.Leaves store c) }
+    {
+        let reader = read_lines(alloc, &lines)?;
+        let sealed = Sealed {
+            store,
+            chain: reader.chain,
+        };
+        Ok((sealed, reader.payloads))
+    }
+
+    /// Whether the store takes lines.
+    pub fn is_open(&self) -> bool
+        ensures { result ≡ takes_lines self.now }
+    {
+        self.store.is_open()
+    }
+
+    /// How many lines there are.
+    pub fn lines(&self) -> u64
+        ensures { IsTrue (takes_lines self.now) → IsTrue (is_clean self.now) → result ≡ length (lines_of self.now) }
+    {
+        self.chain.lines
+    }
+
+    /// How many of them, the first ones, have no sum.
+    pub fn plain(&self) -> u64
+        ensures { result ≡ (chain_of self.now).plain }
+    {
+        self.chain.plain
+    }
+
+    /// Whether something other than zeros comes after the lines, as [`Store::is_torn`] says.
+    pub fn is_torn(&self) -> bool
+        ensures { IsTrue (takes_lines self.now) → IsTrue (is_clean self.now) → (IsTrue result ↔ (IsWhole (base.file_of (store_of self.now)) → ⊥)) }
+    {
+        self.store.is_torn()
+    }
+
+    /// The store, as it is.
+    pub fn into_store(self) -> Store<D>
+        ensures { result ≡ store_of self }
+    {
+        let Sealed { store, chain: _ } = self;
+        store
+    }
+
+    /// Seals lines as one batch, adds them after those that are there, and waits until they are on the disk.
+    pub fn put(&mut self, payloads: &Lines) -> Result<(), StoreFault>
+        ensures written { OnOk result (IsTrue (is_clean self.new) → (lines_of self.new ≡ lines_of self.old ++ sealed_now self.old (lines_in payloads.now)) × IsOnDisk self.new) }
+        ensures acknowledged { OnOk result (IsTrue (is_clean self.new) → (olds : List (List ℕ)) → Holds self.old olds → Holds self.new (olds ++ lines_in payloads.now)) }
+        ensures crash { IsTrue (takes_lines self.old) → IsTrue (is_clean self.new) → (c : List ℕ) → Leaves self.new c → (olds : List (List ℕ)) → Holds self.old olds → HoldsFirst olds (lines_in payloads.now) c }
+        ensures clean { IsTrue (is_clean self.new) → IsTrue (is_clean self.old) }
+        ensures steady { OnOk result (IsSteady D.Disk (base.disk_of (store_of self.old)) (base.disk_of (store_of self.new))) }
+        ensures kept { IfErr result (λ fault. IsTrue (base.leaves_open fault) → (takes_lines self.new ≡ true) × (chain_of self.new ≡ chain_of self.old) × (IsTrue (is_clean self.new) → lines_of self.new ≡ lines_of self.old)) }
+        ensures closed { takes_lines self.old ≡ false → (result ≡ Err Closed) × (self.new ≡ self.old) }
+        ensures cause { IfErr result (λ fault. IsPutFault D.Disk (takes_lines self.old) (length (bytes_of (sealed_now self.old (lines_in payloads.now)))) (base.disk_of (store_of self.old)) (base.disk_of (store_of self.new)) fault) }
+    {
+        if !self.store.is_open() {
+            return Err(StoreFault::Closed);
+        }
+        let Batch { lines, chain } = batch_of(payloads.allocator(), self.chain, payloads)?;
+        self.store.put(&lines)?;
+        self.chain = chain;
+        Ok(())
+    }
+}

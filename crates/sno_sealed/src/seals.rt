@@ -1,0 +1,120 @@
+//! A line is sealed, and a sealed line is opened.
+ghost use Rattle.std.specs.Prelude.{◌≡◌, ◌++◌, ◌∷◌, [], OnOk, IfOk, MatchOption};
+ghost use Rattle.sno_sealed.specs.Seals.{begun, closes, ended, sealed_line, sum_after, summed};
+ghost use Rattle.sno_sealed.specs.Chains.{IsSealedBy};
+
+use crate::numbers::{put_hex, put_number, sum_after};
+use memchr::{memchr, memrchr};
+use std::alloc::AllocError;
+
+/// What comes before the numbers of a seal.
+const BATCH_KEY: &[u8] = b",\"batch\":[";
+
+/// What comes between them and its sum.
+pub(crate) const SUM_KEY: &[u8] = b"],\"sum\":\"";
+
+/// Whether bytes end with `}`.
+pub(crate) fn closes(bytes: &[u8]) -> bool
+    ensures { result ≡ closes bytes.now }
+{
+    !bytes.is_empty() && bytes[bytes.len() - 1] == b'}'
+}
+
+/// Bytes without the `}` at their end, if they have one.
+#[tactic(auto, unfolding(crate::specs::Seals::begun))]
+pub(crate) fn begun(bytes: &[u8]) -> &[u8]
+    ensures { result.now ≡ begun bytes.now }
+{
+    if closes(bytes) {
+        bytes.split_at(bytes.len() - 1).0
+    } else {
+        bytes
+    }
+}
+
+/// Adds the `}` at the end of these bytes, if they have one.
+#[tactic(auto, unfolding(crate::specs::Seals::ended))]
+fn put_end(out: &mut Vec<u8>, bytes: &[u8]) -> Result<(), AllocError>
+    ensures { OnOk result (out.new.items ≡ out.old.items ++ ended bytes.now) }
+{
+    if closes(bytes) {
+        out.push(b'}')?;
+    }
+    Ok(())
+}
+
+/// Adds what the sum of a line is over, beside the sum before it.
+#[tactic(auto, unfolding(crate::specs::Seals::summed))]
+fn put_summed(
+    out: &mut Vec<u8>,
+    number: u64,
+    first: &[u8],
+    last: &[u8],
+    payload: &[u8],
+) -> Result<(), AllocError>
+    ensures { OnOk result (out.new.items ≡ out.old.items ++ summed number first.now last.now payload.now) }
+{
+    out.extend_from_slice(begun(payload))?;
+    out.extend_from_slice(BATCH_KEY)?;
+    put_number(out, number)?;
+    out.push(b',')?;
+    out.extend_from_slice(first)?;
+    out.push(b',')?;
+    out.extend_from_slice(last)?;
+    Ok(())
+}
+
+/// Writes a sealed line in place of what `line` has, and returns its sum. `before` is the sum of the line before it, and `first` and
+/// `last` say of which batch it is.
+#[tactic(auto, unfolding(crate::specs::Seals::sealed_line))]
+pub(crate) fn seal(
+    line: &mut Vec<u8>,
+    before: u64,
+    number: u64,
+    first: &[u8],
+    last: &[u8],
+    payload: &[u8],
+) -> Result<u64, AllocError>
+    ensures line { OnOk result (line.new.items ≡ sealed_line before number first.now last.now payload.now) }
+    ensures sum { IfOk result (λ sum. sum ≡ sum_after before (summed number first.now last.now payload.now)) }
+{
+    line.clear();
+    put_summed(line, number, first, last, payload)?;
+    let sum = sum_after(before, line);
+    line.extend_from_slice(SUM_KEY)?;
+    put_hex(line, 16, sum)?;
+    line.push(b'"')?;
+    put_end(line, payload)?;
+    Ok(sum)
+}
+
+/// What a sealed line has beside its numbers and sums.
+#[derive(Clone, Copy)]
+pub(crate) struct Parts<'a> {
+    /// Its payload, without the `}` at the end.
+    pub(crate) begun: &'a [u8],
+    /// The number of the first line of its batch.
+    pub(crate) first: &'a [u8],
+    /// The number of the last one.
+    pub(crate) last: &'a [u8],
+}
+
+/// The bytes before the first `byte` and those after it.
+fn split_at_first(bytes: &[u8], byte: u8) -> Option<(&[u8], &[u8])> {
+    let at = memchr(byte, bytes)?;
+    Some((bytes.split_at(at).0, bytes.split_at(at + 1).1))
+}
+
+/// The parts of a line that seems to be sealed.
+pub(crate) fn parts_of(line: &[u8]) -> Option<Parts<'_>> {
+    let at = memrchr(b'[', line)?;
+    let (front, numbers) = line.split_at(at + 1);
+    if front.len() < BATCH_KEY.len() {
+        return None;
+    }
+    let begun = front.split_at(front.len() - BATCH_KEY.len()).0;
+    let (_number, rest) = split_at_first(numbers, b',')?;
+    let (first, rest) = split_at_first(rest, b',')?;
+    let (last, _rest) = split_at_first(rest, b']')?;
+    Some(Parts { begun, first, last })
+}
