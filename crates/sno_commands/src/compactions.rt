@@ -33,7 +33,7 @@ fn locked<R: Stores, E: Write>(rt: &R, path: &str, errors: &mut E) -> Result<Sto
 }
 
 /// Locks the old store that loses its name, if there is one. It has to be made of the same document: nobody else's file is removed.
-fn old_store<R: Files + Stores, E: Write>(
+pub(crate) fn old_store<R: Files + Stores, E: Write>(
     rt: &R,
     alloc: Global,
     names: &StoreNames,
@@ -114,15 +114,14 @@ fn refuse_place<E: Write>(fault: ReplaceFault, errors: &mut E) -> u8 {
     FAILED
 }
 
-/// Gives the new store the place of the store. The old one that was left before loses its name; it is locked meanwhile.
+/// Gives the new store the place of the store. The old one that was left before, if there is one, is locked, and loses its name.
 pub(crate) fn take_place<R: Files + Stores, E: Write>(
     rt: &R,
     alloc: Global,
     names: &StoreNames,
-    facts: &StoreFacts,
+    old: Option<Store<File>>,
     errors: &mut E,
 ) -> Result<(), u8> {
-    let old = old_store(rt, alloc, names, facts, errors)?;
     let replaced = Folder::new(alloc, SystemCalls { rt, names }).replace(old.is_some());
     drop(old);
     match replaced {
@@ -143,11 +142,14 @@ fn replace<R: Files + Stores, E: Write>(
         return Err(refuse(&DurableFault::Memory, errors));
     };
     make_way(rt, alloc, names, &facts, errors)?;
+    let old = old_store(rt, alloc, names, &facts, errors)?;
     let store = put_beside(rt, alloc, names, lines, errors)?;
-    match take_place(rt, alloc, names, &facts, errors) {
+    match take_place(rt, alloc, names, old, errors) {
         Ok(()) => Ok(store),
         Err(status) => {
             drop(store);
+            // It has no entry. Once it has the place, there is none under this name.
+            let _left = Folder::new(alloc, SystemCalls { rt, names }).discard();
             Err(status)
         }
     }

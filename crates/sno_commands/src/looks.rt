@@ -40,7 +40,7 @@ fn replay<R: Wait, D: Disk + Drop>(
         document: None,
         trials: None,
         most: None,
-        listing: true,
+        lists: true,
     };
     serve_durably(rt, alloc, opened, given, client)
 }

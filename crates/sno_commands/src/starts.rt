@@ -1,7 +1,7 @@
 //! What a crash has left beside a store is put right before a service begins.
 
 use crate::beside::{Beside, beside};
-use crate::compactions::{discard, take_place};
+use crate::compactions::{discard, old_store, take_place};
 use crate::faults::FAILED;
 use crate::store_names::{StoreNames, SystemCalls, is_named, names_of};
 use crate::stored::{INVALID, Opened, Stores, opened, refuse};
@@ -102,7 +102,8 @@ fn taken<R: Files + Stores, E: Write>(
     errors: &mut E,
 ) -> Result<Opened, u8> {
     let new = opened(rt, alloc, &names.new, errors)?;
-    take_place(rt, alloc, names, facts, errors)?;
+    let old = old_store(rt, alloc, names, facts, errors)?;
+    take_place(rt, alloc, names, old, errors)?;
     say(
         &names.new,
         "goes on from the store, and has taken its place",

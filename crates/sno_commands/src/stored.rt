@@ -226,7 +226,7 @@ fn serve_first<
         document,
         trials: options.trials,
         most: options.keep,
-        listing: options.listing.is_some(),
+        lists: options.listing.is_some(),
     };
     let Streams { input, output } = streams;
     let kept = match Client::new(alloc, input, output) {
@@ -310,7 +310,7 @@ fn serve_next<R: Threads + Wait + Sync, I: Read + Send + Drop, W: Write + Send +
         document: None,
         trials: None,
         most: options.keep,
-        listing: options.listing.is_some(),
+        lists: options.listing.is_some(),
     };
     served(
         serve_opened(rt, alloc, options, opened, given, client),

@@ -2,7 +2,7 @@
 use Rattle.std.specs.Prelude.{ℕ, List, [], ◌∷◌, ◌++◌, codes}
 use Rattle.json.specs.Print.{quoted}
 use Rattle.serde_json.specs.Data.{Data, number, unsigned, string, object, no_members, member}
-use Rattle.sno_durable.specs.declared.records.TheConstants.{FORMAT, LATER_FORMAT}
+use Rattle.sno_durable.specs.declared.records.TheConstants.{FORMAT}
 
 -- the first line: the document that the store was made of, as it was written, the format, and the limit of trials
 abbrev pub origin_data : List ℕ → ℕ → Data
@@ -17,7 +17,7 @@ past_data entries statements versions =
 -- store was made of, the format, what came before, and the limit of trials
 abbrev pub later_data : List ℕ → ℕ → List ℕ → Data → Data
 later_data document trials made_of past =
-    object (member (codes "document") (string document) (member (codes "made_of") (string made_of) (member (codes "nomyake") (number (unsigned LATER_FORMAT))
+    object (member (codes "document") (string document) (member (codes "made_of") (string made_of) (member (codes "nomyake") (number (unsigned FORMAT))
     (member (codes "past") past (member (codes "trials") (number (unsigned trials)) no_members)))))
 
 -- the record of an entry: the line of a client, as it came, and its reply

@@ -2,6 +2,7 @@
 
 use crate::queue::QueueFault;
 use sno_document::DocumentFault;
+use sno_sealed::SealFault;
 use sno_serve::ServeFault;
 use sno_store::{LineFault, StoreFault};
 use std::alloc::{AllocError, AllocFailed};
@@ -46,6 +47,9 @@ pub enum DurableFault {
     /// A document with the texts of the store would have more than 16,777,216 bytes, so no store goes on from it.
     #[error("store: its texts are too long for one document")]
     TextsTooLong,
+    /// The line with this number, from 1, is damaged, or lines are missing before what comes there.
+    #[error("store: line {0}: damaged")]
+    Damaged(u64),
     /// The line with this number, from 1, isn't a record.
     #[error("store: line {0}: not a record")]
     Record(u64),
@@ -71,6 +75,16 @@ impl From<StoreFault> for DurableFault {
         match fault {
             StoreFault::Memory => DurableFault::Memory,
             fault => DurableFault::Store(fault),
+        }
+    }
+}
+
+impl From<SealFault> for DurableFault {
+    fn from(fault: SealFault) -> DurableFault {
+        match fault {
+            SealFault::Damaged(line) => DurableFault::Damaged(line),
+            SealFault::Memory => DurableFault::Memory,
+            SealFault::Store(fault) => DurableFault::from(fault),
         }
     }
 }

@@ -1,7 +1,7 @@
 //! The lines of a client, their replies, and the store between the two, at one seat.
 ghost use Rattle.std.specs.Prelude.{◌≡◌, ◌+◌, [], OnOk, IsTrue, length};
 ghost use Rattle.sno_store.specs.Shown.{lines_in, lines_left};
-ghost use Rattle.sno_store.specs.Store.{is_clean};
+ghost use Rattle.sno_sealed.specs.Sealed.{is_clean};
 ghost use Rattle.sno_durable.specs.Kept.{HasNoted, HasKept};
 
 use crate::DurableFault;
@@ -67,6 +67,8 @@ pub(crate) struct Keeper<D: Disk, I: Read, W: Write> {
     /// With this many entries the desk is closed.
     pub(crate) most: u64,
     pub(crate) intake: Intake<I>,
+    /// Whether there will be a listing.
+    pub(crate) lists: bool,
     pub(crate) refused: Vec<Refusal>,
 }
 
@@ -105,7 +107,9 @@ impl<D: Disk + Drop, I: Read + Drop, W: Write + Drop> Keeper<D, I, W> {
             ignored,
         )?;
         if let Some(refused) = refused {
-            self.refused.push(refused)?;
+            if self.lists {
+                self.refused.push(refused)?;
+            }
         }
         if seat.accepted() == before {
             return Ok(());
@@ -207,7 +211,11 @@ impl<D: Disk + Drop, I: Read + Drop, W: Write + Drop> Keeper<D, I, W> {
     ) -> Result<(), DurableFault>
         ensures same { self.new.shelf ≡ self.old.shelf }
     {
-        begin(at, seat, statements, &mut self.refused)
+        begin(at, seat, statements, &mut self.refused)?;
+        if !self.lists {
+            self.refused.clear();
+        }
+        Ok(())
     }
 
     /// Performs the statements of these records again.

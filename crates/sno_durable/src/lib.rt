@@ -12,6 +12,7 @@
 //! |---|---|
 //! | `records` | the lines of a store, as JSON |
 //! | `past` | what came before the first entry of a store, and the numbers that a client is shown |
+//! | `first_lines` | whether a file has a first line that was cut while it was written |
 //! | `relations` | what a store beside another one is to it |
 //! | `sought` | what a line asks of a desk whose numbers begin at 0, and its reply as the client is shown it |
 //! | `compacted` | the first line of a store that goes on from another one |
@@ -20,6 +21,7 @@
 //! | `keeper` | lines with their replies, at one seat |
 //! | `seats`, `queue` | lines with their replies, at several seats; what these leave for the disk |
 //! | `shelf` | the store, and the writer of the replies that wait for it |
+//! | `outlet` | that writer: nothing comes to it before it is on the disk |
 //! | `service` | from a store and its document to the book that is left |
 //! | `faults` | why a service didn't begin, or ended early |
 #![tactic(auto)]
@@ -27,7 +29,9 @@
 mod compacted;
 mod earlier;
 mod faults;
+mod first_lines;
 mod keeper;
+mod outlet;
 mod past;
 mod queue;
 mod records;

@@ -90,12 +90,14 @@ pub(crate) struct Queue {
     is_writing: bool,
     /// Whether nothing has failed yet.
     is_open: bool,
+    /// Whether there will be a listing.
+    lists: bool,
     refused: Vec<Refusal>,
 }
 
 impl Queue {
     /// Nothing was left yet.
-    pub(crate) fn new(alloc: Global) -> Queue {
+    pub(crate) fn new(alloc: Global, lists: bool) -> Queue {
         Queue {
             records: BTreeMap::new(alloc),
             replies: Vec::new(alloc),
@@ -103,6 +105,7 @@ impl Queue {
             next: 0,
             is_writing: false,
             is_open: true,
+            lists,
             refused: Vec::new(alloc),
         }
     }
@@ -110,7 +113,9 @@ impl Queue {
     /// Begins after the entries that there are, with what the listing has of statements before them.
     pub(crate) fn begin(&mut self, entries: u64, refused: Vec<Refusal>) {
         self.next = entries;
-        self.refused = refused;
+        if self.lists {
+            self.refused = refused;
+        }
     }
 
     /// How many entries there are whose seats have left them.
@@ -151,7 +156,7 @@ impl Queue {
         self.bytes = self.bytes.saturating_add(held.reply.len());
         self.replies.push(held)?;
         if let Some(refused) = refused {
-            if self.refused.len() < MAX_REFUSED {
+            if self.lists && self.refused.len() < MAX_REFUSED {
                 self.refused.push(refused)?;
             }
         }

@@ -13,11 +13,14 @@ use json::Writer;
 use serde_json::{Category, Map, Value, put};
 use std::alloc::{AllocError, Global};
 
-/// The number of this format. A number that is neither this one nor that of a later store is refused.
-const FORMAT: u64 = 1;
+/// The number of this format, whose lines have sums.
+const FORMAT: u64 = 3;
 
-/// The number of the format of a store that goes on from others.
-const LATER_FORMAT: u64 = 2;
+/// The number of the format of stores without sums that go on from no other one.
+const PLAIN_FORMAT: u64 = 1;
+
+/// The number of the format of stores without sums that go on from others.
+const LATER_PLAIN_FORMAT: u64 = 2;
 
 /// What a store was made of.
 #[derive(Drop)]
@@ -119,7 +122,7 @@ pub(crate) fn later_line(
     let mut members = Map::new(alloc);
     put(&mut members, alloc, "trials", Value::from(trials))?;
     put(&mut members, alloc, "past", past_value(alloc, past)?)?;
-    put(&mut members, alloc, "nomyake", Value::from(LATER_FORMAT))?;
+    put(&mut members, alloc, "nomyake", Value::from(FORMAT))?;
     put(&mut members, alloc, "made_of", first)?;
     put(&mut members, alloc, "document", text)?;
     let bytes = Value::Object(members).to_vec(alloc)?;
@@ -209,8 +212,9 @@ pub(crate) fn origin_in(alloc: Global, line: &[u8]) -> Result<Option<Origin>, Al
     };
     let before = before_in(alloc, &value)?;
     let is_known = match number_at(&value, "nomyake") {
-        Some(FORMAT) => before.is_none(),
-        Some(LATER_FORMAT) => before.is_some(),
+        Some(FORMAT) => true,
+        Some(PLAIN_FORMAT) => before.is_none(),
+        Some(LATER_PLAIN_FORMAT) => before.is_some(),
         _ => false,
     };
     let text = value.get("document").and_then(Value::as_str);

@@ -10,7 +10,9 @@ ghost use Rattle.sno_durable.specs.declared.faults.DurableFault.TheVariants.{Mem
 
 use crate::DurableFault;
 use crate::earlier::Reading;
+use crate::first_lines::is_cut_first_line;
 use crate::keeper::Keeper;
+use crate::outlet::Outlet;
 use crate::past::Past;
 use crate::queue::Queue;
 use crate::records::{Origin, origin_in, origin_line};
@@ -20,9 +22,10 @@ use sno_book::Book;
 use sno_desk::{Blank, Desk, Naming, Seat, at_desk, close, may_cross};
 use sno_document::{Document, DocumentFault, Mode, Rules, read_document};
 use sno_listing::Refusal;
+use sno_sealed::Sealed;
 use sno_serve::{AtDesk, Intake};
 use sno_statement::{MAX_TRIALS, Statement, USUAL_TRIALS};
-use sno_store::{Lines, Store};
+use sno_store::Lines;
 use sqlite_disk::Disk;
 use std::alloc::{AllocError, Global};
 use std::io::{Read, Write};
@@ -39,6 +42,8 @@ pub struct Given {
     pub trials: Option<u32>,
     /// With how many entries the service ends before the end of the input, so that another store can go on from this one.
     pub most: Option<u64>,
+    /// Whether there will be a listing. Without one nothing is kept of refused statements.
+    pub lists: bool,
 }
 
 /// Where lines come from, and where replies go.
@@ -80,7 +85,7 @@ pub struct Kept<D: Disk, I: Read, W: Write> {
     /// What the listing has of refused statements, by rising number.
     pub refused: Vec<Refusal>,
     /// The store.
-    pub store: Store<D>,
+    pub store: Sealed<D>,
     /// What the store was made of.
     pub(crate) origin: Origin,
     /// The number of the next statement.
@@ -150,7 +155,7 @@ fn document_of(alloc: Global, bytes: &[u8], mode: Mode) -> Result<Document, Dura
 /// Puts the first line into a new store.
 fn begin_store<D: Disk>(
     alloc: Global,
-    store: &mut Store<D>,
+    store: &mut Sealed<D>,
     origin: &Origin,
 ) -> Result<(), DurableFault> {
     let Ok(text) = str::from_utf8(&origin.document) else {
@@ -236,7 +241,7 @@ fn beginning(alloc: Global, origin: &Origin, statements: u32) -> Result<(Past, u
 /// What a service has before its desk is opened.
 #[derive(Drop)]
 struct Begun<D: Disk> {
-    store: Store<D>,
+    store: Sealed<D>,
     lines: Lines,
     origin: Origin,
     reading: Reading,
@@ -245,21 +250,23 @@ struct Begun<D: Disk> {
     /// The number of the statement after those of the document.
     number: u32,
     most: u64,
+    lists: bool,
     ghost empty: { book.journal ≡ [] },
 }
 
 /// Reads what the store was made of, and puts the first line into a new one.
 fn beginning_of<D: Disk + Drop>(
     alloc: Global,
-    store: Store<D>,
-    lines: Lines,
+    opened: (Sealed<D>, Lines),
     given: Given,
 ) -> Result<Begun<D>, DurableFault> {
-    // A file that has something but no lines is another program's, or was cut while it was made.
-    if lines.is_empty() && store.is_torn() {
+    let (mut store, lines) = opened;
+    // A file that has something but no lines is another program's, unless it was cut while it was made: then nothing was ever shown.
+    if lines.is_empty() && store.is_torn() && !is_cut_first_line(&store.tail(alloc)?) {
         return Err(DurableFault::Format);
     }
     let most = given.most.unwrap_or(u64::MAX);
+    let lists = given.lists;
     let origin = origin_of(alloc, &lines, given)?;
     if !is_limit(origin.trials) {
         return Err(DurableFault::Format);
@@ -273,7 +280,6 @@ fn beginning_of<D: Disk + Drop>(
         book,
         statements,
     } = document_of(alloc, &origin.document, mode)?;
-    let mut store = store;
     if lines.is_empty() {
         begin_store(alloc, &mut store, &origin)?;
     }
@@ -288,14 +294,15 @@ fn beginning_of<D: Disk + Drop>(
         statements,
         number,
         most,
+        lists,
     })
 }
 
 /// Serves the document of a store: performs its statements and those of its records again, then replies to each line of the
 /// client, until there are no more, or the desk has as many entries as are given as the most. A line is that of
 /// [`sno_serve::line_in`], and its reply that of [`sno_serve::reply_to`]; if the store goes on from others, their indices and
-/// versions go on, too. `lines` are those that the store had when it was opened. If it had none, the store is made of the document
-/// that is given.
+/// versions go on, too. `opened` is the store with the lines that it had when it was opened. If it had none, or its first line was cut, the
+/// store is made of the document that is given.
 ///
 /// Lines get their replies in the order in which they come. Those that were read together, up to 1,024, share one wait for the
 /// disk: the records of their entries are put into the store, and the replies are written when these are on the disk. So no
@@ -307,7 +314,7 @@ fn beginning_of<D: Disk + Drop>(
 ///
 /// Refused before the first reply:
 ///
-/// - `Format`: the file is of another format, or has something but no whole line. Nothing was written;
+/// - `Format`: the file is of another format, or has something else than a first line that was cut. Nothing was written;
 /// - `NoDocument`, `Document`: the store is new, and no document is given, or it is refused. Nothing was written;
 /// - `OtherDocument`, `OtherTrials`: the store was made of another document than the one that is given, or with another limit.
 ///   Nothing was written;
@@ -320,8 +327,7 @@ fn beginning_of<D: Disk + Drop>(
 pub fn serve_durably<D: Disk + Drop, I: Read + Drop, W: Write + Drop, R: Wait>(
     rt: &R,
     alloc: Global,
-    store: Store<D>,
-    lines: Lines,
+    opened: (Sealed<D>, Lines),
     given: Given,
     client: Client<I, W>,
 ) -> Result<Kept<D, I, W>, DurableFault>
@@ -336,14 +342,19 @@ pub fn serve_durably<D: Disk + Drop, I: Read + Drop, W: Write + Drop, R: Wait>(
         statements,
         number,
         most,
-    } = beginning_of(alloc, store, lines, given)?;
+        lists,
+    } = beginning_of(alloc, opened, given)?;
     let Client { intake, writer } = client;
     let mut keeper = Keeper {
         reading,
         number,
-        shelf: Shelf { store, writer },
+        shelf: Shelf {
+            store,
+            outlet: Outlet::new(writer),
+        },
         most,
         intake,
+        lists,
         refused: Vec::new(alloc),
     };
     let blank = Blank::new(1);
@@ -372,7 +383,7 @@ fn left_by<D: Disk + Drop, I: Read + Drop, W: Write + Drop>(
     ensures { result.book ≡ book }
 {
     let Keeper {
-        shelf: Shelf { store, writer },
+        shelf: Shelf { store, outlet },
         refused,
         number,
         intake,
@@ -384,7 +395,10 @@ fn left_by<D: Disk + Drop, I: Read + Drop, W: Write + Drop>(
         store,
         origin,
         number,
-        client: Client { intake, writer },
+        client: Client {
+            intake,
+            writer: outlet.into_writer(),
+        },
         ended,
     }
 }
@@ -414,7 +428,7 @@ pub fn serve_durably_at<
 >(
     rt: &R,
     alloc: Global,
-    opened: (Store<D>, Lines),
+    opened: (Sealed<D>, Lines),
     given: Given,
     seats: Seats,
     client: Client<I, W>,
@@ -423,9 +437,8 @@ pub fn serve_durably_at<
     requires tries { (1 ≤ seats.tries) × (seats.tries ≤ MAX_TRIES) }
     ensures valid { IfOk result (λ k. IsValid (view_of k.book)) }
 {
-    let (store, lines) = opened;
     if seats.count == 1 {
-        return serve_durably(rt, alloc, store, lines, given, client);
+        return serve_durably(rt, alloc, opened, given, client);
     }
     let Begun {
         store,
@@ -436,7 +449,8 @@ pub fn serve_durably_at<
         statements,
         number,
         most,
-    } = beginning_of(alloc, store, lines, given)?;
+        lists,
+    } = beginning_of(alloc, opened, given)?;
     let Client { intake, writer } = client;
     let door = Door {
         intake,
@@ -451,8 +465,11 @@ pub fn serve_durably_at<
         most,
         numbers: Mutex::new(number),
         door: Mutex::new(door),
-        queue: Mutex::new(Queue::new(alloc)),
-        shelf: Mutex::new(Shelf { store, writer }),
+        queue: Mutex::new(Queue::new(alloc, lists)),
+        shelf: Mutex::new(Shelf {
+            store,
+            outlet: Outlet::new(writer),
+        }),
         fault: Mutex::new(None),
     };
     // for the proof
@@ -501,7 +518,7 @@ fn left_by_seats<D: Disk + Drop, I: Read + Drop, W: Write + Drop>(
         is_full,
         ..
     } = door.into_inner();
-    let Shelf { store, writer } = shelf.into_inner();
+    let Shelf { store, outlet } = shelf.into_inner();
     let mut refused = queue.into_inner().into_refused();
     refused.sort_by_key(|r| r.number)?;
     let ended = match fault.into_inner() {
@@ -517,7 +534,10 @@ fn left_by_seats<D: Disk + Drop, I: Read + Drop, W: Write + Drop>(
         store,
         origin,
         number: numbers.into_inner(),
-        client: Client { intake, writer },
+        client: Client {
+            intake,
+            writer: outlet.into_writer(),
+        },
         ended,
     })
 }
