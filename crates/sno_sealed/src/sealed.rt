@@ -5,7 +5,7 @@ ghost use Rattle.sno_store.specs.Store as base;
 use crate::SealFault;
 use crate::batches::{Batch, batch_of};
 use crate::chain::Chain;
-use crate::reading::read_lines;
+use crate::reading::{check_tail, read_lines};
 use sno_store::{Lines, Store, StoreFault};
 use sqlite_disk::Disk;
 use std::alloc::Global;
@@ -25,7 +25,7 @@ impl<D: Disk + Drop> Sealed<D> {
     ghost use Rattle.sno_store.specs.declared.faults.StoreFault.TheVariants.{Closed};
     ghost use Rattle.sno_store.specs.Lines.{bytes_of, recovered, IsWhole};
     ghost use Rattle.sno_store.specs.Shown.{lines_in};
-    ghost use Rattle.sno_store.specs.Faults.{IsPutFault, IsSteady};
+    ghost use Rattle.sno_store.specs.Faults.{IsPutFault, IsSteady, IsTailFault};
     ghost use Rattle.sno_sealed.specs.Chains.{IsChain};
     ghost use Rattle.sno_sealed.specs.Sealed.{store_of, chain_of, takes_lines, is_clean, lines_of, sealed_now, Holds, HoldsFirst, IsOnDisk, Leaves};
 
@@ -38,12 +38,31 @@ impl<D: Disk + Drop> Sealed<D> {
         ensures clean { IfOk result (λ it. IsTrue (is_clean it.0) → IsTrue (base.is_clean store)) }
         ensures crash { IfOk result (λ it. (c : List ℕ) → Leaves it.0 c → base.Leaves store c) }
     {
+        let mut store = store;
         let reader = read_lines(alloc, &lines)?;
+        if store.is_torn() {
+            let tail = store.tail(alloc)?;
+            check_tail(alloc, &lines, reader.chain.lines, &tail)?;
+        }
         let sealed = Sealed {
             store,
             chain: reader.chain,
         };
         Ok((sealed, reader.payloads))
+    }
+
+    /// Reads what comes after the lines, as [`Store::tail`] does.
+    pub fn tail(&mut self, alloc: Global) -> Result<Vec<u8>, StoreFault>
+        ensures tail { IfOk result (λ tail. IsTrue (is_clean self.new) → base.file_of (store_of self.old) ≡ bytes_of (lines_of self.old) ++ tail.items) }
+        ensures same { base.file_of (store_of self.new) ≡ base.file_of (store_of self.old) }
+        ensures crash { (c : List ℕ) → Leaves self.new c → Leaves self.old c }
+        ensures clean { IsTrue (is_clean self.new) → IsTrue (is_clean self.old) }
+        ensures open { takes_lines self.new ≡ takes_lines self.old }
+        ensures chain { chain_of self.new ≡ chain_of self.old }
+        ensures closed { takes_lines self.old ≡ false → (result ≡ Err Closed) × (store_of self.new ≡ store_of self.old) }
+        ensures cause { IfErr result (λ fault. IsTailFault D.Disk (takes_lines self.old) (base.disk_of (store_of self.old)) (base.disk_of (store_of self.new)) fault) }
+    {
+        self.store.tail(alloc)
     }
 
     /// Whether the store takes lines.
