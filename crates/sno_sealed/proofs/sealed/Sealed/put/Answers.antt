@@ -21,7 +21,7 @@ returns-in_err-lines-clause-cause g c =
     let is : takes_lines self.store ≡ true = sym c.is_open.ensures ∙ c.if-not-is_open.false in
     let p = err_from_is_err_and c.from_residual.result c.from_residual.ensures.1 in
     rw (p.1, p.2) (batch_fault g.D.Disk (takes_lines self.store) (length (bytes_of (sealed_now self news))) (self.chain.lines + length news) self.store.disk c.in_err-lines.field-0.0
-     (λ clean. omega (arith, self.counted is clean, lines_within (g.D.Disk.seen self.store.disk), batch_fits self.chain.sum self.chain.lines news)) c.in_err-lines.ensures.cause)
+    (λ clean. omega (arith, self.counted is clean, lines_within (g.D.Disk.seen self.store.disk), batch_fits self.chain.sum self.chain.lines news)) c.in_err-lines.ensures.cause)
 
 pub invariant_of-self : goal.invariant_of-self
 invariant_of-self g c =
