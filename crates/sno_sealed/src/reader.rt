@@ -72,7 +72,14 @@ impl Reader {
             self.payload.push(b'}')?;
         }
         let number = self.chain.lines + 1;
-        let sum = seal(&mut self.again, self.chain.sum, number, parts.first, parts.last, &self.payload)?;
+        let sum = seal(
+            &mut self.again,
+            self.chain.sum,
+            number,
+            parts.first,
+            parts.last,
+            &self.payload,
+        )?;
         if self.again.as_slice() != line {
             return Ok(None);
         }
