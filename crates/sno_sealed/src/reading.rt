@@ -47,11 +47,11 @@ pub(crate) fn check_tail(
     tail: &[u8],
 ) -> Result<(), SealFault> {
     let next = count.saturating_add(1);
-    if is_tear(&number_text(alloc, next)?, tail) {
+    if is_tear(&number_text(alloc, next)?, count > 0, tail) {
         return Ok(());
     }
     match batch_left(lines, &number_text(alloc, count)?) {
-        Some(first) if is_tear(first, tail) => Ok(()),
+        Some(first) if is_tear(first, true, tail) => Ok(()),
         _ => Err(SealFault::Damaged(next)),
     }
 }

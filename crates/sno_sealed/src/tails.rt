@@ -44,10 +44,11 @@ fn are_zeros(bytes: &[u8]) -> bool {
 }
 
 /// Whether what comes after the lines can be what a crash has left of one batch, whose first line has this number: no line of another
-/// batch ends there, and nothing comes after the last line of this one.
-pub(crate) fn is_tear(first: &[u8], tail: &[u8]) -> bool {
+/// batch ends there, and nothing comes after the last line of this one. A file that has no lines before it may be another program's, and lines
+/// without sums say nothing there.
+pub(crate) fn is_tear(first: &[u8], has_lines: bool, tail: &[u8]) -> bool {
     let mut rest = tail;
-    let mut begins = true;
+    let mut begins = has_lines;
     while let Some(at) = memchr2(b'\n', 0, rest) {
         let piece = rest.split_at(at).0;
         let is_ended = rest[at] == b'\n';
@@ -59,7 +60,7 @@ pub(crate) fn is_tear(first: &[u8], tail: &[u8]) -> bool {
                 Found::Nothing | Found::Inside => {}
             }
         }
-        begins = is_ended;
+        begins = has_lines && is_ended;
     }
     true
 }
