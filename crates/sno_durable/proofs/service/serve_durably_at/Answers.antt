@@ -34,6 +34,6 @@ at_desk-requires-sync-W g c κs within =
     let door : IsSend (Door.the_row (param 1 g.row.I)) = search (sendable, crosses) depth 60 fits 1000000 in
     let shelf : IsSend (Shelf.the_row (param 0 g.row.D) (param 2 g.row.W) g.D.Disk) = search (sendable, crosses) depth 60 fits 1000000 in
     let fault : IsSend (Option.the_row DurableFault.the_row) = search (sendable, crosses) depth 60 fits 1000000 in
-    param_sync 0 (Lts.arg-20-0 g.row.D g.row.I g.row.W g.row.R g.D.laws g.I.laws g.W.laws g.R.laws g.D.Disk g.D.Disk-dict g.I.Read g.I.Read-dict g.W.Write g.W.Write-dict g.R.Threads g.R.Threads-dict g.R.Wait g.R.Wait-dict g.D.Destruct-dict g.I.Destruct-dict g.W.Destruct-dict κs)
+    param_sync 0 (Lts.arg-21-0 g.row.D g.row.I g.row.W g.row.R g.D.laws g.I.laws g.W.laws g.R.laws g.D.Disk g.D.Disk-dict g.I.Read g.I.Read-dict g.W.Write g.W.Write-dict g.R.Threads g.R.Threads-dict g.R.Wait g.R.Wait-dict g.D.Destruct-dict g.I.Destruct-dict g.W.Destruct-dict κs)
     (arg_sync _ yes _ (declared_sync (Shared.the_type (param 0 g.row.D) (param 1 g.row.I) (param 2 g.row.W) g.D.Disk g.I.Read g.W.Write)
     (reading, (statements, (tries, (most, (numbers, (mutex.the_sync _ door, (mutex.the_sync _ queue, (mutex.the_sync _ shelf, (mutex.the_sync _ fault, tt)))))))))))

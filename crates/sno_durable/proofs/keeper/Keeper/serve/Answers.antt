@@ -1,6 +1,6 @@
 -- Each turn keeps up.
 use Rattle.std.proofs.Common.{length}
-use Rattle.sno_store.specs.Store.{lines_of}
+use Rattle.sno_sealed.specs.Sealed.{lines_of}
 use Rattle.sno_durable.proofs.Keeping.{kept_on}
 use Rattle.sno_durable.proofs.keeper.Keeper.serve.Goals as goal
 
