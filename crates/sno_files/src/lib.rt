@@ -21,8 +21,12 @@
 //! | `one_text` | `OneText`: a text that is in no file |
 //! | `relative` | paths of files from the current folder |
 //! | `held` | `HeldFiles`: files that are held while they are edited |
-//! | `new_files` | new files, and how they take their places |
+//! | `new_files` | new files |
+//! | `owners` | whose a new file is, and who may read and write it |
+//! | `taking_places` | how new files take the places of old ones |
+//! | `leftovers` | `remove_leftovers`: new files that killed runs left |
 //! | `synced` | new files that have to be on the disk |
+//! | `folders` | the folders of files |
 //! | `overtaken` | files that are to be edited anew |
 //! | `editing` | `edit_one`, `edit_with_text`, `edit_some`: files edited by rules |
 //! | `in_threads` | `side_by_side`: work on several files in threads |
@@ -30,24 +34,29 @@
 #![tactic(auto)]
 
 mod editing;
+mod folders;
 mod held;
 mod in_threads;
+mod leftovers;
 mod lists;
 mod names;
 mod new_files;
 mod one_text;
 mod overtaken;
+mod owners;
 mod paths;
 mod reading;
 mod reasons;
 mod relative;
 mod repeats;
 mod synced;
+mod taking_places;
 mod texts;
 mod trees;
 
 pub use editing::{EditedFile, edit_one, edit_some, edit_with_text};
 pub use in_threads::{Place, side_by_side};
+pub use leftovers::remove_leftovers;
 pub use lists::{ListFault, paths_in};
 pub use new_files::Writing;
 pub use one_text::OneText;
