@@ -63,11 +63,7 @@ fn remove_named<R: Files<File = File>>(
 }
 
 /// Removes what is left in a folder. One that can't be read stays as it is.
-fn remove_in<R: Files<File = File>>(
-    rt: &R,
-    alloc: Global,
-    folder: &str,
-) -> Result<(), AllocError> {
+fn remove_in<R: Files<File = File>>(rt: &R, alloc: Global, folder: &str) -> Result<(), AllocError> {
     let path = if folder.is_empty() { "/" } else { folder };
     let Ok(mut dir) = rt.open_dir(path) else {
         return Ok(());

@@ -64,9 +64,5 @@ pub(crate) fn give_owner(file: &File, old: &Metadata) -> io::Result<u32> {
         let _refused = fchown(file, None, Some(group));
     }
     let new = file.metadata()?;
-    Ok(kept_mode(
-        old.mode(),
-        new.uid() == owner,
-        new.gid() == group,
-    ))
+    Ok(kept_mode(old.mode(), new.uid() == owner, new.gid() == group))
 }

@@ -19,7 +19,9 @@ impl fmt::Display for Reason {
                 f.write_str("changed by another program each time that it was edited")
             }
             FileFault::Unwritten(kind) if is_of_lost(*kind) => {
-                f.write_str("changed by another program as it was replaced, and that change is lost")
+                f.write_str(
+                    "changed by another program as it was replaced, and that change is lost",
+                )
             }
             fault => write!(f, "{fault}"),
         }

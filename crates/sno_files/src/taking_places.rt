@@ -16,7 +16,13 @@ fn link_path(alloc: Global, new: &NewFile) -> io::Result<String> {
 
 /// Keeps the old file under its path with the suffix, in place of what was there. It keeps its own path too, so that there is
 /// a file at each moment.
-fn keep_old<R: Files>(rt: &R, alloc: Global, new: &NewFile, target: &str, suffix: &str) -> io::Result<()> {
+fn keep_old<R: Files>(
+    rt: &R,
+    alloc: Global,
+    new: &NewFile,
+    target: &str,
+    suffix: &str,
+) -> io::Result<()> {
     let link = link_path(alloc, new)?;
     let kept = format!(in alloc; "{target}{suffix}")?;
     rt.hard_link(target, link.as_str())?;
