@@ -3,3 +3,4 @@ pub mod InThreads
 pub mod Editing
 pub mod Lists
 pub mod Texts
+pub mod Owners

@@ -1,4 +1,6 @@
 //! Whose a new file is, and who may read and write it.
+ghost use Rattle.std.specs.Prelude.{◌≡◌};
+ghost use Rattle.sno_files.specs.Owners as owners;
 
 use std::fs::{File, Metadata};
 use std::io;
@@ -7,47 +9,47 @@ use std::os::unix::fs::{MetadataExt, fchown};
 /// All permissions of a file.
 const ALL: u32 = 0o7777;
 
-/// The permission to run a file as its owner.
-const AS_OWNER: u32 = 0o4000;
+/// All but that to run it as its owner.
+const NOT_AS_OWNER: u32 = 0o3777;
 
-/// The permission to run a file as its group.
-const AS_GROUP: u32 = 0o2000;
+/// Those of the owner, and that no one may remove it from a folder of all: not that to run it as its group.
+const OWN: u32 = 0o5700;
 
-/// The permissions of the group and of others.
-const SHARED: u32 = 0o077;
+/// The permissions of the group and of others to read, to write and to run a file.
+const READ: u32 = 0o044;
 
-/// What the group may do.
-const GROUP: u32 = 0o070;
+const WRITE: u32 = 0o022;
 
-/// What others may do.
-const OTHERS: u32 = 0o007;
+const RUN: u32 = 0o011;
 
-/// How far the permissions of the group are from those of others.
-const GROUP_PLACE: u32 = 3;
-
-/// The permissions without those to run the file as an owner that it doesn't have.
-fn for_owner(mode: u32, has_owner: bool) -> u32 {
-    if has_owner { mode } else { mode & !AS_OWNER }
+/// What the group and others may do, if both may; otherwise neither may.
+fn of_both(mode: u32, both: u32) -> u32
+    ensures { result ≡ owners.of_both mode both }
+{
+    if mode & both == both { both } else { 0 }
 }
 
-/// What both the group and others may do, for each of them.
-fn of_both(mode: u32) -> u32 {
-    let both = (mode & GROUP) >> GROUP_PLACE & mode & OTHERS;
-    both << GROUP_PLACE | both
-}
-
-/// The permissions without those of a group that the file doesn't have.
-fn for_group(mode: u32, has_group: bool) -> u32 {
-    if has_group {
-        return mode;
+/// The permissions without that to run the file as an owner that it doesn't have.
+fn for_owner(mode: u32, has_owner: bool) -> u32
+    ensures { result ≡ owners.for_owner mode has_owner }
+{
+    if has_owner {
+        mode & ALL
+    } else {
+        mode & NOT_AS_OWNER
     }
-    let own = mode & !(AS_GROUP | SHARED);
-    own | of_both(mode)
 }
 
-/// The permissions of a new file, from those of the old one.
-pub(crate) fn kept_mode(mode: u32, has_owner: bool, has_group: bool) -> u32 {
-    for_group(for_owner(mode & ALL, has_owner), has_group)
+/// The permissions of a new file that has the owner and the group of the old one, or doesn't, from those of the old one.
+pub(crate) fn kept_mode(mode: u32, has_owner: bool, has_group: bool) -> u32
+    ensures { result ≡ owners.kept_mode mode has_owner has_group }
+{
+    let own = for_owner(mode, has_owner);
+    if has_group {
+        return own;
+    }
+    let shared = of_both(mode, READ) | (of_both(mode, WRITE) | of_both(mode, RUN));
+    own & OWN | shared
 }
 
 /// Gives a new file the owner and the group of the old one; if both are not allowed, the group alone. Returns the permissions that it

@@ -62,7 +62,8 @@ fn put_back<R: Files>(rt: &R, target: &str, link: Option<&str>) -> ErrorKind {
     }
 }
 
-/// Puts the new file in the place of the one that is held, whose second path is this.
+/// Puts the new file in place of the one that is held, whose second path is this. If another program wrote to that just before, it is
+/// put back.
 fn exchange<R: Files>(
     rt: &R,
     held: &HeldFile<'_>,
