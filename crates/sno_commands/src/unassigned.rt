@@ -56,7 +56,9 @@ fn assigned_by(alloc: Global, search: &Statement) -> Result<Vec<Name>, AllocErro
             break;
         };
         looked = looked | bit(number);
-        assigned.add(&bodies[number])?;
+        if let Some(body) = bodies.get(number) {
+            assigned.add(body)?;
+        }
     }
     Ok(assigned.variables)
 }

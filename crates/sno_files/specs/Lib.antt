@@ -4,3 +4,4 @@ pub mod Editing
 pub mod Lists
 pub mod Texts
 pub mod Owners
+pub mod Leftovers

@@ -1,7 +1,12 @@
 //! New files that runs left which were killed.
 
+ghost use Rattle.std.specs.Prelude.{◌≡◌, ◌⊎◌, ◌++◌, true};
+ghost use Rattle.sno_files.specs.Leftovers.{is_of_number, IsOfRun};
+ghost use Rattle.sno_files.specs.declared.leftovers.TheConstants.{OLD};
+ghost use Rattle.std.specs.List.{list_all};
+
 use crate::folders::folder_of;
-use crate::new_files::{PREFIX, discard, leads_to};
+use crate::new_files::{discard, leads_to};
 use std::alloc::{AllocError, Global};
 use std::fs::{File, OpenOptions};
 use std::io;
@@ -11,21 +16,46 @@ use std::rt::Files;
 /// How many bytes of names are read at once. No name has as many.
 const PIECE: usize = 4_096;
 
+/// With what the name of a new file begins.
+const START: &[u8] = b".sno-edit-";
+
 /// With what the name of an old file ends that is to be put back.
 const OLD: &[u8] = b"-old";
 
 /// Whether the character is one of those after the first ones of a new file's name.
-fn is_of_number(character: &u8) -> bool {
+fn is_of_number(character: &u8) -> bool
+    ensures { result ≡ is_of_number character.now }
+{
     matches!(*character, b'0'..=b'9' | b'a'..=b'f' | b'-')
 }
 
+/// Whether these are all characters of a new file's number.
+fn are_of_number(characters: &[u8]) -> bool
+    ensures { result ≡ list_all is_of_number characters.now }
+{
+    characters.iter().all(|character| is_of_number(character))
+}
+
+/// What comes before the end of the name of an old file that is to be put back; all, if the name has no such end.
+#[tactic(auto, using(crate::proofs::NameLemmas::end_kept))]
+fn before_old(name: &[u8]) -> &[u8]
+    ensures { (name.now ≡ result.now) ⊎ (name.now ≡ result.now ++ OLD.now) }
+{
+    match name.strip_suffix(OLD) {
+        Some(before) => before,
+        None => name,
+    }
+}
+
 /// Whether a file with this name is a new file of a run, or an old one that such a run would put back.
-fn is_of_run(name: &[u8]) -> bool {
-    let Some(rest) = name.strip_prefix(PREFIX.as_bytes()) else {
+fn is_of_run(name: &[u8]) -> bool
+    ensures { result ≡ true → IsOfRun name.now }
+{
+    let Some(rest) = name.strip_prefix(START) else {
         return false;
     };
-    let number = rest.strip_suffix(OLD).unwrap_or(rest);
-    !number.is_empty() && number.iter().all(|character| is_of_number(character))
+    let number = before_old(rest);
+    !number.is_empty() && are_of_number(number)
 }
 
 /// Removes a regular file, if it is one that nobody has locked. On a file system without locks nothing is known of it, and it stays.

@@ -15,8 +15,8 @@ use std::rt::Files;
 /// How many names are tried for a new file.
 const NAMES: u32 = 1_000;
 
-/// With what the name of each new file begins.
-pub(crate) const PREFIX: &str = ".sno-edit-";
+/// With what the name of each new file begins, as `leftovers` has it too.
+const PREFIX: &str = ".sno-edit-";
 
 /// The permissions of a new file until it has its owner: nobody else may read it.
 const UNFINISHED: u32 = 0o600;
