@@ -51,6 +51,14 @@ impl HeldFile<'_> {
         }
     }
 
+    /// Whether this path leads to it, and not through a symbolic link.
+    pub(crate) fn is_at<R: Files>(&self, rt: &R, path: &str) -> bool {
+        match rt.symlink_metadata(path) {
+            Ok(named) => is_same_file(&named, &self.old),
+            Err(_) => false,
+        }
+    }
+
     /// Whether it has the length and the time of its text that it had before it was read, wherever its paths lead.
     pub(crate) fn has_its_text(&self) -> bool {
         match self.file.metadata() {

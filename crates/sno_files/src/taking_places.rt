@@ -1,7 +1,7 @@
 //! How new files take the places of old ones.
 
 use crate::held::HeldFile;
-use crate::new_files::{NewFile, discard, is_same_file};
+use crate::new_files::{NewFile, discard};
 use crate::overtaken::{LOST, OVERTAKEN};
 use std::alloc::Global;
 use std::io;
@@ -44,12 +44,15 @@ fn second_path<R: Files>(
     if rt.hard_link(held.target.as_str(), link.as_str()).is_err() {
         return Ok(None);
     }
-    match rt.symlink_metadata(link.as_str()) {
-        Ok(linked) if is_same_file(&linked, &held.old) => Ok(Some(link)),
-        _ => {
-            discard(rt, link.as_str());
-            Err(io::Error::from(OVERTAKEN))
-        }
+    if held.is_at(rt, link.as_str()) {
+        return Ok(Some(link));
+    }
+    discard(rt, link.as_str());
+    // Some file systems give each name of a file another number.
+    if held.is_at(rt, held.target.as_str()) {
+        Ok(None)
+    } else {
+        Err(io::Error::from(OVERTAKEN))
     }
 }
 
