@@ -21,10 +21,13 @@ use crate::shared_edits::{Seen, edit_shared, see_shared};
 use crate::shared_files::SHARE;
 use crate::streams::{read_up_to, write_all};
 use crate::thread_options::thread_count;
+use crate::unassigned::{Unassigned, unassigned_in};
 use sno_check::{Warning, member_warnings};
 use sno_document::{DocumentFault, MAX_DOCUMENT};
 use sno_edit::{Done, EditRules, FileFault, Plan, Purpose, Tally, plan_file};
-use sno_files::{Listed, Paths, Place, ReadOnly, Writing, edit_some, path_from_here};
+use sno_files::{
+    Listed, Paths, Place, ReadOnly, Writing, edit_some, path_from_here, remove_leftovers,
+};
 use std::alloc::{AllocError, Global};
 use std::fs;
 use std::fs::File;
@@ -311,6 +314,16 @@ fn warn_of_members<E: Write>(
     Ok(())
 }
 
+/// The rules, unless the object of one has a variable that its pattern doesn't assign.
+fn with_assigned(alloc: Global, rules: EditRules) -> Result<EditRules, NoRules> {
+    match unassigned_in(alloc, &rules)? {
+        None => Ok(rules),
+        Some(Unassigned { number, message }) => Err(NoRules::Refused(format!(in alloc;
+            "statement {number}: {message}\n"
+        )?)),
+    }
+}
+
 /// The rules of a file.
 fn rules_of_file<R: Files, I: Read, E: Write>(
     rt: &R,
@@ -325,7 +338,7 @@ fn rules_of_file<R: Files, I: Read, E: Write>(
         Ok(read) => {
             let called = name_of(rules);
             warn_of_members(alloc, called, &bytes, errors)?;
-            Ok(read)
+            with_assigned(alloc, read)
         }
         Err(DocumentFault::Memory) => Err(NoRules::Fault(ProgramFault::Memory)),
         Err(fault) => Err(NoRules::Refused(format!(in alloc; "{fault}\n")?)),
@@ -393,6 +406,7 @@ fn edit<R: Files<File = File, Dir: Send> + Threads + Sync, W: Write, E: Write>(
         sync: options.sync,
         backup: options.backup,
     };
+    remove_leftovers(editor.rt, editor.alloc, paths)?;
     let tally = if options.json {
         edit_with_rows(editor, paths, writing, output, errors)?
     } else {
@@ -428,9 +442,10 @@ fn without_rules<E: Write>(refused: NoRules, errors: &mut E) -> Result<u8, Progr
 /// - otherwise 1 if a statement was refused on a file, or stopped at the most rounds and matches once more, or if there was no
 ///   match in any, or, if files are only checked, if one would change;
 /// - otherwise 0;
-/// - 2 if the rules are invalid. Then `errors` has their first fault, and no file was touched.
+/// - 2 if the rules are invalid, or the object of one has a variable that no part of its pattern assigns. Then `errors` has their
+///   first fault, and no file was touched.
 ///
-/// A file that several paths lead to is edited once, under the first of them. Without files the text of `input` is edited, and
+/// New files that killed runs left in the folders of the files are removed. A file that several paths lead to is edited once, under the first of them. Without files the text of `input` is edited, and
 /// written to `output`.
 ///
 /// Refused with `Memory` or `Write`.

@@ -23,6 +23,7 @@
 //! | `shared_finds`, `shared_edits` | `sno find` and `sno edit` by several threads |
 //! | `contexts` | the lines around those on which matches start |
 //! | `first_matches`, `variables` | whether rules match at all; the variables of rules |
+//! | `unassigned` | variables of objects that no part of a rule's pattern assigns |
 //! | `rounds_left` | repeated rules that stop at the most rounds that a rule may have |
 //! | `rule_options` | the options that give rules in lines, and say how they are performed |
 //! | `rule_lines` | rules in lines, which `sno_lines` spells, as statements |
@@ -89,6 +90,7 @@ mod thread_options;
 mod trace_command;
 mod trace_modes;
 mod traces;
+mod unassigned;
 mod variables;
 
 pub use program::{System, run};

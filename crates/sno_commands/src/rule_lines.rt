@@ -3,10 +3,12 @@ ghost use Rattle.sno_statement.specs.Statement.{IsLimit};
 
 pub(crate) use crate::given_lines::RuleLines;
 use crate::given_lines::{NoRules, no_rules, read_lines, rule_files};
+use crate::unassigned::{Unassigned, unassigned_in};
 use sno_document::{DocumentFault, FileRules, Mode, rules_of_rows};
 use sno_edit::{EditRules, Trials};
 use sno_lines::{
-    GivenLines, PatternRows, RuleRows, SpelledLines, lines_of_mistake, mistake_of_fault, rows_of,
+    GivenLines, LineMistake, PatternRows, RuleRows, Source, SpelledLines, lines_of_mistake,
+    mistake_of_fault, rows_of,
 };
 use std::alloc::{AllocError, Global};
 use std::rt::Files;
@@ -36,6 +38,28 @@ fn whole_rows<'s>(
     }
 }
 
+/// Refuses rules if the object of one has a variable that its pattern doesn't assign.
+fn refuse_unassigned(
+    alloc: Global,
+    lines: &SpelledLines<'_>,
+    rules: &EditRules,
+) -> Result<(), NoRules> {
+    let Some(Unassigned { number, message }) = unassigned_in(alloc, rules)? else {
+        return Ok(());
+    };
+    let source = match lines.rules.get(number.saturating_sub(1)) {
+        Some(rule) => rule.line.source,
+        None => Source::Option,
+    };
+    let mistake = LineMistake {
+        source,
+        fault: format!(in alloc; "statement {number}: {message}")?,
+        excerpt: None,
+        advice: String::new(alloc),
+    };
+    Err(NoRules::Refused(lines_of_mistake(alloc, &mistake)?))
+}
+
 fn rules_of_spelled(
     alloc: Global,
     lines: &SpelledLines<'_>,
@@ -44,7 +68,10 @@ fn rules_of_spelled(
 ) -> Result<EditRules, NoRules> {
     let (definitions, rules) = whole_rows(alloc, lines)?;
     match EditRules::of_rows(alloc, definitions, rules, anchor, trials) {
-        Ok(rules) => Ok(rules),
+        Ok(rules) => {
+            refuse_unassigned(alloc, lines, &rules)?;
+            Ok(rules)
+        }
         Err(fault) => Err(refused(alloc, lines, fault)),
     }
 }
@@ -84,7 +111,8 @@ fn file_rules_of_given(
     file_rules_of_spelled(alloc, &spelled, mode)
 }
 
-/// The rules that are given in lines, by options and in files.
+/// The rules that are given in lines, by options and in files. Refused also if the object of one has a variable that no part of its
+/// pattern assigns.
 pub(crate) fn rules_of_lines<R: Files + AllocGlobal>(
     rt: &R,
     alloc: Global,

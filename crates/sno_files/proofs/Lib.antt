@@ -2,3 +2,4 @@ pub mod FolderLemmas
 mod ListLemmas
 pub mod EndLemmas
 mod PlaceLemmas
+pub mod NameLemmas

@@ -1,10 +1,11 @@
 //! Files that are held while they are edited.
 ghost use Rattle.std.specs.Prelude.{◌≡◌, ◌≤◌, ◌<◌, ◌+◌, length, vec_len, vec_capacity, is_some, true, IfOk, OnOk};
 
-use crate::new_files::{Writing, put_in_place, stage, write_fault};
+use crate::new_files::{Writing, is_same_file, stage, write_fault};
 use crate::overtaken::OVERTAKEN;
 use crate::reading::{bytes_of, not_too_long, open_regular, read_fault};
 use crate::synced::{replace_synced, replace_together};
+use crate::taking_places::put_in_place;
 use sno_edit::{Folder, NewText, ReadFault, WriteFault};
 use std::alloc::{AllocError, Global};
 use std::fs::{File, Metadata, TryLockError};
@@ -28,26 +29,41 @@ pub(crate) struct HeldFile<'p> {
     pub(crate) old: Metadata,
 }
 
-/// Whether both are of one file.
-fn is_same_file(a: &Metadata, b: &Metadata) -> bool {
-    a.dev() == b.dev() && a.ino() == b.ino()
-}
-
-/// Whether both are of one file that did not change between them.
+/// Whether both are of one file that was not written between them. Its names and permissions may have changed.
 fn is_same_text(a: &Metadata, b: &Metadata) -> bool {
     is_same_file(a, b)
         && a.len() == b.len()
         && (a.mtime(), a.mtime_nsec()) == (b.mtime(), b.mtime_nsec())
-        && (a.ctime(), a.ctime_nsec()) == (b.ctime(), b.ctime_nsec())
+}
+
+/// Whether both are of one file that did not change between them.
+fn is_unchanged_between(a: &Metadata, b: &Metadata) -> bool {
+    is_same_text(a, b) && (a.ctime(), a.ctime_nsec()) == (b.ctime(), b.ctime_nsec())
 }
 
 impl HeldFile<'_> {
     /// Whether its paths still lead to it, and it has the length and the times that it had before it was read.
     pub(crate) fn is_unchanged<R: Files>(&self, rt: &R) -> bool {
         match (rt.metadata(self.path), rt.metadata(self.target.as_str())) {
-            (Ok(named), Ok(own)) => is_same_text(&named, &self.old)
-                && is_same_text(&own, &self.old),
+            (Ok(named), Ok(own)) => is_unchanged_between(&named, &self.old)
+                && is_unchanged_between(&own, &self.old),
             _ => false,
+        }
+    }
+
+    /// Whether this path leads to it, and not through a symbolic link.
+    pub(crate) fn is_at<R: Files>(&self, rt: &R, path: &str) -> bool {
+        match rt.symlink_metadata(path) {
+            Ok(named) => is_same_file(&named, &self.old),
+            Err(_) => false,
+        }
+    }
+
+    /// Whether it has the length and the time of its text that it had before it was read, wherever its paths lead.
+    pub(crate) fn has_its_text(&self) -> bool {
+        match self.file.metadata() {
+            Ok(now) => is_same_text(&now, &self.old),
+            Err(_) => false,
         }
     }
 }

@@ -4,10 +4,14 @@
 //!
 //! - A file that is edited is held: opened and locked, by `flock`, from before it is read until its new text has its place. So
 //!   two runs on one file edit it one after the other. On a file system without locks only the next item remains.
-//! - Before a new text takes its place, the path has to lead to the same file as before, of the same length and times. If
-//!   another program changed it meanwhile, the file is edited anew.
+//! - Before a new text takes its place, the path has to lead to the same file as before, of the same length and times. After it the old
+//!   file has to have the length and the time that it had. If another program changed it meanwhile, it is put back and edited anew.
 //! - A new text is written to a new file beside the old one, and takes its place by being renamed. So each file is whole at any
 //!   moment. Through a symbolic link its target is replaced.
+//! - A new file has a name that can't be foretold, and is made for its owner alone. It gets its owner and its permissions by its
+//!   descriptor, and nobody may do more with it than with the old one. It is closed before it takes its place, so that each error of its
+//!   bytes is seen. It is locked as long as the run goes on, and the next run removes those that nobody has locked.
+//! - With `sync` the bytes of a new file are on the disk before it takes its place, and its name before the file is reported as edited.
 //!
 //! | File | What it does |
 //! |---|---|
@@ -21,8 +25,12 @@
 //! | `one_text` | `OneText`: a text that is in no file |
 //! | `relative` | paths of files from the current folder |
 //! | `held` | `HeldFiles`: files that are held while they are edited |
-//! | `new_files` | new files, and how they take their places |
+//! | `new_files` | new files |
+//! | `owners` | whose a new file is, and who may read and write it |
+//! | `taking_places` | how new files take the places of old ones |
+//! | `leftovers` | `remove_leftovers`: new files that killed runs left |
 //! | `synced` | new files that have to be on the disk |
+//! | `folders` | the folders of files |
 //! | `overtaken` | files that are to be edited anew |
 //! | `editing` | `edit_one`, `edit_with_text`, `edit_some`: files edited by rules |
 //! | `in_threads` | `side_by_side`: work on several files in threads |
@@ -30,24 +38,29 @@
 #![tactic(auto)]
 
 mod editing;
+mod folders;
 mod held;
 mod in_threads;
+mod leftovers;
 mod lists;
 mod names;
 mod new_files;
 mod one_text;
 mod overtaken;
+mod owners;
 mod paths;
 mod reading;
 mod reasons;
 mod relative;
 mod repeats;
 mod synced;
+mod taking_places;
 mod texts;
 mod trees;
 
 pub use editing::{EditedFile, edit_one, edit_some, edit_with_text};
 pub use in_threads::{Place, side_by_side};
+pub use leftovers::remove_leftovers;
 pub use lists::{ListFault, paths_in};
 pub use new_files::Writing;
 pub use one_text::OneText;

@@ -1,17 +1,25 @@
-//! New files, and how they take the places of old ones.
+//! New files: how they are made, and what they get of the old ones.
 
+use crate::folders::folder_of;
 use crate::held::HeldFile;
-use crate::overtaken::OVERTAKEN;
+use crate::owners::give_owner;
 use sno_edit::WriteFault;
 use std::alloc::Global;
-use std::fs::{File, Metadata, OpenFile, OpenOptions};
+use std::fs::{File, Metadata, OpenOptions};
 use std::io;
 use std::io::{ErrorKind, Write};
-use std::os::unix::fs::MetadataExt;
+use std::os::fd::IntoRawFd;
+use std::os::unix::fs::{MetadataExt, OpenOptionsExt, PermissionsExt};
 use std::rt::Files;
 
 /// How many names are tried for a new file.
 const NAMES: u32 = 1_000;
+
+/// With what the name of each new file begins, as `leftovers` has it too.
+const PREFIX: &str = ".sno-edit-";
+
+/// The permissions of a new file until it has its owner: nobody else may read it.
+const UNFINISHED: u32 = 0o600;
 
 /// How new texts are written.
 #[derive(Clone, Copy, Debug, PartialEq, Eq)]
@@ -22,26 +30,55 @@ pub struct Writing<'o> {
     pub backup: Option<&'o str>,
 }
 
-/// A new file that is to take a place.
+/// A new file that is to take a place. It is open, and locked unless its file system has no locks: one that nobody has locked was
+/// left by a run that was killed.
 #[derive(Drop)]
 pub(crate) struct NewFile {
     pub(crate) path: String,
+    file: File,
 }
 
-/// The folder of this file.
-fn folder_of(target: &str) -> &str {
-    match target.rsplit_once('/') {
-        Some((folder, _)) => folder,
-        None => ".",
+impl NewFile {
+    /// Whether its path still leads to it, and not to what another program has put there.
+    pub(crate) fn is_there<R: Files>(&self, rt: &R) -> bool {
+        leads_to(rt, self.path.as_str(), &self.file)
+    }
+
+    /// Waits until its bytes are on the disk.
+    pub(crate) fn sync(&self) -> io::Result<()> {
+        self.file.sync_all()
     }
 }
 
-/// Makes a file with this name; `None` if there is one.
-fn create<R: Files<File = File>>(rt: &R, name: &str) -> io::Result<Option<File>> {
+/// Whether both are of one file.
+pub(crate) fn is_same_file(a: &Metadata, b: &Metadata) -> bool {
+    a.dev() == b.dev() && a.ino() == b.ino()
+}
+
+/// Whether the path leads to this open file, and not through a symbolic link.
+pub(crate) fn leads_to<R: Files>(rt: &R, path: &str, file: &File) -> bool {
+    match (rt.symlink_metadata(path), file.metadata()) {
+        (Ok(named), Ok(own)) => is_same_file(&named, &own),
+        _ => false,
+    }
+}
+
+/// A number that can't be foretold.
+fn random_number() -> io::Result<u64> {
+    let mut bytes = [0u8; 8];
+    if libc::getentropy(&mut bytes) != 0 {
+        return Err(io::Error::from_raw_os_error(os::errno()));
+    }
+    Ok(u64::from_le_bytes(bytes))
+}
+
+/// Makes a file with this path, which nobody else may read; `None` if there is one.
+fn create<R: Files<File = File>>(rt: &R, path: &str) -> io::Result<Option<File>> {
     match OpenOptions::new()
         .write(true)
         .create_new(true)
-        .open(rt, name)
+        .mode(UNFINISHED)
+        .open(rt, path)
     {
         Ok(file) => Ok(Some(file)),
         Err(e) => match e.kind() {
@@ -51,51 +88,48 @@ fn create<R: Files<File = File>>(rt: &R, name: &str) -> io::Result<Option<File>>
     }
 }
 
-/// A new file with this number in the folder, and its path; `None` if the number is taken.
-fn numbered<R: Files<File = File>>(
-    rt: &R,
-    alloc: Global,
-    folder: &str,
-    old: u64,
-    number: u32,
-) -> io::Result<Option<(File, String)>> {
-    let name = format!(in alloc; "{folder}/.sno-edit-{old}-{number}")?;
-    let made = create(rt, name.as_str())?;
-    match made {
-        Some(file) => Ok(Some((file, name))),
-        None => Ok(None),
+/// A new file in the folder; `None` if its name is taken, or another run removed it before it was locked.
+fn made<R: Files<File = File>>(rt: &R, alloc: Global, folder: &str) -> io::Result<Option<NewFile>> {
+    let number = random_number()?;
+    let path = format!(in alloc; "{folder}/{PREFIX}{number:016x}")?;
+    let Some(file) = create(rt, path.as_str())? else {
+        return Ok(None);
+    };
+    let _without_locks = file.lock();
+    let new = NewFile { path, file };
+    if new.is_there(rt) {
+        Ok(Some(new))
+    } else {
+        Ok(None)
     }
 }
 
-/// A new file in the folder of this file, and its path. Its name has the number of the file, so that those of several
-/// files are different.
-fn new_file<R: Files<File = File>>(
-    rt: &R,
-    alloc: Global,
-    target: &str,
-    old: u64,
-) -> io::Result<(File, String)> {
-    let folder = folder_of(target);
-    for number in 0..NAMES {
-        let made = numbered(rt, alloc, folder, old, number)?;
-        if let Some(file) = made {
-            return Ok(file);
+/// A new file in the folder.
+fn new_file<R: Files<File = File>>(rt: &R, alloc: Global, folder: &str) -> io::Result<NewFile> {
+    for _ in 0..NAMES {
+        if let Some(new) = made(rt, alloc, folder)? {
+            return Ok(new);
         }
     }
     Err(io::Error::from(ErrorKind::AlreadyExists))
 }
 
-/// Gives a new file the owner, if that is allowed, and the permissions of the old one, then the bytes.
-fn fill<R: Files>(
-    rt: &R,
-    file: &mut File,
-    name: &str,
-    old: &Metadata,
-    bytes: &[u8],
-) -> io::Result<()> {
-    let _refused = rt.chown(name, Some(old.uid()), Some(old.gid()));
-    file.set_permissions(old.permissions())?;
-    file.write_all(bytes)
+/// Closes another handle of an open file. An error of bytes that are only now written, as past a quota on a server, comes here.
+fn close_once(file: &File) -> io::Result<()> {
+    let handle = file.try_clone()?.into_raw_fd();
+    if libc::close(handle) < 0 {
+        return Err(io::Error::from_raw_os_error(os::errno()));
+    }
+    Ok(())
+}
+
+/// Gives a new file the owner of the old one, the bytes, and then the permissions: a change of the owner and a write take some away.
+fn fill(file: &File, old: &Metadata, bytes: &[u8]) -> io::Result<()> {
+    let mode = give_owner(file, old)?;
+    let mut writer = file;
+    writer.write_all(bytes)?;
+    file.set_permissions(PermissionsExt::from_mode(mode))?;
+    close_once(file)
 }
 
 /// Removes a new file that is not to take a place.
@@ -103,76 +137,21 @@ pub(crate) fn discard<R: Files>(rt: &R, path: &str) {
     let _left = rt.remove_file(path);
 }
 
-/// Makes a new file with these bytes beside the one that is held.
+/// Makes a new file with these bytes beside the one that is held. If that fails, no new file is left.
 pub(crate) fn stage<R: Files<File = File>>(
     rt: &R,
     alloc: Global,
     held: &HeldFile<'_>,
     bytes: &[u8],
 ) -> io::Result<NewFile> {
-    let old = &held.old;
-    let (mut file, path) = new_file(rt, alloc, held.target.as_str(), old.ino())?;
-    let filled = fill(rt, &mut file, path.as_str(), old, bytes);
-    drop(file);
-    match filled {
-        Ok(()) => Ok(NewFile { path }),
+    let new = new_file(rt, alloc, folder_of(held.target.as_str()))?;
+    match fill(&new.file, &held.old, bytes) {
+        Ok(()) => Ok(new),
         Err(e) => {
-            discard(rt, path.as_str());
+            discard(rt, new.path.as_str());
             Err(e)
         }
     }
-}
-
-/// Keeps the old file under its path with the suffix, in place of what was there. It keeps its own path too, so that there is
-/// a file at each moment.
-fn keep_old<R: Files>(
-    rt: &R,
-    alloc: Global,
-    new: &NewFile,
-    target: &str,
-    suffix: &str,
-) -> io::Result<()> {
-    let path = new.path.as_str();
-    let link = format!(in alloc; "{path}-old")?;
-    let kept = format!(in alloc; "{target}{suffix}")?;
-    rt.hard_link(target, link.as_str())?;
-    let renamed = rt.rename(link.as_str(), kept.as_str());
-    // It is still there if nothing was renamed, since the file had both names before.
-    discard(rt, link.as_str());
-    renamed
-}
-
-/// Puts a new file in place of the one that is held, unless another program has changed that.
-fn take_place<R: Files>(
-    rt: &R,
-    alloc: Global,
-    backup: Option<&str>,
-    held: &HeldFile<'_>,
-    new: &NewFile,
-) -> io::Result<()> {
-    if !held.is_unchanged(rt) {
-        return Err(io::Error::from(OVERTAKEN));
-    }
-    let target = held.target.as_str();
-    if let Some(suffix) = backup {
-        keep_old(rt, alloc, new, target, suffix)?;
-    }
-    rt.rename(new.path.as_str(), target)
-}
-
-/// Puts a new file in place of the one that is held. If that fails, it is removed.
-pub(crate) fn put_in_place<R: Files>(
-    rt: &R,
-    alloc: Global,
-    backup: Option<&str>,
-    held: &HeldFile<'_>,
-    new: &NewFile,
-) -> io::Result<()> {
-    let placed = take_place(rt, alloc, backup, held, new);
-    if placed.is_err() {
-        discard(rt, new.path.as_str());
-    }
-    placed
 }
 
 /// Why a file is not written.

@@ -6,6 +6,25 @@ use std::io::ErrorKind;
 /// What an edit fails with if another program changed the file meanwhile. A file that is gone on a server fails with it too.
 pub(crate) const OVERTAKEN: ErrorKind = ErrorKind::StaleNetworkFileHandle;
 
+/// What an edit fails with if another program wrote to the file just before the new text took its place, and the file can't be put back.
+/// No call on a file fails with it.
+pub(crate) const LOST: ErrorKind = ErrorKind::Deadlock;
+
+/// Whether this is [`LOST`].
+pub(crate) fn is_of_lost(kind: ErrorKind) -> bool {
+    matches!(kind, ErrorKind::Deadlock)
+}
+
+/// The fault of a file that has its new text. A file with such a fault is not edited anew.
+pub(crate) fn of_edited(kind: ErrorKind) -> ErrorKind {
+    match kind {
+        ErrorKind::StaleNetworkFileHandle | ErrorKind::StorageFull | ErrorKind::OutOfMemory => {
+            ErrorKind::Other
+        }
+        kind => kind,
+    }
+}
+
 /// Whether this is [`OVERTAKEN`].
 pub(crate) fn is_of_overtaken(kind: ErrorKind) -> bool {
     matches!(kind, ErrorKind::StaleNetworkFileHandle)

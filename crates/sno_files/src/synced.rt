@@ -1,22 +1,19 @@
 //! New files that have to be on the disk before they take a place, so that files are whole after a crash of the machine too.
 ghost use Rattle.std.specs.Prelude.{◌≡◌, ◌≤◌, ◌<◌, ◌+◌, length, vec_len, vec_capacity, OnOk};
 
+use crate::folders::{SyncedFolders, folder_of};
 use crate::held::{HeldFile, HeldFiles};
-use crate::new_files::{NewFile, discard, put_in_place, stage, write_fault};
+use crate::new_files::{NewFile, discard, stage, write_fault};
+use crate::overtaken::of_edited;
+use crate::taking_places::put_in_place;
 use sno_edit::{NewText, WriteFault};
 use std::alloc::{AllocError, Global};
-use std::fs::{File, OpenOptions};
+use std::fs::File;
 use std::io;
 use std::rt::Files;
 
-/// Waits until the bytes of a new file are on the disk.
-fn sync<R: Files<File = File>>(rt: &R, file: &NewFile) -> io::Result<()> {
-    let file = OpenOptions::new().read(true).open(rt, file.path.as_str())?;
-    file.sync_all()
-}
-
-/// Puts a new file with these bytes in place of the one that is held, once it is on the disk.
-pub(crate) fn replace_synced<R: Files<File = File>>(
+/// Puts a new file with these bytes in place of the one that is held, once they are on the disk. Its name may not be there yet.
+fn replace_on_disk<R: Files<File = File>>(
     rt: &R,
     alloc: Global,
     backup: Option<&str>,
@@ -24,13 +21,39 @@ pub(crate) fn replace_synced<R: Files<File = File>>(
     bytes: &[u8],
 ) -> io::Result<()> {
     let file = stage(rt, alloc, held, bytes)?;
-    match sync(rt, &file) {
+    match file.sync() {
         Ok(()) => put_in_place(rt, alloc, backup, held, &file),
         Err(e) => {
             discard(rt, file.path.as_str());
             Err(e)
         }
     }
+}
+
+/// Waits until the new name of a file that was replaced is on the disk.
+fn sync_name<R: Files<File = File>>(
+    rt: &R,
+    alloc: Global,
+    folders: &mut SyncedFolders,
+    held: &HeldFile<'_>,
+) -> io::Result<()> {
+    match folders.sync(rt, alloc, folder_of(held.target.as_str())) {
+        Ok(()) => Ok(()),
+        Err(e) => Err(io::Error::from(of_edited(e.kind()))),
+    }
+}
+
+/// Puts a new file with these bytes in place of the one that is held, once they are on the disk, and waits for its name. If that wait
+/// fails, it has its place.
+pub(crate) fn replace_synced<R: Files<File = File>>(
+    rt: &R,
+    alloc: Global,
+    backup: Option<&str>,
+    held: &HeldFile<'_>,
+    bytes: &[u8],
+) -> io::Result<()> {
+    replace_on_disk(rt, alloc, backup, held, bytes)?;
+    sync_name(rt, alloc, &mut SyncedFolders::none(alloc), held)
 }
 
 /// A new file for a file that is held; without one if it can't be made.
@@ -66,7 +89,7 @@ fn is_on_disk<R: Files<File = File>>(rt: &R, staged: &Option<NewFile>) -> bool {
     let Some(file) = staged else {
         return false;
     };
-    let synced = sync(rt, file).is_ok();
+    let synced = file.sync().is_ok();
     if !synced {
         discard(rt, file.path.as_str());
     }
@@ -99,7 +122,7 @@ fn finish<R: Files<File = File>>(
     let old = held.file(file.path).map_err(io::Error::from)?;
     match staged {
         Some(new) if on_disk => put_in_place(held.rt, alloc, backup, old, new),
-        _ => replace_synced(held.rt, alloc, backup, old, file.text.bytes()),
+        _ => replace_on_disk(held.rt, alloc, backup, old, file.text.bytes()),
     }
 }
 
@@ -126,8 +149,43 @@ fn finish_all<R: Files<File = File>>(
     }
 }
 
+/// Waits until the new name of a file is on the disk, if it was replaced; the result is that of both.
+fn settle<R: Files<File = File>>(
+    alloc: Global,
+    held: &HeldFiles<'_, R>,
+    folders: &mut SyncedFolders,
+    file: &NewText<'_>,
+    replaced: &Result<(), WriteFault>,
+) -> Result<(), WriteFault> {
+    let Ok(()) = *replaced else {
+        return *replaced;
+    };
+    match held.file(file.path) {
+        Ok(old) => sync_name(held.rt, alloc, folders, old).map_err(write_fault),
+        Err(kind) => Err(WriteFault::Failed(kind)),
+    }
+}
+
+/// Waits for the names of all files that were replaced, once for each folder. `results` ends with those of these files.
+fn settle_all<R: Files<File = File>>(
+    alloc: Global,
+    held: &HeldFiles<'_, R>,
+    files: &[NewText<'_>],
+    before: usize,
+    results: &mut Vec<Result<(), WriteFault>>,
+)
+    requires all { length results.now.items ≡ before + length files.now }
+    ensures len { length results.new.items ≡ length results.old.items }
+{
+    let mut folders = SyncedFolders::none(alloc);
+    for i in 0..files.len() {
+        results[before + i] = settle(alloc, held, &mut folders, &files[i], &results[before + i]);
+    }
+}
+
 /// Replaces each of the files, and adds its result. New files are written, then each is waited for, then each takes its
-/// place: a wait after all writes can serve several of them.
+/// place, and then the names in each folder are waited for: a wait after all writes can serve several of them. If that last wait
+/// fails, the files of the folder have their places, and the fault.
 ///
 /// Refused only if out of memory. Then no file is changed.
 pub(crate) fn replace_together<R: Files<File = File>>(
@@ -143,6 +201,8 @@ pub(crate) fn replace_together<R: Files<File = File>>(
     let mut on_disk = Vec::with_capacity(alloc, files.len())?;
     stage_all(alloc, held, files, &mut staged);
     sync_all(held.rt, &staged, &mut on_disk);
+    let before = results.len();
     finish_all(alloc, held, files, &staged, &on_disk, results);
+    settle_all(alloc, held, files, before, results);
     Ok(())
 }
