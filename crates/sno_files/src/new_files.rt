@@ -7,8 +7,7 @@ use sno_edit::WriteFault;
 use std::alloc::Global;
 use std::fs::{File, Metadata, OpenOptions};
 use std::io;
-use std::io::{ErrorKind, Write};
-use std::os::fd::IntoRawFd;
+use std::io::{ErrorKind, Read, Write};
 use std::os::unix::fs::{MetadataExt, OpenOptionsExt, PermissionsExt};
 use std::rt::Files;
 
@@ -17,6 +16,9 @@ const NAMES: u32 = 1_000;
 
 /// With what the name of each new file begins, as `leftovers` has it too.
 const PREFIX: &str = ".sno-edit-";
+
+/// Where numbers come from that can't be foretold.
+const RANDOM: &str = "/dev/urandom";
 
 /// The permissions of a new file until it has its owner: nobody else may read it.
 const UNFINISHED: u32 = 0o600;
@@ -64,11 +66,10 @@ pub(crate) fn leads_to<R: Files>(rt: &R, path: &str, file: &File) -> bool {
 }
 
 /// A number that can't be foretold.
-fn random_number() -> io::Result<u64> {
+fn random_number<R: Files<File = File>>(rt: &R) -> io::Result<u64> {
+    let mut source = OpenOptions::new().read(true).open(rt, RANDOM)?;
     let mut bytes = [0u8; 8];
-    if libc::getentropy(&mut bytes) != 0 {
-        return Err(io::Error::from_raw_os_error(os::errno()));
-    }
+    source.read_exact(&mut bytes)?;
     Ok(u64::from_le_bytes(bytes))
 }
 
@@ -90,7 +91,7 @@ fn create<R: Files<File = File>>(rt: &R, path: &str) -> io::Result<Option<File>>
 
 /// A new file in the folder; `None` if its name is taken, or another run removed it before it was locked.
 fn made<R: Files<File = File>>(rt: &R, alloc: Global, folder: &str) -> io::Result<Option<NewFile>> {
-    let number = random_number()?;
+    let number = random_number(rt)?;
     let path = format!(in alloc; "{folder}/{PREFIX}{number:016x}")?;
     let Some(file) = create(rt, path.as_str())? else {
         return Ok(None);
@@ -114,13 +115,13 @@ fn new_file<R: Files<File = File>>(rt: &R, alloc: Global, folder: &str) -> io::R
     Err(io::Error::from(ErrorKind::AlreadyExists))
 }
 
-/// Closes another handle of an open file. An error of bytes that are only now written, as past a quota on a server, comes here.
-fn close_once(file: &File) -> io::Result<()> {
-    let handle = file.try_clone()?.into_raw_fd();
-    if libc::close(handle) < 0 {
-        return Err(io::Error::from_raw_os_error(os::errno()));
+/// Refuses a file that isn't as long as it was written. On a server this look lets bytes be written that waited for the file to be closed.
+fn check_length(file: &File, bytes: &[u8]) -> io::Result<()> {
+    if file.metadata()?.len() == bytes.len() as u64 {
+        Ok(())
+    } else {
+        Err(io::Error::from(ErrorKind::WriteZero))
     }
-    Ok(())
 }
 
 /// Gives a new file the owner of the old one, the bytes, and then the permissions: a change of the owner and a write take some away.
@@ -129,7 +130,7 @@ fn fill(file: &File, old: &Metadata, bytes: &[u8]) -> io::Result<()> {
     let mut writer = file;
     writer.write_all(bytes)?;
     file.set_permissions(PermissionsExt::from_mode(mode))?;
-    close_once(file)
+    check_length(file, bytes)
 }
 
 /// Removes a new file that is not to take a place.
