@@ -3,3 +3,4 @@ pub mod LineLemmas
 pub mod ChainLemmas
 pub mod PutLemmas
 pub mod FrontLemmas
+pub mod TailLemmas

@@ -1,7 +1,7 @@
 //! A line is sealed, and a sealed line is opened.
-ghost use Rattle.std.specs.Prelude.{◌≡◌, ◌++◌, ◌∷◌, [], OnOk, IfOk, MatchOption};
+ghost use Rattle.std.specs.Prelude.{◌≡◌, ◌++◌, ◌∷◌, [], OnOk, IfOk, MatchOption, true, false};
 ghost use Rattle.sno_sealed.specs.Seals.{begun, closes, ended, sealed_line, sum_after, summed};
-ghost use Rattle.sno_sealed.specs.Chains.{IsSealedBy};
+ghost use Rattle.sno_sealed.specs.Tails.{after, after_last, before, first_in, has, has_numbers, last_in, number_in};
 
 use crate::numbers::{put_hex, put_number, sum_after};
 use memchr::{memchr, memrchr};
@@ -112,18 +112,43 @@ impl<'a> Parts<'a> {
 }
 
 /// The bytes before the first `byte` and those after it.
-fn split_at_first(bytes: &[u8], byte: u8) -> Option<(&[u8], &[u8])> {
-    let at = memchr(byte, bytes)?;
-    Some((bytes.split_at(at).0, bytes.split_at(at + 1).1))
+fn split_at_first(bytes: &[u8], byte: u8) -> Option<(&[u8], &[u8])>
+    ensures { MatchOption result (has byte bytes.now ≡ false) (λ p. (has byte bytes.now ≡ true) × (p.0.now ≡ before byte bytes.now) × (p.1.now ≡ after byte bytes.now)) }
+{
+    match memchr(byte, bytes) {
+        None => None,
+        Some(at) => Some((bytes.split_at(at).0, bytes.split_at(at + 1).1)),
+    }
+}
+
+/// The bytes up to the last `byte` and those after it.
+fn split_at_last(bytes: &[u8], byte: u8) -> Option<(&[u8], &[u8])>
+    ensures { MatchOption result (has byte bytes.now ≡ false) (λ p. (has byte bytes.now ≡ true) × (p.1.now ≡ after_last byte bytes.now)) }
+{
+    match memrchr(byte, bytes) {
+        None => None,
+        Some(at) => Some(bytes.split_at(at + 1)),
+    }
 }
 
 /// The parts of a line that seems to be sealed, or of the end of one.
-pub(crate) fn parts_of(line: &[u8]) -> Option<Parts<'_>> {
-    let at = memrchr(b'[', line)?;
-    let (front, numbers) = line.split_at(at + 1);
-    let (number, rest) = split_at_first(numbers, b',')?;
-    let (first, rest) = split_at_first(rest, b',')?;
-    let (last, _rest) = split_at_first(rest, b']')?;
+#[tactic(auto, unfolding(crate::specs::Tails::has_numbers, crate::specs::Tails::number_in, crate::specs::Tails::first_in, crate::specs::Tails::last_in))]
+pub(crate) fn parts_of(line: &[u8]) -> Option<Parts<'_>>
+    ensures { MatchOption result (has_numbers line.now ≡ false)
+        (λ p. (has_numbers line.now ≡ true) × (p.number.now ≡ number_in line.now) × (p.first.now ≡ first_in line.now) × (p.last.now ≡ last_in line.now)) }
+{
+    let Some((front, numbers)) = split_at_last(line, b'[') else {
+        return None;
+    };
+    let Some((number, rest)) = split_at_first(numbers, b',') else {
+        return None;
+    };
+    let Some((first, rest)) = split_at_first(rest, b',') else {
+        return None;
+    };
+    let Some((last, _rest)) = split_at_first(rest, b']') else {
+        return None;
+    };
     Some(Parts {
         front,
         number,
