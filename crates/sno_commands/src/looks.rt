@@ -173,6 +173,9 @@ fn salvage<R: Files, W: Write, E: Write>(
     let Ok(whole) = undamaged(alloc, &bytes) else {
         return Err(ProgramFault::Memory);
     };
+    if whole.lines == 0 {
+        return Ok(refuse(&DurableFault::Damaged(1), errors));
+    }
     let (lines, _) = bytes.split_at(whole.end.min(bytes.len()));
     if let Err(error) = put_new(rt, request.out, lines) {
         let _printed = writeln!(errors, "{}: {}", request.out, error.kind());

@@ -200,7 +200,9 @@ pub(crate) fn opened_to_go_on<R: Files + Stores, E: Write>(
     };
     mend(rt, alloc, &names, errors)?;
     let store = opened(rt, alloc, &names.store, errors)?;
-    let mut store = newest(rt, alloc, &names, store, errors)?;
-    keep_tail(rt, alloc, &names, &mut store.0, errors)?;
-    Ok(store)
+    let (mut store, lines) = newest(rt, alloc, &names, store, errors)?;
+    if !lines.is_empty() {
+        keep_tail(rt, alloc, &names, &mut store, errors)?;
+    }
+    Ok((store, lines))
 }

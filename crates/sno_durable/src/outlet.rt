@@ -41,7 +41,8 @@ impl<W: Write + Drop> Outlet<W> {
         requires kept { AreKept store.now records.now }
     {
         // for the contract
-        let _kept = (store, records);
+        let _store = store;
+        let _records = records;
         if self.writer.write_all(replies).is_err() || self.writer.flush().is_err() {
             return Err(DurableFault::Write);
         }

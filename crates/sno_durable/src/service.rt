@@ -153,7 +153,7 @@ fn document_of(alloc: Global, bytes: &[u8], mode: Mode) -> Result<Document, Dura
 }
 
 /// Puts the first line into a new store.
-fn begin_store<D: Disk>(
+fn begin_store<D: Disk + Drop>(
     alloc: Global,
     store: &mut Sealed<D>,
     origin: &Origin,

@@ -85,7 +85,7 @@ same_count before count first last (p ∷ news) = ap suc (same_count (sum_after 
 
 pub lines_more : (lines payloads : List (List ℕ)) (ch : Chain) (first last : List ℕ) (news : List (List ℕ)) → IsChain lines payloads ch
     → IsChain (lines ++ sealed_lines ch.sum ch.lines first last news) (payloads ++ news)
-        (record { sum = sealed_sum ch.sum ch.lines first last news; lines = ch.lines + length news; plain = ch.plain })
+    (record { sum = sealed_sum ch.sum ch.lines first last news; lines = ch.lines + length news; plain = ch.plain })
 lines_more lines payloads ch first last [] is = record {
   plains = is.plains;
   sealed = is.sealed;
@@ -107,4 +107,4 @@ lines_more lines payloads ch first last (p ∷ news) is =
     let e : (ch.lines + 1) + length news ≡ ch.lines + suc (length news) = omega arith in
     subst (λ (n : ℕ). IsChain (lines ++ line ∷ later) (payloads ++ p ∷ news) (end n)) e
     (subst (λ (ls : List (List ℕ)). IsChain ls (payloads ++ p ∷ news) (end ((ch.lines + 1) + length news))) (append_assoc lines (line ∷ []) later)
-     (subst (λ (ps : List (List ℕ)). IsChain ((lines ++ line ∷ []) ++ later) ps (end ((ch.lines + 1) + length news))) (append_assoc payloads (p ∷ []) news) more))
+    (subst (λ (ps : List (List ℕ)). IsChain ((lines ++ line ∷ []) ++ later) ps (end ((ch.lines + 1) + length news))) (append_assoc payloads (p ∷ []) news) more))

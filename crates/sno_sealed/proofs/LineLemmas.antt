@@ -77,9 +77,9 @@ pub sealed_is_line : (before number : ℕ) (first last p : List ℕ) → number 
 unfolding sealed_line summed
 sealed_is_line before number first last p low one two is =
     let numbers = plain_append batch_key (decimal number ++ 44 ∷ (first ++ 44 ∷ last)) (refl, refl, (refl, refl, (refl, refl, (refl, refl, (refl, refl, (refl, refl, (refl, refl, (refl, refl, (refl, refl, (refl, refl, tt))))))))))
-        (plain_append (decimal number) (44 ∷ (first ++ 44 ∷ last)) (decimal_plain number low) (refl, refl, plain_append first (44 ∷ last) one (refl, refl, two))) in
+    (plain_append (decimal number) (44 ∷ (first ++ 44 ∷ last)) (decimal_plain number low) (refl, refl, plain_append first (44 ∷ last) one (refl, refl, two))) in
     let s = summed number first last p in
     let rest = hex 16 (sum_after before s) in
     line_append s (sum_key ++ (rest ++ 34 ∷ ended p)) (line_append (begun p) (batch_key ++ (decimal number ++ 44 ∷ (first ++ 44 ∷ last))) (begun_line p is) numbers)
     (plain_append sum_key (rest ++ 34 ∷ ended p) (refl, refl, (refl, refl, (refl, refl, (refl, refl, (refl, refl, (refl, refl, (refl, refl, (refl, refl, (refl, refl, tt)))))))))
-     (plain_append rest (34 ∷ ended p) (hex_plain 16 (sum_after before s)) (refl, refl, ended_plain p)))
+    (plain_append rest (34 ∷ ended p) (hex_plain 16 (sum_after before s)) (refl, refl, ended_plain p)))

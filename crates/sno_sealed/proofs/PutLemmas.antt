@@ -28,10 +28,13 @@ module _ (lines news olds : List (List ℕ)) (chain : Chain) (holds : IsChain li
       let f = decimal (chain.lines + 1) in
       let t = decimal (chain.lines + length news) in
       let k = first.0 in
-      let end : Chain = record { sum = sealed_sum chain.sum chain.lines f t (take k news); lines = chain.lines + length (take k news); plain = chain.plain } in
-      (k, end, subst (λ (ls : List (List ℕ)). IsChain ls (olds ++ take k news) end)
-          (sym (first.1 ∙ ap (λ (ss : List (List ℕ)). lines ++ take k ss) is ∙ ap (λ (ss : List (List ℕ)). lines ++ ss) (first_sealed chain.sum chain.lines f t k news)))
-          (lines_more lines olds chain f t (take k news) holds))
+      let end : Chain = record { sum = sealed_sum chain.sum chain.lines f t (take k news); lines = chain.lines + length (take k news); plain = chain.plain } in (
+        k,
+        end,
+        subst (λ (ls : List (List ℕ)). IsChain ls (olds ++ take k news) end)
+            (sym (first.1 ∙ ap (λ (ss : List (List ℕ)). lines ++ take k ss) is ∙ ap (λ (ss : List (List ℕ)). lines ++ ss) (first_sealed chain.sum chain.lines f t k news)))
+            (lines_more lines olds chain f t (take k news) holds),
+      )
 
   pub none_left : (file : List ℕ) → recovered file ≡ lines → HoldsFirst olds news file
   none_left file is =
@@ -45,7 +48,7 @@ module _ (lines news olds : List (List ℕ)) (chain : Chain) (holds : IsChain li
       let t = decimal (chain.lines + length news) in
       subst (λ (ch : Chain). IsChain now (olds ++ news) ch) (sym come)
       (subst (λ (ls : List (List ℕ)). IsChain ls (olds ++ news) (record { sum = batch_sum chain.sum chain.lines news; lines = chain.lines + length news; plain = chain.plain }))
-       (sym (more ∙ ap (λ (ss : List (List ℕ)). lines ++ ss) is)) (lines_more lines olds chain f t news holds))
+      (sym (more ∙ ap (λ (ss : List (List ℕ)). lines ++ ss) is)) (lines_more lines olds chain f t news holds))
 
 pub counted_more : (lines sealed now news : List (List ℕ)) (chain end : Chain) → length lines ≡ chain.lines → sealed ≡ sealed_batch chain.sum chain.lines news → now ≡ lines ++ sealed
     → end ≡ record { sum = batch_sum chain.sum chain.lines news; lines = chain.lines + length news; plain = chain.plain } → length now ≡ end.lines

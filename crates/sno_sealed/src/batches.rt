@@ -19,7 +19,7 @@ pub(crate) struct Batch {
 }
 
 /// A number in decimal.
-fn number_text(alloc: Global, number: u64) -> Result<Vec<u8>, AllocError>
+pub(crate) fn number_text(alloc: Global, number: u64) -> Result<Vec<u8>, AllocError>
     ensures { IfOk result (λ text. text.items ≡ decimal number) }
 {
     let mut text = Vec::new(alloc);
@@ -36,7 +36,7 @@ pub(crate) fn bytes_in(lines: &Lines) -> usize
 }
 
 /// How many bytes there are.
-fn length_of(bytes: &[u8]) -> usize
+pub(crate) fn length_of(bytes: &[u8]) -> usize
     ensures { result ≡ length bytes.now }
 {
     bytes.len()

@@ -18,11 +18,7 @@ fn hex_digit(digit: u8) -> u8
     requires { digit < 16 }
     ensures { result ≡ hex_digit digit }
 {
-    if digit < 10 {
-        b'0' + digit
-    } else {
-        87 + digit
-    }
+    if digit < 10 { b'0' + digit } else { 87 + digit }
 }
 
 /// Adds this many digits of a number in hexadecimal, the lowest last.

@@ -6,7 +6,7 @@ ghost use Rattle.sno_sealed.specs.Seals.{sum_after};
 
 use crate::chain::Chain;
 use crate::numbers::sum_after;
-use crate::seals::{begun, closes, parts_of, seal, Parts, SUM_KEY};
+use crate::seals::{SUM_KEY, begun, closes, parts_of, seal};
 use sno_store::{LineFault, Lines};
 use std::alloc::{AllocError, Global};
 
@@ -60,7 +60,10 @@ impl Reader {
         ensures opened { IfOk result (λ sum. IfSome sum (λ sum. IsSealedBy self.old.chain.sum (self.old.chain.lines + 1) line.now self.new.payload.items sum)) }
         ensures same { (self.new.chain ≡ self.old.chain) × (self.new.payloads ≡ self.old.payloads) }
     {
-        let Some(Parts { begun, first, last }) = parts_of(line) else {
+        let Some(parts) = parts_of(line) else {
+            return Ok(None);
+        };
+        let Some(begun) = parts.begun() else {
             return Ok(None);
         };
         self.payload.clear();
@@ -69,7 +72,14 @@ impl Reader {
             self.payload.push(b'}')?;
         }
         let number = self.chain.lines + 1;
-        let sum = seal(&mut self.again, self.chain.sum, number, first, last, &self.payload)?;
+        let sum = seal(
+            &mut self.again,
+            self.chain.sum,
+            number,
+            parts.first,
+            parts.last,
+            &self.payload,
+        )?;
         if self.again.as_slice() != line {
             return Ok(None);
         }

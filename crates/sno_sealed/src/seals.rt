@@ -88,15 +88,27 @@ pub(crate) fn seal(
     Ok(sum)
 }
 
-/// What a sealed line has beside its numbers and sums.
+/// What a line that seems to be sealed has beside its sum.
 #[derive(Clone, Copy)]
 pub(crate) struct Parts<'a> {
-    /// Its payload, without the `}` at the end.
-    pub(crate) begun: &'a [u8],
+    /// What comes before the numbers of its batch.
+    pub(crate) front: &'a [u8],
+    /// Its number.
+    pub(crate) number: &'a [u8],
     /// The number of the first line of its batch.
     pub(crate) first: &'a [u8],
     /// The number of the last one.
     pub(crate) last: &'a [u8],
+}
+
+impl<'a> Parts<'a> {
+    /// The payload, without the `}` at its end.
+    pub(crate) fn begun(&self) -> Option<&'a [u8]> {
+        if self.front.len() < BATCH_KEY.len() {
+            return None;
+        }
+        Some(self.front.split_at(self.front.len() - BATCH_KEY.len()).0)
+    }
 }
 
 /// The bytes before the first `byte` and those after it.
@@ -105,16 +117,17 @@ fn split_at_first(bytes: &[u8], byte: u8) -> Option<(&[u8], &[u8])> {
     Some((bytes.split_at(at).0, bytes.split_at(at + 1).1))
 }
 
-/// The parts of a line that seems to be sealed.
+/// The parts of a line that seems to be sealed, or of the end of one.
 pub(crate) fn parts_of(line: &[u8]) -> Option<Parts<'_>> {
     let at = memrchr(b'[', line)?;
     let (front, numbers) = line.split_at(at + 1);
-    if front.len() < BATCH_KEY.len() {
-        return None;
-    }
-    let begun = front.split_at(front.len() - BATCH_KEY.len()).0;
-    let (_number, rest) = split_at_first(numbers, b',')?;
+    let (number, rest) = split_at_first(numbers, b',')?;
     let (first, rest) = split_at_first(rest, b',')?;
     let (last, _rest) = split_at_first(rest, b']')?;
-    Some(Parts { begun, first, last })
+    Some(Parts {
+        front,
+        number,
+        first,
+        last,
+    })
 }

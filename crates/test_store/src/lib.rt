@@ -7,6 +7,8 @@ mod crashes;
 mod files;
 #[cfg(test)]
 mod puts;
+#[cfg(test)]
+mod seals;
 mod slate;
 
 pub use slate::Slate;

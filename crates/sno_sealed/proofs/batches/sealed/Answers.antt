@@ -10,7 +10,7 @@ use Rattle.sno_sealed.proofs.batches.sealed.Goals as goal
 pub loop-payload-init : goal.loop-payload-init
 loop-payload-init c =
     let left : lines_left c.into_iter-payload-iterator.result ≡ lines_in c.args.payloads.now
-        = ap lines_left c.into_iter-payload-iterator.ensures.into_iter_gives ∙ c.iter-payload-items.ensures in
+    = ap lines_left c.into_iter-payload-iterator.ensures.into_iter_gives ∙ c.iter-payload-items.ensures in
     let chain = c.args.chain in
     let f = c.in_ok-first.first.items in
     let t = c.in_ok-last.last.items in

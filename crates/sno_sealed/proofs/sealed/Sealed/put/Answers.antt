@@ -1,11 +1,12 @@
 -- A batch is sealed and put.
-use Rattle.std.proofs.Common.{◌≡◌, refl, sym, ◌∙◌, ap, arith, subst, inl, inr, ℕ, ◌+◌, Bool, true, false, IsTrue, List, [], ◌∷◌, ◌++◌, length, decimal}
+use Rattle.std.proofs.Common.{◌≡◌, refl, sym, ◌∙◌, ap, arith, subst, inl, inr, ℕ, ◌+◌, Bool, true, false, IsTrue, List, [], ◌∷◌, ◌++◌, length, length-append, decimal}
 use Rattle.std.proofs.lemmas.Bool.{cases_Bool}
 use Rattle.std.proofs.lemmas.Result.{err_from_is_err_and}
 use Rattle.sno_store.specs.Lines.{bytes_of, recovered}
 use Rattle.sno_store.specs.Shown.{lines_in}
 use Rattle.sno_store.specs.Store.{leaves_open, takes_lines, lines_of}
 use Rattle.sno_sealed.specs.Sealed.{sealed_now}
+use Rattle.sno_sealed.proofs.ChainLemmas.{same_count}
 use Rattle.sno_sealed.proofs.PutLemmas.{added, batch_fault, batch_fits, counted_more, left, lines_within, none_left}
 use Rattle.sno_sealed.proofs.sealed.Sealed.put.Goals as goal
 
@@ -21,7 +22,7 @@ returns-in_err-lines-clause-cause g c =
     let is : takes_lines self.store ≡ true = sym c.is_open.ensures ∙ c.if-not-is_open.false in
     let p = err_from_is_err_and c.from_residual.result c.from_residual.ensures.1 in
     rw (p.1, p.2) (batch_fault g.D.Disk (takes_lines self.store) (length (bytes_of (sealed_now self news))) (self.chain.lines + length news) self.store.disk c.in_err-lines.field-0.0
-     (λ clean. omega (arith, self.counted is clean, lines_within (g.D.Disk.seen self.store.disk), batch_fits self.chain.sum self.chain.lines news)) c.in_err-lines.ensures.cause)
+    (λ clean. omega (arith, self.counted is clean, lines_within (g.D.Disk.seen self.store.disk), batch_fits self.chain.sum self.chain.lines news)) c.in_err-lines.ensures.cause)
 
 pub invariant_of-self : goal.invariant_of-self
 invariant_of-self g c =
@@ -60,3 +61,12 @@ returns-clause-crash g c is clean file leaves olds holds =
     let self = c.args.self.now in
     left (lines_of self.store) (lines_in c.args.payloads.now) olds self.chain holds (lines_in c.in_ok-lines.field-0.lines) file
     c.in_ok-lines.ensures.lines (c.put.ensures.crash is clean file leaves)
+
+pub returns-clause-count : goal.returns-clause-count
+returns-clause-count g c clean =
+    let self = c.args.self.now in
+    let news = lines_in c.args.payloads.now in
+    let sum = self.chain.sum in
+    let n = self.chain.lines in
+    ap length (c.in_ok-put.ensures.acknowledged clean).0 ∙ length-append (lines_of self.store) (lines_in c.in_ok-lines.field-0.lines)
+    ∙ omega (arith, ap length c.in_ok-lines.ensures.lines, same_count sum n (decimal (n + 1)) (decimal (n + length news)) news)
