@@ -5,6 +5,7 @@ A script imports it by its name alone: Python looks into the script's own folder
 import os
 import re
 import sys
+from collections import Counter
 from importlib.machinery import SourceFileLoader
 from importlib.util import module_from_spec, spec_from_loader
 from pathlib import Path
@@ -23,6 +24,8 @@ class Cases:
     def __init__(self):
         self.passed = 0
         self.failed = 0
+        self.shown = 0
+        self.kinds = Counter()
 
     def check(self, holds, what, *details):
         """Counts a case; what it is, with its details, is shown if it doesn't hold."""
@@ -30,8 +33,17 @@ class Cases:
             self.passed += 1
             return
         self.failed += 1
-        if self.failed <= 50:
+        if self.shown < 50:
+            self.shown += 1
             print(f"FAILED {what}", *details, sep="\n  ", flush=True)
+
+    def check_kind(self, holds, kind, what, *details):
+        """Counts a case; of those that don't hold for one kind of cause the first two are shown."""
+        self.kinds[kind] += not holds
+        if holds or self.kinds[kind] <= 2:
+            self.check(holds, what, *details)
+        else:
+            self.failed += 1
 
     def expect(self, what, found, wanted, most=600):
         """Counts a case by what was found. Of what was found and wanted at most the given number of characters is shown."""
