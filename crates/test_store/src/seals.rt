@@ -8,7 +8,8 @@ use std::alloc::Global;
 use std::test::Fail;
 
 /// Three lines in two batches. The sums are those of Python's `hash` of bytes, with `PYTHONHASHSEED=0`, over the same bytes.
-const SEALED: &str = "{\"a\":1,\"batch\":[1,1,2],\"sum\":\"46314fb9fec4c535\"}\n{\"b\":2,\"batch\":[2,1,2],\"sum\":\"53b02ea5456f669d\"}\n{\"c\":3,\"batch\":[3,3,3],\"sum\":\"8c761401950e8070\"}\n";
+const SEALED: &str =
+    "{\"a\":1,\"batch\":[1,1,2],\"sum\":\"46314fb9fec4c535\"}\n{\"b\":2,\"batch\":[2,1,2],\"sum\":\"53b02ea5456f669d\"}\n{\"c\":3,\"batch\":[3,3,3],\"sum\":\"8c761401950e8070\"}\n";
 
 /// How many bytes each of them has with its line feed.
 const LINE: usize = 49;
@@ -46,7 +47,10 @@ fn lines_are_sealed(rt: HostRuntime) -> Result<(), Fail> {
     let disk = sealed.into_store().into_disk();
     assert!(rt; disk.bytes().starts_with(SEALED.as_bytes()));
     let (sealed, back) = opened(alloc, SEALED.as_bytes())?;
-    assert_eq!(rt; back.as_slice(), b"{\"a\":1}\n{\"b\":2}\n{\"c\":3}\n".as_slice());
+    assert_eq!(rt;
+        back.as_slice(),
+        b"{\"a\":1}\n{\"b\":2}\n{\"c\":3}\n".as_slice()
+    );
     assert_eq!(rt; (sealed.lines(), sealed.plain()), (3, 0));
     Ok(())
 }
@@ -84,7 +88,10 @@ fn a_torn_batch_is_no_damage(rt: HostRuntime) -> Result<(), Fail> {
         assert_eq!(rt; back.len(), if cut < LINE { 0 } else { 8 });
         let mut text = Vec::from_slice(alloc, two)?;
         text[cut] = 0;
-        assert_eq!(rt; opened(alloc, &text)?.0.lines(), if cut < LINE { 0 } else { 1 });
+        assert_eq!(rt;
+            opened(alloc, &text)?.0.lines(),
+            if cut < LINE { 0 } else { 1 }
+        );
     }
     Ok(())
 }

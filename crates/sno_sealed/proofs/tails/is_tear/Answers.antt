@@ -22,7 +22,7 @@ returns-then-is_other c =
     let xs = c.loop-at.rest.now in
     let piece : c.split_at.result.0.now ≡ take c.in-Some.at xs = c.split_at.ensures.front in
     sym (at_other c.args.first.now c.args.has_lines c.loop-at.begins xs c.in-Some.at found.0.high (λ j below. found.0.before j (omega arith) below) c.if-rest-at-ne10.false
-      (ap (λ (l : List ℕ). is_other c.args.first.now c.loop-at.begins l) (sym piece) ∙ sym c.is_other.ensures ∙ c.if-is_other.true)) ∙ c.loop-at.invariant
+    (ap (λ (l : List ℕ). is_other c.args.first.now c.loop-at.begins l) (sym piece) ∙ sym c.is_other.ensures ∙ c.if-is_other.true)) ∙ c.loop-at.invariant
 
 pub returns-then-ends_batch : goal.returns-then-ends_batch
 returns-then-ends_batch c =
@@ -33,8 +33,8 @@ returns-then-ends_batch c =
     let piece : c.split_at.result.0.now ≡ take c.in-Some.at xs = c.split_at.ensures.front in
     c.are_zeros.ensures ∙ ap (λ (l : List ℕ). list_all (λ x. x == 0) l) c.split_at-in-Some.ensures.back
     ∙ sym (at_end first h c.loop-at.begins xs c.in-Some.at found.0.high (λ j below. found.0.before j (omega arith) below) c.if-rest-at-ne10.false
-      (ap (λ (l : List ℕ). is_other first c.loop-at.begins l) (sym piece) ∙ sym c.is_other.ensures ∙ c.if-is_other.false)
-      (ap ends_batch (sym piece) ∙ sym c.ends_batch.ensures ∙ c.if-ends_batch.true))
+    (ap (λ (l : List ℕ). is_other first c.loop-at.begins l) (sym piece) ∙ sym c.is_other.ensures ∙ c.if-is_other.false)
+    (ap ends_batch (sym piece) ∙ sym c.ends_batch.ensures ∙ c.if-ends_batch.true))
     ∙ c.loop-at.invariant
 
 pub loop-at-preserved : goal.loop-at-preserved
@@ -46,8 +46,8 @@ loop-at-preserved c =
     let piece : c.split_at.result.0.now ≡ take c.in-Some.at xs = c.split_at.ensures.front in
     ap (λ (l : List ℕ). is_tear_on first h h [] l) c.split_at-in-Some.ensures.back
     ∙ sym (at_line first h c.loop-at.begins xs c.in-Some.at found.0.high (λ j below. found.0.before j (omega arith) below) c.if-rest-at-ne10.false
-      (ap (λ (l : List ℕ). is_other first c.loop-at.begins l) (sym piece) ∙ sym c.is_other.ensures ∙ c.if-is_other.false)
-      (ap ends_batch (sym piece) ∙ sym c.ends_batch.ensures ∙ c.if-ends_batch.false))
+    (ap (λ (l : List ℕ). is_other first c.loop-at.begins l) (sym piece) ∙ sym c.is_other.ensures ∙ c.if-is_other.false)
+    (ap ends_batch (sym piece) ∙ sym c.ends_batch.ensures ∙ c.if-ends_batch.false))
     ∙ c.loop-at.invariant
 
 pub returns : goal.returns
