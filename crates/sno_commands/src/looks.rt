@@ -4,24 +4,27 @@ use crate::beside::bytes_of;
 use crate::compactions::compact;
 use crate::faults::{FAILED, ProgramFault};
 use crate::read_only::ReadOnly;
-use crate::starts::opened_to_go_on;
+use crate::starts::{Wanted, opened_to_go_on};
 use crate::store_command::{StoreAction, StoreRequest};
 use crate::stored::{Stores, refuse};
-use crate::streams::write_all;
+use crate::streams::{put_new, write_all};
 use sno_durable::{Client, DurableFault, Given, Kept, serve_durably};
 use sno_sealed::{SealFault, Sealed, undamaged};
 use sno_store::{Lines, Store};
 use sqlite_disk::Disk;
 use std::alloc::{AllocError, Global};
-use std::fs::{OpenFile, OpenOptions};
-use std::io;
-use std::io::{ErrorKind, Write};
-use std::os::unix::fs::OpenOptionsExt;
+use std::io::Write;
 use std::rt::Files;
 use std::sync::Wait;
 
 /// How many times a file is read that seems damaged: a service may be writing to it.
 const READINGS: u32 = 10;
+
+/// Any store, whatever it was made of.
+const ANY_STORE: Wanted<'static> = Wanted {
+    document: None,
+    trials: None,
+};
 
 /// No lines, for a store that is only looked at.
 const NO_LINES: &[u8] = &[];
@@ -128,7 +131,7 @@ fn make_short<R: Files + Stores + Wait, W: Write, E: Write>(
     output: &mut W,
     errors: &mut E,
 ) -> Result<u8, ProgramFault> {
-    let opened = match opened_to_go_on(rt, alloc, request.store, errors) {
+    let opened = match opened_to_go_on(rt, alloc, request.store, ANY_STORE, errors) {
         Ok(opened) => opened,
         Err(status) => return Ok(status),
     };
@@ -144,19 +147,6 @@ fn make_short<R: Files + Stores + Wait, W: Write, E: Write>(
     }
     write_all(output, &shown(alloc, request.action, &kept)?)?;
     Ok(0)
-}
-
-/// Makes a file of these bytes, and waits until it is on the disk. Refused if something has the name.
-fn put_new<R: Files>(rt: &R, path: &str, bytes: &[u8]) -> io::Result<()> {
-    let mut file = OpenOptions::new()
-        .write(true)
-        .create_new(true)
-        .mode(0o600)
-        .open(rt, path)?;
-    match write_all(&mut file, bytes) {
-        Ok(()) => file.sync_all(),
-        Err(_) => Err(io::Error::from(ErrorKind::WriteZero)),
-    }
 }
 
 /// Writes the lines before the first damaged one to a new file, and how many they are.

@@ -5,17 +5,17 @@ use crate::compactions::{discard, old_store, take_place};
 use crate::faults::FAILED;
 use crate::store_names::{StoreNames, SystemCalls, is_named, names_of};
 use crate::stored::{INVALID, Opened, Stores, opened, refuse};
-use crate::streams::write_all;
+use crate::streams::put_new;
 use sno_durable::{DurableFault, Relation, StoreFacts};
 use sno_replace::Folder;
 use sno_sealed::Sealed;
 use sno_store::{File, Store};
 use std::alloc::Global;
 use std::fmt::Display;
-use std::fs::{Metadata, OpenFile, OpenOptions};
+use std::fs::Metadata;
 use std::io;
 use std::io::Write;
-use std::os::unix::fs::{MetadataExt, OpenOptionsExt};
+use std::os::unix::fs::MetadataExt;
 use std::rt::Files;
 
 /// Writes a line on a file beside a store.
@@ -147,21 +147,28 @@ fn newest<R: Files + Stores, E: Write>(
     }
 }
 
-/// Writes a file whole, and waits until it is on the disk.
-fn put_whole<R: Files>(rt: &R, path: &str, bytes: &[u8]) -> io::Result<()> {
-    let mut file = OpenOptions::new()
-        .write(true)
-        .create(true)
-        .truncate(true)
-        .mode(0o600)
-        .open(rt, path)?;
-    match write_all(&mut file, bytes) {
-        Ok(()) => file.sync_all(),
-        Err(_) => Err(io::Error::from(io::ErrorKind::WriteZero)),
+/// How many files there may be with what crashes have cut.
+const MOST_TORN: u32 = 1_000;
+
+/// The first name for what a crash has cut that nothing has yet: that of the store with `.torn` after it, or with a number too.
+fn torn_path<R: Files>(rt: &R, alloc: Global, names: &StoreNames) -> io::Result<String> {
+    let mut path = String::from_str(alloc, &names.torn)?;
+    for number in 2..MOST_TORN {
+        if !is_named(rt, &path) {
+            break;
+        }
+        path = format!(in alloc; "{}.{number}", names.torn)?;
     }
+    Ok(path)
 }
 
-/// Copies what a crash has cut into a file beside the store, before it is overwritten.
+/// Copies bytes into a new file beside the store, and waits until they are on the disk.
+fn keep_bytes<R: Files>(rt: &R, alloc: Global, names: &StoreNames, bytes: &[u8]) -> io::Result<()> {
+    let path = torn_path(rt, alloc, names)?;
+    put_new(rt, &path, bytes)
+}
+
+/// Copies what a crash has cut into a new file beside the store, before it is overwritten.
 fn keep_tail<R: Files, E: Write>(
     rt: &R,
     alloc: Global,
@@ -176,12 +183,32 @@ fn keep_tail<R: Files, E: Write>(
         Ok(tail) => tail,
         Err(fault) => return Err(refuse(&DurableFault::from(fault), errors)),
     };
-    match put_whole(rt, &names.torn, &tail) {
+    match keep_bytes(rt, alloc, names, &tail) {
         Ok(()) => Ok(()),
         Err(error) => {
             say(&names.torn, error.kind(), errors);
             Err(FAILED)
         }
+    }
+}
+
+/// What a store has to be that is opened.
+#[derive(Clone, Copy)]
+pub(crate) struct Wanted<'a> {
+    /// The document that it was made of, if one is given.
+    pub(crate) document: Option<&'a [u8]>,
+    /// How many trials a match may take, if that is asked for.
+    pub(crate) trials: Option<u32>,
+}
+
+impl Wanted<'_> {
+    /// Whether a store that says this of itself is the one that is wanted. Another one is refused later, and nothing is written beside it.
+    fn is(&self, facts: &StoreFacts) -> bool {
+        let is_made_of = match self.document {
+            Some(document) => facts.made_of.as_slice() == document,
+            None => true,
+        };
+        is_made_of && self.trials.unwrap_or(facts.trials) == facts.trials
     }
 }
 
@@ -193,6 +220,7 @@ pub(crate) fn opened_to_go_on<R: Files + Stores, E: Write>(
     rt: &R,
     alloc: Global,
     path: &str,
+    wanted: Wanted<'_>,
     errors: &mut E,
 ) -> Result<Opened, u8> {
     let Ok(names) = names_of(rt, alloc, path) else {
@@ -200,9 +228,11 @@ pub(crate) fn opened_to_go_on<R: Files + Stores, E: Write>(
     };
     mend(rt, alloc, &names, errors)?;
     let store = opened(rt, alloc, &names.store, errors)?;
-    let (mut store, lines) = newest(rt, alloc, &names, store, errors)?;
-    if !lines.is_empty() {
-        keep_tail(rt, alloc, &names, &mut store, errors)?;
+    let mut store = newest(rt, alloc, &names, store, errors)?;
+    if let Some(facts) = facts_of(alloc, &store, errors)? {
+        if wanted.is(&facts) {
+            keep_tail(rt, alloc, &names, &mut store.0, errors)?;
+        }
     }
-    Ok((store, lines))
+    Ok(store)
 }

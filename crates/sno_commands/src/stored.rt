@@ -8,7 +8,7 @@ use crate::compactions::compact;
 use crate::faults::{FAILED, MISUSED, ProgramFault};
 use crate::listing_files::{ListingFile, open_listing, write_listing};
 use crate::serve_command::{LISTING_ON_STORE, StoreOptions};
-use crate::starts::opened_to_go_on;
+use crate::starts::{Wanted, opened_to_go_on};
 use crate::store_names::{StoreNames, names_of, place_of};
 use crate::streams::write_all;
 use sno_durable::{Client, DurableFault, Given, Kept, Seats, serve_durably_at};
@@ -221,7 +221,11 @@ fn serve_first<
     streams: Streams<I, W>,
     errors: &mut E,
 ) -> Result<Kept<File, I, W>, u8> {
-    let opened = opened_to_go_on(rt, alloc, options.store, errors)?;
+    let wanted = Wanted {
+        document: document.as_ref().map(|document| document.as_slice()),
+        trials: options.trials,
+    };
+    let opened = opened_to_go_on(rt, alloc, options.store, wanted, errors)?;
     let given = Given {
         document,
         trials: options.trials,

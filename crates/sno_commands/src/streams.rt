@@ -2,7 +2,11 @@
 
 use crate::faults::ProgramFault;
 use std::alloc::Global;
-use std::io::{Read, Write};
+use std::fs::{OpenFile, OpenOptions};
+use std::io;
+use std::io::{ErrorKind, Read, Write};
+use std::os::unix::fs::OpenOptionsExt;
+use std::rt::Files;
 
 const PIECE: usize = 4_096;
 
@@ -39,5 +43,19 @@ pub(crate) fn write_all<W: Write>(writer: &mut W, bytes: &[u8]) -> Result<(), Pr
     match sno_rewrite::write_all(writer, bytes) {
         Ok(()) => Ok(()),
         Err(_) => Err(ProgramFault::Write),
+    }
+}
+
+/// Makes a file of these bytes, which its owner alone may read and write, and waits until they are on the disk. Refused if something has the
+/// name.
+pub(crate) fn put_new<R: Files>(rt: &R, path: &str, bytes: &[u8]) -> io::Result<()> {
+    let mut file = OpenOptions::new()
+        .write(true)
+        .create_new(true)
+        .mode(0o600)
+        .open(rt, path)?;
+    match write_all(&mut file, bytes) {
+        Ok(()) => file.sync_all(),
+        Err(_) => Err(io::Error::from(ErrorKind::WriteZero)),
     }
 }
