@@ -9,8 +9,9 @@
 //! - A new text is written to a new file beside the old one, and takes its place by being renamed. So each file is whole at any
 //!   moment. Through a symbolic link its target is replaced.
 //! - A new file has a name that can't be foretold, and is made for its owner alone. It gets its owner and its permissions by its
-//!   descriptor, and nobody may do more with it than with the old one. It is closed before it takes its place, so that each error of its
-//!   bytes is seen. It is locked as long as the run goes on, and the next run removes those that nobody has locked.
+//!   descriptor, and nobody may do more with it than with the old one. Before it takes its place it has to have the length of its text. An
+//!   error that comes only at its close isn't seen without `sync`. It is locked as long as the run goes on, and the next run removes those
+//!   that nobody has locked.
 //! - With `sync` the bytes of a new file are on the disk before it takes its place, and its name before the file is reported as edited.
 //!
 //! | File | What it does |
