@@ -93,7 +93,7 @@ fn facts_of<E: Write>(
     }
 }
 
-/// The new store that a crash has left, in the place of the store from which it goes on.
+/// The new store that a crash has left, which takes the place of the store from which it goes on.
 fn taken<R: Files + Stores, E: Write>(
     rt: &R,
     alloc: Global,

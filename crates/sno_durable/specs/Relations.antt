@@ -10,7 +10,7 @@ abbrev pub end_of : ℕ → Option ℕ → ℕ
 end_of past None = past
 end_of past (Some next) = next
 
--- whether a store with so many entries before it begins where one ends; entries of a document have no record, so the end of a store without
+-- whether a store that comes after this many entries begins where one ends; entries of a document have no record, so the end of a store without
 -- records may be further on
 abbrev pub begins_at : ℕ → Option ℕ → ℕ → Bool
 begins_at past None later = nat_le past later
