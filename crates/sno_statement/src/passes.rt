@@ -62,6 +62,7 @@ impl<'c, 't, 'a> Pass<'c, 't, 'a> {
         ensures ended { IfOk result (λ next. MatchOption next (self.new.at ≡ None) (λ _. cursors_left self.new.text self.new.at < cursors_left self.old.text self.old.at)) }
         ensures trials { OnOk result (trials_together self.new ≡ trials_together self.old) }
         ensures same { OnOk result ((self.new.statement ≡ self.old.statement) × (self.new.text ≡ self.old.text)) }
+        ensures within { OnOk result (self.new.spent ≤ self.new.statement.limit) }
         ensures refused { IfErr result (λ e. e ≡ TooManyTrials → self.old.statement.limit < trials_together self.old) }
         ensures never { IfErr result (λ e. e ≡ TextTooLong → ⊥) }
     {
@@ -102,6 +103,7 @@ impl<'c, 't, 'a> Pass<'c, 't, 'a> {
         ensures ended { IfOk result (λ next. MatchOption next (self.new.at ≡ None) (λ _. cursors_left self.new.text self.new.at < cursors_left self.old.text self.old.at)) }
         ensures trials { OnOk result (trials_together self.new ≡ trials_together self.old) }
         ensures same { OnOk result ((self.new.statement ≡ self.old.statement) × (self.new.text ≡ self.old.text)) }
+        ensures within { OnOk result (self.new.spent ≤ self.new.statement.limit) }
         ensures refused { IfErr result (λ e. e ≡ TooManyTrials → self.old.statement.limit < trials_together self.old) }
         ensures never { IfErr result (λ e. e ≡ TextTooLong → ⊥) }
     {
