@@ -19,9 +19,9 @@ _sno() {
             trace) options=" --statement --match --from --to --lines --html --on --anchor --trials --rule -e --file -f --define -d --with -w --help -h " ;;
             serve) options=" --seats --tries --trials --listing --store --keep --help -h " ;;
             store)
-                options=" check list compact --help -h "
+                options=" check list compact salvage --help -h "
                 case "$previous" in
-                    check|list|compact)
+                    check|list|compact|salvage)
                         COMPREPLY=()
                         return
                         ;;

@@ -54,3 +54,4 @@ complete -c sno -n '__fish_seen_subcommand_from serve' -l keep -x -a '1000 10000
 complete -c sno -n '__fish_seen_subcommand_from store' -a check -d 'Says how many entries the store has, or what is wrong with it'
 complete -c sno -n '__fish_seen_subcommand_from store' -a list -d 'Writes the listing of the store as JSON'
 complete -c sno -n '__fish_seen_subcommand_from store' -a compact -d 'Replaces FILE by a store with the texts as they are'
+complete -c sno -n '__fish_seen_subcommand_from store' -a salvage -d 'Writes the lines of FILE before the first damaged one to a new file OUT'
