@@ -6,7 +6,7 @@ use crate::faults::{FAILED, ProgramFault};
 use crate::read_only::ReadOnly;
 use crate::starts::{Wanted, opened_to_go_on};
 use crate::store_command::{StoreAction, StoreRequest};
-use crate::stored::{Stores, refuse};
+use crate::stored::{Stores, refuse, status_of};
 use crate::streams::{put_new, write_all};
 use sno_durable::{Client, DurableFault, Given, Kept, serve_durably};
 use sno_sealed::{SealFault, Sealed, undamaged};
@@ -79,6 +79,31 @@ fn read_store<R: Files, E: Write>(
         }
     }
     Ok(Err(refuse(&DurableFault::Damaged(damaged), errors)))
+}
+
+/// Whether the statements of a store's lines have the outcomes that are stored. If a fault of the machine keeps that from being found, its line is
+/// written, and the status comes back.
+pub(crate) fn has_its_outcomes<R: Files + Wait, E: Write>(
+    rt: &R,
+    alloc: Global,
+    path: &str,
+    errors: &mut E,
+) -> Result<bool, u8> {
+    let Ok(bytes) = bytes_of(rt, alloc, path) else {
+        return Err(refuse(&DurableFault::Read, errors));
+    };
+    let ended = match opened_to_look(alloc, bytes) {
+        Ok(opened) => match replay(rt, alloc, opened) {
+            Ok(kept) => kept.ended,
+            Err(fault) => Err(fault),
+        },
+        Err(fault) => Err(DurableFault::from(fault)),
+    };
+    match ended {
+        Ok(_) => Ok(true),
+        Err(fault) if status_of(&fault) == FAILED => Err(refuse(&fault, errors)),
+        Err(_) => Ok(false),
+    }
 }
 
 /// What is written of a store: its listing, or how many entries it has.

@@ -3,6 +3,7 @@
 use crate::beside::{Beside, beside};
 use crate::compactions::{discard, old_store, take_place};
 use crate::faults::FAILED;
+use crate::looks::has_its_outcomes;
 use crate::store_names::{StoreNames, SystemCalls, is_named, names_of};
 use crate::stored::{INVALID, Opened, Stores, opened, refuse};
 use crate::streams::put_new;
@@ -17,6 +18,7 @@ use std::io;
 use std::io::Write;
 use std::os::unix::fs::MetadataExt;
 use std::rt::Files;
+use std::sync::Wait;
 
 /// Writes a line on a file beside a store.
 fn say<E: Write, W: Display + Drop>(path: &str, what: W, errors: &mut E) {
@@ -148,7 +150,7 @@ fn newest<R: Files + Stores, E: Write>(
 }
 
 /// How many files there may be with what crashes have cut.
-const MOST_TORN: u32 = 1_000;
+const MOST_TORN: u32 = 100_000;
 
 /// The first name for what a crash has cut that nothing has yet: that of the store with `.torn` after it, or with a number too.
 fn torn_path<R: Files>(rt: &R, alloc: Global, names: &StoreNames) -> io::Result<String> {
@@ -162,21 +164,29 @@ fn torn_path<R: Files>(rt: &R, alloc: Global, names: &StoreNames) -> io::Result<
     Ok(path)
 }
 
-/// Copies bytes into a new file beside the store, and waits until they are on the disk.
-fn keep_bytes<R: Files>(rt: &R, alloc: Global, names: &StoreNames, bytes: &[u8]) -> io::Result<()> {
-    let path = torn_path(rt, alloc, names)?;
-    put_new(rt, &path, bytes)
+/// Bytes without the zeros at their end.
+fn without_zeros(bytes: &[u8]) -> &[u8] {
+    let zeros = bytes.iter().rev().take_while(|byte| **byte == 0).count();
+    let (front, _) = bytes.split_at(bytes.len().saturating_sub(zeros));
+    front
 }
 
-/// Copies what a crash has cut into a new file beside the store, before it is overwritten.
-fn keep_tail<R: Files, E: Write>(
+/// Copies what a crash has cut into a new file beside the store, and waits until it is on the disk.
+fn keep_bytes<R: Files>(rt: &R, alloc: Global, names: &StoreNames, tail: &[u8]) -> io::Result<()> {
+    let path = torn_path(rt, alloc, names)?;
+    put_new(rt, &path, without_zeros(tail))
+}
+
+/// Copies what a crash has cut into a new file beside the store, before it is overwritten. A store with another outcome than the stored one is
+/// refused later, and nothing is written beside it.
+fn keep_tail<R: Files + Wait, E: Write>(
     rt: &R,
     alloc: Global,
     names: &StoreNames,
     store: &mut Sealed<File>,
     errors: &mut E,
 ) -> Result<(), u8> {
-    if !store.is_torn() {
+    if !store.is_torn() || !has_its_outcomes(rt, alloc, &names.store, errors)? {
         return Ok(());
     }
     let tail = match store.tail(alloc) {
@@ -216,7 +226,7 @@ impl Wanted<'_> {
 /// without entries of its own too, and one that has more entries takes the place. What was cut is copied to `FILE.torn`.
 ///
 /// If that fails, the line of the fault is written, and the status comes back.
-pub(crate) fn opened_to_go_on<R: Files + Stores, E: Write>(
+pub(crate) fn opened_to_go_on<R: Files + Stores + Wait, E: Write>(
     rt: &R,
     alloc: Global,
     path: &str,

@@ -42,7 +42,7 @@ impl Stores for HostRuntime {
 }
 
 /// The status after this fault: 2 if the store or the document is at fault, 4 if the machine is.
-fn status_of(fault: &DurableFault) -> u8 {
+pub(crate) fn status_of(fault: &DurableFault) -> u8 {
     match fault {
         DurableFault::Memory
         | DurableFault::Read
