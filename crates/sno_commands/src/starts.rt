@@ -8,7 +8,7 @@ use crate::store_names::{StoreNames, SystemCalls, is_named, names_of};
 use crate::stored::{INVALID, Opened, Stores, opened, refuse};
 use crate::streams::put_new;
 use sno_durable::{DurableFault, Relation, StoreFacts};
-use sno_replace::Folder;
+use sno_replace::{Calls, Folder};
 use sno_sealed::Sealed;
 use sno_store::{File, Store};
 use std::alloc::Global;
@@ -171,10 +171,11 @@ fn without_zeros(bytes: &[u8]) -> &[u8] {
     front
 }
 
-/// Copies what a crash has cut into a new file beside the store, and waits until it is on the disk.
+/// Copies what a crash has cut into a new file beside the store, and waits until it and its name are on the disk.
 fn keep_bytes<R: Files>(rt: &R, alloc: Global, names: &StoreNames, tail: &[u8]) -> io::Result<()> {
     let path = torn_path(rt, alloc, names)?;
-    put_new(rt, &path, without_zeros(tail))
+    put_new(rt, &path, without_zeros(tail))?;
+    SystemCalls { rt, names }.wait()
 }
 
 /// Copies what a crash has cut into a new file beside the store, before it is overwritten. A store with another outcome than the stored one is
