@@ -62,7 +62,11 @@ fn seen_in(alloc: Global, bytes: &[u8]) -> Result<Beside, AllocError> {
 }
 
 /// What is under this name. What can't be read is something else.
-pub(crate) fn beside<R: Files>(rt: &R, alloc: Global, path: &str) -> Result<Beside, AllocError> {
+pub(crate) fn look_beside<R: Files>(
+    rt: &R,
+    alloc: Global,
+    path: &str,
+) -> Result<Beside, AllocError> {
     match rt.symlink_metadata(path) {
         Ok(found) if found.is_file() => {}
         Err(error) if error.kind() == ErrorKind::NotFound => return Ok(Beside::Nothing),

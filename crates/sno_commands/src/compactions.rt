@@ -1,6 +1,6 @@
 //! A store that replaces the one from which it goes on.
 
-use crate::beside::{Beside, beside};
+use crate::beside::{Beside, look_beside};
 use crate::faults::FAILED;
 use crate::store_names::{StoreNames, SystemCalls, names_of};
 use crate::stored::{Opened, Stores, opened, refuse};
@@ -40,7 +40,7 @@ pub(crate) fn old_store<R: Files + Stores, E: Write>(
     facts: &StoreFacts,
     errors: &mut E,
 ) -> Result<Option<Store<File>>, u8> {
-    match beside(rt, alloc, &names.old) {
+    match look_beside(rt, alloc, &names.old) {
         Ok(Beside::Nothing) => Ok(None),
         Ok(Beside::Store(old)) if facts.relation(&old) != Relation::Other => {
             Ok(Some(locked(rt, &names.old, errors)?))
@@ -74,7 +74,7 @@ fn make_way<R: Files + Stores, E: Write>(
     facts: &StoreFacts,
     errors: &mut E,
 ) -> Result<(), u8> {
-    match beside(rt, alloc, &names.new) {
+    match look_beside(rt, alloc, &names.new) {
         Ok(Beside::Nothing) => Ok(()),
         Ok(Beside::Cut) => discard(rt, alloc, names, errors),
         Ok(Beside::Store(new)) if facts.relation(&new) == Relation::Leftover => {

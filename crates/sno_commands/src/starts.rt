@@ -1,6 +1,6 @@
 //! What a crash has left beside a store is put right before a service begins.
 
-use crate::beside::{Beside, beside};
+use crate::beside::{Beside, look_beside};
 use crate::compactions::{discard, old_store, take_place};
 use crate::faults::FAILED;
 use crate::looks::has_its_outcomes;
@@ -125,7 +125,7 @@ fn newest<R: Files + Stores, E: Write>(
     let Some(facts) = facts_of(alloc, &store, errors)? else {
         return Ok(store);
     };
-    let relation = match beside(rt, alloc, &names.new) {
+    let relation = match look_beside(rt, alloc, &names.new) {
         Ok(Beside::Nothing) | Ok(Beside::Other) => Relation::Other,
         Ok(Beside::Cut) => Relation::Leftover,
         Ok(Beside::Store(new)) => facts.relation(&new),
