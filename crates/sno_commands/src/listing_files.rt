@@ -54,7 +54,7 @@ pub(crate) fn open_listing<R: Files>(
     };
     let opened = match rt.metadata(path) {
         Ok(found) if !found.is_file() => through(rt, path),
-        _ => look_beside(rt, alloc, path),
+        _ => beside(rt, alloc, path),
     };
     match opened {
         Ok(file) => Ok(file),
