@@ -135,7 +135,7 @@ class Socket:
 
     def feed(self) -> None:
         """Puts lines into the queue while there is room, and the client's rate allows it."""
-        if self._is_paused or self._is_gone or self._queue.is_full():
+        if self._is_paused or self._queue.is_closed or self._queue.is_full():
             return
         room = min(_AT_ONCE - len(self._queue.waiting), self._options.max_lines - self._under_way)
         count = 0

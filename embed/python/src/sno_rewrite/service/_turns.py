@@ -1,11 +1,11 @@
 """Whose line is next: each client has a queue, and the queues take turns at the desk, a line each.
 
-How many lines are at the desk at a time is bounded by a window. Lines that are there share a wait for the disk, so many should
-be; but a client that comes later waits for all of them, and a line may cost a million trials. Before its reply nobody knows
-what it costs. So the window doubles while replies come back quickly, and shrinks to what the desk does in 20 ms if it has taken
-longer; until they come, no further line is sent. What is measured is the processor's time of `sno serve`: a slow disk, or a
-busy machine, makes lines late too, but fewer of them at a time would not come sooner then. Each queue has a window of its
-own as well, so that a client begins with a few lines, however quick those of others are.
+How many lines are at the desk at a time is bounded by a window. The more are there, the more share a wait for the disk. But a
+client that comes later waits for all of them, and nobody knows what a line costs before its reply. So the window doubles
+while replies come back quickly. If the lines at the desk have taken more than 20 ms, no further one is sent before their
+replies, and the window shrinks to what the desk does in that time. What is measured is the processor's time of `sno serve`: a
+slow disk, or a busy machine, makes lines late too, but fewer of them at a time would not come sooner then. Each queue has a
+window of its own as well, so that a client begins with a few lines, however quick those of others are.
 
 What a client hasn't read and what its lines may bring back is counted before a line is sent on. Past its bound a client's next
 line waits. Past the bound for all clients each may have one line that it reads before the next one.
@@ -31,8 +31,8 @@ _MOST = 1_024
 _LEAST_MOST = 64
 _SECONDS_OF_LINE = 0.00005
 _CLIENTS = 8
-# Bytes of lines at the desk: as many as the pipe holds.
-_MOST_BYTES = 1_048_576
+# Bytes of lines at the desk and of what they may bring. One that may bring more counts half of this: others go with it.
+_MOST_BYTES = 4_194_304
 # Queues that are looked at again together, when less is unread.
 _RELEASED = 8
 
@@ -63,6 +63,10 @@ class Line:
     waits_since: float = 0.0
     is_large: bool = False
 
+    def size(self) -> int:
+        """The bytes that it and its reply count as while it is at the desk."""
+        return len(self.raw) + min(self.bound.most, _MOST_BYTES // 2)
+
 
 class Window:
     """How many lines may be at the desk."""
@@ -74,7 +78,7 @@ class Window:
         self._spent_before = self._since = self._wait = 0.0
 
     def begin(self, spent: Callable[[], float]) -> None:
-        """Begins anew, with a program that has spent so many seconds of a processor."""
+        """Begins anew, with a program; `spent` returns the seconds of a processor that it has had."""
         self.most, self._spent = _FIRST, spent
         self.mark(0.0)
 
@@ -226,13 +230,15 @@ class Turns:
             return
         now = asyncio.get_running_loop().time()
         while self._ring and len(self.under_way) < self.window.most:
-            queue = self._ring[0]
-            if self.under_way and self._bytes + len(queue.waiting[0].raw) > _MOST_BYTES:
-                break
-            self._ring.popleft()
+            queue = self._ring.popleft()
             queue.is_in_turn = False
-            if self._may_go(queue):
-                self._begin(queue, now)
+            if not self._may_go(queue):
+                continue
+            if self.under_way and self._bytes + queue.waiting[0].size() > _MOST_BYTES:
+                queue.is_in_turn = True
+                self._ring.appendleft(queue)
+                break
+            self._begin(queue, now)
 
     def refuse(self, queue: Queue) -> None:
         """Refuses the lines of a queue that wait, unless earlier ones have no reply yet: replies come in order."""
@@ -318,7 +324,7 @@ class Turns:
         if not self.under_way:
             self.window.mark(now)
         self.under_way.append(line)
-        self._bytes += len(line.raw)
+        self._bytes += line.size()
         queue.under_way += 1
         if line.is_large:
             self._has_large = True
@@ -338,7 +344,7 @@ class Turns:
         """Takes back what was counted for a line at the desk."""
         line.queue.under_way -= 1
         line.queue.expected -= line.bound.most
-        self._bytes -= len(line.raw)
+        self._bytes -= line.size()
         if line.is_large:
             self._has_large = False
         else:
