@@ -256,13 +256,14 @@ class Turns:
         is_quick = self.window.replied(len(lines), is_wanted, now)
         for line in lines:
             self._end(line)
+        # Those that were held before come before these.
+        self._release()
         for queue in {line.queue: None for line in lines}:
             if not is_quick:
                 queue.most = 1
             elif queue.waiting:
                 queue.most = min(2 * queue.most, self.window.most, self.window.most_of_one)
             self._enter(queue)
-        self._release()
 
     def lost(self) -> list[Line]:
         """The lines at the desk, which have no reply and get none."""
@@ -277,8 +278,8 @@ class Turns:
         """Goes on after a client has read."""
         if not queue.waiting:
             queue.feed()
-        self._enter(queue)
         self._release()
+        self._enter(queue)
         if self._ring:
             self.wake()
 
