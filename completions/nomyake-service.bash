@@ -2,7 +2,7 @@
 
 _nomyake_service() {
     local word="${COMP_WORDS[COMP_CWORD]}" previous="${COMP_WORDS[COMP_CWORD - 1]}"
-    local options=" --store --listen --unix --token-file --host --origin --program --trials --max-body --max-clients --max-rate --max-lines --max-lag --patience --look-trials --look-seconds --look-processes --help -h --version -V "
+    local options=" --store --listen --unix --token-file --host --origin --program --trials --max-body --max-clients --max-rate --max-lines --max-unread --max-unread-total --max-wait --max-lag --patience --look-trials --look-seconds --look-processes --help -h --version -V "
     local given index
     # In --trials=4, bash makes the equals sign a word of its own.
     if [ "$word" = "=" ]; then
@@ -16,6 +16,9 @@ _nomyake_service() {
         --max-clients) options="128 1024 10000" ;;
         --max-rate) options="1000 100000" ;;
         --max-lines) options="64 1024 4096" ;;
+        --max-unread) options="1048576 4194304 16777216" ;;
+        --max-unread-total) options="16777216 67108864 268435456" ;;
+        --max-wait) options="5 30 120" ;;
         --max-lag) options="1000 10000 100000" ;;
         --patience) options="5 20 60" ;;
         --look-trials) options="10000 200000 1000000" ;;

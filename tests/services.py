@@ -118,6 +118,10 @@ class Service:
         with urllib.request.urlopen(urllib.request.Request(self.url + path, headers=given), timeout=SECONDS) as response:
             return response.read().decode()
 
+    def health(self):
+        """What /healthz says, while it is 200."""
+        return json.loads(self.get("/healthz"))
+
     def metric(self, name):
         """The value of a metric, or None."""
         found = re.search(rf"^nomyake_{re.escape(name)} (\S+)$", self.get("/metrics"), re.MULTILINE)

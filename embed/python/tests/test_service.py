@@ -15,6 +15,7 @@ from sno_rewrite.service._lines import MOST_ENTRIES, entry_of, identity_of, inde
 from sno_rewrite.service._lines import outcome_of, refused, restored
 from sno_rewrite.service._metrics import Metrics
 from sno_rewrite.service._options import options_of
+from sno_rewrite.service._turns import Queue
 
 SOURCES = Path(__file__).resolve().parents[1] / "src"
 
@@ -128,17 +129,26 @@ class Run:
     def put(self, line: bytes) -> None:
         asyncio.get_running_loop().call_soon(self.reply, json.loads(line))
 
+    def spent(self) -> float:
+        return 0.0
+
     def reply(self, line: dict[str, int]) -> None:
         if self.has_ended:
+            return
+        self.give(line)
+        if self.left is not None:
+            self.left -= 1
+            if self.left == 0:
+                self.kill()
+
+    def give(self, line: dict[str, int]) -> None:
+        if "texts" in line:
+            self.take([b'{"id":%d,"texts":[]}' % line["id"]])
             return
         entries = [{"entry": index} for index in range(line["since"], min(self.entries, line["since"] + line["limit"]))]
         gone = {"first": self.first, "id": line["id"], "reason": "compacted"}
         reply = gone if line["since"] < self.first else {"entries": entries, "id": line["id"]}
         self.take([json.dumps(reply, separators=(",", ":")).encode()])
-        if self.left is not None:
-            self.left -= 1
-            if self.left == 0:
-                self.kill()
 
     def kill(self) -> None:
         if not self.has_ended:
@@ -176,7 +186,7 @@ class Restarts(unittest.IsolatedAsyncioTestCase):
         async with asyncio.timeout(5):
             while desk.state is not State.SERVING:
                 await asyncio.sleep(0.01)
-            while lines := await desk.page(len(found)):
+            while lines := await desk.page(Queue(desk.turns), len(found), 100):
                 found += [json.loads(line)["watched"]["entry"] for line in lines]
         self.assertEqual((found, desk.journal.next), (list(range(entries)), entries))
 
@@ -187,7 +197,7 @@ class Restarts(unittest.IsolatedAsyncioTestCase):
         while desk.state is not State.SERVING:
             async with asyncio.timeout(5):
                 with self.assertRaises(ConnectionError):
-                    await desk.page(0)
+                    await desk.page(Queue(desk.turns), 0, 100)
             await asyncio.sleep(0)
         await self.has_all(desk, 270)
 
@@ -207,10 +217,10 @@ class Restarts(unittest.IsolatedAsyncioTestCase):
         for entries in (100, 101, 107, 108, 250):
             desk, _ = await self.started((entries, None, 100))
             self.assertEqual((desk.journal.oldest, desk.journal.next), (100, entries))
-            lines = await desk.page(100)
+            lines = await desk.page(Queue(desk.turns), 100, 100)
             self.assertEqual(len(lines), min(100, entries - 100))
             with self.assertRaises(ConnectionError):
-                await desk.page(99)
+                await desk.page(Queue(desk.turns), 99, 100)
 
     async def test_entries_may_be_compacted_between_runs(self) -> None:
         desk, pipes = await self.started((250, None), (300, None, 270))

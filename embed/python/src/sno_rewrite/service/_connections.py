@@ -12,6 +12,7 @@ from aiohttp.web_protocol import RequestHandler
 from ._guards import Bucket
 from ._metrics import Metrics
 from ._options import Options
+from ._turns import Queue, Turns
 
 _FULL = (
     b"HTTP/1.1 503 Service Unavailable\r\nContent-Type: application/json\r\nRetry-After: 1\r\nConnection: close\r\n"
@@ -22,9 +23,13 @@ _FULL = (
 class Connection(RequestHandler):
     """A connection, with what its client may still send."""
 
-    def __init__(self, connections: Connections, server: web.Server, bucket: Bucket, **given: Any) -> None:
+    def __init__(
+        self, connections: Connections, server: web.Server, bucket: Bucket, queue: Queue, **given: Any
+    ) -> None:
         super().__init__(server, access_log=None, lingering_time=2.0, **given)
         self.bucket = bucket
+        # Its lines, of requests or of its WebSocket.
+        self.queue = queue
         self.waits_since: float | None = None
         self.unread = 0
         self._connections = connections
@@ -43,6 +48,7 @@ class Connection(RequestHandler):
     def connection_lost(self, exc: BaseException | None) -> None:
         if self._is_counted:
             self._connections.discard(self)
+        self.queue.close()
         super().connection_lost(exc)
 
     def waits(self) -> bool:
@@ -69,8 +75,8 @@ class Connection(RequestHandler):
 class Connections:
     """All connections. Those that keep the service waiting for too long are cut off."""
 
-    def __init__(self, options: Options, metrics: Metrics) -> None:
-        self._options, self._metrics = options, metrics
+    def __init__(self, options: Options, metrics: Metrics, turns: Turns) -> None:
+        self._options, self._metrics, self._turns = options, metrics, turns
         self._all: set[Connection] = set()
 
     def add(self, connection: Connection) -> bool:
@@ -91,7 +97,7 @@ class Connections:
         """A connection of this server."""
         bucket = Bucket(self._options.max_rate)
         given = {"loop": asyncio.get_running_loop(), "keepalive_timeout": self._options.patience}
-        return Connection(self, server, bucket, **given)
+        return Connection(self, server, bucket, Queue(self._turns), **given)
 
     async def watch(self) -> None:
         """Looks at all connections again and again."""

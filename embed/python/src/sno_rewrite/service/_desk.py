@@ -1,40 +1,29 @@
-"""The one desk that all clients share: lines go to `sno serve` in the order in which they come, and each reply goes
-back to the client whose line it is of."""
+"""The one desk that all clients share: lines go to `sno serve` in turn between clients, and each reply goes back to the
+client whose line it is of."""
 
 from __future__ import annotations
 
 import asyncio
 import json
-from collections import deque
 from contextlib import suppress
 from enum import Enum, auto
-from typing import Any, NamedTuple, Protocol
+from typing import Any, Protocol
 
 from ._journal import Journal
 from ._lines import entry_of, identity_of, index_in, numbered, outcome_of, refused, restored, written
 from ._metrics import Metrics
 from ._options import Options
 from ._pipe import Pipe
+from ._sizes import Sizes, captures_of
+from ._turns import Line, Owner, Queue, Turns
 
 UNKNOWN = "outcome unknown"
 NOT_PERFORMED = "not performed"
-# Entries that are kept for watchers, and lines that are under way, in bytes.
+# Entries that are kept for watchers, in bytes.
 _KEPT_BYTES = 33_554_432
-_CROWDED_BYTES = 16_777_216
-_CROWDED_LINES = 65_536
-# Entries of one page when old ones are read.
+# Entries that are read together after a restart.
 _PAGE = 100
 _FIRST_DELAY, _LAST_DELAY = 0.05, 5.0
-
-
-class Owner(Protocol):
-    """Whose line it is."""
-
-    def take(self, reply: bytes) -> None:
-        """Takes the reply to its next line."""
-
-    def wake(self) -> None:
-        """Is called once after all replies that came together."""
 
 
 class Watcher(Protocol):
@@ -54,31 +43,44 @@ class State(Enum):
     ENDED = auto()
 
 
-class _Line(NamedTuple):
-    number: int
-    owner: Owner
-    identity: bytes | None
-    began: float
-
-
 class Call:
-    """An owner that waits for the replies to all its lines."""
+    """An owner that waits for the replies to all its lines, or for those that come first."""
 
-    def __init__(self, count: int) -> None:
+    def __init__(self, count: int, queue: Queue) -> None:
         self._replies: list[bytes] = []
-        self._count = count
-        self._done: asyncio.Future[list[bytes]] = asyncio.get_running_loop().create_future()
+        self._left, self._size = count, 0
+        self._queue = queue
+        self._has_news = asyncio.Event()
 
     def take(self, reply: bytes) -> None:
         self._replies.append(reply)
+        self._size += len(reply)
+        self._left -= 1
 
     def wake(self) -> None:
-        if len(self._replies) == self._count and not self._done.done():
-            self._done.set_result(self._replies)
+        self._has_news.set()
+
+    def is_done(self) -> bool:
+        """Whether each line has its reply."""
+        return self._left == 0
 
     async def replies(self) -> list[bytes]:
-        self.wake()
-        return await self._done
+        """All replies, in order."""
+        while self._left:
+            await self._news()
+        return self._replies
+
+    async def some(self, least: int) -> list[bytes]:
+        """The next replies: all that are left, or at least this many bytes. They are fewer if further lines wait, since the
+        client may have to read these first."""
+        while self._left and self._size < least and (not self._replies or self._queue.under_way):
+            await self._news()
+        found, self._replies, self._size = self._replies, [], 0
+        return found
+
+    async def _news(self) -> None:
+        self._has_news.clear()
+        await self._has_news.wait()
 
 
 class StartFault(Exception):
@@ -93,7 +95,11 @@ class SharedDesk:
         self.journal = Journal(options.max_lag, _KEPT_BYTES)
         self.watchers: set[Watcher] = set()
         self._options, self._metrics = options, metrics
-        self._pending: deque[_Line] = deque()
+        limits = options.max_unread, options.max_unread_total
+        self._sizes = Sizes(self.journal, options.store, captures_of(options.document))
+        self.turns = Turns(self._sizes, limits, lambda: self.state is State.SERVING, self._send, self._refuse)
+        # The desk's own lines are in a queue of their own.
+        self._queue = Queue(self.turns)
         self._number = 0
         # The program that runs, or None from its end on: a line to one that has ended would never have its reply.
         self._pipe: Pipe | None = None
@@ -103,33 +109,32 @@ class SharedDesk:
 
     # Lines
 
-    def put(self, owner: Owner, line: str, members: dict[str, Any] | None, began: float) -> None:
-        """Sends a line without a line feed; the reply goes to its owner."""
-        identity = identity_of(members)
-        if self.state is not State.SERVING:
-            owner.take(self._not_performed(identity))
-            return
+    def put(self, queue: Queue, owner: Owner, line: str, members: dict[str, Any] | None, began: float) -> None:
+        """Puts a line without a line feed into a queue; the reply goes to its owner."""
         number = self._next_number()
         raw = line.encode(errors="replace")
         # What isn't an object goes as it is: `sno serve` says what is wrong with it.
         whole = raw + b"\n" if members is None else numbered(raw, number, members)
-        self._send(_Line(number, owner, identity, began), whole)
+        self.turns.put(Line(queue, owner, whole, number, members, identity_of(members), began))
 
-    async def call(self, lines: list[dict[str, Any]]) -> list[bytes]:
-        """The replies to lines with these members, in order."""
-        call, began = Call(len(lines)), asyncio.get_running_loop().time()
+    def ask(self, queue: Queue, lines: list[dict[str, Any]]) -> Call:
+        """Puts lines with these members into a queue, and returns who waits for the replies."""
+        call, began = Call(len(lines), queue), asyncio.get_running_loop().time()
         for members in lines:
-            self.put(call, json.dumps(members, separators=(",", ":")), members, began)
-        return await call.replies()
+            self.put(queue, call, json.dumps(members, separators=(",", ":")), members, began)
+        return call
 
-    def is_crowded(self) -> bool:
-        """Whether clients should wait before they send more."""
-        if len(self._pending) > _CROWDED_LINES:
-            return True
-        return self._pipe is not None and self._pipe.unwritten() > _CROWDED_BYTES
+    async def call(self, queue: Queue, lines: list[dict[str, Any]]) -> list[bytes]:
+        """The replies to lines with these members, in order."""
+        return await self.ask(queue, lines).replies()
 
-    def lines_under_way(self) -> int:
-        return len(self._pending)
+    def is_late(self) -> bool:
+        """Whether some line has waited longer than any may."""
+        return self.oldest_wait() > self._options.max_wait
+
+    def oldest_wait(self) -> float:
+        """The seconds of the line that has waited longest, for its turn or for its reply."""
+        return self.turns.oldest_wait(asyncio.get_running_loop().time())
 
     def pid(self) -> int | None:
         """The process of `sno serve`, if there is one."""
@@ -140,11 +145,14 @@ class SharedDesk:
         word = {State.SERVING: "up", State.STARTING: "down"}.get(self.state, "ending")
         return b'{"service":"%b","next":%d}' % (word.encode(), self.journal.next)
 
-    async def page(self, index: int) -> list[bytes]:
-        """Entries from this index on, as lines for those who watch. ConnectionError is raised unless the desk serves."""
+    async def page(self, queue: Queue, index: int, limit: int) -> list[bytes]:
+        """Entries from this index on, at most `limit`, as lines for those who watch. ConnectionError is raised unless the desk
+        serves."""
         if self.state is not State.SERVING:
             raise ConnectionError(NOT_PERFORMED)
-        return [b'{"watched":' + _compact(entry) + b"}" for entry in await self._entries(index, _PAGE)]
+        (reply,) = await self.call(queue, [{"since": index, "limit": limit}])
+        queue.read(len(reply))
+        return [b'{"watched":' + _compact(entry) + b"}" for entry in _entries_of(json.loads(reply))]
 
     # Start, restart, end
 
@@ -160,6 +168,7 @@ class SharedDesk:
     async def end(self) -> int:
         """Takes no more lines, waits for all replies, and ends the program; returns its status."""
         self.state = State.ENDING
+        self.turns.wake()
         if self._restarting:
             self._restarting.cancel()
         if self._pipe:
@@ -195,7 +204,9 @@ class SharedDesk:
             raise StartFault(None, f"{self._options.program}: {fault.strerror}") from None
         self._pipe = None if self._gone.is_set() else pipe
         try:
+            self.turns.window.begin(pipe.spent)
             await catch_up()
+            self._sizes.begin((await self._asked({"texts": True}))["texts"])
         except ConnectionError:
             pipe.kill()
             await self._gone.wait()
@@ -244,25 +255,25 @@ class SharedDesk:
 
     async def _first(self) -> int:
         """The index of the first entry that the store has."""
-        first: int = (await self._excerpt(0, 1)).get("first", 0)
+        first: int = (await self._asked({"since": 0, "limit": 1})).get("first", 0)
         return first
 
     async def _entries(self, index: int, limit: int) -> list[dict[str, Any]]:
-        members = await self._excerpt(index, limit)
-        if "entries" not in members:
-            raise ConnectionError(members.get("error", members.get("reason")))
-        entries: list[dict[str, Any]] = members["entries"]
-        return entries
+        return _entries_of(await self._asked({"since": index, "limit": limit}))
 
-    async def _excerpt(self, index: int, limit: int) -> dict[str, Any]:
+    async def _asked(self, members: dict[str, Any]) -> dict[str, Any]:
+        """The reply to a line of the desk's own, while no other lines are under way."""
         if self._pipe is None or self.state in (State.ENDING, State.ENDED):
             raise ConnectionError(NOT_PERFORMED)
-        call, number = Call(1), self._next_number()
-        line = _Line(number, call, None, asyncio.get_running_loop().time())
-        self._send(line, written({"since": index, "limit": limit}, number))
+        call, number = Call(1, self._queue), self._next_number()
+        now = asyncio.get_running_loop().time()
+        self.turns.send_now(Line(self._queue, call, written(members, number), number, None, None, now))
         (reply,) = await call.replies()
-        members: dict[str, Any] = json.loads(reply)
-        return members
+        self._queue.read(len(reply))
+        found: dict[str, Any] = json.loads(reply)
+        if "error" in found:
+            raise ConnectionError(found["error"])
+        return found
 
     # What the pipe calls
 
@@ -270,33 +281,43 @@ class SharedDesk:
         self._number += 1
         return self._number
 
-    def _send(self, line: _Line, raw: bytes) -> None:
+    def _send(self, line: Line) -> None:
         assert self._pipe
-        self._pending.append(line)
-        self._pipe.put(raw)
+        self._pipe.put(line.raw)
+
+    def _refuse(self, line: Line) -> None:
+        """Replies that a line isn't performed."""
+        self._metrics.lines["not performed"] += 1
+        _give(line, refused(NOT_PERFORMED, line.identity))
+        line.owner.wake()
 
     def _take(self, replies: list[bytes]) -> None:
         """Takes replies that came together: they are in the order of the lines, since it has one seat."""
         now, before = asyncio.get_running_loop().time(), self.journal.next
-        touched: dict[Owner, float] = {}
+        lines, under_way = [], self.turns.under_way
         for reply in replies:
-            if not self._pending:
+            if not under_way:
                 # A reply to no line: nobody knows whose the next one is.
                 self._break()
                 break
-            line = self._pending.popleft()
+            line = under_way.popleft()
+            lines.append(line)
             self._count(line, reply)
-            line.owner.take(restored(reply, line.number, line.identity))
-            touched[line.owner] = line.began
-        for owner in touched:
+            _give(line, restored(reply, line.number, line.identity))
+        if lines:
+            self.turns.replied(lines, now)
+            # Further lines go before anything else is done with these replies, so that the desk has work meanwhile.
+            self.turns.go_on()
+        for owner in {line.owner: None for line in lines}:
             owner.wake()
-        self._metrics.replied(now - min(touched.values(), default=now), len(replies))
+        self._metrics.replied(now - min((line.began for line in lines), default=now), len(replies))
         if self.journal.next != before:
             self._wake_watchers()
 
-    def _count(self, line: _Line, reply: bytes) -> None:
+    def _count(self, line: Line, reply: bytes) -> None:
         """Counts a reply, and gives its entry to the journal."""
         index = index_in(reply)
+        self._sizes.replied(line.bound, reply, index is not None)
         self._metrics.lines[outcome_of(reply) if index is None else "accepted"] += 1
         if index is None:
             return
@@ -313,24 +334,21 @@ class SharedDesk:
     def _ended(self, status: int | None) -> None:
         """The program has ended, and no further reply comes."""
         self._status, self._pipe = status, None
-        pending, self._pending = self._pending, deque()
+        pending = self.turns.lost()
         was_serving = self.state is State.SERVING
         if was_serving:
             self.state = State.STARTING
         unknown = {"since": self.journal.next}
         for line in pending:
             self._metrics.lines["unknown"] += 1
-            line.owner.take(refused(UNKNOWN, line.identity, **unknown))
-        for owner in {line.owner for line in pending}:
+            _give(line, refused(UNKNOWN, line.identity, **unknown))
+        for owner in {line.owner: None for line in pending}:
             owner.wake()
+        self.turns.go_on()
         self._gone.set()
         if was_serving:
             self._notify()
             self._restarting = asyncio.get_running_loop().create_task(self._restart())
-
-    def _not_performed(self, identity: bytes | None) -> bytes:
-        self._metrics.lines["not performed"] += 1
-        return refused(NOT_PERFORMED, identity)
 
     def _wake_watchers(self) -> None:
         for watcher in self.watchers:
@@ -341,6 +359,20 @@ class SharedDesk:
         for watcher in self.watchers:
             watcher.notice(line)
             watcher.wake()
+
+
+def _give(line: Line, reply: bytes) -> None:
+    """Gives a reply to the owner of its line, and counts it until the client has read it."""
+    line.queue.owe(len(reply))
+    line.owner.take(reply)
+
+
+def _entries_of(reply: dict[str, Any]) -> list[dict[str, Any]]:
+    """The entries that a reply has; ConnectionError is raised if it has none."""
+    if "entries" not in reply:
+        raise ConnectionError(reply.get("error", reply.get("reason")))
+    entries: list[dict[str, Any]] = reply["entries"]
+    return entries
 
 
 def _compact(entry: dict[str, Any]) -> bytes:

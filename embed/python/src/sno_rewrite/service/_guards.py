@@ -58,6 +58,11 @@ class Bucket:
         self._at = now
         return 0.0 if self._left >= 0 else -self._left / self._rate
 
+    def room(self) -> int:
+        """How many lines may be sent now."""
+        self.wait_for(0)
+        return max(0, int(self._left))
+
     def has(self, count: int) -> bool:
         """Takes lines if there are as many."""
         if self.wait_for(0) == 0.0 and self._left >= count:
@@ -70,6 +75,12 @@ def fault(kind: type[web.HTTPException], what: str, **headers: str) -> web.HTTPE
     """An error with its words as JSON."""
     given = {name.replace("_", "-"): value for name, value in headers.items()}
     return kind(text=json.dumps({"error": what}), content_type="application/json", headers=given)
+
+
+def protect(response: web.StreamResponse) -> None:
+    """Gives a response the headers that each one has."""
+    response.headers.update(_HEADERS)
+    response.headers.setdefault("Cache-Control", "no-store")
 
 
 class Guard:
@@ -90,8 +101,7 @@ class Guard:
             response = await self._served(request, handler)
             self._metrics.requests[response.status] += 1
             if not response.prepared:
-                response.headers.update(_HEADERS)
-                response.headers.setdefault("Cache-Control", "no-store")
+                protect(response)
             return response
 
         return guarded

@@ -5,14 +5,15 @@ from __future__ import annotations
 import json
 import re
 from collections.abc import Awaitable, Callable
+from contextlib import suppress
 from pathlib import Path
 from typing import Any
 
 from aiohttp import web
 
 from ._connections import Connection, Connections
-from ._desk import NOT_PERFORMED, UNKNOWN, SharedDesk, State
-from ._guards import Guard, body_of, fault
+from ._desk import NOT_PERFORMED, UNKNOWN, Call, SharedDesk, State
+from ._guards import Guard, body_of, fault, protect
 from ._lines import MOST_ENTRIES
 from ._looks import Busy, Looks
 from ._metrics import Metrics
@@ -23,6 +24,8 @@ _HERE = Path(__file__).parent
 _LONGEST_TEXT = 65_536
 _USUAL_ENTRIES = 100
 _JSON = "application/json"
+# From this many bytes on, the replies to a list are sent as they come.
+_LONG_LIST = 65_536
 Handler = Callable[[web.Request], Awaitable[web.StreamResponse]]
 
 _FILES = {
@@ -117,7 +120,8 @@ class Routes:
 
     def application(self) -> web.Application:
         """The application with all routes."""
-        application = web.Application(middlewares=[self._guard.middleware()], client_max_size=self._options.max_body)
+        middlewares = [_sent, self._guard.middleware()]
+        application = web.Application(middlewares=middlewares, client_max_size=self._options.max_body)
         for method, path, which in ROUTES:
             # A name may have slashes, which are written as they are or as %2F.
             matched = path.replace("{name}", "{name:.+}")
@@ -133,9 +137,10 @@ class Routes:
         return handler
 
     async def health(self, request: web.Request) -> web.Response:
-        """Whether the desk serves, and the index of its next entry."""
-        status = 200 if self._desk.state is State.SERVING else 503
-        return web.Response(status=status, body=self._desk.notice(), content_type=_JSON)
+        """Whether the desk serves, the index of its next entry, and how long lines wait."""
+        status = 200 if self._desk.state is State.SERVING and not self._desk.is_late() else 503
+        body = b'%b,"oldest_wait":%.3f}' % (self._desk.notice()[:-1], self._desk.oldest_wait())
+        return web.Response(status=status, body=body, content_type=_JSON)
 
     async def metrics(self, request: web.Request) -> web.Response:
         sockets = self._desk.watchers
@@ -145,21 +150,23 @@ class Routes:
             clients=self._connections.count(),
             sockets=len(sockets),
             watchers=sum(1 for socket in sockets if isinstance(socket, Socket) and socket.is_watching()),
-            lines_under_way=self._desk.lines_under_way(),
+            lines_under_way=len(self._desk.turns.under_way),
+            lines_waiting=self._desk.turns.waiting(),
+            unread_bytes=self._desk.turns.unread,
             looks_under_way=self._looks.under_way(),
         )
         return web.Response(text=text, headers={"Content-Type": "text/plain; version=0.0.4; charset=utf-8"})
 
     async def socket(self, request: web.Request) -> web.StreamResponse:
-        connection = self._connection(request)
+        connection = _connection(request)
         if self._desk.state is State.ENDING:
             raise fault(web.HTTPServiceUnavailable, NOT_PERFORMED, Retry_After="1")
-        socket = Socket(self._desk, self._options, self._metrics, connection.bucket)
+        socket = Socket(self._desk, self._options, self._metrics, connection.bucket, connection.queue)
         return await socket.serve(request, self._guard)
 
     async def texts(self, request: web.Request) -> web.Response:
         _known(request)
-        return _response(*await self._desk.call([{"texts": True}]))
+        return _response(await self._reply(request, {"texts": True}))
 
     async def text(self, request: web.Request) -> web.Response:
         """The characters of a text, with its version as ETag."""
@@ -167,7 +174,7 @@ class Routes:
         members: dict[str, Any] = {"read": request.match_info["name"]}
         if "at" in request.query:
             members["at"] = _number(request, "at", 0)
-        (reply,) = await self._desk.call([members])
+        reply = await self._reply(request, members)
         read = json.loads(reply)
         if "text" not in read:
             return _response(reply)
@@ -191,10 +198,10 @@ class Routes:
         members["bind"] = {self._new: body.decode()}
         version = _version_in(match)
         if version == -1:
-            return await self._unmatched(request.match_info["name"])
+            return await self._unmatched(request, request.match_info["name"])
         if version is not None:
             members["if_version"] = version
-        return self._put_response(*await self._desk.call([members]))
+        return self._put_response(await self._reply(request, members))
 
     def _put_response(self, reply: bytes) -> web.Response:
         entry = json.loads(reply)
@@ -204,9 +211,9 @@ class Routes:
             return _response(reply)
         return _response(reply, ETag=f'"{entry["version"] + 1}"')
 
-    async def _unmatched(self, name: str) -> web.Response:
+    async def _unmatched(self, request: web.Request, name: str) -> web.Response:
         """The response to an If-Match that no version has: the text with its version, or that there is no such text."""
-        (reply,) = await self._desk.call([{"read": name}])
+        reply = await self._reply(request, {"read": name})
         read = json.loads(reply)
         if "version" not in read:
             return _response(reply)
@@ -221,9 +228,9 @@ class Routes:
         }
         if "text" in request.query:
             members["text"] = request.query["text"]
-        return _response(*await self._desk.call([members]))
+        return _response(await self._reply(request, members))
 
-    async def statements(self, request: web.Request) -> web.Response:
+    async def statements(self, request: web.Request) -> web.StreamResponse:
         """Lines for `sno serve`: one, or a list of them."""
         given = await self._json(request)
         lines = given if isinstance(given, list) else [given]
@@ -231,19 +238,23 @@ class Routes:
             raise fault(web.HTTPBadRequest, "a statement is an object")
         if len(lines) > self._options.max_lines:
             raise fault(_TooLarge, f"at most {self._options.max_lines} statements in a list")
-        if not self._connection(request).bucket.has(len(lines)):
+        if not _connection(request).bucket.has(len(lines)):
             raise fault(web.HTTPTooManyRequests, "too many lines a second", Retry_After="1")
-        replies = await self._desk.call(lines) if lines else []
         if not isinstance(given, list):
-            return _response(replies[0])
-        return web.Response(body=b"[" + b",".join(replies) + b"]", content_type=_JSON)
+            return _response(await self._reply(request, given))
+        return await _list(request, self._desk.ask(_connection(request).queue, lines))
+
+    async def _reply(self, request: web.Request, members: dict[str, Any]) -> bytes:
+        """The reply to the line with these members."""
+        (reply,) = await self._desk.call(_connection(request).queue, [members])
+        return reply
 
     def _look(self, which: str) -> Handler:
         async def look(request: web.Request) -> web.Response:
             statement = await self._json(request)
             if not isinstance(statement, dict) or not isinstance(statement.get("text"), str):
                 raise fault(web.HTTPBadRequest, "a statement is an object with a text")
-            (reply,) = await self._desk.call([{"read": statement["text"]}])
+            reply = await self._reply(request, {"read": statement["text"]})
             text = json.loads(reply)
             if "text" not in text:
                 return _response(reply)
@@ -264,14 +275,46 @@ class Routes:
         except (ValueError, RecursionError):
             raise fault(web.HTTPBadRequest, "not JSON") from None
 
-    def _connection(self, request: web.Request) -> Connection:
-        connection = request.protocol
-        assert isinstance(connection, Connection)
-        return connection
-
 
 class _TooLarge(web.HTTPException):
     status_code = 413
+
+
+def _connection(request: web.Request) -> Connection:
+    connection = request.protocol
+    assert isinstance(connection, Connection)
+    return connection
+
+
+@web.middleware
+async def _sent(request: web.Request, handler: Handler) -> web.StreamResponse:
+    """Sends each response to its end: then its client has read what it had of the desk, or is gone."""
+    try:
+        response = await handler(request)
+        with suppress(ConnectionError):
+            await response.prepare(request)
+            await response.write_eof()
+        return response
+    finally:
+        _connection(request).queue.read_all()
+
+
+async def _list(request: web.Request, call: Call) -> web.StreamResponse:
+    """The replies to a list of lines. A long one is sent as they come, since a client has to read some before it gets more."""
+    replies = await call.some(_LONG_LIST)
+    if call.is_done():
+        return web.Response(body=b"[" + b",".join(replies) + b"]", content_type=_JSON)
+    response = web.StreamResponse(headers={"Content-Type": _JSON})
+    protect(response)
+    with suppress(ConnectionError):
+        await response.prepare(request)
+        front = b"["
+        while replies:
+            await response.write(front + b",".join(replies))
+            _connection(request).queue.read(sum(map(len, replies)))
+            front, replies = b",", await call.some(_LONG_LIST)
+        await response.write(b"]")
+    return response
 
 
 def _file(name: str, kind: str) -> Handler:

@@ -3,7 +3,7 @@
 from __future__ import annotations
 
 # The most bytes of one message with entries; one entry alone may have more.
-_MESSAGE = 262_144
+_MESSAGE = 65_536
 
 
 class Journal:
@@ -36,6 +36,13 @@ class Journal:
         self._messages.clear()
         if len(self._lines) > 2 * self._most or self._bytes > 2 * self._most_bytes:
             self._forget()
+
+    def size(self, index: int, limit: int) -> int | None:
+        """The bytes of at most `limit` entries from this index on, or None if not all of them are kept."""
+        if index < self.first:
+            return None
+        at = index - self.first
+        return sum(map(len, self._lines[at : at + limit]))
 
     def message(self, index: int) -> tuple[bytes, int]:
         """Entries from this index on in one message, and the index after them. All that watch share it."""

@@ -24,7 +24,7 @@ class Busy(Exception):
     """Too many looks are waiting."""
 
 
-def _definitions(document: Path) -> list[Any]:
+def definitions_of(document: Path) -> list[Any]:
     """The definitions of a document; `sno serve` has found it valid, or will not start."""
     try:
         members = json.loads(document.read_bytes())
@@ -39,7 +39,7 @@ class Looks:
 
     def __init__(self, options: Options) -> None:
         self._options = options
-        self._patterns = _definitions(options.document)
+        self._patterns = definitions_of(options.document)
         self._running = asyncio.Semaphore(options.look_processes)
         self._count = 0
         self._kinds = {"findings": self._findings, "preview": self._preview, "trace": self._trace}

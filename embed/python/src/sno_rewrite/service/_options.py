@@ -31,6 +31,9 @@ class Options:
     max_clients: int
     max_rate: int
     max_lines: int
+    max_unread: int
+    max_unread_total: int
+    max_wait: float
     max_lag: int
     patience: float
     look_trials: int
@@ -90,6 +93,9 @@ _LIMITS = (
     ("--max-clients", "N", _count(1, 100_000), 1_024, "connections at a time"),
     ("--max-rate", "N", _count(1, 10_000_000), 100_000, "lines a second of one connection"),
     ("--max-lines", "N", _count(1, 65_536), 1_024, "lines of one client that have no reply yet"),
+    ("--max-unread", "BYTES", _count(65_536, 1_073_741_824), 4_194_304, "bytes that a client may leave unread"),
+    ("--max-unread-total", "BYTES", _count(1_048_576, 999_999_999_999), 67_108_864, "bytes that all clients may leave unread"),
+    ("--max-wait", "SECONDS", _seconds, 30.0, "seconds that a line may wait before /healthz is 503"),
     ("--max-lag", "N", _count(1, 1_000_000), 10_000, "entries that a watcher may be late"),
     ("--patience", "SECONDS", _seconds, 20.0, "seconds until a client is cut off that doesn't send or read"),
     ("--look-trials", "N", _count(1, 1_000_000_000), 200_000, "trials of a preview"),

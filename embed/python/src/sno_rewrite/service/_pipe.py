@@ -3,6 +3,8 @@
 from __future__ import annotations
 
 import asyncio
+import ctypes
+import time
 from collections.abc import Callable
 from contextlib import suppress
 from typing import cast
@@ -37,6 +39,19 @@ class _Protocol(asyncio.SubprocessProtocol):
         self._ended(self._process.get_returncode() if self._process else None)
 
 
+def _clock_of(process: int) -> int:
+    """The clock that goes while a process has a processor, or one that always goes."""
+    clock = ctypes.c_int()
+    try:
+        found = ctypes.CDLL(None).clock_getcpuclockid(process, ctypes.byref(clock))
+        if found == 0:
+            time.clock_gettime(clock.value)
+            return clock.value
+    except (AttributeError, OSError):
+        pass
+    return time.CLOCK_MONOTONIC
+
+
 class Pipe:
     """One run of `sno serve`. `take` gets the lines that it writes, `ended` its status when nothing more comes."""
 
@@ -45,6 +60,7 @@ class Pipe:
         self._process: asyncio.SubprocessTransport | None = None
         self._input: asyncio.WriteTransport | None = None
         self._lines: list[bytes] = []
+        self._clock: int = time.CLOCK_MONOTONIC
 
     async def start(self, command: list[str]) -> None:
         """Starts the program, in a session of its own: a signal of the terminal reaches the service alone."""
@@ -54,6 +70,7 @@ class Pipe:
         )
         self._process = process
         self._input = cast(asyncio.WriteTransport, process.get_pipe_transport(0))
+        self._clock = _clock_of(process.get_pid())
         self._widen()
 
     @property
@@ -66,9 +83,14 @@ class Pipe:
             asyncio.get_running_loop().call_soon(self._flush)
         self._lines.append(line)
 
-    def unwritten(self) -> int:
-        """How many bytes the program hasn't taken yet."""
-        return self._input.get_write_buffer_size() if self._input else 0
+    def spent(self) -> float:
+        """The seconds that the program has had of a processor, from any moment on. If the system doesn't say, they are those
+        of a clock."""
+        try:
+            return time.clock_gettime(self._clock)
+        except OSError:
+            # It has ended.
+            return 0.0
 
     def end(self) -> None:
         """Ends the input, after what was put."""

@@ -28,8 +28,8 @@ class Server:
     def __init__(self, options: Options) -> None:
         self._options = options
         self._metrics = Metrics()
-        self._connections = Connections(options, self._metrics)
         self._desk = SharedDesk(options, self._metrics)
+        self._connections = Connections(options, self._metrics, self._desk.turns)
         self._listening: asyncio.Server | None = None
         self._runner: web.AppRunner | None = None
         self._watching: asyncio.Task[None] | None = None
