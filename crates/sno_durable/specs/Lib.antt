@@ -1,7 +1,9 @@
 pub mod Compacted
 pub mod Kept
 pub mod Past
+pub mod Performed
 pub mod Queued
 pub mod Records
 pub mod Sought
 pub mod Relations
+pub mod Stored

@@ -1,7 +1,8 @@
 //! What lines mean, and what is performed before the first of them.
-ghost use Rattle.std.specs.Prelude.{◌≡◌, ◌≤◌, ◌+◌, OnOk, length};
+ghost use Rattle.std.specs.Prelude.{◌≡◌, ◌≤◌, ◌+◌, true, IfOk, OnOk, length};
 ghost use Rattle.sno_statement.specs.Statement.{IsLimit};
 ghost use Rattle.sno_store.specs.Shown.{lines_left};
+ghost use Rattle.sno_durable.specs.Records.{record_text};
 
 use crate::DurableFault;
 use crate::past::Past;
@@ -10,7 +11,7 @@ use crate::sought::{Shown, reply_here};
 use sno_desk::{Naming, Seat, SubmitFault};
 use sno_document::{Mode, Rules};
 use sno_listing::Refusal;
-use sno_serve::{AtDesk, Content, line_in, refusal_in, submit};
+use sno_serve::{Asked, AtDesk, Content, line_in, refusal_in, submit};
 use sno_statement::Statement;
 use sno_store::LinesIter;
 use std::alloc::Global;
@@ -29,12 +30,23 @@ pub(crate) struct Reading {
 }
 
 /// The record of an entry: the line of its statement, and the text of its reply.
-pub(crate) fn record_of(alloc: Global, line: &[u8], reply: &[u8]) -> Result<Vec<u8>, DurableFault> {
+pub(crate) fn record_of(alloc: Global, line: &[u8], reply: &[u8]) -> Result<Vec<u8>, DurableFault>
+    ensures { IfOk result (λ b. b.items ≡ record_text line.now reply.now) }
+{
     let Ok(line) = str::from_utf8(line) else {
         return Err(DurableFault::Read);
     };
     let record = record_line(alloc, line, reply)?;
     Ok(record)
+}
+
+/// The number of the next statement, after a line that asks for this: a statement takes a number.
+pub(crate) fn number_after(number: u32, asked: &Asked) -> u32 {
+    if matches!(asked, Asked::Perform(_) | Asked::PerformAt(_, _)) {
+        number.saturating_add(1)
+    } else {
+        number
+    }
 }
 
 /// Whether a statement was refused since memory ran out: the next time it might be accepted.
@@ -72,7 +84,16 @@ pub(crate) fn begin<L: Naming, R: Wait>(
     Ok(())
 }
 
+/// Whether the two have the same bytes.
+fn is_same(one: &[u8], other: &[u8]) -> bool
+    ensures { result ≡ true → one.now ≡ other.now }
+{
+    one == other
+}
+
 impl Reading {
+    ghost use Rattle.sno_durable.specs.Performed.{AreRecords, IsRecordOf};
+
     /// Performs the statements of these records again. Returns the number of the next statement, which was `number`, and is higher
     /// than that of each record.
     pub(crate) fn replay_all<L: Naming, R: Wait>(
@@ -83,6 +104,7 @@ impl Reading {
         records: LinesIter<'_>,
     ) -> Result<u32, DurableFault>
         ensures again { OnOk result (length (lines_left records.entry) + seat.old.accepted ≡ seat.new.accepted) }
+        ensures records { OnOk result (AreRecords self.now L.opening seat.old.seen (lines_left records.entry) seat.new.seen) }
     {
         let mut next = number;
         let mut place: u64 = 1;
@@ -106,6 +128,7 @@ impl Reading {
         place: u64,
     ) -> Result<u32, DurableFault>
         ensures again { OnOk result (seat.new.accepted ≡ seat.old.accepted + 1) }
+        ensures record { OnOk result (IsRecordOf self.now L.opening seat.old.seen seat.new.seen stored.now) }
     {
         let Some(record) = record_in(at.alloc, stored)? else {
             return Err(DurableFault::Record(place));
@@ -124,7 +147,7 @@ impl Reading {
         let mut text = Vec::new(at.alloc);
         reply.put(at.alloc, &mut text)?;
         let again = record_line(at.alloc, &record.line, &text)?;
-        if again.as_slice() != stored {
+        if !is_same(&again, stored) {
             return Err(DurableFault::Outcome(place));
         }
         Ok(record.number)

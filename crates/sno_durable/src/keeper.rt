@@ -2,17 +2,20 @@
 ghost use Rattle.std.specs.Prelude.{◌≡◌, ◌+◌, [], OnOk, IsTrue, length};
 ghost use Rattle.sno_store.specs.Shown.{lines_in, lines_left};
 ghost use Rattle.sno_sealed.specs.Sealed.{is_clean};
+ghost use Rattle.sno_desk.specs.Turns.{position};
 ghost use Rattle.sno_durable.specs.Kept.{HasNoted, HasKept};
+ghost use Rattle.sno_durable.specs.Performed.{AreRecords, HasRecords, HasReplied};
+ghost use Rattle.sno_durable.specs.Stored.{HasStored};
 
 use crate::DurableFault;
-use crate::earlier::{ONE_TRY, Reading, begin, record_of};
+use crate::earlier::{ONE_TRY, Reading, begin, number_after, record_of};
 use crate::queue::MAX_WAITING;
 use crate::replies::{put_noted, put_reply, too_long};
 use crate::shelf::Shelf;
 use crate::sought::{Shown, reply_here};
 use sno_desk::{Naming, Seat};
 use sno_listing::Refusal;
-use sno_serve::{Asked, AtDesk, Intake, Next, line_in};
+use sno_serve::{AtDesk, Intake, Next, line_in};
 use sno_statement::Statement;
 use sno_store::{Lines, LinesIter};
 use sqlite_disk::Disk;
@@ -82,7 +85,8 @@ impl<D: Disk + Drop, I: Read + Drop, W: Write + Drop> Keeper<D, I, W> {
         waiting: &mut Waiting,
     ) -> Result<(), DurableFault>
         ensures noted { OnOk result (HasNoted waiting.old.records waiting.new.records seat.old.accepted seat.new.accepted) }
-        ensures same { self.new.shelf ≡ self.old.shelf }
+        ensures replied { OnOk result (HasReplied self.old.reading L.opening (position seat.old.accepted seat.old.seen) (position seat.new.accepted seat.new.seen) line.now (lines_in waiting.old.records) (lines_in waiting.new.records) waiting.old.replies.items waiting.new.replies.items) }
+        ensures same { (self.new.shelf ≡ self.old.shelf) × (self.new.reading ≡ self.old.reading) }
     {
         let mut read = line_in(
             at.alloc,
@@ -92,9 +96,7 @@ impl<D: Disk + Drop, I: Read + Drop, W: Write + Drop> Keeper<D, I, W> {
             line,
         )?;
         let ignored = read.take_ignored(at.alloc);
-        if matches!(&read.asked, Asked::Perform(_) | Asked::PerformAt(_, _)) {
-            self.number = self.number.saturating_add(1);
-        }
+        self.number = number_after(self.number, &read.asked);
         let before = seat.accepted();
         let Shown { reply, refused } = reply_here(at, seat, &self.reading.past, read, ONE_TRY)?;
         waiting.text.clear();
@@ -106,16 +108,24 @@ impl<D: Disk + Drop, I: Read + Drop, W: Write + Drop> Keeper<D, I, W> {
             reply,
             ignored,
         )?;
-        if let Some(refused) = refused {
-            if self.lists {
-                self.refused.push(refused)?;
-            }
-        }
+        self.keep(refused)?;
         if seat.accepted() == before {
             return Ok(());
         }
         let record = record_of(at.alloc, line, &waiting.text)?;
         waiting.records.push(&record)?;
+        Ok(())
+    }
+
+    /// Keeps what the listing has of a refused statement, if there will be one.
+    fn keep(&mut self, refused: Option<Refusal>) -> Result<(), DurableFault>
+        ensures same { (self.new.shelf ≡ self.old.shelf) × (self.new.reading ≡ self.old.reading) }
+    {
+        if let Some(refused) = refused {
+            if self.lists {
+                self.refused.push(refused)?;
+            }
+        }
         Ok(())
     }
 
@@ -127,7 +137,8 @@ impl<D: Disk + Drop, I: Read + Drop, W: Write + Drop> Keeper<D, I, W> {
         waiting: &mut Waiting,
     ) -> Result<bool, DurableFault>
         ensures noted { OnOk result (HasNoted waiting.old.records waiting.new.records seat.old.accepted seat.new.accepted) }
-        ensures same { self.new.shelf ≡ self.old.shelf }
+        ensures records { OnOk result (HasRecords self.old.reading L.opening (position seat.old.accepted seat.old.seen) (position seat.new.accepted seat.new.seen) (lines_in waiting.old.records) (lines_in waiting.new.records)) }
+        ensures same { (self.new.shelf ≡ self.old.shelf) × (self.new.reading ≡ self.old.reading) }
     {
         match self.intake.next(at.alloc)? {
             Next::End => Ok(false),
@@ -151,7 +162,8 @@ impl<D: Disk + Drop, I: Read + Drop, W: Write + Drop> Keeper<D, I, W> {
         waiting: &mut Waiting,
     ) -> Result<bool, DurableFault>
         ensures noted { OnOk result (HasNoted waiting.old.records waiting.new.records seat.old.accepted seat.new.accepted) }
-        ensures same { self.new.shelf ≡ self.old.shelf }
+        ensures records { OnOk result (HasRecords self.old.reading L.opening (position seat.old.accepted seat.old.seen) (position seat.new.accepted seat.new.seen) (lines_in waiting.old.records) (lines_in waiting.new.records)) }
+        ensures same { (self.new.shelf ≡ self.old.shelf) × (self.new.reading ≡ self.old.reading) }
     {
         for _ in 0..MAX_LINES {
             if !self.take(at, seat, waiting)? {
@@ -173,6 +185,8 @@ impl<D: Disk + Drop, I: Read + Drop, W: Write + Drop> Keeper<D, I, W> {
         waiting: &mut Waiting,
     ) -> Result<bool, DurableFault>
         ensures kept { OnOk result (HasKept self.old.shelf.store self.new.shelf.store seat.old.accepted seat.new.accepted) }
+        ensures stored { OnOk result (HasStored self.old.reading L.opening (position seat.old.accepted seat.old.seen) (position seat.new.accepted seat.new.seen) self.old.shelf.store self.new.shelf.store) }
+        ensures same { self.new.reading ≡ self.old.reading }
         ensures clean { OnOk result (IsTrue (is_clean self.new.shelf.store) → IsTrue (is_clean self.old.shelf.store)) }
     {
         waiting.clear(at.alloc);
@@ -189,6 +203,8 @@ impl<D: Disk + Drop, I: Read + Drop, W: Write + Drop> Keeper<D, I, W> {
         seat: &mut Seat<L>,
     ) -> Result<bool, DurableFault>
         ensures kept { OnOk result (HasKept self.old.shelf.store self.new.shelf.store seat.old.accepted seat.new.accepted) }
+        ensures stored { OnOk result (HasStored self.old.reading L.opening (position seat.old.accepted seat.old.seen) (position seat.new.accepted seat.new.seen) self.old.shelf.store self.new.shelf.store) }
+        ensures same { self.new.reading ≡ self.old.reading }
     {
         let mut waiting = Waiting::nothing(at.alloc);
         for _ in 0..u64::MAX {
@@ -209,7 +225,7 @@ impl<D: Disk + Drop, I: Read + Drop, W: Write + Drop> Keeper<D, I, W> {
         seat: &mut Seat<L>,
         statements: &[Arc<Statement>],
     ) -> Result<(), DurableFault>
-        ensures same { self.new.shelf ≡ self.old.shelf }
+        ensures same { (self.new.shelf ≡ self.old.shelf) × (self.new.reading ≡ self.old.reading) }
     {
         begin(at, seat, statements, &mut self.refused)?;
         if !self.lists {
@@ -226,7 +242,8 @@ impl<D: Disk + Drop, I: Read + Drop, W: Write + Drop> Keeper<D, I, W> {
         records: LinesIter<'_>,
     ) -> Result<(), DurableFault>
         ensures again { OnOk result (length (lines_left records.entry) + seat.old.accepted ≡ seat.new.accepted) }
-        ensures same { self.new.shelf ≡ self.old.shelf }
+        ensures records { OnOk result (AreRecords self.old.reading L.opening seat.old.seen (lines_left records.entry) seat.new.seen) }
+        ensures same { (self.new.shelf ≡ self.old.shelf) × (self.new.reading ≡ self.old.reading) }
     {
         self.number = self.reading.replay_all(at, seat, self.number, records)?;
         Ok(())

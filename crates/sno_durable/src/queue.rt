@@ -1,7 +1,7 @@
 //! What several seats leave for the disk, until one of them writes it.
-ghost use Rattle.std.specs.Prelude.{◌≡◌, ◌++◌, [], OnOk};
+ghost use Rattle.std.specs.Prelude.{◌≡◌, ◌++◌, [], false, true, OnOk, if◌then◌else◌};
 ghost use Rattle.sno_store.specs.Shown.{lines_in};
-ghost use Rattle.sno_durable.specs.Queued.{HasTaken, shown_at, waiting_at};
+ghost use Rattle.sno_durable.specs.Queued.{HasGiven, HasTaken, shown_at, waiting_at};
 
 use sno_book::MAX_ENTRIES;
 use sno_listing::Refusal;
@@ -97,7 +97,12 @@ pub(crate) struct Queue {
 
 impl Queue {
     /// Nothing was left yet.
-    pub(crate) fn new(alloc: Global, lists: bool) -> Queue {
+    pub(crate) fn new(alloc: Global, lists: bool) -> Queue
+        ensures empty { (result.records.entries ≡ []) × (result.replies.items ≡ []) × (result.refused.items ≡ []) }
+        ensures first { (result.next ≡ 0) × (result.bytes ≡ 0) }
+        ensures open { (result.is_open ≡ true) × (result.is_writing ≡ false) }
+        ensures lists { result.lists ≡ lists }
+    {
         Queue {
             records: BTreeMap::new(alloc),
             replies: Vec::new(alloc),
@@ -111,7 +116,9 @@ impl Queue {
     }
 
     /// Begins after the entries that there are, with what the listing has of statements before them.
-    pub(crate) fn begin(&mut self, entries: u64, refused: Vec<Refusal>) {
+    pub(crate) fn begin(&mut self, entries: u64, refused: Vec<Refusal>)
+        ensures { self.new ≡ record self.old { next = entries; refused = (if self.old.lists then refused else self.old.refused) } }
+    {
         self.next = entries;
         if self.lists {
             self.refused = refused;
@@ -168,6 +175,7 @@ impl Queue {
     /// Takes the records of the next entries, as far as their seats have left them.
     fn take_records(&mut self, records: &mut Lines) -> Result<(), QueueFault>
         ensures taken { OnOk result (HasTaken records.old records.new self.old.next self.new.next) }
+        ensures given { OnOk result (HasGiven self.old.records.entries self.new.records.entries self.old.next self.new.next (lines_in records.old) (lines_in records.new)) }
         ensures same { self.new.replies ≡ self.old.replies }
     {
         for _ in 0..self.records.len() {
@@ -187,7 +195,7 @@ impl Queue {
     fn take_replies(&mut self, alloc: Global, replies: &mut Vec<u8>) -> Result<(), AllocError>
         ensures shown { OnOk result (replies.new.items ≡ replies.old.items ++ shown_at self.old.next self.old.replies.items) }
         ensures waiting { OnOk result (self.new.replies.items ≡ waiting_at self.old.next self.old.replies.items) }
-        ensures same { self.new.next ≡ self.old.next }
+        ensures same { (self.new.next ≡ self.old.next) × (self.new.records ≡ self.old.records) }
     {
         let all = mem::replace(&mut self.replies, Vec::new(alloc));
         self.bytes = 0;
@@ -209,6 +217,7 @@ impl Queue {
     pub(crate) fn take(&mut self, alloc: Global, batch: &mut Batch) -> Result<bool, QueueFault>
         requires { (lines_in batch.old.records ≡ []) × (batch.old.replies.items ≡ []) }
         ensures taken { OnOk result (HasTaken batch.old.records batch.new.records self.old.next self.new.next) }
+        ensures given { OnOk result (HasGiven self.old.records.entries self.new.records.entries self.old.next self.new.next [] (lines_in batch.new.records)) }
         ensures shown { OnOk result (batch.new.replies.items ≡ shown_at self.new.next self.old.replies.items) }
         ensures waiting { OnOk result (self.new.replies.items ≡ waiting_at self.new.next self.old.replies.items) }
     {

@@ -6,6 +6,7 @@ ghost use Rattle.serde_json.specs.Data.{Data, depth};
 ghost use Rattle.serde_json.specs.Read.{read, max_depth};
 ghost use Rattle.serde_json.specs.View.{view};
 ghost use Rattle.serde_json.specs.Written.{compact_text};
+ghost use Rattle.sno_durable.specs.Past.{number_at};
 ghost use Rattle.sno_durable.specs.Records.{later_data, origin_data, past_data, record_data, record_text};
 
 use crate::past::Past;
@@ -168,7 +169,9 @@ fn value_of(alloc: Global, line: &[u8]) -> Result<Option<Value>, AllocError> {
 }
 
 /// A member that is a whole number.
-fn number_at(value: &Value, key: &str) -> Option<u64> {
+pub(crate) fn number_at(value: &Value, key: &str) -> Option<u64>
+    ensures { result ≡ number_at key.now (view value.now) }
+{
     value.get(key).and_then(Value::as_u64)
 }
 

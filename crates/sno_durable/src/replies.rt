@@ -1,4 +1,9 @@
 //! The lines that a client gets.
+ghost use Rattle.std.specs.Prelude.{OnOk, map};
+ghost use Rattle.serde_json.specs.View.{view};
+ghost use Rattle.sno_serve.specs.Contents.{content_data};
+ghost use Rattle.sno_serve.specs.Replies.{with_ignored};
+ghost use Rattle.sno_durable.specs.Performed.{AddsLine, IsText};
 
 use serde_json::{Map, Value, put};
 use sno_serve::{Content, with_ignored};
@@ -9,7 +14,9 @@ pub(crate) fn put_reply(
     alloc: Global,
     replies: &mut Vec<u8>,
     reply: &Value,
-) -> Result<(), AllocError> {
+) -> Result<(), AllocError>
+    ensures { OnOk result (AddsLine (view reply.now) replies.old.items replies.new.items) }
+{
     let line = reply.to_vec(alloc)?;
     replies.extend_from_slice(&line)?;
     replies.push(b'\n')?;
@@ -24,7 +31,9 @@ pub(crate) fn put_noted(
     text: &[u8],
     reply: Content,
     ignored: Vec<Value>,
-) -> Result<(), AllocError> {
+) -> Result<(), AllocError>
+    ensures { OnOk result (IsText (content_data reply) text.now → AddsLine (with_ignored (map view ignored.items) (content_data reply)) replies.old.items replies.new.items) }
+{
     if ignored.is_empty() {
         replies.extend_from_slice(text)?;
         replies.push(b'\n')?;

@@ -1,15 +1,19 @@
 //! Several seats over one store.
-ghost use Rattle.std.specs.Prelude.{◌≡◌, ◌≤◌, ◌+◌, IfOk, length, option_to_list};
+ghost use Rattle.std.specs.Prelude.{◌≡◌, ◌≤◌, ◌+◌, IfOk, MatchResult, None, Some, length, option_to_list};
 ghost use Rattle.sno_desk.specs.declared.desk.TheConstants.{MAX_TRIES};
+ghost use Rattle.sno_durable.specs.Queued.{index_after, index_shown};
+ghost use Rattle.sno_durable.specs.Records.{record_text};
+ghost use Rattle.sno_durable.specs.declared.faults.DurableFault.TheVariants.{Desk as NoDesk};
 
 use crate::DurableFault;
-use crate::earlier::{Reading, begin, record_of};
+use crate::earlier::{Reading, begin, number_after, record_of};
 use crate::queue::{Batch, Held, Noted, Queue};
+use crate::records::number_at;
 use crate::replies::{put_noted, put_reply, too_long};
 use crate::shelf::Shelf;
 use crate::sought::{Shown, reply_here};
 use sno_desk::{DeskWork, Naming, Seat};
-use sno_serve::{Asked, AtDesk, Content, Desk, Intake, Line, Next, line_in};
+use sno_serve::{AtDesk, Content, Desk, Intake, Line, Next, line_in};
 use sno_statement::Statement;
 use sno_store::Lines;
 use sqlite_disk::Disk;
@@ -48,23 +52,54 @@ pub(crate) struct Shared<D: Disk, I: Read, W: Write> {
     ghost valid: { (1 ≤ tries) × (tries ≤ MAX_TRIES) },
 }
 
-/// The index at the desk of the entry that a reply shows. `before` entries came before the desk's first one.
-fn index_in(reply: &Content, before: u64) -> Result<u64, DurableFault> {
-    let shown = match reply {
-        Content::Entry(_, receipt) => return Ok(receipt.index as u64),
-        Content::Value(value) => value.get("entry"),
-        Content::Entries(_, _) => None,
-    };
-    let Some(index) = shown.and_then(|index| index.as_u64()) else {
-        return Err(DurableFault::Desk);
-    };
-    match index.checked_sub(before) {
-        Some(index) => Ok(index),
+/// An index that was written, less how many entries came before the desk's first one.
+fn index_after(written: Option<u64>, before: u64) -> Result<u64, DurableFault>
+    ensures { MatchResult result (λ i. index_after before written ≡ Some i) (λ e. (e ≡ NoDesk) × (index_after before written ≡ None)) }
+{
+    match written {
+        Some(index) => {
+            if index < before {
+                return Err(DurableFault::Desk);
+            }
+            Ok(index - before)
+        }
         None => Err(DurableFault::Desk),
     }
 }
 
+/// The index at the desk of the entry that a reply shows. `before` entries came before the desk's first one.
+fn index_in(reply: &Content, before: u64) -> Result<u64, DurableFault>
+    ensures { MatchResult result (λ i. index_shown before reply.now ≡ Some i) (λ e. (e ≡ NoDesk) × (index_shown before reply.now ≡ None)) }
+{
+    match reply {
+        Content::Entry(_, receipt) => Ok(receipt.index as u64),
+        Content::Value(value) => index_after(number_at(value, "entry"), before),
+        Content::Entries(_, _) => Err(DurableFault::Desk),
+    }
+}
+
+/// The record of a line's entry, with the index that the reply shows.
+fn record_at(
+    alloc: Global,
+    line: &[u8],
+    reply: &Content,
+    text: &[u8],
+    before: u64,
+) -> Result<(u64, Vec<u8>), DurableFault>
+    ensures { IfOk result (λ r. (index_shown before reply.now ≡ Some r.0) × (r.1.items ≡ record_text line.now text.now)) }
+{
+    let index = index_in(reply, before)?;
+    let record = record_of(alloc, line, text)?;
+    Ok((index, record))
+}
+
 impl<D: Disk + Drop, I: Read + Drop, W: Write + Drop> Shared<D, I, W> {
+    ghost use Rattle.std.specs.Arc.{arc_value};
+    ghost use Rattle.std.specs.Option.{option_map};
+    ghost use Rattle.std.specs.Prelude.{ℕ};
+    ghost use Rattle.serde_json.specs.View.{view};
+    ghost use Rattle.sno_serve.specs.Asked.{asked_in, id_in};
+
     /// Takes a fault, if it is the first one, and closes the service.
     fn fail<R: Wait>(&self, rt: &R, fault: DurableFault) {
         let mut first = self.fault.lock(rt);
@@ -133,13 +168,13 @@ impl<D: Disk + Drop, I: Read + Drop, W: Write + Drop> Shared<D, I, W> {
         &self,
         at: &AtDesk<'_, L, R>,
         line: &[u8],
-    ) -> Result<Line, DurableFault> {
+    ) -> Result<Line, DurableFault>
+        ensures asked { IfOk result (λ l. (number : ℕ) × (option_map view l.id ≡ id_in line.now) × (l.asked ≡ asked_in (arc_value self.now.reading.rules) self.now.reading.mode number line.now)) }
+    {
         let mut number = self.numbers.lock(at.rt);
         let Reading { rules, mode, .. } = &self.reading;
         let line = line_in(at.alloc, rules, *mode, *number, line)?;
-        if matches!(&line.asked, Asked::Perform(_) | Asked::PerformAt(_, _)) {
-            *number = (*number).saturating_add(1);
-        }
+        *number = number_after(*number, &line.asked);
         Ok(line)
     }
 
@@ -163,8 +198,7 @@ impl<D: Disk + Drop, I: Read + Drop, W: Write + Drop> Shared<D, I, W> {
         let record = if seat.accepted() == before {
             None
         } else {
-            let index = index_in(&reply, past.entries)?;
-            Some((index, record_of(at.alloc, line, &text)?))
+            Some(record_at(at.alloc, line, &reply, &text, past.entries)?)
         };
         let mut bytes = Vec::new(at.alloc);
         put_noted(at.alloc, &mut bytes, &text, reply, ignored)?;

@@ -1,11 +1,15 @@
 //! A service over a store, from its start to its end.
-ghost use Rattle.std.specs.Prelude.{◌≡◌, ◌≤◌, [], true, IfErr, IfOk};
+ghost use Rattle.std.specs.Prelude.{◌≡◌, ◌≤◌, [], true, length, IfErr, IfOk, IsTrue, OnOk};
 ghost use Rattle.std.specs.Thread.{IsSend, IsSync};
 ghost use Rattle.sno_book.specs.Books.{view_of};
 ghost use Rattle.sno_book.specs.Views.{IsValid};
 ghost use Rattle.sno_statement.specs.Statement.{IsLimit};
+ghost use Rattle.sno_desk.specs.Turns.{position};
 ghost use Rattle.sno_desk.specs.declared.desk.TheConstants.{MAX_SEATS, MAX_TRIES};
 ghost use Rattle.sno_document.specs.Reads.{IsReady};
+ghost use Rattle.sno_sealed.specs.Sealed.{is_clean, Holds};
+ghost use Rattle.sno_store.specs.Shown.{lines_in};
+ghost use Rattle.sno_durable.specs.Stored.{HasBegun, HasGoneOn, HasPut, IsKept, IsOnly, later_lines};
 ghost use Rattle.sno_durable.specs.declared.faults.DurableFault.TheVariants.{Memory};
 
 use crate::DurableFault;
@@ -152,12 +156,37 @@ fn document_of(alloc: Global, bytes: &[u8], mode: Mode) -> Result<Document, Dura
     }
 }
 
-/// Puts the first line into a new store.
+/// Refuses a file that has something but no lines, unless it was cut while it was made: then nothing was ever shown. Another one is another
+/// program's.
+fn refuse_other<D: Disk + Drop>(
+    alloc: Global,
+    store: &mut Sealed<D>,
+    lines: &Lines,
+) -> Result<(), DurableFault>
+    ensures { OnOk result (HasPut store.old store.new []) }
+{
+    if !lines.is_empty() || !store.is_torn() {
+        return Ok(());
+    }
+    let tail = store.tail(alloc)?;
+    if !is_cut_first_line(&tail) {
+        return Err(DurableFault::Format);
+    }
+    Ok(())
+}
+
+/// Puts the first line into a store that was opened with these lines, if it has none.
 fn begin_store<D: Disk + Drop>(
     alloc: Global,
     store: &mut Sealed<D>,
+    lines: &Lines,
     origin: &Origin,
-) -> Result<(), DurableFault> {
+) -> Result<(), DurableFault>
+    ensures { OnOk result (HasBegun origin.now (lines_in lines.now) store.old store.new) }
+{
+    if !lines.is_empty() {
+        return Ok(());
+    }
     let Ok(text) = str::from_utf8(&origin.document) else {
         return Err(DurableFault::Document(DocumentFault::NotJson));
     };
@@ -182,7 +211,10 @@ fn at_seat<L: Naming, D: Disk + Drop, I: Read + Drop, W: Write + Drop, R: Wait>(
     seat: &mut Seat<L>,
     keeper: &mut Keeper<D, I, W>,
     earlier: Earlier<'_>,
-) -> Result<Ended, DurableFault> {
+) -> Result<Ended, DurableFault>
+    ensures gone { IfOk result (λ e. HasGoneOn keeper.old.reading L.opening e.first (later_lines (lines_in earlier.entry.lines)) (position seat.new.accepted seat.new.seen) keeper.old.shelf.store keeper.new.shelf.store) }
+    ensures same { keeper.new.reading ≡ keeper.old.reading }
+{
     let Earlier { statements, lines } = earlier;
     keeper.begin(at, seat, statements)?;
     let first = seat.accepted();
@@ -193,6 +225,19 @@ fn at_seat<L: Naming, D: Disk + Drop, I: Read + Drop, W: Write + Drop, R: Wait>(
     drop(lines);
     let more = keeper.serve(at, seat)?;
     Ok(Ended { first, more })
+}
+
+/// Works at the only one of these seats.
+fn at_only_seat<L: Naming, D: Disk + Drop, I: Read + Drop, W: Write + Drop, R: Wait>(
+    at: &AtDesk<'_, L, R>,
+    seats: &mut [Seat<L>],
+    keeper: &mut Keeper<D, I, W>,
+    earlier: Earlier<'_>,
+) -> Result<Ended, DurableFault>
+    requires one { length seats.old ≡ 1 }
+    ensures gone { IfOk result (λ e. IsOnly (λ s. HasGoneOn keeper.old.reading L.opening e.first (later_lines (lines_in earlier.entry.lines)) (position s.accepted s.seen) keeper.old.shelf.store keeper.new.shelf.store) seats.new) }
+{
+    at_seat(at, &mut seats[0], keeper, earlier)
 }
 
 /// Opens a desk with this blank, works at its only seat, and closes it.
@@ -211,6 +256,7 @@ fn at_named_desk<L: Naming, D: Disk + Drop, I: Read + Drop, W: Write + Drop, R: 
     requires empty { book.journal ≡ [] }
     ensures opening { IfOk result (λ left. left.0.opening ≡ book.opening) }
     ensures valid { IfOk result (λ left. IsValid (view_of left.0)) }
+    ensures gone { IfOk result (λ left. IfOk left.1 (λ e. HasGoneOn keeper.old.reading book.opening e.first (later_lines (lines_in earlier.entry.lines)) (position (length left.0.journal) left.0.journal) keeper.old.shelf.store keeper.new.shelf.store)) }
 {
     let (desk, mut seats) = match Desk::<L>::new(rt, alloc, blank, book, 1) {
         Ok(made) => made,
@@ -221,10 +267,7 @@ fn at_named_desk<L: Naming, D: Disk + Drop, I: Read + Drop, W: Write + Drop, R: 
         alloc,
         desk: &desk,
     };
-    let ended = match seats.first_mut() {
-        Some(seat) => at_seat(&at, seat, keeper, earlier),
-        None => Err(DurableFault::Desk),
-    };
+    let ended = at_only_seat(&at, seats.as_mut_slice(), keeper, earlier);
     match close(rt, desk, seats) {
         Ok(book) => Ok((book, ended)),
         Err(_) => Err(DurableFault::Desk),
@@ -259,12 +302,12 @@ fn beginning_of<D: Disk + Drop>(
     alloc: Global,
     opened: (Sealed<D>, Lines),
     given: Given,
-) -> Result<Begun<D>, DurableFault> {
+) -> Result<Begun<D>, DurableFault>
+    ensures begun { IfOk result (λ b. HasBegun b.origin (lines_in opened.1) opened.0 b.store) }
+    ensures lines { IfOk result (λ b. b.lines ≡ opened.1) }
+{
     let (mut store, lines) = opened;
-    // A file that has something but no lines is another program's, unless it was cut while it was made: then nothing was ever shown.
-    if lines.is_empty() && store.is_torn() && !is_cut_first_line(&store.tail(alloc)?) {
-        return Err(DurableFault::Format);
-    }
+    refuse_other(alloc, &mut store, &lines)?;
     let most = given.most.unwrap_or(u64::MAX);
     let lists = given.lists;
     let origin = origin_of(alloc, &lines, given)?;
@@ -280,9 +323,7 @@ fn beginning_of<D: Disk + Drop>(
         book,
         statements,
     } = document_of(alloc, &origin.document, mode)?;
-    if lines.is_empty() {
-        begin_store(alloc, &mut store, &origin)?;
-    }
+    begin_store(alloc, &mut store, &lines, &origin)?;
     let (past, number) = beginning(alloc, &origin, statements.len() as u32)?;
     let reading = Reading { rules, mode, past };
     Ok(Begun {
@@ -332,6 +373,7 @@ pub fn serve_durably<D: Disk + Drop, I: Read + Drop, W: Write + Drop, R: Wait>(
     client: Client<I, W>,
 ) -> Result<Kept<D, I, W>, DurableFault>
     ensures valid { IfOk result (λ k. IsValid (view_of k.book)) }
+    ensures kept { IfOk result (λ k. IfOk k.ended (λ e. IsTrue (is_clean k.store) → Holds opened.0 (lines_in opened.1) → IsKept k.origin k.book.opening k.book.journal e.first (lines_in opened.1) opened.0 k.store)) }
 {
     let Begun {
         store,
@@ -380,7 +422,8 @@ fn left_by<D: Disk + Drop, I: Read + Drop, W: Write + Drop>(
     book: Book,
     ended: Result<Ended, DurableFault>,
 ) -> Kept<D, I, W>
-    ensures { result.book ≡ book }
+    ensures book { result.book ≡ book }
+    ensures rest { (result.store ≡ keeper.shelf.store) × (result.origin ≡ origin) × (result.ended ≡ ended) }
 {
     let Keeper {
         shelf: Shelf { store, outlet },
@@ -436,6 +479,7 @@ pub fn serve_durably_at<
     requires few { (1 ≤ seats.count) × (seats.count ≤ MAX_SEATS) }
     requires tries { (1 ≤ seats.tries) × (seats.tries ≤ MAX_TRIES) }
     ensures valid { IfOk result (λ k. IsValid (view_of k.book)) }
+    ensures kept { seats.count ≡ 1 → IfOk result (λ k. IfOk k.ended (λ e. IsTrue (is_clean k.store) → Holds opened.0 (lines_in opened.1) → IsKept k.origin k.book.opening k.book.journal e.first (lines_in opened.1) opened.0 k.store)) }
 {
     if seats.count == 1 {
         return serve_durably(rt, alloc, opened, given, client);

@@ -1,6 +1,7 @@
 //! What a line asks of a desk whose numbers begin at 0, and its reply as the client is shown it.
-ghost use Rattle.std.specs.Prelude.{◌≡◌, ◌≤◌, ◌⊎◌, ◌+◌, IfOk};
+ghost use Rattle.std.specs.Prelude.{◌≡◌, ◌≤◌, ◌⊎◌, ◌+◌, IfOk, OnOk};
 ghost use Rattle.std.specs.Option.{option_map};
+ghost use mathlib.Core.List.{IsPrefix as Begins};
 ghost use Rattle.serde_json.specs.View.{view};
 ghost use Rattle.sno_desk.specs.declared.desk.TheConstants.{MAX_TRIES};
 ghost use Rattle.sno_durable.specs.Past.{shown, version_of};
@@ -106,6 +107,7 @@ fn shown_here(
 
 /// Does what a line asks for at a seat, as [`sno_serve::reply_to`] does, with numbers that go on from what came before: indices of
 /// entries and versions of texts. `tries` is from 1 to 1,000.
+#[tactic(auto, using(sno_published::proofs::Prefixes::prefix_self))]
 pub(crate) fn reply_here<L: Naming, R: Wait>(
     at: &AtDesk<'_, L, R>,
     seat: &mut Seat<L>,
@@ -115,6 +117,7 @@ pub(crate) fn reply_here<L: Naming, R: Wait>(
 ) -> Result<Shown, AllocError>
     requires { (1 ≤ tries) × (tries ≤ MAX_TRIES) }
     ensures replied { IfOk result (λ a. IsRepliedOn past.now.entries (view past.now.versions) tries L.opening seat.old.seen seat.new.seen (option_map view line.id) line.asked (content_data a.reply) a.refused) }
+    ensures begins { OnOk result (Begins seat.old.seen seat.new.seen) }
     ensures counted { IfOk result (λ a. (seat.new.accepted ≡ seat.old.accepted) ⊎ (seat.new.accepted ≡ seat.old.accepted + 1)) }
 {
     let AtDesk { rt, alloc, desk } = *at;

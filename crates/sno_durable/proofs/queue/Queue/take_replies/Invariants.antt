@@ -9,4 +9,5 @@ invariant-loop-held l = record {
   shown : l.replies.items ++ shown_at l.fn.self.next (into_iter_items l.held-iterator) ≡ l.fn.replies.items ++ shown_at l.fn.self.next l.fn.self.replies.items;
   waiting : l.self.replies.items ++ waiting_at l.fn.self.next (into_iter_items l.held-iterator) ≡ waiting_at l.fn.self.next l.fn.self.replies.items;
   next : l.self.next ≡ l.fn.self.next;
+  records : l.self.records ≡ l.fn.self.records;
 }
