@@ -49,8 +49,8 @@ module _ {D : Type 0} {g : Ghosts D} where
     pub joined : lines ++ news ≡ first ∷ later_lines lines
     pub put : HasPut old new news
 
-  -- after so many entries the earlier records were performed again, and the records of further entries have come to the store: together those
-  -- of all entries that were accepted since
+  -- after this number of entries the earlier records were performed again, and the records of further entries have come to the store: together
+  -- those of all entries that were accepted since
   pub record HasGoneOn (reading : Reading) (opening : Opening) (first : ℕ) (earlier : List (List ℕ)) (after : Position) (old new : Sealed D g) : Type 0 where
     pub news : List (List ℕ)
     pub counted : after.accepted ≡ first + length (earlier ++ news)
