@@ -5,6 +5,7 @@ pub mod Meaning
 pub mod Steps
 pub mod Leaves
 pub mod Limits
+pub mod Passing
 pub mod Plans
 pub mod Code
 pub mod Sources

@@ -31,10 +31,11 @@ pub struct Code<'a> {
 impl<'a> Model for Code<'a> {
     ghost use Rattle.sno_pattern.specs.Tree.{tree_of};
     ghost use Rattle.std.specs.Prelude.{◌≤◌, IfSome};
-    ghost use Rattle.sno_machine.specs.Beginnings.{AreBeginnings, IsRunStart, cost};
+    ghost use Rattle.sno_machine.specs.Beginnings.{IsRunStart};
+    ghost use Rattle.sno_machine.specs.Passing.{AreBeginnings, cost};
     ghost use Rattle.sno_machine.specs.Code.{IsCompiled};
     ghost use Rattle.sno_machine.specs.Sources.{Source, source_code};
-    ghost use Rattle.sno_machine.specs.declared.starts.heads.TheConstants.{MAX_HEADS};
+    ghost use Rattle.sno_machine.specs.declared.starts.fronts.TheConstants.{MAX_FRONTS};
 
     ghost Value = { Source };
 
@@ -43,7 +44,7 @@ impl<'a> Model for Code<'a> {
     ghost view = { λ s. record { bodies = s.compiled.rules.now.bodies; pattern = tree_of s.compiled.pattern.now } };
 
     ghost invariant = { λ s. IsCompiled s.compiled.rules.now.bodies (tree_of s.compiled.pattern.now) s.compiled.nodes
-        × AreBeginnings s.compiled.rules.now.bodies (tree_of s.compiled.pattern.now) s.compiled.beginnings × (cost s.compiled.beginnings ≤ MAX_HEADS)
+        × AreBeginnings s.compiled.rules.now.bodies (tree_of s.compiled.pattern.now) s.compiled.beginnings × (cost s.compiled.beginnings ≤ MAX_FRONTS)
         × IfSome s.compiled.run (IsRunStart s.compiled.rules.now.bodies (tree_of s.compiled.pattern.now)) };
 }
 

@@ -124,6 +124,10 @@
 //! match does nothing but one trial for each head. Such starts are passed over together: they are sought as bytes or in a
 //! [table](starts::head_tables::HeadTable), and their trials are spent at once.
 //!
+//! A literal of several characters says more than its first one. Where alternatives begin with such words, a start at which a first
+//! character is found is passed over too if none of the words is there. `POS(n)` has no head, but past the cursor n it never matches,
+//! and costs its trial. Words and places are sought by a [`FrontSearch`](starts::front_search::FrontSearch).
+//!
 //! If a match begins with `SPAN`, it ends its first part at one cursor from wherever in a run it begins. If the primitive that comes
 //! next fails there, each start in that run fails after two trials. So after a first start has failed, such runs are passed over as
 //! a whole ([`RunStart`](starts::run_starts::RunStart)).
@@ -171,10 +175,14 @@
 //! | `run/known` | where the runs of some sets end, and where `BAL` first ends |
 //! | `run/learnt` | what was learnt of the text |
 //! | `run/search` | the outcome of a match |
-//! | `starts/heads` | the characters with which a match can begin |
+//! | `starts/fronts` | the leaves with which a match can begin: heads, words, and the places of `POS` |
+//! | `starts/heads` | the characters with which a leaf can begin |
 //! | `starts/needles` | few heads, which are sought together |
 //! | `starts/head_tables` | many heads, as a table of characters |
 //! | `starts/unmarking` | the characters of a head in such a table |
+//! | `starts/sought` | heads that are sought, few or many |
+//! | `starts/words` | literals of more than one character |
+//! | `starts/front_search` | the search for words, and past the places of `POS` |
 //! | `starts/beginnings` | what a match can begin with |
 //! | `starts/run_starts` | starts within a run at whose end the match fails |
 //! | `starts/passing` | starts at which no match can begin are passed over |

@@ -191,6 +191,65 @@ fn each_start_that_is_passed_over_costs_a_trial(rt: HostRuntime) -> Result<(), F
     Ok(())
 }
 
+// The first start takes three trials: `POS(0)` matches, `'ab'` after it doesn't, nor does `','`. The next two fail after one trial for
+// each alternative. The last one takes three.
+#[test]
+fn a_start_past_the_place_of_pos_costs_its_trials(rt: HostRuntime) -> Result<(), Fail> {
+    let found = limited_on(rt.alloc(), "(POS(0) | ',') 'ab'", "xyz,ab", 10)?;
+    check_limit(&rt, &found, (3, 6));
+    Ok(())
+}
+
+// Each `POS` matches at its own place alone. The starts take 2, 3, 2 and 2 trials.
+#[test]
+fn each_place_of_pos_is_a_start(rt: HostRuntime) -> Result<(), Fail> {
+    let found = limited_on(rt.alloc(), "(POS(3) | POS(1)) 'b'", "aaabb", 9)?;
+    check_limit(&rt, &found, (3, 4));
+    Ok(())
+}
+
+// Six starts fail after a trial for each word, two of them before the first letters of a word. The seventh finds the first word.
+#[test]
+fn a_start_without_a_word_costs_a_trial_for_each(rt: HostRuntime) -> Result<(), Fail> {
+    let found = limited_on(rt.alloc(), "'tod' | 'fix' | 'xyz'", "to fi todo", 19)?;
+    check_limit(&rt, &found, (6, 9));
+    Ok(())
+}
+
+// At the first start `'ab'` is there, but no `'z'` after it. The starts take 3, 2, 2 and 3 trials.
+#[test]
+fn a_word_that_leads_nowhere_is_passed(rt: HostRuntime) -> Result<(), Fail> {
+    let found = limited_on(rt.alloc(), "('ab' | 'cd') 'z'", "abacdz", 10)?;
+    check_limit(&rt, &found, (3, 6));
+    Ok(())
+}
+
+// The first two starts take two trials each, and the third one is found by the set.
+#[test]
+fn a_set_beside_a_word_is_a_start(rt: HostRuntime) -> Result<(), Fail> {
+    let found = limited_on(rt.alloc(), "ANY('xy') | 'ab'", "aaxb", 5)?;
+    check_limit(&rt, &found, (2, 3));
+    Ok(())
+}
+
+// 'w10' | 'w11' | .. | 'w79'
+fn seventy_words(alloc: Global) -> Result<String, Fail> {
+    let mut words = format!(in alloc; "'w10'")?;
+    for number in 11..80 {
+        words = format!(in alloc; "{words} | 'w{number}'")?;
+    }
+    Ok(words)
+}
+
+// The first start has the beginning of a word, and the second one none. Both take 70 trials, and so does the last word at the third.
+#[test]
+fn seventy_words_are_sought_together(rt: HostRuntime) -> Result<(), Fail> {
+    let words = seventy_words(rt.alloc())?;
+    let found = limited_on(rt.alloc(), words.as_str(), "w1w79", 210)?;
+    check_limit(&rt, &found, (2, 5));
+    Ok(())
+}
+
 // Each of the three rounds takes three trials, one of them for `RPOS(0)` before it. The last trial is for `RPOS(0)` after them.
 #[test]
 fn each_round_that_is_passed_costs_its_trials(rt: HostRuntime) -> Result<(), Fail> {

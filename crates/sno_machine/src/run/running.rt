@@ -4,10 +4,11 @@ ghost use Rattle.std.specs.List.{flat_map};
 ghost use Rattle.sno_pattern.specs.Tree.{tree_of};
 ghost use Rattle.sno_pattern.specs.Outcome.{tried_from};
 ghost use Rattle.sno_pattern.specs.declared.byte_texts.TheConstants.{MAX_BYTES};
-ghost use Rattle.sno_machine.specs.Beginnings.{AreBeginnings, IsRunStart, cost};
+ghost use Rattle.sno_machine.specs.Beginnings.{IsRunStart};
+ghost use Rattle.sno_machine.specs.Passing.{AreBeginnings, cost};
 ghost use Rattle.sno_machine.specs.Code.{IsCompiled};
 ghost use Rattle.sno_machine.specs.Endings.{match_by, up_to, Overspent};
-ghost use Rattle.sno_machine.specs.declared.starts.heads.TheConstants.{MAX_HEADS};
+ghost use Rattle.sno_machine.specs.declared.starts.fronts.TheConstants.{MAX_FRONTS};
 
 use crate::compiling::nodes::{Compiled, Nodes};
 use crate::faults::MatchFault;
@@ -70,7 +71,7 @@ pub fn try_starts<'a>(
     requires known { learnt.old ≡ text.now }
     requires deep { length code.now.rules.now.bodies ≤ most }
     requires begin { AreBeginnings code.now.rules.now.bodies (tree_of code.now.pattern.now) code.now.beginnings }
-    requires cheap { cost code.now.beginnings ≤ MAX_HEADS }
+    requires cheap { cost code.now.beginnings ≤ MAX_FRONTS }
     requires run { IfSome code.now.run (IsRunStart code.now.rules.now.bodies (tree_of code.now.pattern.now)) }
     ensures found { IfOk result (λ hit. match_by progress.old (flat_map (tried_from text.now code.now.rules.now.bodies most (tree_of code.now.pattern.now)) (up_to first last)) ≡ (progress.new, hit)) }
     ensures known { learnt.new ≡ text.now }

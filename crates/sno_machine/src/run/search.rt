@@ -5,11 +5,12 @@ ghost use Rattle.sno_pattern.specs.Tree.{tree_of, refs_below};
 ghost use Rattle.sno_pattern.specs.Results.{enough_depth};
 ghost use Rattle.sno_pattern.specs.Outcome.{outcome_from, starts_from, tried_from, trials_from};
 ghost use Rattle.sno_pattern.specs.declared.byte_texts.TheConstants.{MAX_BYTES};
-ghost use Rattle.sno_machine.specs.Beginnings.{AreBeginnings, IsRunStart, cost};
+ghost use Rattle.sno_machine.specs.Beginnings.{IsRunStart};
+ghost use Rattle.sno_machine.specs.Passing.{AreBeginnings, cost};
 ghost use Rattle.sno_machine.specs.Code.{IsCompiled};
 ghost use Rattle.sno_machine.specs.Endings.{found_of, match_by, up_to, Overspent};
 ghost use Rattle.sno_machine.specs.declared.faults.MatchFault.TheVariants.{TooManyTrials};
-ghost use Rattle.sno_machine.specs.declared.starts.heads.TheConstants.{MAX_HEADS};
+ghost use Rattle.sno_machine.specs.declared.starts.fronts.TheConstants.{MAX_FRONTS};
 
 use crate::compiling::nodes::Compiled;
 use crate::faults::MatchFault;
@@ -44,7 +45,7 @@ pub fn search<'a>(
     requires known { learnt.old ≡ text.now }
     requires compiled { IsCompiled code.now.rules.now.bodies (tree_of code.now.pattern.now) code.now.nodes }
     requires begin { AreBeginnings code.now.rules.now.bodies (tree_of code.now.pattern.now) code.now.beginnings }
-    requires cheap { cost code.now.beginnings ≤ MAX_HEADS }
+    requires cheap { cost code.now.beginnings ≤ MAX_FRONTS }
     requires run { IfSome code.now.run (IsRunStart code.now.rules.now.bodies (tree_of code.now.pattern.now)) }
     ensures found { IfOk result (λ s. s.found ≡ outcome_from text.now code.now.rules.now.bodies (tree_of code.now.pattern.now) anchored from) }
     ensures counted { IfOk result (λ s. s.trials ≡ trials_from text.now code.now.rules.now.bodies (tree_of code.now.pattern.now) anchored from) }
@@ -110,7 +111,7 @@ fn try_all<'a>(
 ) -> Result<Option<Hit>, MatchFault>
     requires compiled { IsCompiled code.now.rules.now.bodies (tree_of code.now.pattern.now) code.now.nodes }
     requires begin { AreBeginnings code.now.rules.now.bodies (tree_of code.now.pattern.now) code.now.beginnings }
-    requires cheap { cost code.now.beginnings ≤ MAX_HEADS }
+    requires cheap { cost code.now.beginnings ≤ MAX_FRONTS }
     requires run { IfSome code.now.run (IsRunStart code.now.rules.now.bodies (tree_of code.now.pattern.now)) }
     requires inside { from ≤ length text.now }
     requires short { length text.now ≤ MAX_BYTES }

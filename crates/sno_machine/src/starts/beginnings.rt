@@ -3,11 +3,12 @@ ghost use Rattle.std.specs.Prelude.{◌≡◌, ◌+◌, ◌≤◌, length, IfOk,
 ghost use Rattle.std.specs.Option.{option_map};
 ghost use Rattle.sno_pattern.specs.Tree.{tree_of};
 ghost use Rattle.sno_pattern.specs.Beginnings.{first_literal};
-ghost use Rattle.sno_machine.specs.Beginnings.{AreBeginnings, AreHeadsOf, NoneBegin, cost};
-ghost use Rattle.sno_machine.specs.declared.starts.heads.TheConstants.{MAX_HEADS};
+ghost use Rattle.sno_machine.specs.Passing.{AreBeginnings, AreFrontsOf, NoneBegin, cost};
+ghost use Rattle.sno_machine.specs.declared.starts.fronts.TheConstants.{MAX_FRONTS};
 
+use crate::starts::front_search::FrontSearch;
+use crate::starts::fronts::{Fronts, fronts_of};
 use crate::starts::head_tables::HeadTable;
-use crate::starts::heads::{Head, heads_of};
 use crate::starts::needles::{Needle, together};
 use memchr::memmem::Finder;
 use sno_pattern::{Pattern, Rules, a_missing_literal_costs_one_trial};
@@ -24,6 +25,8 @@ pub enum Beginnings<'a> {
     Few(Needle<'a>),
     /// One of the heads of this table.
     Many(HeadTable),
+    /// One of some words, or at a place, or one of some heads.
+    Fronts(FrontSearch<'a>),
 }
 
 impl<'a> Beginnings<'a> {
@@ -34,27 +37,32 @@ impl<'a> Beginnings<'a> {
         pattern: &'a Pattern,
     ) -> Result<Beginnings<'a>, AllocError>
         ensures begin { IfOk result (AreBeginnings rules.now.bodies (tree_of pattern.now)) }
-        ensures few { IfOk result (λ beginnings. cost beginnings ≤ MAX_HEADS) }
+        ensures few { IfOk result (λ beginnings. cost beginnings ≤ MAX_FRONTS) }
     {
         // for the proof
         a_missing_literal_costs_one_trial();
         if let Some(literal) = first_literal(pattern) {
             return Ok(Beginnings::Literal(Finder::new(literal)));
         }
-        match heads_of(alloc, rules.bodies(), rules.len(), pattern)? {
+        match fronts_of(alloc, rules.bodies(), rules.len(), pattern)? {
             None => Ok(Beginnings::Any),
-            Some(heads) => Ok(Beginnings::one_of(&heads)),
+            Some(fronts) => Ok(Beginnings::one_of(alloc, fronts)?),
         }
     }
 
-    // One of these heads.
-    fn one_of(heads: &[Head<'a>]) -> Beginnings<'a>
-        ensures begin { AreHeadsOf heads.now result }
-        ensures cost { cost result ≡ length heads.now }
+    // One of these fronts. Refused only if out of memory.
+    fn one_of(alloc: Global, fronts: Fronts<'a>) -> Result<Beginnings<'a>, AllocError>
+        requires { length fronts.heads.items + length fronts.words.items + length fronts.places.items ≤ MAX_FRONTS }
+        ensures begin { IfOk result (AreFrontsOf fronts.entry) }
+        ensures cost { IfOk result (λ b. cost b ≡ length fronts.entry.heads.items + length fronts.entry.words.items + length fronts.entry.places.items) }
     {
-        match together(heads) {
-            Some(needle) if needle.is_bytes() => Beginnings::Few(needle),
-            _ => Beginnings::Many(HeadTable::of(heads)),
+        if !fronts.are_heads() {
+            let search = FrontSearch::of(alloc, fronts)?;
+            return Ok(Beginnings::Fronts(search));
+        }
+        match together(&fronts.heads) {
+            Some(needle) if needle.is_bytes() => Ok(Beginnings::Few(needle)),
+            _ => Ok(Beginnings::Many(HeadTable::of(&fronts.heads))),
         }
     }
 
@@ -70,6 +78,7 @@ impl<'a> Beginnings<'a> {
         let (_, rest) = text.split_at(start);
         let passed = match self {
             Beginnings::Any => return Some(start),
+            Beginnings::Fronts(search) => return search.next(text, start),
             Beginnings::Literal(literal) => literal.find(rest),
             Beginnings::Few(needle) => needle.first(rest),
             Beginnings::Many(table) => table.first(rest),
@@ -81,11 +90,11 @@ impl<'a> Beginnings<'a> {
     }
 
     /// Whether a match may begin with the character, by one look: of a literal, at its first character. Of anything,
-    /// `false` is returned.
+    /// and of words or places, `false` is returned.
     #[inline(always)]
     pub fn begins_with(&self, character: u8) -> bool {
         match self {
-            Beginnings::Any => false,
+            Beginnings::Any | Beginnings::Fronts(_) => false,
             Beginnings::Literal(literal) => {
                 matches!(literal.needle().first(), Some(first) if *first == character)
             }
@@ -94,7 +103,7 @@ impl<'a> Beginnings<'a> {
         }
     }
 
-    /// How many trials a start costs at which a match can't begin: at most 64 for the beginnings of a pattern.
+    /// How many trials a start costs at which a match can't begin: at most 4,096 for the beginnings of a pattern.
     pub fn cost(&self) -> usize
         ensures { result ≡ cost self.now }
     {
@@ -102,6 +111,7 @@ impl<'a> Beginnings<'a> {
             Beginnings::Any | Beginnings::Literal(_) => 1,
             Beginnings::Few(needle) => needle.count(),
             Beginnings::Many(table) => table.trials,
+            Beginnings::Fronts(search) => search.trials,
         }
     }
 }

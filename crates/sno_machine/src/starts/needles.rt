@@ -6,7 +6,8 @@ ghost use Rattle.sno_pattern.specs.Tree.{tree_of};
 ghost use Rattle.sno_machine.specs.declared.starts.heads.Head.TheVariants.{Byte};
 ghost use Rattle.sno_machine.specs.Beginnings.{any_begins, heads_in, AreHeads};
 
-use crate::starts::heads::{Head, heads_of};
+use crate::starts::fronts::fronts_of;
+use crate::starts::heads::Head;
 use memchr::{memchr, memchr2, memchr3};
 use sno_pattern::{Class, Pattern};
 use sno_primitives::first_in;
@@ -28,14 +29,17 @@ pub enum Needle<'a> {
 }
 
 impl<'a> Needle<'a> {
-    /// The heads of the pattern, without going into definitions. `None` if it has no heads, more than three, or several that
-    /// aren't all bytes. Refused only if out of memory.
+    /// The heads of the pattern, without going into definitions. `None` if a leaf with which it can begin has no head, or if there
+    /// are more than three, or several that aren't all bytes. Refused only if out of memory.
     pub fn of(alloc: Global, pattern: &'a Pattern) -> Result<Option<Needle<'a>>, AllocError>
         ensures { IfOk result (λ found. IfSome found (λ needle. AreHeads [] 0 (tree_of pattern.now) (heads_in needle))) }
     {
-        match heads_of(alloc, &[], 0, pattern)? {
-            None => Ok(None),
-            Some(heads) => Ok(together(&heads)),
+        match fronts_of(alloc, &[], 0, pattern)? {
+            Some(fronts) if fronts.places.is_empty() => {
+                let heads = fronts.all_heads(alloc)?;
+                Ok(together(&heads))
+            }
+            _ => Ok(None),
         }
     }
 

@@ -4,9 +4,10 @@ ghost use Rattle.std.specs.List.{flat_map};
 ghost use Rattle.sno_pattern.specs.Tree.{Tree};
 ghost use Rattle.sno_pattern.specs.Outcome.{tried_from};
 ghost use Rattle.sno_pattern.specs.declared.byte_texts.TheConstants.{MAX_BYTES};
-ghost use Rattle.sno_machine.specs.Beginnings.{AreBeginnings, IsRunStart, NoneBegin, cost};
+ghost use Rattle.sno_machine.specs.Beginnings.{IsRunStart};
+ghost use Rattle.sno_machine.specs.Passing.{AreBeginnings, NoneBegin, cost};
 ghost use Rattle.sno_machine.specs.Endings.{up_to, Overspent, PassesTo};
-ghost use Rattle.sno_machine.specs.declared.starts.heads.TheConstants.{MAX_HEADS};
+ghost use Rattle.sno_machine.specs.declared.starts.fronts.TheConstants.{MAX_FRONTS};
 
 use crate::faults::MatchFault;
 use crate::run::learnt::Learnt;
@@ -18,7 +19,7 @@ use crate::starts::run_starts::RunStart;
 // How many trials it costs to pass over `starts` starts.
 fn price(starts: usize, cost: usize) -> usize
     requires few { starts ≤ MAX_BYTES + 1 }
-    requires cheap { cost ≤ MAX_HEADS }
+    requires cheap { cost ≤ MAX_FRONTS }
     ensures { result ≡ starts * cost }
 {
     starts * cost
@@ -42,7 +43,7 @@ pub fn next_start<'a>(
     requires within { last ≤ length text.now }
     requires short { length text.now ≤ MAX_BYTES }
     requires same { learnt.now ≡ text.now }
-    requires cheap { cost beginnings.now ≤ MAX_HEADS }
+    requires cheap { cost beginnings.now ≤ MAX_FRONTS }
     ensures inside { IfOk result (λ next. (start ≤ next) × (next ≤ last + 1)) }
     ensures passed { (bodies : List Tree) (p : Tree) (k : ℕ) → length bodies ≤ k → AreBeginnings bodies p beginnings.now → IfSome run.entry (IsRunStart bodies p) → IfOk result (PassesTo text.now bodies k p start last progress.old progress.new) }
     ensures refused { (bodies : List Tree) (p : Tree) (k : ℕ) → length bodies ≤ k → AreBeginnings bodies p beginnings.now → IfSome run.entry (IsRunStart bodies p) → IfErr result (Overspent progress.old (flat_map (tried_from text.now bodies k p) (up_to start last))) }
@@ -71,7 +72,7 @@ fn pass_runs<'a>(
     requires within { last ≤ length text.now }
     requires short { length text.now ≤ MAX_BYTES }
     requires same { learnt.now ≡ text.now }
-    requires cheap { cost beginnings.now ≤ MAX_HEADS }
+    requires cheap { cost beginnings.now ≤ MAX_FRONTS }
     ensures inside { IfOk result (λ next. (start ≤ next) × (next ≤ last + 1)) }
     ensures passed { (bodies : List Tree) (p : Tree) (k : ℕ) → length bodies ≤ k → AreBeginnings bodies p beginnings.now → IsRunStart bodies p run.entry → IfOk result (PassesTo text.now bodies k p start last progress.old progress.new) }
     ensures refused { (bodies : List Tree) (p : Tree) (k : ℕ) → length bodies ≤ k → AreBeginnings bodies p beginnings.now → IsRunStart bodies p run.entry → IfErr result (Overspent progress.old (flat_map (tried_from text.now bodies k p) (up_to start last))) }
@@ -108,7 +109,7 @@ pub fn first_start(
     requires inside { start ≤ last + 1 }
     requires within { last ≤ length text.now }
     requires short { length text.now ≤ MAX_BYTES }
-    requires cheap { cost beginnings.now ≤ MAX_HEADS }
+    requires cheap { cost beginnings.now ≤ MAX_FRONTS }
     ensures inside { IfOk result (λ next. (start ≤ next) × (next ≤ last + 1)) }
     ensures passed { (bodies : List Tree) (p : Tree) (k : ℕ) → length bodies ≤ k → AreBeginnings bodies p beginnings.now → IfOk result (PassesTo text.now bodies k p start last progress.old progress.new) }
     ensures refused { (bodies : List Tree) (p : Tree) (k : ℕ) → length bodies ≤ k → AreBeginnings bodies p beginnings.now → IfErr result (Overspent progress.old (flat_map (tried_from text.now bodies k p) (up_to start last))) }
@@ -132,7 +133,7 @@ fn pass_over(
     requires inside { start ≤ last + 1 }
     requires within { last ≤ length text.now }
     requires short { length text.now ≤ MAX_BYTES }
-    requires cheap { cost beginnings.now ≤ MAX_HEADS }
+    requires cheap { cost beginnings.now ≤ MAX_FRONTS }
     ensures inside { IfOk result (λ next. (start ≤ next) × (next ≤ last + 1)) }
     ensures passed { (bodies : List Tree) (p : Tree) (k : ℕ) → length bodies ≤ k → AreBeginnings bodies p beginnings.now → IfOk result (PassesTo text.now bodies k p start last progress.old progress.new) }
     ensures refused { (bodies : List Tree) (p : Tree) (k : ℕ) → length bodies ≤ k → AreBeginnings bodies p beginnings.now → IfErr result (Overspent progress.old (flat_map (tried_from text.now bodies k p) (up_to start last))) }

@@ -1,7 +1,8 @@
 -- The starts before `from` were passed over.
 use Rattle.std.proofs.Common.{◌+◌, ◌-◌, ◌≤◌, ℕ, List, length}
 use Rattle.sno_pattern.specs.Tree.{Tree}
-use Rattle.sno_machine.specs.Beginnings.{AreBeginnings, IsRunStart}
+use Rattle.sno_machine.specs.Beginnings.{IsRunStart}
+use Rattle.sno_machine.specs.Passing.{AreBeginnings}
 use Rattle.sno_machine.specs.Endings.{PassesTo}
 use Rattle.sno_machine.proofs.starts.passing.pass_runs.Given as goal
 
