@@ -2,7 +2,7 @@
 use Rattle.std.proofs.Common.{take, ◌≡◌, refl, sym, ◌∙◌, ap, arith, ℕ, zero, suc, ◌+◌, ◌<◌, Bool, false, List, [], ◌∷◌, ◌++◌, append_assoc, length, length-append, subst}
 use Rattle.std.proofs.lemmas.List.{append-nil}
 use Rattle.sno_sealed.specs.declared.chain.Chain.{Chain}
-use Rattle.sno_sealed.specs.Seals.{sealed_line, sum_after, summed}
+use Rattle.sno_sealed.specs.Seals.{sealed_line, sum_after, sum_of}
 use Rattle.sno_sealed.specs.Batches.{sealed_lines, sealed_sum}
 use Rattle.sno_sealed.specs.Chains.{AreSealed, ArePlain, IsChain, IsSealedBy, looks_sealed, plain_sum, start}
 
@@ -77,11 +77,11 @@ pub first_sealed : (before count : ℕ) (first last : List ℕ) (k : ℕ) (news 
 first_sealed before count first last zero news = refl
 first_sealed before count first last (suc k) [] = refl
 first_sealed before count first last (suc k) (p ∷ news) =
-    ap (λ (ls : List (List ℕ)). sealed_line before (count + 1) first last p ∷ ls) (first_sealed (sum_after before (summed (count + 1) first last p)) (count + 1) first last k news)
+    ap (λ (ls : List (List ℕ)). sealed_line before (count + 1) first last p ∷ ls) (first_sealed (sum_of before (count + 1) first last p) (count + 1) first last k news)
 
 pub same_count : (before count : ℕ) (first last : List ℕ) (news : List (List ℕ)) → length (sealed_lines before count first last news) ≡ length news
 same_count before count first last [] = refl
-same_count before count first last (p ∷ news) = ap suc (same_count (sum_after before (summed (count + 1) first last p)) (count + 1) first last news)
+same_count before count first last (p ∷ news) = ap suc (same_count (sum_of before (count + 1) first last p) (count + 1) first last news)
 
 pub lines_more : (lines payloads : List (List ℕ)) (ch : Chain) (first last : List ℕ) (news : List (List ℕ)) → IsChain lines payloads ch
     → IsChain (lines ++ sealed_lines ch.sum ch.lines first last news) (payloads ++ news)
@@ -99,7 +99,7 @@ lines_more lines payloads ch first last [] is = record {
 }
 lines_more lines payloads ch first last (p ∷ news) is =
     let line = sealed_line ch.sum (ch.lines + 1) first last p in
-    let mid : Chain = record { sum = sum_after ch.sum (summed (ch.lines + 1) first last p); lines = ch.lines + 1; plain = ch.plain } in
+    let mid : Chain = record { sum = sum_of ch.sum (ch.lines + 1) first last p; lines = ch.lines + 1; plain = ch.plain } in
     let one = takes_sealed lines payloads ch mid line p is (record { first = first; last = last; is = refl; own = refl }) refl refl in
     let more = lines_more (lines ++ line ∷ []) (payloads ++ p ∷ []) mid first last news one in
     let later = sealed_lines mid.sum mid.lines first last news in

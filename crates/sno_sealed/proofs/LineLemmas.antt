@@ -6,7 +6,7 @@ use Rattle.std.proofs.lemmas.Bool.Decides.{nat_tests}
 use Rattle.std.proofs.lemmas.Fmt.{decimal_is_IsNumeral}
 use Rattle.sno_store.specs.Lines.{bytes_of, recovered, IsLine, IsPlain}
 use Rattle.sno_store.specs.Faults.{IsCause}
-use Rattle.sno_sealed.specs.Seals.{batch_key, begun, closes, ended, hex, hex_digit, sealed_line, sum_after, sum_key, summed}
+use Rattle.sno_sealed.specs.Seals.{batch_key, begun, closes, ended, hex, hex_digit, sealed_line, sum_of, sum_key, summed}
 
 pub fewer : (lines : List (List ℕ)) → length lines ≤ length (bytes_of lines)
 fewer [] = omega arith
@@ -79,7 +79,7 @@ sealed_is_line before number first last p low one two is =
     let numbers = plain_append batch_key (decimal number ++ 44 ∷ (first ++ 44 ∷ last)) (refl, refl, (refl, refl, (refl, refl, (refl, refl, (refl, refl, (refl, refl, (refl, refl, (refl, refl, (refl, refl, (refl, refl, tt))))))))))
     (plain_append (decimal number) (44 ∷ (first ++ 44 ∷ last)) (decimal_plain number low) (refl, refl, plain_append first (44 ∷ last) one (refl, refl, two))) in
     let s = summed number first last p in
-    let rest = hex 16 (sum_after before s) in
+    let rest = hex 16 (sum_of before number first last p) in
     line_append s (sum_key ++ (rest ++ 34 ∷ ended p)) (line_append (begun p) (batch_key ++ (decimal number ++ 44 ∷ (first ++ 44 ∷ last))) (begun_line p is) numbers)
     (plain_append sum_key (rest ++ 34 ∷ ended p) (refl, refl, (refl, refl, (refl, refl, (refl, refl, (refl, refl, (refl, refl, (refl, refl, (refl, refl, (refl, refl, tt)))))))))
-    (plain_append rest (34 ∷ ended p) (hex_plain 16 (sum_after before s)) (refl, refl, ended_plain p)))
+    (plain_append rest (34 ∷ ended p) (hex_plain 16 (sum_of before number first last p)) (refl, refl, ended_plain p)))

@@ -2,19 +2,19 @@
 use Rattle.sno_store.specs.declared.faults.StoreFault.{StoreFault}
 use Rattle.sno_store.specs.declared.faults.StoreFault.TheVariants.{Closed, Unsupported, TooLong, Memory, NoRoom, Read, Write, Sync}
 use Rattle.std.specs.Prelude.{◌≡◌, ℕ, suc, ◌+◌, ◌≤◌, ◌^◌, ⊤, List, [], ◌∷◌, length, decimal}
-use Rattle.sno_sealed.specs.Seals.{sum_after, summed, sealed_line}
+use Rattle.sno_sealed.specs.Seals.{sum_of, sealed_line}
 
 -- these payloads sealed one after the other, after this many lines and this sum; the texts are those of the first and the last number
 abbrev pub sealed_lines : ℕ → ℕ → List ℕ → List ℕ → List (List ℕ) → List (List ℕ)
 sealed_lines before count first last [] = []
 sealed_lines before count first last (payload ∷ payloads) =
-    sealed_line before (count + 1) first last payload ∷ sealed_lines (sum_after before (summed (count + 1) first last payload)) (count + 1) first last payloads
+    sealed_line before (count + 1) first last payload ∷ sealed_lines (sum_of before (count + 1) first last payload) (count + 1) first last payloads
 
 -- the sum of the last of them
 abbrev pub sealed_sum : ℕ → ℕ → List ℕ → List ℕ → List (List ℕ) → ℕ
 sealed_sum before count first last [] = before
 sealed_sum before count first last (payload ∷ payloads) =
-    sealed_sum (sum_after before (summed (count + 1) first last payload)) (count + 1) first last payloads
+    sealed_sum (sum_of before (count + 1) first last payload) (count + 1) first last payloads
 
 -- payloads sealed as one batch: each line says from which number to which it goes
 abbrev pub sealed_batch : ℕ → ℕ → List (List ℕ) → List (List ℕ)

@@ -2,14 +2,14 @@
 use Rattle.std.specs.Prelude.{◌≡◌, ℕ, suc, ◌+◌, ◌-◌, List, [], ◌∷◌, ◌++◌, decimal, length, take, drop, Bool, true, false, nat_eq, ⊤}
 use Rattle.std.specs.List.{starts_with}
 use Rattle.sno_sealed.specs.declared.chain.Chain.{Chain}
-use Rattle.sno_sealed.specs.Seals.{begun, sum_after, sum_key, summed, sealed_line}
+use Rattle.sno_sealed.specs.Seals.{begun, sum_after, sum_of, sum_key, sealed_line}
 
 -- the line is this payload, sealed as the line with this number after a line with this sum; sum is its own
 pub record IsSealedBy (before number : ℕ) (line payload : List ℕ) (sum : ℕ) : Type 0 where
   pub first : List ℕ
   pub last : List ℕ
   pub is : line ≡ sealed_line before number first last payload
-  pub own : sum ≡ sum_after before (summed number first last payload)
+  pub own : sum ≡ sum_of before number first last payload
 
 -- sealed lines one after the other, after this many lines and this sum, with their payloads and the last sum
 abbrev pub AreSealed : ℕ → ℕ → List (List ℕ) → List (List ℕ) → ℕ → Type 0

@@ -2,7 +2,7 @@
 ghost use Rattle.std.specs.Prelude.{◌≡◌, ◌+◌, ◌<◌, ◌^◌, ◌++◌, ◌∷◌, [], IfOk, IfErr, OnOk, length, decimal};
 ghost use Rattle.sno_store.specs.Shown.{lines_in, lines_left};
 ghost use Rattle.sno_store.specs.Lines.{bytes_of, IsLine, IsPlain};
-ghost use Rattle.sno_sealed.specs.Seals.{sealed_line, sum_after, summed};
+ghost use Rattle.sno_sealed.specs.Seals.{sealed_line, sum_of};
 ghost use Rattle.sno_sealed.specs.Batches.{batch_sum, sealed_batch, IsBatchFault};
 
 use crate::chain::Chain;
@@ -68,7 +68,7 @@ impl Batch {
         requires texts { IsPlain first.now × IsPlain last.now }
         requires short { self.old.chain.lines + 1 < 2 ^ 64 }
         ensures lines { OnOk result (lines_in self.new.lines ≡ lines_in self.old.lines ++ sealed_line self.old.chain.sum (self.old.chain.lines + 1) first.now last.now payload.now ∷ []) }
-        ensures chain { OnOk result (self.new.chain ≡ record { sum = sum_after self.old.chain.sum (summed (self.old.chain.lines + 1) first.now last.now payload.now); lines = self.old.chain.lines + 1; plain = self.old.chain.plain }) }
+        ensures chain { OnOk result (self.new.chain ≡ record { sum = sum_of self.old.chain.sum (self.old.chain.lines + 1) first.now last.now payload.now; lines = self.old.chain.lines + 1; plain = self.old.chain.plain }) }
     {
         let Chain { sum, lines, plain } = self.chain;
         let number = lines + 1;

@@ -1,6 +1,6 @@
 //! Numbers as they are written, and sums.
 ghost use Rattle.std.specs.Prelude.{◌≡◌, ◌++◌, ◌<◌, OnOk, decimal};
-ghost use Rattle.sno_sealed.specs.Seals.{hex, hex_digit, sum_after};
+ghost use Rattle.sno_sealed.specs.Seals.{hex, hex_digit, next_number, own_sum, sum_after};
 
 use std::alloc::AllocError;
 use std::hash::{DefaultHasher, Hasher};
@@ -45,4 +45,21 @@ pub(crate) fn sum_after(before: u64, bytes: &[u8]) -> u64
     hasher.write(&before.to_le_bytes());
     hasher.write(bytes);
     hasher.finish()
+}
+
+/// The number after this one, of 64 bits.
+fn next_number(number: u64) -> u64
+    ensures { result ≡ next_number number }
+{
+    if number < u64::MAX { number + 1 } else { 0 }
+}
+
+/// The sum of a line that begins with these bytes, after a line with this sum. It is the next number if the line has no `}` at its end, which
+/// isn't among the bytes.
+#[tactic(auto, unfolding(crate::specs::Seals::own_sum))]
+pub(crate) fn own_sum(before: u64, bytes: &[u8], closed: bool) -> u64
+    ensures { result ≡ own_sum before bytes.now closed }
+{
+    let sum = sum_after(before, bytes);
+    if closed { sum } else { next_number(sum) }
 }

@@ -109,16 +109,6 @@ impl<D: Disk + Drop> Sealed<D> {
         store
     }
 
-    /// The lines as [`Sealed::put`] would write them now.
-    ///
-    /// Refused: `TooLong` if a number would have more than 64 bits; `Memory`.
-    pub fn sealed(&self, payloads: &Lines) -> Result<Lines, StoreFault>
-        ensures { IfOk result (λ lines. lines_in lines ≡ sealed_now self.now (lines_in payloads.now)) }
-    {
-        let Batch { lines, chain: _ } = batch_of(payloads.allocator(), self.chain, payloads)?;
-        Ok(lines)
-    }
-
     /// Seals lines as one batch, adds them after those that are there, and waits until they are on the disk: at `Ok` each crash leaves all
     /// of them. A crash before that leaves the lines that were there and the first of the new ones. For no lines nothing is written, unless
     /// a torn tail has to be overwritten.

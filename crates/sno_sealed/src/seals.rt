@@ -1,9 +1,9 @@
 //! A line is sealed, and a sealed line is opened.
 ghost use Rattle.std.specs.Prelude.{◌≡◌, ◌++◌, ◌∷◌, [], OnOk, IfOk, MatchOption, true, false};
-ghost use Rattle.sno_sealed.specs.Seals.{begun, closes, ended, sealed_line, sum_after, summed};
+ghost use Rattle.sno_sealed.specs.Seals.{begun, closes, ended, sealed_line, sum_of, summed};
 ghost use Rattle.sno_sealed.specs.Tails.{after, after_last, before, first_in, has, has_numbers, last_in, number_in};
 
-use crate::numbers::{put_hex, put_number, sum_after};
+use crate::numbers::{own_sum, put_hex, put_number};
 use memchr::{memchr, memrchr};
 use std::alloc::AllocError;
 
@@ -76,11 +76,11 @@ pub(crate) fn seal(
     payload: &[u8],
 ) -> Result<u64, AllocError>
     ensures line { OnOk result (line.new.items ≡ sealed_line before number first.now last.now payload.now) }
-    ensures sum { IfOk result (λ sum. sum ≡ sum_after before (summed number first.now last.now payload.now)) }
+    ensures sum { IfOk result (λ sum. sum ≡ sum_of before number first.now last.now payload.now) }
 {
     line.clear();
     put_summed(line, number, first, last, payload)?;
-    let sum = sum_after(before, line);
+    let sum = own_sum(before, line, closes(payload));
     line.extend_from_slice(SUM_KEY)?;
     put_hex(line, 16, sum)?;
     line.push(b'"')?;
