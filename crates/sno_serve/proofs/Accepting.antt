@@ -9,7 +9,7 @@ use Rattle.sno_published.proofs.Prefixes.{prefix_length, prefix_self, prefix_tra
 use Rattle.sno_desk.specs.Replies.{Reply, IsReply, IsReplyAt, receipts_in}
 use Rattle.sno_desk.specs.Turns.{Position, position}
 use Rattle.sno_serve.specs.Accepted.{Accepts, AsksFor, HasAccepted, HasLooked, HasServed, HasTaken, IsGiven}
-use Rattle.sno_serve.specs.Asked.{asked_in}
+use Rattle.sno_serve.specs.Asked.{asked_in, within}
 use Rattle.sno_serve.specs.AtVersion.{AtResult, IsResultAt, receipts_at}
 use Rattle.sno_serve.specs.declared.asked.Asked.{Asked}
 use Rattle.sno_pattern.specs.Definitions.{Definitions}
@@ -110,7 +110,7 @@ taken_at opening count counted before after s version (Err fault) done begins ri
 
 -- what a seat took for a line that asks for a statement is of a statement that was read
 pub line_served : (rules : Definitions) (statements : List Statement) (mode : Mode) (number : ℕ) (line : List ℕ) (asked : Asked) (first after : Position)
-    → asked ≡ asked_in rules mode number line → HasTaken (AsksFor asked) first after → HasServed (IsGiven rules statements mode) first after
+    → asked ≡ within mode.trials (asked_in rules mode number line) → HasTaken (AsksFor asked) first after → HasServed (IsGiven rules statements mode) first after
 line_served rules statements mode number line asked first after is took =
     let read : (s : Statement) → AsksFor asked s → IsGiven rules statements mode s = λ s q. inr (record { number = number; line = line; asked = subst (λ (a : Asked). AsksFor a s) is q }) in
     served_taken (IsGiven rules statements mode) first after (taken_wider (AsksFor asked) (IsGiven rules statements mode) read first after took)

@@ -8,7 +8,7 @@ use Rattle.sno_book.specs.Entries.{Entry}
 use Rattle.sno_document.specs.declared.modes.Mode.{Mode}
 use Rattle.sno_desk.specs.Replies.{Reply, receipts_in}
 use Rattle.sno_desk.specs.Turns.{Position}
-use Rattle.sno_serve.specs.Asked.{asked_in}
+use Rattle.sno_serve.specs.Asked.{asked_in, within}
 use Rattle.sno_serve.specs.Replies.{submit_reply, at_reply}
 use Rattle.sno_serve.specs.AtVersion.{AtResult, receipts_at}
 use Rattle.sno_serve.specs.declared.asked.Asked.{Asked}
@@ -77,11 +77,11 @@ pub record IsAmong (statements : List Statement) (s : Statement) : Type 0 where
   pub place : ℕ
   pub there : slice_get statements place ≡ Some s
 
--- some line asks for the statement, under these definitions and this mode
+-- some line asks for the statement, under these definitions and this mode, with no more trials than the mode has
 pub record IsRead (rules : Definitions) (mode : Mode) (s : Statement) : Type 0 where
   pub number : ℕ
   pub line : List ℕ
-  pub asked : AsksFor (asked_in rules mode number line) s
+  pub asked : AsksFor (within mode.trials (asked_in rules mode number line)) s
 
 -- the statement is the document's, or was read from a line
 abbrev pub IsGiven : Definitions → List Statement → Mode → Statement → Type 0

@@ -1,5 +1,5 @@
 -- What a line asks for: a JSON value that names a text to be read, or an index to list from, or wants the texts, or is a statement.
-use Rattle.std.specs.Prelude.{ℕ, Bool, true, false, ◌&&◌, nat_le, List, Option, Some, None, Result, Ok, Err, codes, if◌then◌else◌, option_and_then}
+use Rattle.std.specs.Prelude.{ℕ, Bool, true, false, ◌&&◌, nat_le, nat_lt, List, Option, Some, None, Result, Ok, Err, codes, if◌then◌else◌, option_and_then}
 use Rattle.serde_json.specs.Data.{unsigned, Data, boolean, number, string}
 use Rattle.serde_json.specs.Find.{get}
 use Rattle.sno_pattern.specs.Definitions.{Definitions}
@@ -145,3 +145,18 @@ asked_for rules mode s line (Some d) = asked_by rules mode s line d (get (codes 
 -- what a line asks for
 abbrev pub asked_in : Definitions → Mode → ℕ → List ℕ → Asked
 asked_in rules mode s line = asked_for rules mode s line (json_of line)
+
+-- how many trials a match of the statement that is asked for may take; none if no statement is
+abbrev pub trials_asked : Asked → ℕ
+trials_asked (asks.Perform s) = s.limit
+trials_asked (asks.PerformAt s version) = s.limit
+trials_asked (asks.Check s) = s.limit
+trials_asked (asks.Read name) = 0
+trials_asked (asks.ReadAt name version) = 0
+trials_asked asks.Texts = 0
+trials_asked (asks.Since e) = 0
+trials_asked (asks.Fault fault) = 0
+
+-- the same, at a service that lets no match take more trials than its ceiling: to ask for more is a fault
+abbrev pub within : ℕ → Asked → Asked
+within ceiling asked = if nat_lt ceiling (trials_asked asked) then asks.Fault (of_line.TrialsAbove ceiling) else asked

@@ -6,7 +6,7 @@ ghost use Rattle.serde_json.specs.Find.{get};
 ghost use Rattle.serde_json.specs.View.{view};
 ghost use Rattle.sno_statement.specs.Statement.{IsLimit};
 ghost use Rattle.sno_document.specs.Json.{json_of};
-ghost use Rattle.sno_serve.specs.Asked.{id_or_none, id_in, name_of, name_or_none, whole_or_none, asks_read, asks_since, asks_texts, asked_last, asked_by, asked_in};
+ghost use Rattle.sno_serve.specs.Asked.{id_or_none, id_in, name_of, name_or_none, whole_or_none, asks_read, asks_since, asks_texts, asked_last, asked_by, asked_in, trials_asked, within};
 
 use crate::asked_statements::asks_statement;
 use crate::ignored::ignored_in;
@@ -59,6 +59,33 @@ impl Line {
         ensures ignored { result ≡ self.old.ignored }
     {
         mem::replace(&mut self.ignored, Vec::new(alloc))
+    }
+
+    /// Makes a fault of a statement whose match may take more trials than the ceiling.
+    pub fn keep_within(&mut self, ceiling: u32)
+        ensures id { self.new.id ≡ self.old.id }
+        ensures asked { self.new.asked ≡ within ceiling self.old.asked }
+        ensures ignored { self.new.ignored ≡ self.old.ignored }
+    {
+        if ceiling < trials_asked(&self.asked) {
+            self.asked = Asked::Fault(LineFault::TrialsAbove(ceiling));
+        }
+    }
+}
+
+/// How many trials a match of the statement that is asked for may take; 0 if no statement is.
+fn trials_asked(asked: &Asked) -> u32
+    ensures { result ≡ trials_asked asked.now }
+{
+    match asked {
+        Asked::Perform(statement) | Asked::PerformAt(statement, _) | Asked::Check(statement) => {
+            statement.limit()
+        }
+        Asked::Read(_) => 0,
+        Asked::ReadAt(_, _) => 0,
+        Asked::Texts => 0,
+        Asked::Since(_) => 0,
+        Asked::Fault(_) => 0,
     }
 }
 

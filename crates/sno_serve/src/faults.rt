@@ -49,6 +49,8 @@ pub enum LineFault {
     Document(DocumentFault),
     /// The line's limit of trials is not one of 1 to 1,000,000,000.
     Trials,
+    /// The line's limit of trials is above that of the service, which is this.
+    TrialsAbove(u32),
     /// The member `bind` doesn't say which texts names represent.
     Bind(BindFault),
 }

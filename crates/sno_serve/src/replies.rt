@@ -319,6 +319,7 @@ fn fault_words(alloc: Global, fault: &LineFault) -> Result<String, AllocError> {
     match *fault {
         LineFault::Document(fault) => document_words(alloc, fault),
         LineFault::Trials => format!(in alloc; "bad trials"),
+        LineFault::TrialsAbove(ceiling) => format!(in alloc; "trials: at most {ceiling}"),
         LineFault::Bind(fault) => String::from_str(alloc, bind_words(fault)),
     }
 }

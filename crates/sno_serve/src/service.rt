@@ -10,7 +10,7 @@ ghost use Rattle.std.specs.Arc.{arc_value};
 ghost use Rattle.sno_desk.specs.declared.desk.TheConstants.{MAX_SEATS, MAX_TRIES};
 ghost use Rattle.sno_desk.specs.Turns.{position};
 ghost use Rattle.sno_desk.specs.Worked.{HasWorkedAt};
-ghost use Rattle.sno_serve.specs.Asked.{asked_in};
+ghost use Rattle.sno_serve.specs.Asked.{asked_in, within};
 ghost use Rattle.sno_serve.specs.Accepted.{HasServed, IsGiven};
 ghost use Rattle.sno_serve.specs.declared.faults.ServeFault.TheVariants.{Desk as Failed, Memory};
 
@@ -124,12 +124,13 @@ impl<I: Read + Drop, W: Write + Drop> Service<I, W> {
         }
     }
 
-    /// What a line asks for. A statement takes the next number.
+    /// What a line asks for, with no more trials than the service lets a match take. A statement takes the next number.
     fn read<R: Wait>(&self, rt: &R, alloc: Global, line: &[u8]) -> Result<Line, AllocError>
-        ensures { IfOk result (λ l. (number : ℕ) × (l.asked ≡ asked_in (arc_value self.now.rules) self.now.mode number line.now)) }
+        ensures { IfOk result (λ l. (number : ℕ) × (l.asked ≡ within self.now.mode.trials (asked_in (arc_value self.now.rules) self.now.mode number line.now))) }
     {
         let mut number = self.numbers.lock(rt);
-        let line = line_in(alloc, &self.rules, self.mode, *number, line)?;
+        let mut line = line_in(alloc, &self.rules, self.mode, *number, line)?;
+        line.keep_within(self.mode.trials);
         if matches!(&line.asked, Asked::Perform(_) | Asked::PerformAt(_, _)) {
             *number = (*number).saturating_add(1);
         }
@@ -219,7 +220,8 @@ impl<I: Read + Drop, W: Write + Drop> DeskWork for Service<I, W> {
 /// How a document is served.
 #[derive(Clone, Copy)]
 pub struct Terms {
-    /// Whether matches are anchored if a statement doesn't say so, and how many trials each may take.
+    /// Whether matches are anchored if a statement doesn't say so, and how many trials each may take. A line may ask for fewer, and
+    /// is refused if it asks for more.
     pub mode: Mode,
     /// How many seats take lines, 1 to 16.
     pub seats: usize,
