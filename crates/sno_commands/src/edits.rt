@@ -445,8 +445,8 @@ fn without_rules<E: Write>(refused: NoRules, errors: &mut E) -> Result<u8, Progr
 /// - 2 if the rules are invalid, or the object of one has a variable that no part of its pattern assigns. Then `errors` has their
 ///   first fault, and no file was touched.
 ///
-/// New files that killed runs left in the folders of the files are removed. A file that several paths lead to is edited once, under the first of them. Without files the text of `input` is edited, and
-/// written to `output`.
+/// New files that killed runs left in the folders of the files are removed. A file that several paths lead to is edited once, under
+/// the first of them. Without files the text of `input` is edited, and written to `output`.
 ///
 /// Refused with `Memory` or `Write`.
 pub(crate) fn run_edit<

@@ -6,3 +6,5 @@ pub mod RecordLemmas
 pub mod Recording
 pub mod Storing
 pub mod Queueing
+pub mod Originating
+pub mod Replaying

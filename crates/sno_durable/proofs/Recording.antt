@@ -1,6 +1,5 @@
 -- Records that come to those that wait, line by line.
 use Rattle.std.proofs.Common.{◌≡◌, ◌⊎◌, ◌+◌, ◌++◌, ℕ, List, [], ◌∷◌, Option, false, length, refl, inl, inr, sym, ap, ◌∙◌, subst, arith, append_assoc, append-nil, length-append}
-use Rattle.std.specs.Arc.{arc_value}
 use mathlib.Core.List.{IsPrefix as Begins}
 use Rattle.serde_json.specs.Data.{Data}
 use Rattle.serde_json.specs.View.{view}
@@ -10,13 +9,12 @@ use Rattle.sno_book.specs.Openings.{Opening}
 use Rattle.sno_desk.specs.Turns.{Position}
 use Rattle.sno_listing.specs.declared.refusals.Refusal.{Refusal}
 use Rattle.sno_published.proofs.Prefixes.{prefix_self, prefix_trans}
-use Rattle.sno_serve.specs.Asked.{asked_in, id_in}
+use Rattle.sno_serve.specs.Asked.{id_in}
 use Rattle.sno_serve.specs.Replies.{with_ignored}
 use Rattle.sno_serve.specs.declared.asked.Asked.{Asked}
-use Rattle.sno_durable.specs.Past.{version_of}
 use Rattle.sno_durable.specs.Records.{record_text}
 use Rattle.sno_durable.specs.Sought.{IsRepliedOn}
-use Rattle.sno_durable.specs.Performed.{IsText, AddsLine, IsReplyTo, IsRecorded, HasReplied, IsRecordOf, AreRecords, HasRecords}
+use Rattle.sno_durable.specs.Performed.{IsText, AddsLine, IsReplyTo, IsRecorded, HasReplied, IsRecordOf, AreRecords, HasRecords, asked_now, asked_of}
 use Rattle.sno_durable.specs.declared.earlier.Reading.{Reading}
 
 -- a text and a line feed were written
@@ -27,14 +25,26 @@ line_added d text before middle after first second is = record {
   is = record { text = text; ended = refl; compact = is };
 }
 
--- what was asked is what the line asks for
-pub asked_so : (reading : Reading) (tries : ℕ) (opening : Opening) (before after : List Entry) (line : List ℕ) (number : ℕ) (id : Option Data) (asked : Asked) (d : Data) (refused : Option Refusal)
-    → id ≡ id_in line → asked ≡ asked_in (arc_value reading.rules) reading.mode number line
-    → IsRepliedOn reading.past.entries (view reading.past.versions) tries opening before after id asked d refused
-    → IsRepliedOn reading.past.entries (view reading.past.versions) tries opening before after (id_in line) (asked_in (arc_value reading.rules) reading.mode number line) d refused
-asked_so reading tries opening before after line number id asked d refused id_is asked_is replied =
-    subst (λ (i : Option Data). IsRepliedOn reading.past.entries (view reading.past.versions) tries opening before after i (asked_in (arc_value reading.rules) reading.mode number line) d refused) id_is
-    (subst (λ (a : Asked). IsRepliedOn reading.past.entries (view reading.past.versions) tries opening before after id a d refused) asked_is replied)
+-- the id is the line's
+abbrev pub asked_so : (reading : Reading) (tries : ℕ) (opening : Opening) (before after : List Entry) (line : List ℕ) (id : Option Data) (asked : Asked) (d : Data) (refused : Option Refusal)
+    → id ≡ id_in line → IsRepliedOn reading.past.entries (view reading.past.versions) tries opening before after id asked d refused
+    → IsRepliedOn reading.past.entries (view reading.past.versions) tries opening before after (id_in line) asked d refused
+asked_so reading tries opening before after line id asked d refused id_is replied =
+    subst (λ (i : Option Data). IsRepliedOn reading.past.entries (view reading.past.versions) tries opening before after i asked d refused) id_is replied
+
+-- a client's line was performed, and this is the text of its reply
+abbrev pub reply_made : (reading : Reading) (tries : ℕ) (opening : Opening) (before after : List Entry) (line text : List ℕ) (number : ℕ) (id : Option Data) (asked : Asked) (d : Data) (refused : Option Refusal)
+    → id ≡ id_in line → asked ≡ asked_now reading number line → IsRepliedOn reading.past.entries (view reading.past.versions) tries opening before after id asked d refused
+    → IsText d text → IsReplyTo reading tries opening before after line text
+reply_made reading tries opening before after line text number id asked d refused id_is asked_is replied is = record {
+  number = number;
+  asked = asked;
+  is = inl asked_is;
+  reply = d;
+  refused = refused;
+  replied = asked_so reading tries opening before after line id asked d refused id_is replied;
+  written = is;
+}
 
 -- the text of a reply, after bytes that were cleared
 pub text_written : (d : Data) (before text : List ℕ) → before ≡ [] → (has_float d ≡ false → text ≡ before ++ compact_text d) → IsText d text
@@ -47,19 +57,14 @@ one_more before after (inr up) other = up
 
 -- a line was performed
 pub replied_made : (reading : Reading) (opening : Opening) (before after : Position) (line text : List ℕ) (number : ℕ) (id : Option Data) (asked : Asked) (d : Data) (refused : Option Refusal)
-    (names : List Data) (waited waits : List (List ℕ)) (shown shows : List ℕ) → id ≡ id_in line → asked ≡ asked_in (arc_value reading.rules) reading.mode number line
+    (names : List Data) (waited waits : List (List ℕ)) (shown shows : List ℕ) → id ≡ id_in line → asked ≡ asked_now reading number line
     → IsRepliedOn reading.past.entries (view reading.past.versions) 1 opening before.seen after.seen id asked d refused → IsText d text → Begins before.seen after.seen
     → IsRecorded before.accepted after.accepted line text waited waits → AddsLine (with_ignored names d) shown shows → HasReplied reading opening before after line waited waits shown shows
 replied_made reading opening before after line text number id asked d refused names waited waits shown shows id_is asked_is replied is begins recorded added = record {
   text = text;
   begins = begins;
-  reply = record {
-    number = number;
-    reply = d;
-    refused = refused;
-    replied = asked_so reading 1 opening before.seen after.seen line number id asked d refused id_is asked_is replied;
-    written = is;
-  };
+  reply = reply_made reading 1 opening before.seen after.seen line text number id asked d refused id_is asked_is replied is;
+  limited = asked_is;
   recorded = recorded;
   ignored = names;
   added = added;
@@ -115,7 +120,7 @@ replied_records reading opening before after line waited waits shown shows r = r
 
 -- a line that was performed again
 pub record_again : (reading : Reading) (opening : Opening) (before after : List Entry) (bytes line text : List ℕ) (number : ℕ) (id : Option Data) (asked : Asked) (d : Data) (refused : Option Refusal)
-    → bytes ≡ record_text line text → id ≡ id_in line → asked ≡ asked_in (arc_value reading.rules) reading.mode number line
+    → bytes ≡ record_text line text → id ≡ id_in line → asked ≡ asked_of reading number line
     → IsRepliedOn reading.past.entries (view reading.past.versions) 1 opening before after id asked d refused → IsText d text → IsRecordOf reading opening before after bytes
 record_again reading opening before after bytes line text number id asked d refused bytes_are id_is asked_is replied is = record {
   line = line;
@@ -123,7 +128,15 @@ record_again reading opening before after bytes line text number id asked d refu
   is = bytes_are;
   start = before;
   begins = prefix_self before;
-  reply = record { number = number; reply = d; refused = refused; replied = asked_so reading 1 opening before after line number id asked d refused id_is asked_is replied; written = is };
+  reply = record {
+    number = number;
+    asked = asked;
+    is = inr asked_is;
+    reply = d;
+    refused = refused;
+    replied = asked_so reading 1 opening before after line id asked d refused id_is replied;
+    written = is;
+  };
 }
 
 -- a record, and those after it

@@ -20,11 +20,13 @@ use Rattle.sno_store.specs.declared.lines.LinesIter.{LinesIter}
 use Rattle.sno_store.specs.Lines.{recovered}
 use Rattle.sno_store.specs.Shown.{GivesLine, lines_left}
 use Rattle.sno_store.specs.Store as base
+use Rattle.sno_durable.specs.Origins.{IsMadeOf, IsMeant}
 use Rattle.sno_durable.specs.Performed.{AreRecords, HasRecords}
 use Rattle.sno_durable.specs.Stored.{HasBegun, HasGoneOn, HasPut, HasStored, IsKept, IsOnly, later_lines}
 use Rattle.sno_durable.specs.Records.{origin_data}
 use Rattle.sno_durable.specs.declared.earlier.Reading.{Reading}
 use Rattle.sno_durable.specs.declared.records.Origin.{Origin}
+use Rattle.sno_durable.proofs.Originating.{first_said, limit_of}
 use Rattle.sno_durable.proofs.Recording.{records_end, records_more}
 
 module _ {D : Type 0} {g : Ghosts D} where
@@ -150,9 +152,10 @@ module _ {D : Type 0} {g : Ghosts D} where
 
   -- what a service leaves, from its start to its end
   pub all_kept : (origin : Origin) (reading : Reading) (opening : Opening) (journal : List Entry) (first : ℕ) (lines : List (List ℕ)) (old middle new : Sealed D g)
+      → IsMadeOf origin lines → IsMeant origin reading opening
       → HasBegun origin lines old middle → HasGoneOn reading opening first (later_lines lines) (position (length journal) journal) middle new
       → IsTrue (is_clean new) → Holds old lines → IsKept origin opening journal first lines old new
-  all_kept origin reading opening journal first lines old middle new begun gone clean held =
+  all_kept origin reading opening journal first lines old middle new made meant begun gone clean held =
       let later = gone.put clean in
       let earlier = begun.put later.0 in
       let holds = later.2 (lines ++ begun.news) (earlier.2 lines held) in
@@ -162,6 +165,8 @@ module _ {D : Type 0} {g : Ghosts D} where
         line = begun.first;
         news = gone.news;
         begins = begun.is;
+        said = first_said origin lines begun.first (limit_of origin reading opening meant) made begun.is;
+        meant = meant;
         same = prefix_trans (lines_of old) (lines_of middle) (lines_of new) earlier.1 later.1;
         holds = all;
         counted = omega (arith, gone.counted, chain_length (lines_of new) (begun.first ∷ (later_lines lines ++ gone.news)) (chain_of new) all);
@@ -192,10 +197,10 @@ module _ {D : Type 0} {g : Ghosts D} where
   -- what a service leaves, as it is given back
   pub all_left : {E F : Type 0} (first_of : E → ℕ) (r now : Result E F) (origin origin_now : Origin) (reading : Reading) (opening opening_now : Opening) (journal journal_now : List Entry)
       (lines lines_then : List (List ℕ)) (old middle new new_now : Sealed D g) → now ≡ r → origin_now ≡ origin → opening_now ≡ opening → journal_now ≡ journal → new_now ≡ new → lines_then ≡ lines
-      → HasBegun origin lines old middle
+      → IsMadeOf origin lines → IsMeant origin reading opening → HasBegun origin lines old middle
       → IfOk r (λ e. HasGoneOn reading opening (first_of e) (later_lines lines_then) (position (length journal) journal) middle new)
       → IfOk now (λ e. IsTrue (is_clean new_now) → Holds old lines → IsKept origin_now opening_now journal_now (first_of e) lines old new_now)
-  all_left {E} {F} first_of r now origin origin_now reading opening opening_now journal journal_now lines lines_then old middle new new_now is_r is_origin is_opening is_journal is_new is_lines begun gone =
+  all_left {E} {F} first_of r now origin origin_now reading opening opening_now journal journal_now lines lines_then old middle new new_now is_r is_origin is_opening is_journal is_new is_lines made meant begun gone =
       subst (λ (x : Result E F). IfOk x (λ e. IsTrue (is_clean new_now) → Holds old lines → IsKept origin_now opening_now journal_now (first_of e) lines old new_now)) (sym is_r)
       (subst (λ (n : Sealed D g). IfOk r (λ e. IsTrue (is_clean n) → Holds old lines → IsKept origin_now opening_now journal_now (first_of e) lines old n)) (sym is_new)
       (subst (λ (o : Origin). IfOk r (λ e. IsTrue (is_clean new) → Holds old lines → IsKept o opening_now journal_now (first_of e) lines old new)) (sym is_origin)
@@ -203,7 +208,7 @@ module _ {D : Type 0} {g : Ghosts D} where
       (subst (λ (j : List Entry). IfOk r (λ e. IsTrue (is_clean new) → Holds old lines → IsKept origin opening j (first_of e) lines old new)) (sym is_journal)
       (ok_map r (λ e. HasGoneOn reading opening (first_of e) (later_lines lines_then) (position (length journal) journal) middle new)
       (λ e. IsTrue (is_clean new) → Holds old lines → IsKept origin opening journal (first_of e) lines old new)
-      (λ e went. λ clean held. all_kept origin reading opening journal (first_of e) lines old middle new begun
+      (λ e went. λ clean held. all_kept origin reading opening journal (first_of e) lines old middle new made meant begun
       (subst (λ (l : List (List ℕ)). HasGoneOn reading opening (first_of e) (later_lines l) (position (length journal) journal) middle new) is_lines went) clean held)
       gone)))))
 

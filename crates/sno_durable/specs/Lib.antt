@@ -1,9 +1,12 @@
 pub mod Compacted
+pub mod Faults
 pub mod Kept
+pub mod Origins
 pub mod Past
 pub mod Performed
 pub mod Queued
 pub mod Records
 pub mod Sought
 pub mod Relations
+pub mod Replayed
 pub mod Stored

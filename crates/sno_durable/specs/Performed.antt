@@ -9,8 +9,9 @@ use Rattle.sno_book.specs.Entries.{Entry}
 use Rattle.sno_book.specs.Openings.{Opening}
 use Rattle.sno_desk.specs.Turns.{Position}
 use Rattle.sno_listing.specs.declared.refusals.Refusal.{Refusal}
-use Rattle.sno_serve.specs.Asked.{asked_in, id_in}
+use Rattle.sno_serve.specs.Asked.{asked_in, id_in, within}
 use Rattle.sno_serve.specs.Replies.{IsLine, with_ignored}
+use Rattle.sno_serve.specs.declared.asked.Asked.{Asked}
 use Rattle.sno_durable.specs.Records.{record_text}
 use Rattle.sno_durable.specs.Sought.{IsRepliedOn}
 use Rattle.sno_durable.specs.declared.earlier.Reading.{Reading}
@@ -25,12 +26,23 @@ pub record AddsLine (d : Data) (before after : List ℕ) : Type 0 where
   pub joined : after ≡ before ++ line
   pub is : IsLine d line
 
--- the line was performed at a seat, which had seen the first entries and has seen the second, and this is the text of its reply
+-- what a line asks for, by what lines mean, if its statement has this number
+abbrev pub asked_of : Reading → ℕ → List ℕ → Asked
+asked_of reading number line = asked_in (arc_value reading.rules) reading.mode number line
+
+-- the same of a client's line, whose match may take no more trials than the service lets it
+abbrev pub asked_now : Reading → ℕ → List ℕ → Asked
+asked_now reading number line = within reading.mode.trials (asked_of reading number line)
+
+-- the line was performed at a seat, which had seen the first entries and has seen the second, and this is the text of its reply. A record of
+-- an older store may have a line that asks for more trials than a client's line may
 pub record IsReplyTo (reading : Reading) (tries : ℕ) (opening : Opening) (before after : List Entry) (line text : List ℕ) : Type 0 where
   pub number : ℕ
+  pub asked : Asked
+  pub is : (asked ≡ asked_now reading number line) ⊎ (asked ≡ asked_of reading number line)
   pub reply : Data
   pub refused : Option Refusal
-  pub replied : IsRepliedOn reading.past.entries (view reading.past.versions) tries opening before after (id_in line) (asked_in (arc_value reading.rules) reading.mode number line) reply refused
+  pub replied : IsRepliedOn reading.past.entries (view reading.past.versions) tries opening before after (id_in line) asked reply refused
   pub written : IsText reply text
 
 -- what comes to the records that wait as a line is performed: its record if an entry was accepted, and nothing otherwise
@@ -42,6 +54,7 @@ pub record HasReplied (reading : Reading) (opening : Opening) (before after : Po
   pub text : List ℕ
   pub begins : Begins before.seen after.seen
   pub reply : IsReplyTo reading 1 opening before.seen after.seen line text
+  pub limited : reply.asked ≡ asked_now reading reply.number line
   pub recorded : IsRecorded before.accepted after.accepted line text waited waits
   pub ignored : List Data
   pub added : AddsLine (with_ignored ignored reply.reply) shown shows

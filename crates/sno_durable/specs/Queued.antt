@@ -1,14 +1,23 @@
 -- What several seats leave for the disk, and what of it can be written.
-use Rattle.std.specs.Prelude.{◌≡◌, ◌+◌, ◌-◌, ◌≤◌, ◌++◌, ℕ, List, [], ◌∷◌, Option, Some, None, codes, length, map, nat_le, nat_lt, if◌then◌else◌}
+use Rattle.std.specs.Prelude.{◌≡◌, ◌+◌, ◌-◌, ◌≤◌, ◌++◌, ℕ, List, [], ◌∷◌, Option, Some, None, codes, length, map, nat_le, nat_lt, ⊤, if◌then◌else◌}
+use Rattle.std.specs.BTreeMap.{insert_entry}
 use Rattle.std.specs.Map.{lookup, remove_entry}
 use Rattle.std.specs.Ordering.{is_eq, nat_cmp}
 use Rattle.std.specs.declared.vec.Vec.{Vec}
+use Rattle.serde_json.specs.Data.{Data}
 use Rattle.serde_json.specs.View.{view}
+use Rattle.sno_book.specs.Entries.{Entry}
+use Rattle.sno_book.specs.Openings.{Opening}
+use Rattle.sno_serve.specs.Contents.{content_data}
+use Rattle.sno_serve.specs.Replies.{with_ignored}
 use Rattle.sno_serve.specs.declared.content.Content.{Content}
 use Rattle.sno_serve.specs.declared.content.Content.TheVariants as says
 use Rattle.sno_store.specs.declared.lines.Lines.{Lines}
 use Rattle.sno_store.specs.Shown.{lines_in}
 use Rattle.sno_durable.specs.Past.{number_at}
+use Rattle.sno_durable.specs.Performed.{AddsLine, IsReplyTo, asked_now}
+use Rattle.sno_durable.specs.Records.{record_text}
+use Rattle.sno_durable.specs.declared.earlier.Reading.{Reading}
 use Rattle.sno_durable.specs.declared.queue.Held.{Held}
 
 -- what is written of the replies that wait, when this number of entries is on the disk: those that show no later entry, in their order
@@ -47,3 +56,26 @@ abbrev pub index_shown : ℕ → Content → Option ℕ
 index_shown before (says.Entry id receipt) = Some receipt.index
 index_shown before (says.Value v) = index_after before (number_at (codes "entry") (view v))
 index_shown before (says.Entries id listed) = None
+
+-- what is left for the disk of a line with this reply and this text of it: nothing, or the line's record with the text, at the index that
+-- the reply shows
+abbrev pub IsLeft : {A : Type 0} → ℕ → List ℕ → Content → List ℕ → Option (ℕ × Vec ℕ A) → Type 0
+IsLeft before line reply text None = ⊤
+IsLeft before line reply text (Some r) = (index_shown before reply ≡ Some r.0) × (r.1.items ≡ record_text line text)
+
+-- a seat, which had seen the first entries and has seen the second, performed a line, and leaves this record of it and these bytes for the
+-- client: both have the one reply, whose text is in the record, and the record has the line
+pub record HasLeft {A : Type 0} (reading : Reading) (tries : ℕ) (opening : Opening) (before after : List Entry) (line : List ℕ) (left : Option (ℕ × Vec ℕ A)) (bytes : List ℕ) : Type 0 where
+  pub content : Content
+  pub text : List ℕ
+  pub reply : IsReplyTo reading tries opening before after line text
+  pub limited : reply.asked ≡ asked_now reading reply.number line
+  pub same : reply.reply ≡ content_data content
+  pub record_left : IsLeft reading.past.entries line content text left
+  pub ignored : List Data
+  pub added : AddsLine (with_ignored ignored reply.reply) [] bytes
+
+-- a record is put among those that wait, at its index, if there is one
+abbrev pub with_left : {A : Type 0} → Option (ℕ × Vec ℕ A) → List (ℕ × Vec ℕ A) → List (ℕ × Vec ℕ A)
+with_left None records = records
+with_left (Some r) records = insert_entry nat_cmp records r.0 r.1

@@ -1,5 +1,5 @@
 -- What a service leaves in its store.
-use Rattle.std.specs.Prelude.{◌≡◌, ◌+◌, ◌++◌, ℕ, List, [], ◌∷◌, Some, length, IsTrue}
+use Rattle.std.specs.Prelude.{◌≡◌, ◌+◌, ◌++◌, ℕ, List, [], ◌∷◌, Some, length, option_and_then, IsTrue}
 use mathlib.Core.List.{IsPrefix as Begins}
 use Rattle.serde_json.specs.Read.{read}
 use Rattle.sqlite_disk.specs.declared.Disk.{Ghosts}
@@ -8,6 +8,7 @@ use Rattle.sno_book.specs.Openings.{Opening}
 use Rattle.sno_desk.specs.Turns.{Position}
 use Rattle.sno_sealed.specs.declared.sealed.Sealed.{Sealed}
 use Rattle.sno_sealed.specs.Sealed.{lines_of, is_clean, Holds}
+use Rattle.sno_durable.specs.Origins.{IsMeant, origin_said, origin_seen}
 use Rattle.sno_durable.specs.Performed.{AreRecords}
 use Rattle.sno_durable.specs.Records.{origin_data}
 use Rattle.sno_durable.specs.declared.earlier.Reading.{Reading}
@@ -58,12 +59,15 @@ module _ {D : Type 0} {g : Ghosts D} where
     pub put : HasPut old new news
 
   -- A store that was opened with these lines has them still, and then the records of further entries. After the first line it has the record
-  -- of each entry of the journal that comes after as many as `first`, and nothing else: all of them were performed
+  -- of each entry of the journal that comes after as many as `first`, and nothing else: all of them were performed, by what lines mean for
+  -- what the first line says
   pub record IsKept (origin : Origin) (opening : Opening) (journal : List Entry) (first : ℕ) (lines : List (List ℕ)) (old new : Sealed D g) : Type 0 where
     pub reading : Reading
     pub line : List ℕ
     pub news : List (List ℕ)
     pub begins : IsFirst origin lines line
+    pub said : option_and_then origin_said (read line) ≡ Some (origin_seen origin)
+    pub meant : IsMeant origin reading opening
     pub same : Begins (lines_of old) (lines_of new)
     pub holds : Holds new (line ∷ (later_lines lines ++ news))
     pub counted : length (lines_of new) + first ≡ 1 + length journal

@@ -1,8 +1,10 @@
 //! What lines mean, and what is performed before the first of them.
-ghost use Rattle.std.specs.Prelude.{◌≡◌, ◌≤◌, ◌+◌, true, IfOk, OnOk, length};
+ghost use Rattle.std.specs.Prelude.{◌≡◌, ◌≤◌, ◌+◌, false, true, IfErr, IfOk, OnOk, length};
 ghost use Rattle.sno_statement.specs.Statement.{IsLimit};
 ghost use Rattle.sno_store.specs.Shown.{lines_left};
 ghost use Rattle.sno_durable.specs.Records.{record_text};
+ghost use Rattle.sno_durable.specs.Faults.{is_of_record};
+ghost use Rattle.sno_durable.specs.declared.faults.DurableFault.TheVariants.{Memory};
 
 use crate::DurableFault;
 use crate::past::Past;
@@ -31,7 +33,8 @@ pub(crate) struct Reading {
 
 /// The record of an entry: the line of its statement, and the text of its reply.
 pub(crate) fn record_of(alloc: Global, line: &[u8], reply: &[u8]) -> Result<Vec<u8>, DurableFault>
-    ensures { IfOk result (λ b. b.items ≡ record_text line.now reply.now) }
+    ensures text { IfOk result (λ b. b.items ≡ record_text line.now reply.now) }
+    ensures fault { IfErr result (λ e. is_of_record e ≡ false) }
 {
     let Ok(line) = str::from_utf8(line) else {
         return Err(DurableFault::Read);
@@ -69,7 +72,9 @@ pub(crate) fn begin<L: Naming, R: Wait>(
     seat: &mut Seat<L>,
     statements: &[Arc<Statement>],
     refused: &mut Vec<Refusal>,
-) -> Result<(), DurableFault> {
+) -> Result<(), DurableFault>
+    ensures { IfErr result (λ e. e ≡ Memory) }
+{
     for statement in statements {
         let number = statement.number();
         let shared = Arc::try_clone(statement)?;
@@ -86,13 +91,16 @@ pub(crate) fn begin<L: Naming, R: Wait>(
 
 /// Whether the two have the same bytes.
 fn is_same(one: &[u8], other: &[u8]) -> bool
-    ensures { result ≡ true → one.now ≡ other.now }
+    ensures same { result ≡ true → one.now ≡ other.now }
+    ensures other { result ≡ false → ¬ (one.now ≡ other.now) }
 {
     one == other
 }
 
 impl Reading {
+    ghost use Rattle.sno_desk.specs.Turns.{position};
     ghost use Rattle.sno_durable.specs.Performed.{AreRecords, IsRecordOf};
+    ghost use Rattle.sno_durable.specs.Replayed.{HasEnded, IsFault};
 
     /// Performs the statements of these records again. Returns the number of the next statement, which was `number`, and is higher
     /// than that of each record.
@@ -105,6 +113,7 @@ impl Reading {
     ) -> Result<u32, DurableFault>
         ensures again { OnOk result (length (lines_left records.entry) + seat.old.accepted ≡ seat.new.accepted) }
         ensures records { OnOk result (AreRecords self.now L.opening seat.old.seen (lines_left records.entry) seat.new.seen) }
+        ensures ended { IfErr result (λ e. HasEnded self.now L.opening 1 (position seat.old.accepted seat.old.seen) (lines_left records.entry) (position seat.new.accepted seat.new.seen) e) }
     {
         let mut next = number;
         let mut place: u64 = 1;
@@ -129,26 +138,27 @@ impl Reading {
     ) -> Result<u32, DurableFault>
         ensures again { OnOk result (seat.new.accepted ≡ seat.old.accepted + 1) }
         ensures record { OnOk result (IsRecordOf self.now L.opening seat.old.seen seat.new.seen stored.now) }
+        ensures cause { IfErr result (λ e. IsFault self.now L.opening (position seat.old.accepted seat.old.seen) (position seat.new.accepted seat.new.seen) place stored.now e) }
     {
         let Some(record) = record_in(at.alloc, stored)? else {
             return Err(DurableFault::Record(place));
         };
         let line = record.line.as_bytes();
         let read = line_in(at.alloc, &self.rules, self.mode, record.number, line)?;
+        let other = DurableFault::Outcome(place);
         let before = seat.accepted();
         let Shown { reply, .. } = reply_here(at, seat, &self.past, read, ONE_TRY)?;
         if seat.accepted() == before {
-            return Err(if is_out_of_memory(&reply) {
-                DurableFault::Memory
-            } else {
-                DurableFault::Outcome(place)
-            });
+            if is_out_of_memory(&reply) {
+                return Err(DurableFault::Memory);
+            }
+            return Err(other);
         }
         let mut text = Vec::new(at.alloc);
         reply.put(at.alloc, &mut text)?;
         let again = record_line(at.alloc, &record.line, &text)?;
         if !is_same(&again, stored) {
-            return Err(DurableFault::Outcome(place));
+            return Err(other);
         }
         Ok(record.number)
     }

@@ -1,4 +1,7 @@
 //! Why a durable service didn't begin, or ended early.
+ghost use Rattle.std.specs.Prelude.{◌≡◌, false};
+ghost use Rattle.sno_durable.specs.Faults.{is_of_record};
+ghost use Rattle.sno_durable.specs.declared.faults.DurableFault.TheVariants.{Memory};
 
 use crate::queue::QueueFault;
 use sno_document::DocumentFault;
@@ -59,18 +62,24 @@ pub enum DurableFault {
 }
 
 impl From<AllocError> for DurableFault {
+    ghost from_gives = { λ _ e. e ≡ Memory };
+
     fn from(_refused: AllocError) -> DurableFault {
         DurableFault::Memory
     }
 }
 
 impl<T: Drop> From<AllocFailed<T>> for DurableFault {
+    ghost from_gives = { λ _ e. e ≡ Memory };
+
     fn from(_refused: AllocFailed<T>) -> DurableFault {
         DurableFault::Memory
     }
 }
 
 impl From<StoreFault> for DurableFault {
+    ghost from_gives = { λ _ e. is_of_record e ≡ false };
+
     fn from(fault: StoreFault) -> DurableFault {
         match fault {
             StoreFault::Memory => DurableFault::Memory,
@@ -80,6 +89,8 @@ impl From<StoreFault> for DurableFault {
 }
 
 impl From<SealFault> for DurableFault {
+    ghost from_gives = { λ _ e. is_of_record e ≡ false };
+
     fn from(fault: SealFault) -> DurableFault {
         match fault {
             SealFault::Damaged(line) => DurableFault::Damaged(line),
@@ -90,6 +101,8 @@ impl From<SealFault> for DurableFault {
 }
 
 impl From<LineFault> for DurableFault {
+    ghost from_gives = { λ _ e. is_of_record e ≡ false };
+
     fn from(fault: LineFault) -> DurableFault {
         match fault {
             LineFault::Memory => DurableFault::Memory,
@@ -99,6 +112,8 @@ impl From<LineFault> for DurableFault {
 }
 
 impl From<QueueFault> for DurableFault {
+    ghost from_gives = { λ _ e. is_of_record e ≡ false };
+
     fn from(fault: QueueFault) -> DurableFault {
         match fault {
             QueueFault::Line(fault) => DurableFault::from(fault),
@@ -108,6 +123,8 @@ impl From<QueueFault> for DurableFault {
 }
 
 impl From<ServeFault> for DurableFault {
+    ghost from_gives = { λ _ e. is_of_record e ≡ false };
+
     fn from(fault: ServeFault) -> DurableFault {
         match fault {
             ServeFault::Memory => DurableFault::Memory,

@@ -1,11 +1,14 @@
 //! The lines of a client, their replies, and the store between the two, at one seat.
-ghost use Rattle.std.specs.Prelude.{◌≡◌, ◌+◌, [], OnOk, IsTrue, length};
+ghost use Rattle.std.specs.Prelude.{◌≡◌, ◌+◌, [], false, IfErr, OnOk, IsTrue, length};
 ghost use Rattle.sno_store.specs.Shown.{lines_in, lines_left};
 ghost use Rattle.sno_sealed.specs.Sealed.{is_clean};
 ghost use Rattle.sno_desk.specs.Turns.{position};
+ghost use Rattle.sno_durable.specs.Faults.{is_of_record};
 ghost use Rattle.sno_durable.specs.Kept.{HasNoted, HasKept};
 ghost use Rattle.sno_durable.specs.Performed.{AreRecords, HasRecords, HasReplied};
+ghost use Rattle.sno_durable.specs.Replayed.{HasEnded};
 ghost use Rattle.sno_durable.specs.Stored.{HasStored};
+ghost use Rattle.sno_durable.specs.declared.faults.DurableFault.TheVariants.{Memory};
 
 use crate::DurableFault;
 use crate::earlier::{ONE_TRY, Reading, begin, number_after, record_of};
@@ -85,6 +88,7 @@ impl<D: Disk + Drop, I: Read + Drop, W: Write + Drop> Keeper<D, I, W> {
         waiting: &mut Waiting,
     ) -> Result<(), DurableFault>
         ensures noted { OnOk result (HasNoted waiting.old.records waiting.new.records seat.old.accepted seat.new.accepted) }
+        ensures fault { IfErr result (λ e. is_of_record e ≡ false) }
         ensures replied { OnOk result (HasReplied self.old.reading L.opening (position seat.old.accepted seat.old.seen) (position seat.new.accepted seat.new.seen) line.now (lines_in waiting.old.records) (lines_in waiting.new.records) waiting.old.replies.items waiting.new.replies.items) }
         ensures same { (self.new.shelf ≡ self.old.shelf) × (self.new.reading ≡ self.old.reading) }
     {
@@ -95,6 +99,7 @@ impl<D: Disk + Drop, I: Read + Drop, W: Write + Drop> Keeper<D, I, W> {
             self.number,
             line,
         )?;
+        read.keep_within(self.reading.mode.trials);
         let ignored = read.take_ignored(at.alloc);
         self.number = number_after(self.number, &read.asked);
         let before = seat.accepted();
@@ -119,6 +124,7 @@ impl<D: Disk + Drop, I: Read + Drop, W: Write + Drop> Keeper<D, I, W> {
 
     /// Keeps what the listing has of a refused statement, if there will be one.
     fn keep(&mut self, refused: Option<Refusal>) -> Result<(), DurableFault>
+        ensures fault { IfErr result (λ e. is_of_record e ≡ false) }
         ensures same { (self.new.shelf ≡ self.old.shelf) × (self.new.reading ≡ self.old.reading) }
     {
         if let Some(refused) = refused {
@@ -137,6 +143,7 @@ impl<D: Disk + Drop, I: Read + Drop, W: Write + Drop> Keeper<D, I, W> {
         waiting: &mut Waiting,
     ) -> Result<bool, DurableFault>
         ensures noted { OnOk result (HasNoted waiting.old.records waiting.new.records seat.old.accepted seat.new.accepted) }
+        ensures fault { IfErr result (λ e. is_of_record e ≡ false) }
         ensures records { OnOk result (HasRecords self.old.reading L.opening (position seat.old.accepted seat.old.seen) (position seat.new.accepted seat.new.seen) (lines_in waiting.old.records) (lines_in waiting.new.records)) }
         ensures same { (self.new.shelf ≡ self.old.shelf) × (self.new.reading ≡ self.old.reading) }
     {
@@ -162,6 +169,7 @@ impl<D: Disk + Drop, I: Read + Drop, W: Write + Drop> Keeper<D, I, W> {
         waiting: &mut Waiting,
     ) -> Result<bool, DurableFault>
         ensures noted { OnOk result (HasNoted waiting.old.records waiting.new.records seat.old.accepted seat.new.accepted) }
+        ensures fault { IfErr result (λ e. is_of_record e ≡ false) }
         ensures records { OnOk result (HasRecords self.old.reading L.opening (position seat.old.accepted seat.old.seen) (position seat.new.accepted seat.new.seen) (lines_in waiting.old.records) (lines_in waiting.new.records)) }
         ensures same { (self.new.shelf ≡ self.old.shelf) × (self.new.reading ≡ self.old.reading) }
     {
@@ -185,6 +193,7 @@ impl<D: Disk + Drop, I: Read + Drop, W: Write + Drop> Keeper<D, I, W> {
         waiting: &mut Waiting,
     ) -> Result<bool, DurableFault>
         ensures kept { OnOk result (HasKept self.old.shelf.store self.new.shelf.store seat.old.accepted seat.new.accepted) }
+        ensures fault { IfErr result (λ e. is_of_record e ≡ false) }
         ensures stored { OnOk result (HasStored self.old.reading L.opening (position seat.old.accepted seat.old.seen) (position seat.new.accepted seat.new.seen) self.old.shelf.store self.new.shelf.store) }
         ensures same { self.new.reading ≡ self.old.reading }
         ensures clean { OnOk result (IsTrue (is_clean self.new.shelf.store) → IsTrue (is_clean self.old.shelf.store)) }
@@ -203,6 +212,7 @@ impl<D: Disk + Drop, I: Read + Drop, W: Write + Drop> Keeper<D, I, W> {
         seat: &mut Seat<L>,
     ) -> Result<bool, DurableFault>
         ensures kept { OnOk result (HasKept self.old.shelf.store self.new.shelf.store seat.old.accepted seat.new.accepted) }
+        ensures fault { IfErr result (λ e. is_of_record e ≡ false) }
         ensures stored { OnOk result (HasStored self.old.reading L.opening (position seat.old.accepted seat.old.seen) (position seat.new.accepted seat.new.seen) self.old.shelf.store self.new.shelf.store) }
         ensures same { self.new.reading ≡ self.old.reading }
     {
@@ -226,6 +236,7 @@ impl<D: Disk + Drop, I: Read + Drop, W: Write + Drop> Keeper<D, I, W> {
         statements: &[Arc<Statement>],
     ) -> Result<(), DurableFault>
         ensures same { (self.new.shelf ≡ self.old.shelf) × (self.new.reading ≡ self.old.reading) }
+        ensures memory { IfErr result (λ e. e ≡ Memory) }
     {
         begin(at, seat, statements, &mut self.refused)?;
         if !self.lists {
@@ -244,6 +255,7 @@ impl<D: Disk + Drop, I: Read + Drop, W: Write + Drop> Keeper<D, I, W> {
         ensures again { OnOk result (length (lines_left records.entry) + seat.old.accepted ≡ seat.new.accepted) }
         ensures records { OnOk result (AreRecords self.old.reading L.opening seat.old.seen (lines_left records.entry) seat.new.seen) }
         ensures same { (self.new.shelf ≡ self.old.shelf) × (self.new.reading ≡ self.old.reading) }
+        ensures ended { IfErr result (λ e. HasEnded self.old.reading L.opening 1 (position seat.old.accepted seat.old.seen) (lines_left records.entry) (position seat.new.accepted seat.new.seen) e) }
     {
         self.number = self.reading.replay_all(at, seat, self.number, records)?;
         Ok(())

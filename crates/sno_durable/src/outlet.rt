@@ -1,5 +1,7 @@
 //! The writer of the replies that wait for the disk.
+ghost use Rattle.std.specs.Prelude.{IfErr};
 ghost use Rattle.sno_durable.specs.Kept.{AreKept};
+ghost use Rattle.sno_durable.specs.declared.faults.DurableFault.TheVariants.{Write as NotWritten};
 
 use crate::DurableFault;
 use sno_sealed::Sealed;
@@ -39,6 +41,7 @@ impl<W: Write + Drop> Outlet<W> {
         replies: &[u8],
     ) -> Result<(), DurableFault>
         requires kept { AreKept store.now records.now }
+        ensures { IfErr result (λ e. e ≡ NotWritten) }
     {
         // for the contract
         let _store = store;

@@ -1,7 +1,7 @@
 //! What several seats leave for the disk, until one of them writes it.
-ghost use Rattle.std.specs.Prelude.{◌≡◌, ◌++◌, [], false, true, OnOk, if◌then◌else◌};
+ghost use Rattle.std.specs.Prelude.{◌≡◌, ◌++◌, ◌∷◌, [], false, true, OnOk, if◌then◌else◌};
 ghost use Rattle.sno_store.specs.Shown.{lines_in};
-ghost use Rattle.sno_durable.specs.Queued.{HasGiven, HasTaken, shown_at, waiting_at};
+ghost use Rattle.sno_durable.specs.Queued.{HasGiven, HasTaken, shown_at, waiting_at, with_left};
 
 use sno_book::MAX_ENTRIES;
 use sno_listing::Refusal;
@@ -151,7 +151,11 @@ impl Queue {
     }
 
     /// Adds what a seat has done. Returns whether this seat is to write: no other one does.
-    pub(crate) fn add(&mut self, noted: Noted) -> Result<bool, AllocError> {
+    pub(crate) fn add(&mut self, noted: Noted) -> Result<bool, AllocError>
+        ensures records { OnOk result (self.new.records.entries ≡ with_left noted.record self.old.records.entries) }
+        ensures replies { OnOk result (self.new.replies.items ≡ self.old.replies.items ++ noted.held ∷ []) }
+        ensures next { self.new.next ≡ self.old.next }
+    {
         let Noted {
             record,
             held,

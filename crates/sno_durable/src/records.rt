@@ -1,13 +1,17 @@
 //! The lines of a store: first what it was made of, and then a record of each entry.
 ghost use Rattle.std.specs.Prelude.{◌≡◌, ◌≤◌, ◌+◌, ◌∷◌, [], codes, IfOk, Some};
+ghost use Rattle.std.specs.Option.{option_map};
 ghost use Rattle.json.specs.Token.{Token, begin_object, key};
 ghost use Rattle.json.specs.Print.{print};
 ghost use Rattle.serde_json.specs.Data.{Data, depth};
 ghost use Rattle.serde_json.specs.Read.{read, max_depth};
 ghost use Rattle.serde_json.specs.View.{view};
 ghost use Rattle.serde_json.specs.Written.{compact_text};
-ghost use Rattle.sno_durable.specs.Past.{number_at};
+ghost use Rattle.sno_document.specs.Json.{json_of};
+ghost use Rattle.sno_durable.specs.Origins.{before_said, before_seen, is_known, origin_in, origin_seen, past_said, past_seen, small, small_at};
+ghost use Rattle.sno_durable.specs.Past.{number_at, string_at};
 ghost use Rattle.sno_durable.specs.Records.{later_data, origin_data, past_data, record_data, record_text};
+ghost use Rattle.sno_durable.specs.Replayed.{record_in, record_seen};
 
 use crate::past::Past;
 use json::Writer;
@@ -158,7 +162,10 @@ pub(crate) fn record_line(alloc: Global, line: &str, reply: &[u8]) -> Result<Vec
 }
 
 /// The JSON value of a line of the store, if it is one.
-fn value_of(alloc: Global, line: &[u8]) -> Result<Option<Value>, AllocError> {
+#[tactic(auto, using(sno_document::proofs::JsonLemmas::json_found, sno_document::proofs::JsonLemmas::json_none))]
+fn value_of(alloc: Global, line: &[u8]) -> Result<Option<Value>, AllocError>
+    ensures { IfOk result (λ v. option_map view v ≡ json_of line.now) }
+{
     match Value::from_slice(alloc, line) {
         Ok(value) => Ok(Some(value)),
         Err(e) => match e.classify() {
@@ -175,30 +182,65 @@ pub(crate) fn number_at(value: &Value, key: &str) -> Option<u64>
     value.get(key).and_then(Value::as_u64)
 }
 
-/// What a member says that came before; nothing if it doesn't.
-fn past_in(member: &Value) -> Result<Option<Past>, AllocError> {
-    let (Some(entries), Some(statements)) = (
-        number_at(member, "entries"),
-        number_at(member, "statements"),
-    ) else {
-        return Ok(None);
-    };
-    match member.get("versions") {
-        Some(versions) if versions.is_object() && statements <= u32::MAX as u64 => Ok(Some(Past {
-            entries,
-            statements: statements as u32,
-            versions: versions.clone()?,
-        })),
-        _ => Ok(None),
+/// A number, if it has at most 32 bits.
+fn small(number: u64) -> Option<u32>
+    ensures { result ≡ small number }
+{
+    if number < 1 << 32 {
+        Some(number as u32)
+    } else {
+        None
     }
 }
 
-/// What a first line of the later format says that came before; nothing if it doesn't.
-fn before_in(alloc: Global, line: &Value) -> Result<Option<Before>, AllocError> {
-    let (Some(made_of), Some(member)) = (
-        line.get("made_of").and_then(Value::as_str),
-        line.get("past"),
-    ) else {
+/// A member that is a whole number of at most 32 bits.
+fn small_at(value: &Value, key: &str) -> Option<u32>
+    ensures { result ≡ small_at key.now (view value.now) }
+{
+    match number_at(value, key) {
+        None => None,
+        Some(number) => small(number),
+    }
+}
+
+/// A member that is a string.
+fn string_at<'v>(value: &'v Value, key: &str) -> Option<&'v str>
+    ensures { option_map (λ s. s.now) result ≡ string_at key.now (view value.now) }
+{
+    value.get(key).and_then(Value::as_str)
+}
+
+/// What a member says that came before; nothing if it doesn't.
+fn past_in(member: &Value) -> Result<Option<Past>, AllocError>
+    ensures { IfOk result (λ p. option_map past_seen p ≡ past_said (view member.now)) }
+{
+    let Some(entries) = number_at(member, "entries") else {
+        return Ok(None);
+    };
+    let Some(statements) = small_at(member, "statements") else {
+        return Ok(None);
+    };
+    let Some(versions) = member.get("versions") else {
+        return Ok(None);
+    };
+    if !versions.is_object() {
+        return Ok(None);
+    }
+    Ok(Some(Past {
+        entries,
+        statements,
+        versions: versions.clone()?,
+    }))
+}
+
+/// What a first line says that came before; nothing if it doesn't.
+fn before_in(alloc: Global, line: &Value) -> Result<Option<Before>, AllocError>
+    ensures { IfOk result (λ b. option_map before_seen b ≡ before_said (view line.now)) }
+{
+    let Some(made_of) = string_at(line, "made_of") else {
+        return Ok(None);
+    };
+    let Some(member) = line.get("past") else {
         return Ok(None);
     };
     let Some(past) = past_in(member)? else {
@@ -208,51 +250,63 @@ fn before_in(alloc: Global, line: &Value) -> Result<Option<Before>, AllocError> 
     Ok(Some(Before { made_of, past }))
 }
 
+/// Whether there are lines of this format that say that something came before, or that nothing did.
+fn is_known(format: Option<u64>, goes_on: bool) -> bool
+    ensures { result ≡ is_known format goes_on }
+{
+    match format {
+        None => false,
+        Some(format) => {
+            format == FORMAT
+                || (format == PLAIN_FORMAT && !goes_on)
+                || (format == LATER_PLAIN_FORMAT && goes_on)
+        }
+    }
+}
+
 /// What the first line of a store says that it was made of; nothing if it isn't such a line.
-pub(crate) fn origin_in(alloc: Global, line: &[u8]) -> Result<Option<Origin>, AllocError> {
+pub(crate) fn origin_in(alloc: Global, line: &[u8]) -> Result<Option<Origin>, AllocError>
+    ensures { IfOk result (λ o. option_map origin_seen o ≡ origin_in line.now) }
+{
     let Some(value) = value_of(alloc, line)? else {
         return Ok(None);
     };
     let before = before_in(alloc, &value)?;
-    let is_known = match number_at(&value, "nomyake") {
-        Some(FORMAT) => true,
-        Some(PLAIN_FORMAT) => before.is_none(),
-        Some(LATER_PLAIN_FORMAT) => before.is_some(),
-        _ => false,
-    };
-    let text = value.get("document").and_then(Value::as_str);
-    match (number_at(&value, "trials"), text) {
-        (Some(trials), Some(text)) if is_known && trials <= u32::MAX as u64 => {
-            let document = String::from_str(alloc, text)?.into_bytes();
-            Ok(Some(Origin {
-                document,
-                trials: trials as u32,
-                before,
-            }))
-        }
-        _ => Ok(None),
+    if !is_known(number_at(&value, "nomyake"), before.is_some()) {
+        return Ok(None);
     }
+    let Some(text) = string_at(&value, "document") else {
+        return Ok(None);
+    };
+    let Some(trials) = small_at(&value, "trials") else {
+        return Ok(None);
+    };
+    let document = String::from_str(alloc, text)?.into_bytes();
+    Ok(Some(Origin {
+        document,
+        trials,
+        before,
+    }))
 }
 
 /// What a record says; nothing if the line isn't one.
-pub(crate) fn record_in(alloc: Global, line: &[u8]) -> Result<Option<Record>, AllocError> {
+pub(crate) fn record_in(alloc: Global, line: &[u8]) -> Result<Option<Record>, AllocError>
+    ensures { IfOk result (λ r. option_map record_seen r ≡ record_in line.now) }
+{
     let Some(value) = value_of(alloc, line)? else {
         return Ok(None);
     };
-    let text = value.get("line").and_then(Value::as_str);
-    let number = value
-        .get("reply")
-        .and_then(|reply| number_at(reply, "statement"));
-    match (text, number) {
-        (Some(text), Some(number)) if number <= u32::MAX as u64 => {
-            let line = String::from_str(alloc, text)?;
-            Ok(Some(Record {
-                line,
-                number: number as u32,
-            }))
-        }
-        _ => Ok(None),
-    }
+    let Some(text) = string_at(&value, "line") else {
+        return Ok(None);
+    };
+    let Some(reply) = value.get("reply") else {
+        return Ok(None);
+    };
+    let Some(number) = small_at(reply, "statement") else {
+        return Ok(None);
+    };
+    let line = String::from_str(alloc, text)?;
+    Ok(Some(Record { line, number }))
 }
 
 /// The index that the entry after a record's has; nothing if the line isn't a record.

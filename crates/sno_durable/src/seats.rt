@@ -1,7 +1,7 @@
 //! Several seats over one store.
-ghost use Rattle.std.specs.Prelude.{◌≡◌, ◌≤◌, ◌+◌, IfOk, MatchResult, None, Some, length, option_to_list};
+ghost use Rattle.std.specs.Prelude.{◌≡◌, ◌≤◌, ◌+◌, IfOk, MatchResult, None, Some, length, option_to_list, if◌then◌else◌};
 ghost use Rattle.sno_desk.specs.declared.desk.TheConstants.{MAX_TRIES};
-ghost use Rattle.sno_durable.specs.Queued.{index_after, index_shown};
+ghost use Rattle.sno_durable.specs.Queued.{HasLeft, IsLeft, index_after, index_shown};
 ghost use Rattle.sno_durable.specs.Records.{record_text};
 ghost use Rattle.sno_durable.specs.declared.faults.DurableFault.TheVariants.{Desk as NoDesk};
 
@@ -93,12 +93,31 @@ fn record_at(
     Ok((index, record))
 }
 
+/// What is left for the disk of a line that was performed: its record, if an entry was accepted.
+fn record_left(
+    alloc: Global,
+    line: &[u8],
+    reply: &Content,
+    text: &[u8],
+    before: u64,
+    is_accepted: bool,
+) -> Result<Option<(u64, Vec<u8>)>, DurableFault>
+    ensures counted { IfOk result (λ r. length (option_to_list r) ≡ (if is_accepted then 1 else 0)) }
+    ensures left { IfOk result (λ r. IsLeft before line.now reply.now text.now r) }
+{
+    if !is_accepted {
+        return Ok(None);
+    }
+    let record = record_at(alloc, line, reply, text, before)?;
+    Ok(Some(record))
+}
+
 impl<D: Disk + Drop, I: Read + Drop, W: Write + Drop> Shared<D, I, W> {
-    ghost use Rattle.std.specs.Arc.{arc_value};
     ghost use Rattle.std.specs.Option.{option_map};
     ghost use Rattle.std.specs.Prelude.{ℕ};
     ghost use Rattle.serde_json.specs.View.{view};
-    ghost use Rattle.sno_serve.specs.Asked.{asked_in, id_in};
+    ghost use Rattle.sno_serve.specs.Asked.{id_in};
+    ghost use Rattle.sno_durable.specs.Performed.{asked_now};
 
     /// Takes a fault, if it is the first one, and closes the service.
     fn fail<R: Wait>(&self, rt: &R, fault: DurableFault) {
@@ -163,17 +182,18 @@ impl<D: Disk + Drop, I: Read + Drop, W: Write + Drop> Shared<D, I, W> {
         }
     }
 
-    /// What a line asks for. A statement takes the next number.
+    /// What a line asks for, with no more trials than the service lets a match take. A statement takes the next number.
     fn read<L: Naming, R: Wait>(
         &self,
         at: &AtDesk<'_, L, R>,
         line: &[u8],
     ) -> Result<Line, DurableFault>
-        ensures asked { IfOk result (λ l. (number : ℕ) × (option_map view l.id ≡ id_in line.now) × (l.asked ≡ asked_in (arc_value self.now.reading.rules) self.now.reading.mode number line.now)) }
+        ensures asked { IfOk result (λ l. (number : ℕ) × (option_map view l.id ≡ id_in line.now) × (l.asked ≡ asked_now self.now.reading number line.now)) }
     {
         let mut number = self.numbers.lock(at.rt);
         let Reading { rules, mode, .. } = &self.reading;
-        let line = line_in(at.alloc, rules, *mode, *number, line)?;
+        let mut line = line_in(at.alloc, rules, *mode, *number, line)?;
+        line.keep_within(mode.trials);
         *number = number_after(*number, &line.asked);
         Ok(line)
     }
@@ -187,6 +207,7 @@ impl<D: Disk + Drop, I: Read + Drop, W: Write + Drop> Shared<D, I, W> {
     ) -> Result<Noted, DurableFault>
         ensures counted { IfOk result (λ noted. length (option_to_list noted.record) + seat.old.accepted ≡ seat.new.accepted) }
         ensures seen { IfOk result (λ noted. noted.held.seen ≡ length seat.new.seen) }
+        ensures left { IfOk result (λ noted. HasLeft self.now.reading self.now.tries L.opening seat.old.seen seat.new.seen line.now noted.record noted.held.reply.items) }
     {
         let mut read = self.read(at, line)?;
         let ignored = read.take_ignored(at.alloc);
@@ -195,11 +216,8 @@ impl<D: Disk + Drop, I: Read + Drop, W: Write + Drop> Shared<D, I, W> {
         let Shown { reply, refused } = reply_here(at, seat, past, read, self.tries)?;
         let mut text = Vec::new(at.alloc);
         reply.put(at.alloc, &mut text)?;
-        let record = if seat.accepted() == before {
-            None
-        } else {
-            Some(record_at(at.alloc, line, &reply, &text, past.entries)?)
-        };
+        let is_accepted = seat.accepted() != before;
+        let record = record_left(at.alloc, line, &reply, &text, past.entries, is_accepted)?;
         let mut bytes = Vec::new(at.alloc);
         put_noted(at.alloc, &mut bytes, &text, reply, ignored)?;
         let held = Held {

@@ -1,16 +1,21 @@
 //! A service over a store, from its start to its end.
-ghost use Rattle.std.specs.Prelude.{◌≡◌, ◌≤◌, [], true, length, IfErr, IfOk, IsTrue, OnOk};
+ghost use Rattle.std.specs.Prelude.{◌≡◌, ◌≤◌, ◌⊎◌, [], Ok, Err, Some, None, false, true, length, IfErr, IfOk, IsTrue, OnOk};
 ghost use Rattle.std.specs.Thread.{IsSend, IsSync};
+ghost use Rattle.serde_json.specs.View.{view};
 ghost use Rattle.sno_book.specs.Books.{view_of};
 ghost use Rattle.sno_book.specs.Views.{IsValid};
 ghost use Rattle.sno_statement.specs.Statement.{IsLimit};
 ghost use Rattle.sno_desk.specs.Turns.{position};
 ghost use Rattle.sno_desk.specs.declared.desk.TheConstants.{MAX_SEATS, MAX_TRIES};
-ghost use Rattle.sno_document.specs.Reads.{IsReady};
+ghost use Rattle.sno_document.specs.Document.{IsDocument};
+ghost use Rattle.sno_document.specs.Reads.{document_seen, IsReady};
 ghost use Rattle.sno_sealed.specs.Sealed.{is_clean, Holds};
 ghost use Rattle.sno_store.specs.Shown.{lines_in};
+ghost use Rattle.sno_durable.specs.Compacted.{entries_before, made_of, versions_before};
+ghost use Rattle.sno_durable.specs.Origins.{Fits, IsGiven, IsMadeOf, IsMeant, IsOriginFault, IsStartFault, bytes_given, origin_in, origin_seen};
+ghost use Rattle.sno_durable.specs.Replayed.{HasCause, HasStopped};
 ghost use Rattle.sno_durable.specs.Stored.{HasBegun, HasGoneOn, HasPut, IsKept, IsOnly, later_lines};
-ghost use Rattle.sno_durable.specs.declared.faults.DurableFault.TheVariants.{Memory};
+ghost use Rattle.sno_durable.specs.declared.faults.DurableFault.TheVariants.{Document as Refused, Memory, NoDocument};
 
 use crate::DurableFault;
 use crate::earlier::Reading;
@@ -100,40 +105,98 @@ pub struct Kept<D: Disk, I: Read, W: Write> {
     pub ended: Result<Ended, DurableFault>,
 }
 
-/// What the store was made of, by its first line; what is given, if it has no lines.
-fn origin_of(alloc: Global, lines: &Lines, given: Given) -> Result<Origin, DurableFault> {
-    let Given {
-        document,
-        trials,
-        ..
-    } = given;
-    let Some(first) = lines.iter().next() else {
-        let Some(document) = document else {
-            return Err(DurableFault::NoDocument);
-        };
-        return Ok(Origin {
+/// How many trials a match may take in a new store.
+fn limit_of(given: Option<u32>) -> u32
+    ensures { IsGiven given result }
+{
+    match given {
+        Some(trials) => trials,
+        None => USUAL_TRIALS,
+    }
+}
+
+/// What a new store is made of.
+fn new_origin(document: Option<Vec<u8>>, trials: Option<u32>) -> Result<Origin, DurableFault>
+    ensures new { IfOk result (λ o. o.before ≡ None) }
+    ensures given { IfOk result (λ o. IsGiven (bytes_given document) o.document.items × IsGiven trials o.trials) }
+    ensures cause { IfErr result (λ e. (e ≡ NoDocument) × (bytes_given document ≡ None)) }
+{
+    match document {
+        None => Err(DurableFault::NoDocument),
+        Some(document) => Ok(Origin {
             document,
-            trials: trials.unwrap_or(USUAL_TRIALS),
+            trials: limit_of(trials),
             before: None,
-        });
-    };
+        }),
+    }
+}
+
+/// Whether the document that is given, if one is, has these bytes.
+fn is_of(given: Option<Vec<u8>>, document: &[u8]) -> bool
+    ensures same { result ≡ true → IsGiven (bytes_given given) document.now }
+    ensures other { result ≡ false → ¬ IsGiven (bytes_given given) document.now }
+{
+    match given {
+        Some(given) => given.as_slice() == document,
+        None => true,
+    }
+}
+
+/// Whether the limit that is given, if one is, is this.
+fn is_with(given: Option<u32>, trials: u32) -> bool
+    ensures same { result ≡ true → IsGiven given trials }
+    ensures other { result ≡ false → ¬ IsGiven given trials }
+{
+    match given {
+        Some(given) => given == trials,
+        None => true,
+    }
+}
+
+/// What a store with this first line was made of.
+fn old_origin(
+    alloc: Global,
+    first: &[u8],
+    document: Option<Vec<u8>>,
+    trials: Option<u32>,
+) -> Result<Origin, DurableFault>
+    ensures said { IfOk result (λ o. origin_in first.now ≡ Some (origin_seen o)) }
+    ensures given { IfOk result (λ o. IsGiven (bytes_given document) (made_of o.document.items o.before) × IsGiven trials o.trials) }
+    ensures cause { IfErr result (IsOriginFault (bytes_given document) trials first.now) }
+{
     let Some(origin) = origin_in(alloc, first)? else {
         return Err(DurableFault::Format);
     };
     if !is_of(document, origin.made_of()) {
         return Err(DurableFault::OtherDocument);
     }
-    if trials.unwrap_or(origin.trials) != origin.trials {
+    if !is_with(trials, origin.trials) {
         return Err(DurableFault::OtherTrials(origin.trials));
     }
     Ok(origin)
 }
 
-/// Whether the document that is given, if one is, has these bytes.
-fn is_of(given: Option<Vec<u8>>, document: &[u8]) -> bool {
-    match given {
-        Some(given) => given.as_slice() == document,
-        None => true,
+/// What the store was made of, by its first line; what is given, if it has no lines.
+#[tactic(auto, using(crate::proofs::Originating::made_first, crate::proofs::Originating::made_new, crate::proofs::Originating::fault_first, crate::proofs::Originating::fault_new))]
+fn origin_of(alloc: Global, lines: &Lines, given: Given) -> Result<Origin, DurableFault>
+    ensures made_of { IfOk result (λ o. IsMadeOf o (lines_in lines.now)) }
+    ensures given { IfOk result (λ o. Fits given o) }
+    ensures cause { IfErr result (IsStartFault given (lines_in lines.now)) }
+{
+    let Given {
+        document,
+        trials,
+        ..
+    } = given;
+    match lines.iter().next() {
+        None => {
+            let origin = new_origin(document, trials)?;
+            Ok(origin)
+        }
+        Some(first) => {
+            let origin = old_origin(alloc, first, document, trials)?;
+            Ok(origin)
+        }
     }
 }
 
@@ -148,6 +211,8 @@ fn is_limit(trials: u32) -> bool
 fn document_of(alloc: Global, bytes: &[u8], mode: Mode) -> Result<Document, DurableFault>
     requires { IsLimit mode.trials }
     ensures ready { IfOk result (λ d. IsReady d) }
+    ensures document { IfOk result (λ d. IsDocument mode bytes.now (Ok (document_seen d))) }
+    ensures cause { IfErr result (λ e. (e ≡ Memory) ⊎ ((f : DocumentFault) × (e ≡ Refused f) × IsDocument mode bytes.now (Err f))) }
 {
     match read_document(alloc, bytes, mode) {
         Ok(document) => Ok(document),
@@ -214,6 +279,7 @@ fn at_seat<L: Naming, D: Disk + Drop, I: Read + Drop, W: Write + Drop, R: Wait>(
 ) -> Result<Ended, DurableFault>
     ensures gone { IfOk result (λ e. HasGoneOn keeper.old.reading L.opening e.first (later_lines (lines_in earlier.entry.lines)) (position seat.new.accepted seat.new.seen) keeper.old.shelf.store keeper.new.shelf.store) }
     ensures same { keeper.new.reading ≡ keeper.old.reading }
+    ensures cause { IfErr result (HasStopped keeper.old.reading L.opening (later_lines (lines_in earlier.entry.lines))) }
 {
     let Earlier { statements, lines } = earlier;
     keeper.begin(at, seat, statements)?;
@@ -236,6 +302,7 @@ fn at_only_seat<L: Naming, D: Disk + Drop, I: Read + Drop, W: Write + Drop, R: W
 ) -> Result<Ended, DurableFault>
     requires one { length seats.old ≡ 1 }
     ensures gone { IfOk result (λ e. IsOnly (λ s. HasGoneOn keeper.old.reading L.opening e.first (later_lines (lines_in earlier.entry.lines)) (position s.accepted s.seen) keeper.old.shelf.store keeper.new.shelf.store) seats.new) }
+    ensures cause { IfErr result (HasStopped keeper.old.reading L.opening (later_lines (lines_in earlier.entry.lines))) }
 {
     at_seat(at, &mut seats[0], keeper, earlier)
 }
@@ -257,6 +324,7 @@ fn at_named_desk<L: Naming, D: Disk + Drop, I: Read + Drop, W: Write + Drop, R: 
     ensures opening { IfOk result (λ left. left.0.opening ≡ book.opening) }
     ensures valid { IfOk result (λ left. IsValid (view_of left.0)) }
     ensures gone { IfOk result (λ left. IfOk left.1 (λ e. HasGoneOn keeper.old.reading book.opening e.first (later_lines (lines_in earlier.entry.lines)) (position (length left.0.journal) left.0.journal) keeper.old.shelf.store keeper.new.shelf.store)) }
+    ensures cause { IfOk result (λ left. IfErr left.1 (HasStopped keeper.old.reading book.opening (later_lines (lines_in earlier.entry.lines)))) }
 {
     let (desk, mut seats) = match Desk::<L>::new(rt, alloc, blank, book, 1) {
         Ok(made) => made,
@@ -275,7 +343,10 @@ fn at_named_desk<L: Naming, D: Disk + Drop, I: Read + Drop, W: Write + Drop, R: 
 }
 
 /// What came before the first entry of a store, and the number of the statement after those of its document.
-fn beginning(alloc: Global, origin: &Origin, statements: u32) -> Result<(Past, u32), AllocError> {
+fn beginning(alloc: Global, origin: &Origin, statements: u32) -> Result<(Past, u32), AllocError>
+    ensures entries { IfOk result (λ b. b.0.entries ≡ entries_before origin.now.before) }
+    ensures versions { IfOk result (λ b. view b.0.versions ≡ versions_before origin.now.before) }
+{
     let past = origin.past(alloc)?;
     let number = past.statements.saturating_add(statements).saturating_add(1);
     Ok((past, number))
@@ -305,6 +376,9 @@ fn beginning_of<D: Disk + Drop>(
 ) -> Result<Begun<D>, DurableFault>
     ensures begun { IfOk result (λ b. HasBegun b.origin (lines_in opened.1) opened.0 b.store) }
     ensures lines { IfOk result (λ b. b.lines ≡ opened.1) }
+    ensures made_of { IfOk result (λ b. IsMadeOf b.origin (lines_in opened.1)) }
+    ensures given { IfOk result (λ b. Fits given b.origin) }
+    ensures meant { IfOk result (λ b. IsMeant b.origin b.reading b.book.opening) }
 {
     let (mut store, lines) = opened;
     refuse_other(alloc, &mut store, &lines)?;
@@ -374,6 +448,8 @@ pub fn serve_durably<D: Disk + Drop, I: Read + Drop, W: Write + Drop, R: Wait>(
 ) -> Result<Kept<D, I, W>, DurableFault>
     ensures valid { IfOk result (λ k. IsValid (view_of k.book)) }
     ensures kept { IfOk result (λ k. IfOk k.ended (λ e. IsTrue (is_clean k.store) → Holds opened.0 (lines_in opened.1) → IsKept k.origin k.book.opening k.book.journal e.first (lines_in opened.1) opened.0 k.store)) }
+    ensures given { IfOk result (λ k. Fits given k.origin) }
+    ensures cause { IfOk result (λ k. IfErr k.ended (HasCause k.origin k.book.opening (later_lines (lines_in opened.1)))) }
 {
     let Begun {
         store,
@@ -480,6 +556,8 @@ pub fn serve_durably_at<
     requires tries { (1 ≤ seats.tries) × (seats.tries ≤ MAX_TRIES) }
     ensures valid { IfOk result (λ k. IsValid (view_of k.book)) }
     ensures kept { seats.count ≡ 1 → IfOk result (λ k. IfOk k.ended (λ e. IsTrue (is_clean k.store) → Holds opened.0 (lines_in opened.1) → IsKept k.origin k.book.opening k.book.journal e.first (lines_in opened.1) opened.0 k.store)) }
+    ensures given { IfOk result (λ k. Fits given k.origin) }
+    ensures cause { seats.count ≡ 1 → IfOk result (λ k. IfErr k.ended (HasCause k.origin k.book.opening (later_lines (lines_in opened.1)))) }
 {
     if seats.count == 1 {
         return serve_durably(rt, alloc, opened, given, client);
@@ -546,7 +624,7 @@ fn left_by_seats<D: Disk + Drop, I: Read + Drop, W: Write + Drop>(
     origin: Origin,
     book: Book,
 ) -> Result<Kept<D, I, W>, DurableFault>
-    ensures { IfOk result (λ k. k.book ≡ book) }
+    ensures { IfOk result (λ k. (k.book ≡ book) × (k.origin ≡ origin)) }
 {
     let Shared {
         numbers,

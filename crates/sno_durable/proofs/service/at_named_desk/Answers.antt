@@ -1,11 +1,13 @@
 -- The only seat has worked, and the close returns what it left.
 use Rattle.std.proofs.Common.{◌≡◌, [], List, length, drop, ap, subst, sym, ◌∙◌, arith}
 use Rattle.std.specs.List.{All}
-use Rattle.std.specs.Prelude.{sum_by}
+use Rattle.std.specs.Prelude.{IfErr, sum_by}
 use mathlib.Core.List.{IsPrefix as Begins}
+use Rattle.sno_book.specs.Openings.{Opening}
 use Rattle.sno_desk.specs.Turns.{position}
 use Rattle.sno_desk.specs.declared.seats.Seat.{Seat}
 use Rattle.sno_store.specs.Shown.{lines_in}
+use Rattle.sno_durable.specs.Replayed.{HasStopped}
 use Rattle.sno_durable.specs.Stored.{HasGoneOn, IsOnly, later_lines}
 use Rattle.sno_durable.proofs.Storing.{gone_closed, ok_map, restored}
 use Rattle.sno_durable.proofs.service.at_named_desk.Goals as goal
@@ -30,3 +32,8 @@ returns-in-Ok-close-clause-gone g c =
     (λ e. HasGoneOn reading c.args.book.opening e.first lines (position (length journal) journal) store stored)
     (λ e only. gone_closed (λ (s : Seat g.row.L.Denot). s.accepted) (λ s. s.seen) reading g.L.Naming.opening c.args.book.opening e.first lines new journal store stored c.requires.opening only counted seen)
     c.at_only_seat-ended.ensures.gone
+
+pub returns-in-Ok-close-clause-cause : goal.returns-in-Ok-close-clause-cause
+returns-in-Ok-close-clause-cause g c =
+    subst (λ (o : Opening). IfErr c.at_only_seat-ended.result (HasStopped c.args.keeper.now.reading o (later_lines (lines_in c.args.earlier.lines)))) (sym c.requires.opening)
+    c.at_only_seat-ended.ensures.cause
