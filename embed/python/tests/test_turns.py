@@ -8,6 +8,7 @@ from pathlib import Path
 from sno_rewrite.service._journal import Journal
 from sno_rewrite.service._sizes import LONGEST, Sizes
 from sno_rewrite.service._turns import Line, Queue, Turns
+from sno_rewrite.service._works import work_of
 
 MOST, MOST_OF_ALL = 1_000_000, 3_000_000
 
@@ -27,7 +28,7 @@ class Taker:
 class Desk:
     """What turns need of a desk: lines that are sent, and seconds that they have taken."""
 
-    def __init__(self) -> None:
+    def __init__(self, seats: int = 1) -> None:
         journal = Journal(most=1_000, most_bytes=1_000_000)
         journal.begin(10, 0)
         self.sizes = Sizes(journal, Path(__file__), 0)
@@ -36,22 +37,30 @@ class Desk:
         self.sent: list[Line] = []
         self.refused: list[Line] = []
         limits = MOST, MOST_OF_ALL
-        self.turns = Turns(self.sizes, limits, lambda: self.serves, self.sent.append, self.refused.append)
-        self.turns.window.begin(lambda: self.seconds)
+        self.turns = Turns(self.sizes, limits, lambda: self.serves, self.sent.append, self.refused.append, seats)
+        self.turns.begin(lambda: self.seconds)
 
     def put(self, queue: Queue, members: dict[str, object], count: int = 1) -> None:
         for _ in range(count):
             raw = json.dumps(members).encode()
-            self.turns.put(Line(queue, Taker(), raw, 0, members, None, 0.0))
+            self.turns.put(Line(queue, Taker(), raw, 0, members, None, 0.0, work_of(raw, members, None)))
 
     def reply(self, count: int, seconds: float, size: int = 100) -> None:
         """Replies to lines under way, which have taken these seconds together, and goes on."""
         self.seconds += seconds
         lines = [self.turns.under_way.popleft() for _ in range(count)]
         for line in lines:
-            self.sizes.replied(line.bound, b"{}", False)
+            self.sizes.replied(line.bound, b"{}", None)
             line.queue.owe(size)
         self.turns.replied(lines, 0.0)
+        self.turns.go_on()
+
+    def end(self, line: Line, is_cheap: bool) -> None:
+        """Replies to a line at one of several seats, which was cheap or not."""
+        self.seconds += 0.0 if is_cheap else 1.0
+        line.sent_at -= 0.0 if is_cheap else 1.0
+        self.turns.under_way.remove(line)
+        self.turns.replied([line], asyncio.get_running_loop().time())
         self.turns.go_on()
 
     def queues(self, count: int) -> list[Queue]:
@@ -59,6 +68,107 @@ class Desk:
 
 
 READ, LONG_READ, OLD = {"read": "T"}, {"read": "LONG"}, {"since": 0}
+
+
+def change(text: str, pattern: str = "ARB") -> dict[str, object]:
+    return {"text": text, "pattern": pattern}
+
+
+class Seats(unittest.IsolatedAsyncioTestCase):
+    """Lines at several seats: which go beside each other."""
+
+    async def test_a_read_goes_beside_all(self) -> None:
+        desk = Desk(seats=3)
+        first, second, reader = desk.queues(3)
+        desk.put(first, change("T"))
+        desk.put(second, change("LONG"))
+        desk.turns.go_on()
+        # One of three seats is for what may be costly.
+        self.assertEqual([line.queue for line in desk.sent], [first])
+        desk.seconds = 10.0
+        desk.put(reader, READ)
+        desk.turns.go_on()
+        self.assertEqual([line.queue for line in desk.sent], [first, reader])
+
+    async def test_a_client_has_one_line_at_a_time(self) -> None:
+        desk = Desk(seats=4)
+        (queue,) = desk.queues(1)
+        desk.put(queue, READ, 10)
+        for count in range(1, 11):
+            desk.turns.go_on()
+            self.assertEqual(len(desk.sent), count)
+            desk.end(desk.sent[-1], is_cheap=True)
+        self.assertEqual(len(desk.sent), 10)
+
+    async def test_costly_ones_of_a_text_take_one_seat(self) -> None:
+        desk = Desk(seats=4)
+        queues = desk.queues(5)
+        for queue in queues[:4]:
+            desk.put(queue, change("T"))
+        desk.put(queues[4], change("LONG"))
+        desk.turns.go_on()
+        self.assertEqual([line.queue for line in desk.sent], [queues[0], queues[4]])
+        desk.end(desk.sent[0], is_cheap=False)
+        desk.end(desk.sent[1], is_cheap=False)
+        self.assertEqual([line.queue for line in desk.sent], [queues[0], queues[4], queues[1]])
+
+    async def test_cheap_ones_come_before_costly_ones_of_their_text(self) -> None:
+        desk = Desk(seats=4)
+        queues = desk.queues(4)
+        light = queues[3]
+        desk.put(light, change("T", "'a'"))
+        desk.turns.go_on()
+        desk.end(desk.sent[0], is_cheap=True)
+        for queue in queues[:3]:
+            desk.put(queue, change("T"))
+        desk.turns.go_on()
+        desk.put(light, change("T", "'a'"))
+        desk.turns.go_on()
+        self.assertEqual([line.queue for line in desk.sent[1:]], [queues[0]])
+        desk.end(desk.sent[-1], is_cheap=False)
+        self.assertEqual([line.queue for line in desk.sent[2:]], [light])
+        # The next costly one has waited for it, and no further one comes before.
+        desk.put(light, change("T", "'a'"))
+        desk.end(desk.sent[-1], is_cheap=True)
+        self.assertEqual(desk.sent[3].queue, queues[1])
+        self.assertEqual(len(desk.sent), 4)
+
+    async def test_who_leaves_keeps_nobody_waiting(self) -> None:
+        desk = Desk(seats=4)
+        light, other, gone, last = desk.queues(4)
+        for queue in light, other:
+            desk.put(queue, change("T", f"'{id(queue)}'"))
+            desk.turns.go_on()
+            desk.end(desk.sent[-1], is_cheap=True)
+        count = len(desk.sent)
+        desk.put(light, change("T", "'a'"))
+        desk.turns.go_on()
+        # It has the next turn at the text, and then goes.
+        desk.put(gone, change("T"))
+        desk.turns.go_on()
+        desk.put(other, change("T", "'a'"))
+        desk.turns.go_on()
+        self.assertEqual(len(desk.sent), count + 1)
+        gone.close()
+        desk.turns.go_on()
+        self.assertEqual([line.queue for line in desk.sent[count:]], [light, other])
+        desk.put(last, change("T"))
+        for line in list(desk.turns.under_way):
+            desk.end(line, is_cheap=True)
+        self.assertEqual(desk.sent[-1].queue, last)
+        desk.end(desk.sent[-1], is_cheap=True)
+        self.assertEqual(desk.turns.lanes._texts, {})
+
+    async def test_lines_that_may_have_no_number_go_alone(self) -> None:
+        desk = Desk(seats=4)
+        queues = desk.queues(3)
+        for queue in queues[:2]:
+            desk.turns.put(Line(queue, Taker(), b"x", 0, None, None, 0.0, work_of(b"x", None, None)))
+        desk.put(queues[2], READ)
+        desk.turns.go_on()
+        self.assertEqual([line.queue for line in desk.sent], [queues[0], queues[2]])
+        desk.end(desk.sent[0], is_cheap=True)
+        self.assertEqual(desk.sent[-1].queue, queues[1])
 
 
 class TurnsOfQueues(unittest.IsolatedAsyncioTestCase):
@@ -201,7 +311,7 @@ class Bounds(unittest.TestCase):
             bounds.append(sizes.bound(line, 1_100, 0))
         self.assertGreater(sizes.bound(READ, 10, 0).most, 11_000)
         for bound in bounds[:-1]:
-            sizes.replied(bound, b'{"reason":"x"}', False)
+            sizes.replied(bound, b'{"reason":"x"}', None)
         self.assertLess(sizes.bound(READ, 10, 0).most, 2_000)
 
     def test_an_entry_shows_the_size(self) -> None:
@@ -209,7 +319,7 @@ class Bounds(unittest.TestCase):
         bound = sizes.bound({"text": "LONG", "pattern": "REM", "object": "'x'"}, 100, 0)
         sizes.sent(bound)
         self.assertGreater(sizes.bound(LONG_READ, 10, 0).most, LONGEST)
-        sizes.replied(bound, b'{"after":"x\\",","bindings":[["V","y"]],"end":1}', True)
+        sizes.replied(bound, b'{"after":"x\\",","bindings":[["V","y"]],"end":1}', 0)
         self.assertLess(sizes.bound(LONG_READ, 10, 0).most, 1_100)
 
     def test_variables_are_counted(self) -> None:

@@ -105,9 +105,10 @@ class Client:
         if_version: int | None = None,
         trials: int | None = None,
         bind: dict[str, str] | None = None,
+        key: str | None = None,
     ) -> Reply:
-        """The entry of a statement, or its `reason` if it is refused."""
-        members = {"anchored": anchored, "repeat": repeat, "all": all, "if_version": if_version, "trials": trials}
+        """The entry of a statement, or its `reason` if it is refused. With a key it can be sent again: it is performed once."""
+        members = {"anchored": anchored, "repeat": repeat, "all": all, "if_version": if_version, "trials": trials, "key": key}
         return _result(await self._ask(statement(text, pattern, object, bind=bind, **members)))
 
     async def read(self, text: str, *, at: int | None = None) -> Reply:

@@ -9,6 +9,7 @@ from aiohttp import web
 from aiohttp.http_exceptions import HttpProcessingError
 from aiohttp.web_protocol import RequestHandler
 
+from ._accounts import Account
 from ._guards import Bucket
 from ._metrics import Metrics
 from ._options import Options
@@ -97,7 +98,10 @@ class Connections:
         """A connection of this server."""
         bucket = Bucket(self._options.max_rate)
         given = {"loop": asyncio.get_running_loop(), "keepalive_timeout": self._options.patience}
-        return Connection(self, server, bucket, Queue(self._turns), **given)
+        queue = Queue(self._turns)
+        # Of itself a connection may do everything; with tokens each request says whose it is.
+        queue.account = Account(self._options.max_trials_rate)
+        return Connection(self, server, bucket, queue, **given)
 
     async def watch(self) -> None:
         """Looks at all connections again and again."""

@@ -3,20 +3,21 @@
 from __future__ import annotations
 
 import asyncio
-import hmac
 import json
 import re
 import time
 from collections.abc import Awaitable, Callable
+from typing import Any
 
 from aiohttp import HttpVersion10, HttpVersion11, web
 
+from ._accounts import ADMIN, Account
+from ._files import is_open
 from ._metrics import Metrics
 from ._options import Options
+from ._tokens import Tokens
 
 _LOOPBACK = frozenset({"localhost", "127.0.0.1", "[::1]"})
-# What shows nothing of the texts, so that a browser can show where the token is to be typed.
-_OPEN_PATHS = frozenset({"/", "/page.css", "/page.js", "/openapi.json", "/healthz"})
 
 # Everything comes from the service itself, no script or style is in the page, and no other page may show it.
 POLICY = (
@@ -32,17 +33,21 @@ _HEADERS = {
     "Cross-Origin-Resource-Policy": "same-origin",
 }
 
+# What a page of a further origin may read, and which requests it may send.
+_SHARED = {
+    "Access-Control-Expose-Headers": "ETag, Retry-After, WWW-Authenticate",
+    "Cross-Origin-Resource-Policy": "cross-origin",
+}
+_ALLOWED = {
+    "Access-Control-Allow-Methods": "GET, HEAD, POST, PUT",
+    "Access-Control-Allow-Headers": "Authorization, Content-Type, Idempotency-Key, If-Match, If-None-Match, Last-Event-ID",
+    "Access-Control-Max-Age": "600",
+}
+
 # The headers of an error that its response keeps.
 _KEPT_HEADERS = frozenset({"Allow", "Retry-After", "WWW-Authenticate", "ETag"})
 
 Handler = Callable[[web.Request], Awaitable[web.StreamResponse]]
-
-
-def is_token(given: object, token: str | None) -> bool:
-    """Whether what was given is the token, in a time that doesn't depend on where they differ."""
-    if not isinstance(given, str) or token is None:
-        return False
-    return hmac.compare_digest(given.encode(errors="replace"), token.encode())
 
 
 class Bucket:
@@ -86,14 +91,14 @@ def protect(response: web.StreamResponse) -> None:
 class Guard:
     """Looks at each request before it is served, and gives each response its headers."""
 
-    def __init__(self, options: Options, metrics: Metrics) -> None:
-        self._options, self._metrics = options, metrics
+    def __init__(self, options: Options, metrics: Metrics, tokens: Tokens) -> None:
+        self._options, self._metrics, self.tokens = options, metrics, tokens
         host = options.listen[0]
         self._hosts = _LOOPBACK | {f"[{host}]" if ":" in host else host} | options.hosts
 
     def needs_token(self, request: web.Request) -> bool:
         """Whether a token is still wanted: none came in the header."""
-        return self._options.token is not None and "Authorization" not in request.headers
+        return self.tokens.are_wanted() and "Authorization" not in request.headers
 
     def middleware(self) -> Callable[[web.Request, Handler], Awaitable[web.StreamResponse]]:
         @web.middleware
@@ -102,6 +107,7 @@ class Guard:
             self._metrics.requests[response.status] += 1
             if not response.prepared:
                 protect(response)
+                self.allow_origin(request, response)
             return response
 
         return guarded
@@ -109,6 +115,10 @@ class Guard:
     async def _served(self, request: web.Request, handler: Handler) -> web.StreamResponse:
         try:
             self._check(request)
+            if request.method == "OPTIONS" and self._is_foreign(request):
+                return web.Response(status=204)
+            if self.tokens.are_wanted() and not (is_open(request.path) or request.path == "/healthz"):
+                self._check_token(request)
             return await handler(request)
         except web.HTTPException as error:
             return _as_json(error)
@@ -127,8 +137,20 @@ class Guard:
         origin = request.headers.get("Origin")
         if origin is not None and origin not in (f"http://{host}", f"https://{host}", *self._options.origins):
             raise fault(web.HTTPForbidden, "a page of another origin calls")
-        if self._options.token is not None and request.path not in _OPEN_PATHS:
-            self._check_token(request)
+
+    def _is_foreign(self, request: web.Request) -> bool:
+        """Whether a page of one of the further origins calls."""
+        return request.headers.get("Origin") in self._options.origins
+
+    def allow_origin(self, request: web.Request, response: web.StreamResponse) -> None:
+        """Lets a page of a further origin read the response, and ask beforehand which requests it may send."""
+        if self._options.origins:
+            response.headers["Vary"] = "Origin"
+        if not self._is_foreign(request):
+            return
+        response.headers.update({**_SHARED, "Access-Control-Allow-Origin": request.headers["Origin"]})
+        if request.method == "OPTIONS":
+            response.headers.update(_ALLOWED)
 
     def _check_token(self, request: web.Request) -> None:
         given = request.headers.get("Authorization")
@@ -136,8 +158,19 @@ class Guard:
         if given is None and request.path == "/ws":
             return
         scheme, _, token = (given or "").partition(" ")
-        if scheme.lower() != "bearer" or not is_token(token.strip(), self._options.token):
+        account = self.tokens.account(token.strip()) if scheme.lower() == "bearer" else None
+        if account is None:
             raise fault(web.HTTPUnauthorized, "the token is missing or wrong", WWW_Authenticate="Bearer")
+        take_account(request, account)
+        if request.path == "/metrics" and ADMIN not in account.rights:
+            raise fault(web.HTTPForbidden, "not allowed")
+
+
+def take_account(request: web.Request, account: Account) -> None:
+    """Takes that a request is of this account."""
+    request["account"] = account
+    connection: Any = request.protocol
+    connection.queue.account = account
 
 
 def _as_json(error: web.HTTPException) -> web.Response:

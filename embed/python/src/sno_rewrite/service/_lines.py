@@ -5,6 +5,7 @@ from __future__ import annotations
 
 import json
 import math
+import re
 from typing import Any
 
 # Entries of one reply, also if a client asks for more.
@@ -13,13 +14,22 @@ MOST_ENTRIES = 1_000
 _dumps = json.JSONEncoder(separators=(",", ":")).encode
 
 
+_decoder = json.JSONDecoder()
+_NUMBER = re.compile(rb'"id":([0-9]+)')
+
+
 def members_of(line: str) -> dict[str, Any] | None:
     """The members of a line, or None if it isn't an object that can be read here."""
     try:
-        members = json.loads(line)
+        # What isn't a number of JSON is left to `sno serve`.
+        members = json.loads(line, parse_constant=_refuse_constant)
     except (ValueError, RecursionError):
         return None
     return members if isinstance(members, dict) else None
+
+
+def _refuse_constant(written: str) -> None:
+    raise ValueError(written)
 
 
 def identity_of(members: dict[str, Any] | None) -> bytes | None:
@@ -32,8 +42,8 @@ def identity_of(members: dict[str, Any] | None) -> bytes | None:
     return None
 
 
-def numbered(line: bytes, number: int, members: dict[str, Any]) -> bytes:
-    """The line with this number as its id, and with a limit if it asks for entries. Of a member that is written twice
+def numbered(line: bytes, number: int, members: dict[str, Any], stamp: bytes = b"") -> bytes:
+    """The line with a stamp and this number as its id, and with a limit if it asks for entries. Of a member that is written twice
     the last one counts, so the new ones are put at the end."""
     front = line.rstrip()[:-1]
     comma = b"," if members else b""
@@ -41,7 +51,7 @@ def numbered(line: bytes, number: int, members: dict[str, Any]) -> bytes:
         limit = members.get("limit", MOST_ENTRIES)
         if type(limit) is int and limit >= 0:
             return b'%b%b"limit":%d,"id":%d}\n' % (front, comma, min(limit, MOST_ENTRIES), number)
-    return b'%b%b"id":%d}\n' % (front, comma, number)
+    return b'%b%b%b"id":%d}\n' % (front, comma, stamp, number)
 
 
 def written(members: dict[str, Any], number: int) -> bytes:
@@ -61,6 +71,33 @@ def restored(reply: bytes, number: int, identity: bytes | None) -> bytes:
     if identity is not None:
         return b'%b"id":%b%b' % (front, identity, rest)
     return front + rest[1:] if rest[:1] == b"," else front.removesuffix(b",") + rest
+
+
+def number_in(reply: bytes) -> int | None:
+    """The service's number of the line that a reply is to, or None if it has none."""
+    # Entries come before the id, and are long.
+    found = _NUMBER.search(reply, max(0, reply.rfind(b'"id":')) if reply.startswith(b'{"entries":') else 0)
+    return int(found[1]) if found else None
+
+
+def entry_again(reply: bytes) -> bytes:
+    """The entry in the reply to a question for one entry, as the reply to its statement was; or that reply, if it has none."""
+    found = json.loads(reply)
+    if not found.get("entries"):
+        return reply
+    entry = found["entries"][0]
+    return _dumps({**entry, "id": found["id"]} if "id" in found else entry).encode()
+
+
+def entries_in(reply: bytes) -> list[bytes]:
+    """The entries in a reply, each as it was written; none if it is a refusal."""
+    text, found = reply.decode(), []
+    at = len('{"entries":[')
+    while text.startswith('{"entries":[') and text[at] == "{":
+        end = _decoder.raw_decode(text, at)[1]
+        found.append(text[at:end].encode())
+        at = end + 1
+    return found
 
 
 def index_in(reply: bytes) -> int | None:

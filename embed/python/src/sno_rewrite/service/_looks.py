@@ -1,14 +1,16 @@
-"""What `sno check`, `sno run` and `sno trace` say of one statement on one text, by short processes of their own: none
-of them touches the desk, takes longer than its limits, or runs beside too many others."""
+"""What `sno check`, `sno serve`, `sno trace` and `sno run` say of one statement on one text, by short processes of their
+own: none of them touches the desk of all clients, takes longer than its limits, or runs beside too many others."""
 
 from __future__ import annotations
 
 import asyncio
 import json
+import os
 import re
-from asyncio.subprocess import PIPE
-from collections.abc import Sequence
-from contextlib import suppress
+import time
+from asyncio.subprocess import PIPE, Process
+from collections.abc import AsyncIterator, Sequence
+from contextlib import asynccontextmanager, suppress
 from pathlib import Path
 from typing import Any
 
@@ -16,6 +18,12 @@ from ._options import Options
 
 _MEMBERS = "text", "pattern", "object", "anchored", "repeat", "all"
 _TRACE_LINES = 1_000
+# The most matches that a preview lists beside its entry.
+_MOST_MATCHES = 5_000
+# The most texts on which one request may try a pattern.
+MOST_TRIED = 64
+# The most bytes of one reply: all matches of a text of 65,536 characters, each with variables.
+_LONGEST_REPLY = 134_217_728
 # How many may wait for each one that runs.
 _WAITING = 8
 
@@ -42,7 +50,11 @@ class Looks:
         self._patterns = definitions_of(options.document)
         self._running = asyncio.Semaphore(options.look_processes)
         self._count = 0
-        self._kinds = {"findings": self._findings, "preview": self._preview, "trace": self._trace}
+        self._kinds = {"findings": self._findings, "preview": self._preview, "trace": self._trace, "trials": self._trials}
+
+    def definitions(self) -> list[Any]:
+        """The definitions that statements may use."""
+        return self._patterns
 
     def free_name(self, name: str) -> str:
         """A name that begins with this one and that no definition has."""
@@ -54,24 +66,37 @@ class Looks:
     def under_way(self) -> int:
         return self._count
 
-    async def look(self, which: str, text: dict[str, Any], statement: dict[str, Any]) -> dict[str, Any]:
-        """What is found of a statement on this text; the version is that of the text."""
-        chosen = {name: statement[name] for name in _MEMBERS if statement.get(name) is not None}
-        texts = [{"name": text["name"], "text": text["text"]}]
-        document = json.dumps({"patterns": self._patterns, "texts": texts, "statements": [chosen]}).encode()
+    async def look(self, which: str, text: str, given: dict[str, Any]) -> dict[str, Any]:
+        """What is found of a statement on a text of these characters."""
+        name = given["text"] if "own" not in given else "own"
+        chosen = {member: given[member] for member in _MEMBERS if given.get(member) is not None}
+        chosen["text"] = name
+        return await self._in_turn(self._kinds[which]([{"name": name, "text": text}], chosen, given))
+
+    async def tries(self, texts: list[str], given: dict[str, Any]) -> dict[str, Any]:
+        """Whether a pattern matches these texts somewhere, and whether it matches the whole of them."""
+        named = [{"name": str(place), "text": text} for place, text in enumerate(texts)]
+        return await self._in_turn(self._tries(named, given))
+
+    async def _in_turn(self, found: Any) -> dict[str, Any]:
+        """Waits until fewer processes run."""
         if self._count >= self._options.look_processes * (_WAITING + 1):
+            found.close()
             raise Busy
         self._count += 1
         try:
             async with self._running:
-                found = await self._kinds[which](document)
+                result: dict[str, Any] = await found
+                return result
         finally:
             self._count -= 1
-        return {**found, "name": text["name"], "version": text["version"]}
 
-    async def _findings(self, document: bytes) -> dict[str, Any]:
+    def _document(self, texts: list[dict[str, str]], statements: list[dict[str, Any]]) -> bytes:
+        return json.dumps({"patterns": self._patterns, "texts": texts, "statements": statements}).encode()
+
+    async def _findings(self, texts: list[dict[str, str]], chosen: dict[str, Any], given: dict[str, Any]) -> dict[str, Any]:
         """The errors and warnings of the statement; those of the definitions aren't its own."""
-        _, output, _ = await self._run(["check", "--json"], document)
+        _, output, _ = await self._run(["check", "--json"], self._document(texts, [chosen]))
         if not output:
             return {"errors": [], "warnings": [], "reason": "too long"}
         report = json.loads(output)
@@ -79,22 +104,108 @@ class Looks:
         warnings = [it for it in report["warnings"] if str(it["place"]).startswith("statement 1")]
         return {"errors": errors, "warnings": warnings}
 
-    async def _preview(self, document: bytes) -> dict[str, Any]:
-        """The entry that the statement would be, or why it would be refused."""
-        status, output, said = await self._run(["run", "--json", f"--trials={self._options.look_trials}"], document)
-        if status not in (0, 1):
-            return {"error": _fault_in(said)}
-        listing = json.loads(output)
-        if listing["refused"]:
-            return {"reason": listing["refused"][0]["reason"]}
-        return {"entry": listing["entries"][0]}
+    async def _preview(self, texts: list[dict[str, str]], chosen: dict[str, Any], given: dict[str, Any]) -> dict[str, Any]:
+        """The entry that the statement would be, or why it would be refused; if it is asked for, all matches that there are."""
+        line = {**chosen, "check": True, **({"bind": given["bind"]} if given.get("bind") is not None else {})}
+        try:
+            async with self._desk(texts) as ask:
+                began = time.monotonic()
+                reply = await ask(line)
+                found = self._previewed(reply, time.monotonic() - began)
+                if given.get("matches") is True and ("entry" in found or found.get("reason") == "text too long"):
+                    found.update(await self._matches(ask, line, found.get("entry", {"matched": True})))
+                return found
+        except TimeoutError:
+            return {"reason": "too long", "seconds": self._options.look_seconds}
 
-    async def _trace(self, document: bytes) -> dict[str, Any]:
+    def _previewed(self, reply: dict[str, Any], seconds: float) -> dict[str, Any]:
+        if "error" in reply:
+            return {"error": reply["error"]}
+        if "reason" in reply:
+            given_up = {"trials": self._options.look_trials} if reply["reason"] == "too many trials" else {}
+            return {"reason": reply["reason"], **given_up}
+        entry = {name: value for name, value in reply.items() if name not in ("check", "findings", "id", "ignored")}
+        return {"entry": entry, "microseconds": round(seconds * 1e6)}
+
+    async def _matches(self, ask: Any, line: dict[str, Any], entry: dict[str, Any]) -> dict[str, Any]:
+        """All matches in the text as it is, whether the statement is for all of them or not."""
+        if "all" in entry:
+            matches = entry["all"]
+        elif not entry["matched"]:
+            matches = []
+        else:
+            kept = {name: value for name, value in line.items() if name not in ("object", "repeat")}
+            reply = await ask({**kept, "all": True})
+            if "all" not in reply:
+                return {}
+            matches = reply["all"]
+        return {"matches": matches[:_MOST_MATCHES], "total": len(matches)}
+
+    async def _trials(self, texts: list[dict[str, str]], chosen: dict[str, Any], given: dict[str, Any]) -> dict[str, Any]:
+        """How many trials the statement takes: the least limit within which it isn't refused."""
+        # What is put in takes no trial, but further rounds are on the new text.
+        line = {name: value for name, value in chosen.items() if name != "object" or chosen.get("repeat") is not None}
+        most = self._options.look_trials
+        try:
+            async with self._desk(texts) as ask:
+                low, high = 0, 1
+                while (reply := await ask({**line, "check": True, "trials": high})).get("reason") == "too many trials" and high < most:
+                    low, high = high, min(2 * high, most)
+                if "matched" not in reply:
+                    return {"reason": reply["reason"], "trials": most} if "reason" in reply else {"error": reply["error"]}
+                while low + 1 < high:
+                    middle = (low + high) // 2
+                    reply = await ask({**line, "check": True, "trials": middle})
+                    low, high = (middle, high) if "reason" in reply else (low, middle)
+                return {"trials": high}
+        except TimeoutError:
+            return {"reason": "too long", "seconds": self._options.look_seconds}
+
+    async def _trace(self, texts: list[dict[str, str]], chosen: dict[str, Any], given: dict[str, Any]) -> dict[str, Any]:
         """The lines of the trace."""
-        status, output, said = await self._run(["trace", f"--lines={_TRACE_LINES}"], document)
+        words = [f"--{name}={given[name]}" for name in ("match", "from", "to") if type(given.get(name)) is int]
+        status, output, said = await self._run(["trace", f"--lines={_TRACE_LINES}", *words], self._document(texts, [chosen]))
         if status not in (0, 1):
             return {"error": _fault_in(said)}
         return {"lines": output.decode(errors="replace").splitlines()}
+
+    async def _tries(self, texts: list[dict[str, str]], given: dict[str, Any]) -> dict[str, Any]:
+        # A pattern within parentheses means the same; the ends around it are those of the text.
+        whole = {"pattern": f"POS(0) ({given['pattern']}) RPOS(0)", "anchored": True}
+        somewhere = {"pattern": given["pattern"], "anchored": given.get("anchored") is True}
+        try:
+            async with self._desk(texts) as ask:
+                results = []
+                for text in texts:
+                    first = await ask({"text": text["name"], **somewhere, "check": True})
+                    if "error" in first:
+                        return {"error": first["error"]}
+                    second = await ask({"text": text["name"], **whole, "check": True})
+                    results.append({"somewhere": first.get("matched"), "whole": second.get("matched")})
+                return {"results": results}
+        except TimeoutError:
+            return {"reason": "too long", "seconds": self._options.look_seconds}
+
+    @asynccontextmanager
+    async def _desk(self, texts: list[dict[str, str]]) -> AsyncIterator[Any]:
+        """A desk of these texts alone, which is asked line by line. What it takes in all has a limit: then TimeoutError is raised."""
+        file = os.memfd_create("document")
+        process = None
+        try:
+            os.write(file, self._document(texts, []))
+            words = ["serve", f"--trials={self._options.look_trials}", f"/proc/self/fd/{file}"]
+            async with asyncio.timeout(self._options.look_seconds):
+                process = await asyncio.create_subprocess_exec(
+                    self._options.program, *words, stdin=PIPE, stdout=PIPE, start_new_session=True, pass_fds=[file], limit=_LONGEST_REPLY
+                )
+                ask = _asker(process)
+                # It has read the document when it replies for the first time.
+                await ask({"texts": True})
+                yield ask
+        finally:
+            os.close(file)
+            if process is not None:
+                await _ended(process)
 
     async def _run(self, words: Sequence[str], document: bytes) -> tuple[int | None, bytes, bytes]:
         """The status, output and errors of the program; the status is None if it took too long."""
@@ -107,11 +218,33 @@ class Looks:
         except TimeoutError:
             return None, b"", b"took too long"
         finally:
-            if process.returncode is None:
-                with suppress(ProcessLookupError):
-                    process.kill()
-                await process.wait()
+            await _ended(process)
         return process.returncode, output, said
+
+
+def _asker(process: Process) -> Any:
+    """What gives a line to a process, and returns its reply."""
+    assert process.stdin is not None and process.stdout is not None
+    given, taken = process.stdin, process.stdout
+
+    async def ask(members: dict[str, Any]) -> dict[str, Any]:
+        given.write(json.dumps(members).encode() + b"\n")
+        await given.drain()
+        line = await taken.readline()
+        if not line:
+            return {"error": "sno serve ended"}
+        reply: dict[str, Any] = json.loads(line)
+        return reply
+
+    return ask
+
+
+async def _ended(process: Process) -> None:
+    """Ends a process that still runs."""
+    if process.returncode is None:
+        with suppress(ProcessLookupError):
+            process.kill()
+        await process.wait()
 
 
 def _fault_in(said: bytes) -> str:

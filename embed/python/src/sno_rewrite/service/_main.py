@@ -5,6 +5,7 @@ from __future__ import annotations
 import asyncio
 import signal
 import sys
+from collections.abc import Callable
 from contextlib import suppress
 
 from ._options import Options, options_of
@@ -21,7 +22,11 @@ def main(words: list[str] | None = None) -> int:
         print(NO_AIOHTTP, file=sys.stderr)
         return 4
     with asyncio.Runner(loop_factory=_faster_loop()) as runner:
-        return runner.run(_serve(options))
+        return runner.run(serve(options, _say))
+
+
+def _say(address: str) -> None:
+    print(f"serving at {address}", file=sys.stderr, flush=True)
 
 
 def _faster_loop():  # type: ignore[no-untyped-def]
@@ -33,11 +38,25 @@ def _faster_loop():  # type: ignore[no-untyped-def]
     return uvloop.new_event_loop
 
 
-async def _serve(options: Options) -> int:
+async def serve(options: Options, ready: Callable[[str], None]) -> int:
+    """Serves until a signal ends it, and returns the status. `ready` is called with the address when the service listens."""
     from ._server import Server
+    from ._tokens import TokenFault
 
-    server = Server(options)
+    try:
+        server = Server(options)
+    except (TokenFault, OSError) as fault:
+        print(f"error: {fault}", file=sys.stderr)
+        return 3
     ending = asyncio.Event()
+    reloading: set[asyncio.Task[None]] = set()
+
+    def reload() -> None:
+        task = asyncio.create_task(server.reload())
+        reloading.add(task)
+        task.add_done_callback(reloading.discard)
+
+    asyncio.get_running_loop().add_signal_handler(signal.SIGHUP, reload)
     for number in signal.SIGTERM, signal.SIGINT:
         asyncio.get_running_loop().add_signal_handler(number, ending.set)
     started = asyncio.create_task(server.start())
@@ -52,6 +71,6 @@ async def _serve(options: Options) -> int:
     if status:
         waiting.cancel()
         return status
-    print(f"serving at {server.address()}", file=sys.stderr, flush=True)
+    ready(server.address())
     await waiting
     return await server.end()

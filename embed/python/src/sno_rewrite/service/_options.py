@@ -23,13 +23,20 @@ class Options:
     program: str
     listen: tuple[str, int]
     unix: Path | None
-    token: str | None
+    token_file: Path | None
+    tokens: Path | None
     hosts: frozenset[str]
     origins: frozenset[str]
     trials: int | None
+    seats: int
+    keep: int | None
+    keep_bytes: int | None
+    grace: float
+    access_log: Path | None
     max_body: int
     max_clients: int
     max_rate: int
+    max_trials_rate: int | None
     max_lines: int
     max_unread: int
     max_unread_total: int
@@ -63,16 +70,6 @@ def _seconds(written: str) -> float:
     return float(written)
 
 
-def _token(path: str) -> str:
-    try:
-        token = Path(path).read_text().strip()
-    except (OSError, UnicodeDecodeError) as fault:
-        raise argparse.ArgumentTypeError(f"{path}: {fault}") from None
-    if not re.fullmatch(r"[A-Za-z0-9._~+/=-]{16,512}", token):
-        raise argparse.ArgumentTypeError(f"{path}: a token has 16 to 512 of the characters A-Z a-z 0-9 . _ ~ + / = -")
-    return token
-
-
 def _is_loopback(host: str) -> bool:
     try:
         return ipaddress.ip_address(host).is_loopback
@@ -89,9 +86,14 @@ def _usual_program() -> str:
 _LISTEN = "127.0.0.1", USUAL_PORT
 # Each limit with its range, its usual value, and what it is of.
 _LIMITS = (
+    ("--seats", "N", _count(1, 16), 4, "threads that take lines; with one, lines of a client share a wait for the disk"),
+    ("--keep", "N", _count(1, 900_000), None, "entries with which the store is replaced by a shorter one, as of sno serve"),
+    ("--keep-bytes", "BYTES", _count(16_777_216, 999_999_999_999), None, "bytes of sno serve with which the store is compacted"),
+    ("--grace", "SECONDS", _seconds, 10.0, "seconds that the end may take"),
     ("--max-body", "BYTES", _count(1_024, 16_777_216), 4_194_304, "bytes of a request or a message"),
     ("--max-clients", "N", _count(1, 100_000), 1_024, "connections at a time"),
     ("--max-rate", "N", _count(1, 10_000_000), 100_000, "lines a second of one connection"),
+    ("--max-trials-rate", "N", _count(1, 999_999_999_999), None, "trials a second of one connection, or one token"),
     ("--max-lines", "N", _count(1, 65_536), 1_024, "lines of one client that have no reply yet"),
     ("--max-unread", "BYTES", _count(65_536, 1_073_741_824), 4_194_304, "bytes that a client may leave unread"),
     ("--max-unread-total", "BYTES", _count(1_048_576, 999_999_999_999), 67_108_864, "bytes that all clients may leave unread"),
@@ -121,14 +123,16 @@ def _parser() -> argparse.ArgumentParser:
     add("--store", metavar="FILE", type=Path, required=True, help="the store; made of DOCUMENT if it is missing")
     add("--listen", metavar="HOST:PORT", type=_address, default=_LISTEN, help="where to listen [127.0.0.1:8417]")
     add("--unix", metavar="PATH", type=Path, help="listen at a socket of the system instead")
-    add("--token-file", metavar="FILE", dest="token", type=_token, help="clients have to give the token in this file")
+    add("--token-file", metavar="FILE", type=Path, help="clients have to give the token in this file")
+    add("--tokens", metavar="FILE", type=Path, help="clients have to give a token of this list, which says what each may do")
     add("--host", metavar="NAME", action="append", default=[], help="a further name by which clients call the service")
     add("--origin", metavar="ORIGIN", action="append", default=[], help="a further origin whose pages may call it")
     add("--program", metavar="SNO", default=_usual_program(), help="the program sno, if it is elsewhere")
+    add("--access-log", metavar="FILE", type=Path, help="adds a line of JSON for each request; - is standard error")
     add("--trials", metavar="N", type=_count(1, 1_000_000_000), help="trials of a match, as of sno serve")
     limits = parser.add_argument_group("limits")
     for option, metavar, kind, usual, words in _LIMITS:
-        limits.add_argument(option, metavar=metavar, type=kind, default=usual, help=f"{words} [{usual}]")
+        limits.add_argument(option, metavar=metavar, type=kind, default=usual, help=words if usual is None else f"{words} [{usual}]")
     parser.add_argument("-V", "--version", action="version", version=f"nomyake-service {VERSION}")
     return parser
 
@@ -139,6 +143,8 @@ def options_of(words: list[str] | None) -> Options:
     given = vars(parser.parse_args(words))
     hosts, origins = given.pop("host"), given.pop("origin")
     options = Options(hosts=frozenset(hosts), origins=frozenset(origins), **given)
-    if not options.unix and not options.token and not _is_loopback(options.listen[0]):
-        parser.error("an address that isn't loopback takes '--token-file'")
+    if options.token_file and options.tokens:
+        parser.error("'--token-file' and '--tokens' exclude each other")
+    if not (options.unix or options.token_file or options.tokens or _is_loopback(options.listen[0])):
+        parser.error("an address that isn't loopback takes '--token-file' or '--tokens'")
     return options

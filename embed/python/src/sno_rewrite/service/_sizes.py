@@ -55,8 +55,12 @@ def _names_in(written: str) -> int:
 class Sizes:
     """What is known of the sizes of texts and entries."""
 
-    def __init__(self, journal: Journal, store: Path, captures: int) -> None:
-        """`captures` is how many variables the definitions assign."""
+    def __init__(self, journal: Journal, store: Path, captures: int, is_in_order: bool = True) -> None:
+        """`captures` is how many variables the definitions assign. Without an order, a read may be older than an entry that has
+        come, so it says nothing."""
+        self._is_in_order = is_in_order
+        # The last entry that says how long a text is.
+        self._entry: dict[str, int] = {}
         self._journal, self._store, self._captures = journal, store, captures
         self._known: dict[str, int] = {}
         self._growing: Counter[str] = Counter()
@@ -84,19 +88,25 @@ class Sizes:
             return Bound(front + self._rows)
         return self._of_statement(members, length, front)
 
-    def replied(self, bound: Bound, reply: bytes, is_accepted: bool) -> None:
-        """Learns from the reply to a line with this bound."""
+    def replied(self, bound: Bound, reply: bytes, index: int | None) -> None:
+        """Learns from the reply to a line with this bound. The index is that of its entry, if it was accepted: of two entries that
+        change a text the later one says how long it is, in whatever order they come."""
         if bound.text is None:
             return
         if bound.growth:
             self._growing[bound.text] -= bound.growth
-        if is_accepted:
-            if reply.startswith(b'{"after":"'):
+        if index is not None:
+            if index >= self._entry.get(bound.text, 0) and reply.startswith(b'{"after":"'):
                 # Inside a string each quotation mark is escaped, so this is what comes after its end.
                 self._known[bound.text] = min(LONGEST, reply.find(b',"', 10) - 11)
-        elif reply.find(b'"text":', 0, 4_096) > 0 and bound.text in self._known:
+                self._entry[bound.text] = index
+        elif self._is_in_order and reply.find(b'"text":', 0, 4_096) > 0 and bound.text in self._known:
             # A read: a refusal has no text.
             self._known[bound.text] = min(LONGEST, len(reply))
+
+    def length(self, name: str | None) -> int:
+        """The most characters that a text may have; 0 if there is none of this name."""
+        return self._size(name) // 6
 
     def sent(self, bound: Bound) -> None:
         """Learns that a line with this bound is under way."""

@@ -9,8 +9,9 @@ from typing import Any
 
 from aiohttp import WSMsgType, web
 
-from ._desk import SharedDesk
-from ._guards import Bucket, Guard, is_token
+from ._accounts import READ
+from ._desk import NOT_ALLOWED, SharedDesk
+from ._guards import Bucket, Guard, take_account
 from ._lines import identity_of, members_of, refused
 from ._metrics import Metrics
 from ._options import Options
@@ -83,7 +84,7 @@ class Socket:
     async def serve(self, request: web.Request, guard: Guard) -> web.WebSocketResponse:
         """Serves a client until it goes, is cut off, or the service ends."""
         await self._socket.prepare(request)
-        if guard.needs_token(request) and not await self._has_token():
+        if guard.needs_token(request) and not await self._has_token(request, guard):
             await self._socket.close(code=NO_TOKEN, message=b"token")
             return self._socket
         self.notice(self._desk.notice())
@@ -108,7 +109,7 @@ class Socket:
         self._code = GOING_AWAY
         await self._socket.close(code=GOING_AWAY)
 
-    async def _has_token(self) -> bool:
+    async def _has_token(self, request: web.Request, guard: Guard) -> bool:
         """Whether the first message has the token."""
         try:
             async with asyncio.timeout(self._options.patience):
@@ -118,7 +119,19 @@ class Socket:
         if message.type is not WSMsgType.TEXT:
             return False
         members = members_of(message.data)
-        return members is not None and is_token(members.get("token"), self._options.token)
+        account = guard.tokens.account(members.get("token")) if members is not None else None
+        if account is not None:
+            take_account(request, account)
+        return account is not None
+
+    def is_of(self, guard: Guard) -> bool:
+        """Whether its token is still good."""
+        return not guard.tokens.are_wanted() or guard.tokens.has(self._queue.account)
+
+    async def refuse(self) -> None:
+        """Ends the connection, since its token isn't good any more."""
+        self._code = NO_TOKEN
+        await self._socket.close(code=NO_TOKEN, message=b"token")
 
     async def _read(self) -> None:
         """Receives messages while there is room, also beside lines that wait: so it is seen at once if the client goes."""
@@ -186,6 +199,8 @@ class Socket:
     def _watch(self, members: dict[str, Any]) -> bytes:
         """Begins or ends to watch, and returns the reply."""
         index, identity = members["watch"], identity_of(members)
+        if READ not in self._queue.account.rights:
+            return refused(NOT_ALLOWED, identity)
         if index is None:
             self._next = None
             return _with_identity(b'{"watching":null}', identity)
@@ -257,7 +272,17 @@ class Socket:
             message, self._next = b"\n".join(lines), index + len(lines)
             self._page = max(1, min(_LONGEST_PAGE, 2 * self._page, _PAGE_BYTES * len(lines) // max(1, len(message))))
         self._metrics.watched += self._next - index
-        return message.decode()
+        return self._seen(message)
+
+    def _seen(self, message: bytes) -> str:
+        """What the client's account sees of a message with entries."""
+        account = self._queue.account
+        if not account.is_limited():
+            return message.decode()
+        if self._next is not None and self._next < self._desk.journal.next:
+            # Others come after these, also if nothing of these is sent.
+            self._has_work.set()
+        return b"\n".join(line for line in message.split(b"\n") if account.sees_entry(line)).decode()
 
 
 def _with_identity(line: bytes, identity: bytes | None) -> bytes:
