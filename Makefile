@@ -31,6 +31,12 @@ SERVICE_PAGE = $(MANDIR)/man1/nomyake-service.1
 SERVICE_BASH_COMPLETION = $(DATADIR)/bash-completion/completions/nomyake-service
 SERVICE_ZSH_COMPLETION = $(DATADIR)/zsh/site-functions/_nomyake-service
 SERVICE_FISH_COMPLETION = $(DATADIR)/fish/vendor_completions.d/nomyake-service.fish
+PLAY_PAGE = $(MANDIR)/man1/nomyake-play.1
+PLAY_BASH_COMPLETION = $(DATADIR)/bash-completion/completions/nomyake-play
+PLAY_ZSH_COMPLETION = $(DATADIR)/zsh/site-functions/_nomyake-play
+PLAY_FISH_COMPLETION = $(DATADIR)/fish/vendor_completions.d/nomyake-play.fish
+UNIT_DIR = $(PREFIX)/lib/systemd/system
+UNITS = $(wildcard share/systemd/*)
 # `nomyake-service` looks for the package in ../share/nomyake/python, from its own folder on.
 PACKAGE_DIR = $(PREFIX)/share/nomyake/python/sno_rewrite
 PACKAGE = embed/python/src/sno_rewrite
@@ -129,15 +135,26 @@ install-sno:
 # The service is Python, so nothing has to be built. It needs sno, and Debian's python3-aiohttp where it runs.
 install-service:
 	$(INSTALL) -d "$(DESTDIR)$(BINDIR)" "$(DESTDIR)$(dir $(SERVICE_PAGE))" "$(DESTDIR)$(dir $(SERVICE_BASH_COMPLETION))" \
-	    "$(DESTDIR)$(dir $(SERVICE_ZSH_COMPLETION))" "$(DESTDIR)$(dir $(SERVICE_FISH_COMPLETION))" "$(DESTDIR)$(PACKAGE_DIR)/service"
+	    "$(DESTDIR)$(dir $(SERVICE_ZSH_COMPLETION))" "$(DESTDIR)$(dir $(SERVICE_FISH_COMPLETION))" "$(DESTDIR)$(PACKAGE_DIR)/service" \
+	    "$(DESTDIR)$(PACKAGE_DIR)/service/page" "$(DESTDIR)$(UNIT_DIR)"
 	$(INSTALL_PROGRAM) embed/python/nomyake-service "$(DESTDIR)$(BINDIR)/nomyake-service"
+	$(INSTALL_PROGRAM) embed/python/nomyake-play "$(DESTDIR)$(BINDIR)/nomyake-play"
 	$(INSTALL_DATA) $(wildcard $(PACKAGE)/*.py) $(PACKAGE)/py.typed "$(DESTDIR)$(PACKAGE_DIR)"
 	$(INSTALL_DATA) $(foreach kind,py html css js json,$(wildcard $(PACKAGE)/service/*.$(kind))) "$(DESTDIR)$(PACKAGE_DIR)/service"
+	$(INSTALL_DATA) $(wildcard $(PACKAGE)/service/page/*.js) "$(DESTDIR)$(PACKAGE_DIR)/service/page"
 	sed 's/@VERSION@/$(VERSION)/' docs/man/nomyake-service.1 > "$(DESTDIR)$(SERVICE_PAGE)"
-	chmod 644 "$(DESTDIR)$(SERVICE_PAGE)"
+	sed 's/@VERSION@/$(VERSION)/' docs/man/nomyake-play.1 > "$(DESTDIR)$(PLAY_PAGE)"
+	chmod 644 "$(DESTDIR)$(SERVICE_PAGE)" "$(DESTDIR)$(PLAY_PAGE)"
 	$(INSTALL_DATA) completions/nomyake-service.bash "$(DESTDIR)$(SERVICE_BASH_COMPLETION)"
 	$(INSTALL_DATA) completions/_nomyake-service "$(DESTDIR)$(SERVICE_ZSH_COMPLETION)"
 	$(INSTALL_DATA) completions/nomyake-service.fish "$(DESTDIR)$(SERVICE_FISH_COMPLETION)"
+	$(INSTALL_DATA) completions/nomyake-play.bash "$(DESTDIR)$(PLAY_BASH_COMPLETION)"
+	$(INSTALL_DATA) completions/_nomyake-play "$(DESTDIR)$(PLAY_ZSH_COMPLETION)"
+	$(INSTALL_DATA) completions/nomyake-play.fish "$(DESTDIR)$(PLAY_FISH_COMPLETION)"
+	for unit in $(notdir $(UNITS)); do \
+	    sed 's|@BINDIR@|$(BINDIR)|' share/systemd/$$unit > "$(DESTDIR)$(UNIT_DIR)/$$unit" && \
+	    chmod 644 "$(DESTDIR)$(UNIT_DIR)/$$unit" || exit 1; \
+	done
 
 install-library: need-library
 	$(INSTALL) -d "$(DESTDIR)$(INCLUDEDIR)" "$(DESTDIR)$(LIBDIR)" "$(DESTDIR)$(dir $(PKG_CONFIG_FILE))" \
@@ -170,6 +187,9 @@ uninstall:
 	rm -f $(patsubst share/%,"$(DESTDIR)$(READY_DIR)/%",$(READY))
 	rm -f "$(DESTDIR)$(BINDIR)/nomyake-service" "$(DESTDIR)$(SERVICE_PAGE)" "$(DESTDIR)$(SERVICE_BASH_COMPLETION)" \
 	    "$(DESTDIR)$(SERVICE_ZSH_COMPLETION)" "$(DESTDIR)$(SERVICE_FISH_COMPLETION)"
+	rm -f "$(DESTDIR)$(BINDIR)/nomyake-play" "$(DESTDIR)$(PLAY_PAGE)" "$(DESTDIR)$(PLAY_BASH_COMPLETION)" \
+	    "$(DESTDIR)$(PLAY_ZSH_COMPLETION)" "$(DESTDIR)$(PLAY_FISH_COMPLETION)"
+	rm -f $(patsubst share/systemd/%,"$(DESTDIR)$(UNIT_DIR)/%",$(UNITS))
 	rm -rf "$(DESTDIR)$(PACKAGE_DIR)"
 	@rmdir "$(DESTDIR)$(CMAKE_DIR)" "$(DESTDIR)$(dir $(PACKAGE_DIR))" "$(DESTDIR)$(READY_DIR)" 2> /dev/null || true
 
@@ -185,7 +205,7 @@ help:
 	@echo "make install          installs the program, and sno and the library if they are built"
 	@echo "make install-program  the program, its manual page and its completions; sno if it is built"
 	@echo "make install-sno      sno, its manual page, its completions, the definitions that are ready, and the service"
-	@echo "make install-service  the service for many clients, its manual page and its completions; install-sno does it too"
+	@echo "make install-service  the service for many clients, its page, completions and units; install-sno does it too"
 	@echo "make install-library  the headers, the static and the shared library, and the files for pkg-config and CMake"
 	@echo "make deb              a package for Debian of all that make install installs, in DEB_DIR"
 	@echo "make dist             an archive of the same files with their sums, for a release, in DIST_DIR"

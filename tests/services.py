@@ -83,13 +83,19 @@ class Service:
             time.sleep(0.01)
         raise RuntimeError("there is no sno serve")
 
+    def pause_desk(self):
+        """Stops `sno serve`, and returns its process when each of its threads has stopped: until then one may take a line."""
+        desk = self.desk()
+        os.kill(desk, signal.SIGSTOP)
+        waited(lambda: all(state_of(thread) == "T" for thread in Path(f"/proc/{desk}/task").iterdir()), "sno serve is stopped")
+        return desk
+
     def kill_desk(self):
         os.kill(self.desk(), signal.SIGKILL)
 
     def kill_busy_desk(self):
         """Kills `sno serve` when a line has no reply yet: it is stopped until there is one."""
-        desk = self.desk()
-        os.kill(desk, signal.SIGSTOP)
+        desk = self.pause_desk()
         try:
             waited(lambda: self.metric("lines_under_way") > 0, "a line is under way")
         finally:
@@ -135,6 +141,11 @@ def waited(holds, what):
         if time.monotonic() > deadline:
             raise RuntimeError(f"it took too long: {what}")
         time.sleep(0.01)
+
+
+def state_of(thread):
+    """The letter of a thread's state."""
+    return (thread / "stat").read_text().rpartition(")")[2].split()[0]
 
 
 def commands_of(process):

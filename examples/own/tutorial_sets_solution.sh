@@ -1,0 +1,1 @@
+echo 'one,  two ,three' | ./sno edit -e "NSPAN(BLANK) ',' NSPAN(BLANK) = ', '"
