@@ -122,9 +122,9 @@ class Books(unittest.TestCase):
         gc.collect()
 
     def test_replies_are_those_of_a_service(self) -> None:
-        """Byte for byte, over the lines of tests/serve."""
+        """Byte for byte, over the lines of tests/serve, but for those that ask for more trials than a service lets them: a book has no ceiling."""
         serve = lines_of_the_service()
-        lines = [line.encode() for line, _ in serve.KNOWN]
+        lines = [line.encode() for line, reply in serve.KNOWN if "trials: at most" not in reply.get("error", "")]
         with tempfile.TemporaryDirectory() as name:
             document, listing = Path(name) / "document.json", Path(name) / "listing.json"
             document.write_text(json.dumps(serve.DOCUMENT))
@@ -138,6 +138,14 @@ class Books(unittest.TestCase):
                 listed = held._filled(held._functions.sno_handle_listing, 1)
             self.assertEqual(listed, listing.read_bytes())
         self.assertGreater(len(lines), 60)
+
+
+    def test_a_book_has_no_ceiling_of_trials(self) -> None:
+        held = book()
+        accepted = held.line(b'{"id":1,"text":"N","pattern":"RPOS(0)","object":"\'x\'","trials":1000000000}')
+        self.assertEqual(json.loads(accepted)["entry"], 1)
+        refused = held.line(b'{"id":2,"text":"N","pattern":"RPOS(0)","trials":1000000001}')
+        self.assertEqual(json.loads(refused), {"id": 2, "error": "bad trials"})
 
 
 if __name__ == "__main__":
