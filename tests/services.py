@@ -46,7 +46,9 @@ class Service:
 
     def __init__(self, sno, document, store, *options, port=0):
         address = [] if "--unix" in options else ["--listen", f"127.0.0.1:{port}"]
-        words = [PYTHON, "-m", "sno_rewrite.service", document, "--store", store, "--program", sno, *address, *options]
+        # A loaded machine may take longer for a look than a person would wait.
+        looks = [] if "--look-seconds" in options else ["--look-seconds", "60"]
+        words = [PYTHON, "-m", "sno_rewrite.service", document, "--store", store, "--program", sno, *address, *looks, *options]
         environment = {**os.environ, "PYTHONPATH": str(SOURCES)}
         self.process = subprocess.Popen(words, env=environment, stderr=subprocess.PIPE, text=True)
         self.said, self.url = [], None
