@@ -242,16 +242,24 @@ class SharedDesk:
 
     async def compact(self) -> None:
         """Has the store replaced by a shorter one, between two runs of the program. Lines wait meanwhile, and none is refused. If
-        those under way take too long, nothing is done this time."""
+        those under way take too long, or the program is just starting or ending, nothing is done this time."""
+        if self.state is not State.SERVING:
+            return
         deadline = asyncio.get_running_loop().time() + self._options.patience
         self.turns.is_paused = True
         while self.turns.under_way and self.state is State.SERVING and asyncio.get_running_loop().time() < deadline:
             await asyncio.sleep(0.01)
-        if self.turns.under_way or self.state is not State.SERVING or self._pipe is None:
+        if self.state is not State.SERVING or self._pipe is None:
+            # Lines go on when the next run serves, or the service ends.
+            return
+        if self.turns.under_way:
             self.turns.resume()
             return
+        # (a run that began meanwhile has let lines go on)
+        self.turns.is_paused = True
         self._why, self._is_to_compact = "the store is compacted", True
         self._pipe.end()
+        await self._gone.wait()
 
     async def _shorten(self) -> None:
         """Compacts the store, which no program has. If it can't be, it is as it was."""

@@ -82,6 +82,8 @@ class Server:
             await asyncio.sleep(_LOOKS_AT_MEMORY)
             if self._desk.memory() > least:
                 await self._desk.compact()
+                while not self._desk.is_serving():
+                    await asyncio.sleep(_LOOKS_AT_MEMORY)
                 await asyncio.sleep(_LOOKS_AT_MEMORY)
                 least = max(most, 2 * self._desk.memory())
 
