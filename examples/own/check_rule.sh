@@ -1,0 +1,1 @@
+./sno check -e "SPAN('a-z') . WORD = WORDS"

@@ -1,0 +1,2 @@
+echo 'banana' > fruit.txt
+./sno trace --on fruit.txt --match 2 -e "'an'"
