@@ -74,10 +74,10 @@ class Service:
         self.process.wait()
 
     def desk(self):
-        """The process of `sno serve`, once there is one."""
+        """The process of the shared `sno serve`, once there is one; those of looks have no store."""
         for _ in range(SECONDS * 100):
             children = Path(f"/proc/{self.process.pid}/task/{self.process.pid}/children").read_text().split()
-            named = [int(child) for child in children if b"\0serve\0" in commands_of(child)]
+            named = [int(child) for child in children if b"\0serve\0--store\0" in commands_of(child)]
             if named:
                 return named[0]
             time.sleep(0.01)

@@ -141,6 +141,10 @@ class Routes:
                 application.router.add_route("HEAD", matched, handler)
         return application
 
+    async def end(self) -> None:
+        """Ends what is kept for further looks."""
+        await self._looks.end()
+
     def _sent(self) -> Any:
         """Sends each response to its end: then its client has read what it had of the desk, or is gone."""
 

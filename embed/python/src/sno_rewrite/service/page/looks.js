@@ -56,17 +56,27 @@ async function lookOnce() {
   if (isEmpty() || on === null) return showNothing();
   const given = { ...on, ...statement() };
   try {
-    const [findings, preview] = await Promise.all([post("/findings", given), post("/preview", { ...given, matches: true })]);
-    if (isStale && (findings.status === 503 || preview.status === 503)) return false;
-    if (findings.ok) drawFindings(await findings.json());
-    if (preview.ok) await show(given, await preview.json());
-    return findings.status !== 503 && preview.status !== 503;
+    const preview = await post("/preview", { ...given, matches: true });
+    if (preview.status === 503) return false;
+    if (!preview.ok) return true;
+    const found = await preview.json();
+    await show(given, found);
+    return await showFindings(given, found);
   } catch (fault) {
     if (!(fault instanceof TypeError)) throw fault;
     last = null;
     replaceText(at("preview"), "There is no preview at the moment: the service couldn't be asked.");
     return true;
   }
+}
+
+// A preview has the warnings. Where in a pattern a fault is takes a look of its own, which nothing else waits for.
+async function showFindings(given, found) {
+  if (found.findings) drawFindings({ errors: [], warnings: found.findings });
+  if (found.findings || isStale) return true;
+  const response = await post("/findings", given);
+  if (response.ok) drawFindings(await response.json());
+  return response.status !== 503;
 }
 
 function showNothing() {
@@ -94,6 +104,7 @@ async function show(given, found) {
     matches: found.matches ?? own,
     total: found.total,
     microseconds: found.microseconds,
+    seconds: found.entry ? found.seconds : undefined,
   });
   emit("looked");
   quiet = setTimeout(() => lookLonger(given, entry), QUIET);
