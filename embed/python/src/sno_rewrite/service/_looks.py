@@ -16,6 +16,8 @@ from ._text_desks import TextDesk, TextDesks, Texts, ended
 
 _MEMBERS = "text", "pattern", "object", "anchored", "repeat", "all"
 _TRACE_LINES = 1_000
+# The member of what is found that says how many seconds the program took. It goes into a header.
+PROGRAM = "program seconds"
 # The most matches that a preview lists beside its entry.
 _MOST_MATCHES = 5_000
 # The most texts on which one request may try a pattern.
@@ -112,10 +114,12 @@ class Looks:
         found: dict[str, Any] = {}
         try:
             async with self._desks.desk(texts) as desk:
-                found.update(self._previewed(await desk.ask(line), desk.seconds))
+                began = desk.seconds
+                reply = await desk.ask(line)
+                found.update(self._previewed(reply, desk.seconds - began))
                 if given.get("matches") is True and ("entry" in found or found.get("reason") == "text too long"):
                     found.update(await self._matches(desk, line, found.get("entry", {"matched": True})))
-                return {**found, "program_microseconds": round(desk.seconds * 1e6)}
+                return {**found, PROGRAM: desk.seconds}
         except TimeoutError:
             return {**(found or {"reason": "too long"}), "seconds": self._options.look_seconds}
 

@@ -22,7 +22,7 @@ Texts = list[dict[str, str]]
 
 
 class TextDesk:
-    """A run of `sno serve` on some texts. `seconds` is how long its replies were waited for."""
+    """A run of `sno serve` on some texts. `seconds` is how long it was waited for during a look."""
 
     def __init__(self, process: Process) -> None:
         self._process = process
@@ -65,8 +65,11 @@ class TextDesks:
         try:
             async with asyncio.timeout(self._options.look_seconds):
                 if desk is None:
+                    began = time.monotonic()
                     desk = await self._start(texts)
-                desk.seconds = 0.0
+                    desk.seconds = time.monotonic() - began
+                else:
+                    desk.seconds = 0.0
                 yield desk
         except BaseException:
             if desk is not None:

@@ -8,7 +8,7 @@ export const COLOURS = 8;
 
 // The later ones are painted over those before them. The first variable of a pattern often lies within further ones.
 const COLOUR_NAMES = Array.from({ length: COLOURS }, (_, number) => `v${number}`);
-const NAMES = ["further", "match", ...[...COLOUR_NAMES].reverse(), "fresh", "part", "step"];
+const NAMES = ["further", "match", ...[...COLOUR_NAMES].reverse(), "current", "fresh", "part", "step"];
 
 export const canPaint = typeof Highlight === "function" && CSS.highlights !== undefined;
 

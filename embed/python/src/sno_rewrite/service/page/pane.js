@@ -54,13 +54,13 @@ function drawMarks() {
   const fresh = it && freshRange(it, text);
   replaceText(at("changed"), fresh ? `Underlined is what ${it.entry === undefined ? "the last entry" : `entry ${it.entry.entry}`} changed.` : "");
   const [from, to] = inSight();
-  const { gaps = [], current = [], titles: said = [], ...marks } = !step && it && isOf(text) ? marksWithin(from, to) : {};
+  const { gaps = [], titles: said = [], ...marks } = !step && it && isOf(text) ? marksWithin(from, to) : {};
   titles = said;
   const clipped = ([start, end]) => [Math.max(start, from), Math.min(end, to)];
   paint({ ...marks, fresh: fresh && !step ? [fresh] : [], step: step ? [step] : [] });
   drawBoxes([
     ...gaps.map(([start]) => ({ from: start, to: start, classes: ["gap"] })),
-    ...current.map(clipped).map(([start, end]) => ({ from: start, to: end, classes: ["current"] })),
+    ...(marks.current ?? []).map(clipped).map(([start, end]) => ({ from: start, to: end, classes: ["current"] })),
     ...cursors(fresh, from, to),
   ]);
   performance.clearMarks("marks");
