@@ -13,7 +13,12 @@ def edit_together(page, other, service):
     for window in page, other:
         eventually("the text", lambda window=window: window.text("text"), FIRST)
     cases.expect("numbers of lines", page.script("return document.querySelectorAll('#marks .line-of-text').length"), 4)
-    begins("the number before the first line", lambda: page.script("return getComputedStyle(document.querySelector('#marks .line-of-text'), '::before').content"), "counter(line)")
+    numbers = "return [...document.querySelectorAll('#marks .line-of-text')].map((it) => getComputedStyle(it, '::before').content)"
+    eventually("the number before each line", lambda: page.script(numbers), ['"1"', '"2"', '"3"', '"4"'])
+    put(page, "one\n\ntwo\nthree\n")
+    eventually("the numbers after a line has come", lambda: page.script(numbers), ['"1"', '"2"', '"3"', '"4"', '"5"'])
+    page.at("discard").click()
+    eventually("the numbers after it is gone", lambda: page.script(numbers), ['"1"', '"2"', '"3"', '"4"'])
     saved(page, other, service)
     conflict(page, other, service)
     overlapping(page, service)

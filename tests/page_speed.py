@@ -6,7 +6,7 @@ from page_play import own_text
 
 LONGEST = 65_536
 TEXT = ("some words of a line, 12 of them = 345;\n" * 1_700)[:LONGEST]
-PRESSES = 30
+PRESSES = 20
 # Milliseconds from a key until its marks are painted, of which all but the program has as many, on a machine that does nothing else.
 MOST, MOST_OF_PAGE = 100, 60
 
@@ -17,25 +17,33 @@ const [which, presses, done] = arguments;
 const field = document.getElementById(which);
 const all = [];
 performance.setResourceTimingBufferSize(10_000);
-const work = () => {
+// Some computing, and a request: a look takes both, and each of them waits for a processor.
+const work = async () => {
   const began = performance.now();
-  for (let place = 0; place < 3_000_000; place += 1) window.worked = (Math.imul(window.worked | 0, 31) + place) | 0;
+  let made = 0;
+  for (let place = 0; place < 10_000_000; place += 1) made = (Math.imul(made, 31) + place) | 0;
+  await (await fetch("/healthz", { headers: { made: String(made) } })).text();
   return performance.now() - began;
 };
-const typed = {
-  pattern: (number) => (field.value = `SPAN('012345678${"9".repeat(1 + number)}') . N ('' | 'k')`),
-  text: (number) => field.setRangeText("x", 100 + number, 100 + number, "end"),
+// As an editor does it, which then knows what has changed.
+const type = (from, to, words) => {
+  field.focus();
+  field.setSelectionRange(from, to);
+  document.execCommand("insertText", false, words);
 };
+const typed = { pattern: () => type(15, 15, "9"), text: (number) => type(100 + number, 101 + number, "x") };
 const lookSince = (began) => performance.getEntriesByType("resource").find((it) => it.startTime >= began && it.name.endsWith("/preview"));
-const press = (number) => {
+const press = async (number) => {
   if (number === presses) return done(all);
-  const fixed = work();
+  const fixed = await work();
   const began = performance.now();
+  const late = setTimeout(done, 60_000, all);
   const seen = new PerformanceObserver(() => {
     const look = lookSince(began);
     const painted = performance.getEntriesByName("marks").at(-1)?.startTime;
     if (!look || !(painted >= look.responseEnd)) return;
     seen.disconnect();
+    clearTimeout(late);
     requestAnimationFrame(() => setTimeout(() => {
       all.push([performance.now() - began, look.serverTiming[0].duration, fixed]);
       setTimeout(press, 100, number + 1);
@@ -43,9 +51,13 @@ const press = (number) => {
   });
   seen.observe({ entryTypes: ["mark", "resource"] });
   typed[which](number);
-  field.dispatchEvent(new Event("input"));
 };
-press(0);"""
+// Code that is new is slow.
+const begin = async () => {
+  for (let warm = 0; warm < 5; warm += 1) await work();
+  press(0);
+};
+begin();"""
 
 
 def is_instrumented(sno):
@@ -71,8 +83,9 @@ def last_of_20(times):
 
 
 def reported(which, found, is_slow):
+    cases.expect(f"keys in the {which} whose marks came", len(found), PRESSES)
     whole, program, fixed = zip(*found)
-    # On a machine that has other things to do, a fixed piece of work takes longer than at best; so does what comes of a key.
+    # On a machine that has other things to do, a fixed piece of work takes longer than at best, and so does a look.
     starved = max(1.0, last_of_20(fixed) / min(fixed))
     page = [one - other for one, other in zip(whole, program)]
     shown = f"in all {last_of_20(whole):.0f} ms, of which the program {last_of_20(program):.0f}, without it {last_of_20(page):.0f}; starved {starved:.1f} times"

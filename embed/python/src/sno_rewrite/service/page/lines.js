@@ -16,13 +16,9 @@ export function showLines(text) {
   const now = text === null ? [] : text.split(/(?<=\n)/);
   if (text?.endsWith("\n")) now.push("");
   const [front, back] = same(lines, now);
-  const shown = at("marks");
-  const gone = [...shown.children].slice(front, lines.length - back);
-  const next = shown.children[lines.length - back] ?? null;
-  for (const line of gone) line.remove();
-  const made = document.createDocumentFragment();
-  made.append(...now.slice(front, now.length - back).map(lineOf));
-  shown.insertBefore(made, next);
+  replaceLines([...at("marks").children].slice(front, lines.length - back), now.slice(front, now.length - back), at("marks").children[lines.length - back] ?? null);
+  // A counter of the style would have all lines laid out at each key.
+  if (now.length !== lines.length) [...at("marks").children].slice(front).forEach((line, number) => (line.dataset.number = front + number + 1));
   lines = now;
   findPieces();
 }
@@ -37,10 +33,21 @@ function same(before, after) {
   return [front, back];
 }
 
-function lineOf(text) {
-  const made = element("div", undefined, "line-of-text");
-  for (let from = 0; from === 0 || from < text.length; from += LONGEST) made.append(document.createTextNode(text.slice(from, from + LONGEST)));
-  return made;
+// A line that becomes another one stays the same element, so that those after it keep their numbers and needn't be laid out.
+function replaceLines(gone, texts, next) {
+  gone.slice(texts.length).forEach((line) => line.remove());
+  gone.slice(0, texts.length).forEach((line, number) => fill(line, texts[number]));
+  const made = document.createDocumentFragment();
+  for (const text of texts.slice(gone.length)) made.append(fill(element("div", undefined, "line-of-text"), text));
+  at("marks").insertBefore(made, next);
+}
+
+function fill(line, text) {
+  const parts = [];
+  for (let from = 0; from === 0 || from < text.length; from += LONGEST) parts.push(text.slice(from, from + LONGEST));
+  if (parts.length === 1 && line.childNodes.length === 1) line.firstChild.data = text;
+  else line.replaceChildren(...parts.map((part) => document.createTextNode(part)));
+  return line;
 }
 
 function findPieces() {

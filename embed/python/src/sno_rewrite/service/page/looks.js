@@ -58,8 +58,8 @@ async function lookOnce() {
   try {
     const preview = await post("/preview", { ...given, matches: true });
     if (preview.status === 503) return false;
-    if (!preview.ok) return true;
     const found = await preview.json();
+    if (!preview.ok) return showRefused(found.error ?? found.reason);
     await show(given, found);
     return await showFindings(given, found);
   } catch (fault) {
@@ -77,6 +77,13 @@ async function showFindings(given, found) {
   const response = await post("/findings", given);
   if (response.ok) drawFindings(await response.json());
   return response.status !== 503;
+}
+
+// What can't be looked at at all, as a text that is too long.
+function showRefused(why) {
+  showNothing();
+  replaceText(at("preview"), `There is no preview: ${why}.`);
+  return true;
 }
 
 function showNothing() {

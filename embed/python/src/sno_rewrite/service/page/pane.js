@@ -53,8 +53,10 @@ function drawMarks() {
   const text = it?.text ?? "";
   const fresh = it && freshRange(it, text);
   replaceText(at("changed"), fresh ? `Underlined is what ${it.entry === undefined ? "the last entry" : `entry ${it.entry.entry}`} changed.` : "");
-  const [from, to] = inSight();
-  const { gaps = [], titles: said = [], ...marks } = !step && it && isOf(text) ? marksWithin(from, to) : {};
+  const hasMatches = !step && it && isOf(text);
+  // To ask what is in sight has the browser lay the text out at once, which takes long just after a key.
+  const [from, to] = hasMatches || fresh || step ? inSight() : [0, 0];
+  const { gaps = [], titles: said = [], ...marks } = hasMatches ? marksWithin(from, to) : {};
   titles = said;
   const clipped = ([start, end]) => [Math.max(start, from), Math.min(end, to)];
   paint({ ...marks, fresh: fresh && !step ? [fresh] : [], step: step ? [step] : [] });
