@@ -27,6 +27,8 @@ def playground(page, service, sno, folder):
     linked(page, service)
     copied(page, sno, folder)
     many(page)
+    small_and_dark(page)
+    refused(page)
 
 
 def own_text(page, text):
@@ -100,6 +102,31 @@ def current_variables(page):
     names = dict(page.script("return [...document.querySelectorAll('#variables .variable')].map((it) => [it.classList[1], it.textContent])"))
     found = page.painted(*VARIABLES)
     return [f"{names[name]} = {text} {cursor}" for cursor, text, name in found if start <= cursor <= start + len(whole)]
+
+
+def small_and_dark(page):
+    """What is seen while one types, on a small screen in the dark, and a statement that is changed by keys alone."""
+    page.sized(390, 844)
+    page.dark(True)
+    own_text(page, PAIRS)
+    page.fill("pattern", PAIR)
+    marked(page)
+    explained(page)
+    page.script("document.activeElement.blur(); document.getElementById('skip').focus()")
+    page.focused().send_keys(Keys.ENTER)
+    page.focused().send_keys(Keys.CONTROL, "a")
+    page.focused().send_keys("LEN(1) . C '2'")
+    eventually("a match of what keys typed", lambda: page.marks("current"), ["k2"])
+    for _ in range(20):
+        page.focused().send_keys(Keys.TAB)
+        if page.focused().get_attribute("id") == "case-add":
+            break
+    page.focused().send_keys(Keys.ENTER)
+    eventually("a test that keys add", lambda: page.focused().get_attribute("aria-label"), "Text of test 1")
+    page.focused().send_keys("x2", Keys.TAB, Keys.ENTER)
+    eventually("and take away", lambda: page.texts("#cases li"), [])
+    page.dark(False)
+    page.cdp("Emulation.clearDeviceMetricsOverride")
 
 
 def placed(page):
@@ -177,6 +204,15 @@ def listed(page, service):
         found = sent(service, "/findings", {"own": "x", "pattern": example})
         cases.expect(f"findings of {example}", found["errors"], [])
     page.at("reference").click()
+    inserted = """
+        const [field, made] = [document.getElementById("pattern"), []];
+        for (const button of document.querySelectorAll("#reference-rows button")) {
+          field.value = "";
+          button.click();
+          made.push(`Insert ${field.value}`);
+        }
+        return made;"""
+    cases.expect("what each row inserts", page.script(inserted), [row[2] for row in shown])
     page.fill("pattern", "'a'")
     page.script("document.querySelectorAll('#reference-rows button')[9].click()")
     eventually("an example is inserted", lambda: page.text("pattern"), "'a' ANY('aeiou')")
@@ -255,6 +291,17 @@ def statement_in(source):
     """The members of the statement in a piece of Python."""
     call = next(it for it in ast.walk(ast.parse(source)) if isinstance(it, ast.Call) and getattr(it.func, "id", "") == "Statement")
     return {"pattern": ast.literal_eval(call.args[1]), **{word.arg: ast.literal_eval(word.value) for word in call.keywords}}
+
+
+def refused(page):
+    """A text that is too long has no preview, and no marks of the text before."""
+    own_text(page, "x" * 65_537)
+    eventually("why there is no preview", lambda: page.text("preview"), "There is no preview: a text is ASCII, of at most 65536 characters.")
+    cases.expect("no marks", (page.marks(), page.text("match-line")), ([], ""))
+    own_text(page, PAIRS)
+    eventually("marks again", lambda: page.marks("current"), ["k2"])
+    # The browser reports the refusal, too.
+    page.driver.get_log("browser")
 
 
 def in_sight(page, what, number):
