@@ -6,8 +6,8 @@ from page_play import own_text
 
 LONGEST = 65_536
 TEXT = ("some words of a line, 12 of them = 345;\n" * 1_700)[:LONGEST]
-PRESSES = 20
-# Milliseconds from a key until its marks are painted, of which all but the program has as many, on a machine that does nothing else.
+PRESSES, PRESSES_OF_SLOW = 20, 5
+# Milliseconds from a key until its marks are painted, and those without the program's, on a machine that does nothing else.
 MOST, MOST_OF_PAGE = 100, 60
 
 # Types key by key, and reports of each how long it took until the marks of its look were painted, how long the program had of that, and
@@ -37,7 +37,7 @@ const press = async (number) => {
   if (number === presses) return done(all);
   const fixed = await work();
   const began = performance.now();
-  const late = setTimeout(done, 60_000, all);
+  const late = setTimeout(done, 100_000, all);
   const seen = new PerformanceObserver(() => {
     const look = lookSince(began);
     const painted = performance.getEntriesByName("marks").at(-1)?.startTime;
@@ -73,8 +73,12 @@ def quick(page, sno):
     begins("matches of the longest text", lambda: page.text("match-line"), "Match 1 of 3,276")
     page.front()
     page.driver.set_script_timeout(600)
+    is_slow = is_instrumented(sno)
+    presses = PRESSES_OF_SLOW if is_slow else PRESSES
     for which in "pattern", "text":
-        reported(which, page.driver.execute_async_script(TYPING, which, PRESSES), is_instrumented(sno))
+        found = page.driver.execute_async_script(TYPING, which, presses)
+        cases.expect(f"keys in the {which} whose marks came", len(found), presses)
+        reported(which, found, is_slow)
 
 
 def last_of_20(times):
@@ -83,12 +87,11 @@ def last_of_20(times):
 
 
 def reported(which, found, is_slow):
-    cases.expect(f"keys in the {which} whose marks came", len(found), PRESSES)
     whole, program, fixed = zip(*found)
     # On a machine that has other things to do, a fixed piece of work takes longer than at best, and so does a look.
     starved = max(1.0, last_of_20(fixed) / min(fixed))
     page = [one - other for one, other in zip(whole, program)]
-    shown = f"in all {last_of_20(whole):.0f} ms, of which the program {last_of_20(program):.0f}, without it {last_of_20(page):.0f}; starved {starved:.1f} times"
+    shown = f"in all {last_of_20(whole):.0f} ms; the program {last_of_20(program):.0f}, without it {last_of_20(page):.0f}; starved {starved:.1f} times"
     print(f"a key in the {which}, 95th percentile: {shown}")
     cases.check(last_of_20(page) <= MOST_OF_PAGE * starved, f"all but the program takes {MOST_OF_PAGE} ms for a key in the {which}", shown)
     if not is_slow:

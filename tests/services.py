@@ -83,6 +83,11 @@ class Service:
             time.sleep(0.01)
         raise RuntimeError("there is no sno serve")
 
+    def kept_looks(self):
+        """The processes that are kept for further looks at their texts."""
+        children = Path(f"/proc/{self.process.pid}/task/{self.process.pid}/children").read_text().split()
+        return [int(child) for child in children if b"\0serve\0--trials=" in commands_of(child)]
+
     def pause_desk(self):
         """Stops `sno serve`, and returns its process when each of its threads has stopped: until then one may take a line."""
         desk = self.desk()

@@ -37,9 +37,12 @@ class TextDesk:
         given, taken = self._process.stdin, self._process.stdout
         assert given is not None and taken is not None
         began = time.monotonic()
-        given.write(json.dumps(members).encode() + b"\n")
-        await given.drain()
-        line = await taken.readline()
+        line = b""
+        # It may have ended, as one that the system kills for its memory.
+        with suppress(ConnectionError):
+            given.write(json.dumps(members).encode() + b"\n")
+            await given.drain()
+            line = await taken.readline()
         self.seconds += time.monotonic() - began
         if not line:
             return {"error": "sno serve ended"}
