@@ -1,8 +1,7 @@
 """What tests/service_page looks at of time: how soon marks come while one types on the longest text."""
-from pathlib import Path
-
 from browsers import begins, cases
 from page_play import own_text
+from services import is_instrumented
 
 LONGEST = 65_536
 TEXT = ("some words of a line, 12 of them = 345;\n" * 1_700)[:LONGEST]
@@ -58,11 +57,6 @@ const begin = async () => {
   press(0);
 };
 begin();"""
-
-
-def is_instrumented(sno):
-    """Whether the program was built to find faults: that takes many times longer, which says nothing of the proved one."""
-    return b"__asan_init" in Path(sno).read_bytes()
 
 
 def quick(page, sno):

@@ -41,6 +41,16 @@ def written(folder, texts, statements=(), patterns=()):
     return path
 
 
+def is_instrumented(sno):
+    """Whether a program was built to find faults: it takes many times longer, which says nothing of the proved one."""
+    return b"__asan_init" in Path(sno).read_bytes()
+
+
+def patient(sno):
+    """Options of the service with which looks by an instrumented program may take long."""
+    return ["--look-seconds", "60"] if is_instrumented(sno) else []
+
+
 class Service:
     """A run of the service, as `with Service(..) as service`. What it says is in `said`."""
 
