@@ -134,10 +134,10 @@ class Looks:
         return {"entry": entry, "microseconds": round(seconds * 1e6), **findings}
 
     async def _matches(self, desk: TextDesk, line: dict[str, Any], entry: dict[str, Any]) -> dict[str, Any]:
-        """All matches in the text as it is, whether the statement is for all of them or not."""
+        """All matches in the text as it is. An entry for all of them has them already."""
         if "all" in entry:
-            matches = entry["all"]
-        elif not entry["matched"]:
+            return {"total": len(entry["all"])}
+        if not entry["matched"]:
             matches = []
         else:
             kept = {name: value for name, value in line.items() if name not in ("object", "repeat")}

@@ -12,6 +12,7 @@ import { emit, state } from "./state.js";
 import { formerText } from "./texts.js";
 
 const AGAIN = 300; // milliseconds until a look that found too many others is tried again
+const MOST_MARKED = 5_000; // matches, as of the service
 const QUIET = 250; // milliseconds without a key until trials are counted
 
 let isLooking = false;
@@ -108,7 +109,7 @@ async function show(given, found) {
     entry,
     source: keyOf([given.pattern, given.anchored]),
     pattern: patternOf(given.pattern),
-    matches: found.matches ?? own,
+    matches: found.matches ?? entry.all?.slice(0, MOST_MARKED) ?? own,
     total: found.total,
     microseconds: found.microseconds,
     seconds: found.entry ? found.seconds : undefined,
