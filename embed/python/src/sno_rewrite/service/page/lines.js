@@ -16,7 +16,8 @@ export function showLines(text) {
   const now = text === null ? [] : text.split(/(?<=\n)/);
   if (text?.endsWith("\n")) now.push("");
   const [front, back] = same(lines, now);
-  replaceLines([...at("marks").children].slice(front, lines.length - back), now.slice(front, now.length - back), at("marks").children[lines.length - back] ?? null);
+  const old = [...at("marks").children];
+  replaceLines(old.slice(front, lines.length - back), now.slice(front, now.length - back), old[lines.length - back] ?? null);
   // A counter of the style would have all lines laid out at each key.
   if (now.length !== lines.length) [...at("marks").children].slice(front).forEach((line, number) => (line.dataset.number = front + number + 1));
   lines = now;
