@@ -17,6 +17,7 @@ const QUIET = 250; // milliseconds without a key until trials are counted
 
 let isLooking = false;
 let isStale = false;
+let isCounting = false;
 let timer = null;
 let quiet = null;
 let last = null; // what has been shown: {key, version}
@@ -118,19 +119,31 @@ async function show(given, found) {
   quiet = setTimeout(() => lookLonger(given, entry), QUIET);
 }
 
-// What takes longer, once nothing more is typed: how many trials there are, and where a match that failed came.
+// What takes longer, once nothing more is typed: how many trials there are, and where a match that failed came. One such look is under
+// way at a time: a few that nobody waits for any more would hold the next preview up.
 async function lookLonger(given, entry) {
-  const isStill = () => last?.key === keyOf(given);
+  if (isCounting) {
+    quiet = setTimeout(lookLonger, QUIET, given, entry);
+    return;
+  }
+  isCounting = true;
   try {
-    const counted = await post("/trials", given);
-    const found = counted.ok ? await counted.json() : {};
-    if (isStill() && !found.reason && found.trials) showTrials(found.trials);
-    if (entry.matched || !isStill()) return;
-    const traced = await post("/trace", given);
-    if (traced.ok && isStill()) drawFailure((await traced.json()).lines ?? []);
+    await countTrials(given, entry);
   } catch (fault) {
     if (!(fault instanceof TypeError)) throw fault;
+  } finally {
+    isCounting = false;
   }
+}
+
+async function countTrials(given, entry) {
+  const isStill = () => last?.key === keyOf(given);
+  const counted = await post("/trials", given);
+  const found = counted.ok ? await counted.json() : {};
+  if (isStill() && !found.reason && found.trials) showTrials(found.trials);
+  if (entry.matched || !isStill()) return;
+  const traced = await post("/trace", given);
+  if (traced.ok && isStill()) drawFailure((await traced.json()).lines ?? []);
 }
 
 export async function loadDefinitions(request) {
