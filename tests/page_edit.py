@@ -149,7 +149,7 @@ def many_texts(page, service):
           if (document.querySelectorAll("#texts li").length < 1000 || !document.getElementById("text")?.value) return;
           seen.disconnect();
           window.readyAt = performance.now();
-        }).observe(document, { childList: true, subtree: true });""")
+        }).observe(document, { childList: true, characterData: true, subtree: true });""")
     times = []
     for _ in range(5):
         page.driver.get("about:blank")
