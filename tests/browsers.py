@@ -33,6 +33,17 @@ const cursor = (range) => {
 };
 const found = arguments[0].flatMap((name) => [...CSS.highlights.get(name)].map((range) => [cursor(range), live(range).toString(), name]));
 return found.sort(([one], [other]) => one - other);"""
+# A fixed piece of work, which takes longer on a machine that has other things to do.
+FIXED_WORK = """
+// Some computing, and a request: a look takes both, and each of them waits for a processor.
+const work = async () => {
+  const began = performance.now();
+  let made = 0;
+  for (let place = 0; place < 10_000_000; place += 1) made = (Math.imul(made, 31) + place) | 0;
+  await (await fetch("/healthz", { headers: { made: String(made) } })).text();
+  return performance.now() - began;
+};
+"""
 MATCHES = "match", "further"
 VARIABLES = tuple(f"v{number}" for number in range(8))
 cases = Cases()

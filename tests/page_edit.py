@@ -2,10 +2,17 @@
 import json
 import time
 
-from browsers import begins, cases, eventually, sent
+from browsers import FIXED_WORK, begins, cases, eventually, sent
 
 FIRST = "one\ntwo\nthree\n"
 MANY = 1_000
+# How long a fixed piece of work takes, some times; code that is new is slow.
+SOME_WORK = FIXED_WORK + """
+const [done, made] = [arguments[0], []];
+(async () => {
+  for (let number = 0; number < 8; number += 1) made.push(await work());
+  done(made.slice(3));
+})();"""
 
 
 def edit_together(page, other, service):
@@ -150,13 +157,15 @@ def many_texts(page, service):
           seen.disconnect();
           window.readyAt = performance.now();
         }).observe(document, { childList: true, characterData: true, subtree: true });""")
-    times = []
+    times, fixed = [], []
     for _ in range(5):
         page.driver.get("about:blank")
         page.driver.get(service.url)
         eventually("a thousand texts", lambda: page.script("return window.readyAt > 0"), True)
         times.append(page.script("return window.readyAt"))
-    cases.check(sorted(times)[2] <= 1_000, "with 1,000 texts it is ready within a second", times)
+        fixed += page.driver.execute_async_script(SOME_WORK)
+    starved = max(1.0, sorted(fixed)[len(fixed) // 2] / min(fixed))
+    cases.check(sorted(times)[2] <= 1_000 * starved, "with 1,000 texts it is ready within a second", times, f"starved {starved:.1f} times")
     page.sized(390, 844)
     page.script("scrollTo(0, 0)")
     bottom = page.script("return document.getElementById('pattern').getBoundingClientRect().bottom")

@@ -1,5 +1,5 @@
 """What tests/service_page looks at of time: how soon marks come while one types on the longest text."""
-from browsers import begins, cases
+from browsers import FIXED_WORK, begins, cases
 from page_play import own_text
 from services import is_instrumented
 
@@ -11,19 +11,11 @@ MOST, MOST_OF_PAGE = 100, 60
 
 # Types key by key, and reports of each how long it took until the marks of its look were painted, how long the program had of that, and
 # how long a fixed piece of work took before it.
-TYPING = """
+TYPING = FIXED_WORK + """
 const [which, presses, done] = arguments;
 const field = document.getElementById(which);
 const all = [];
 performance.setResourceTimingBufferSize(10_000);
-// Some computing, and a request: a look takes both, and each of them waits for a processor.
-const work = async () => {
-  const began = performance.now();
-  let made = 0;
-  for (let place = 0; place < 10_000_000; place += 1) made = (Math.imul(made, 31) + place) | 0;
-  await (await fetch("/healthz", { headers: { made: String(made) } })).text();
-  return performance.now() - began;
-};
 // As an editor does it, which then knows what has changed.
 const type = (from, to, words) => {
   field.focus();
