@@ -17,6 +17,35 @@ WORDS = (
     "--headless=new", "--no-sandbox", "--disable-dev-shm-usage", "--disable-gpu", "--window-size=1280,1400", "--hide-scrollbars",
     "--disable-backgrounding-occluded-windows", "--disable-renderer-backgrounding", "--disable-background-timer-throttling",
 )
+# The ranges that the browser paints.
+PAINTED = """
+const live = (range) => {
+  const made = document.createRange();
+  made.setStart(range.startContainer, range.startOffset);
+  made.setEnd(range.endContainer, range.endOffset);
+  return made;
+};
+const cursor = (range) => {
+  const before = document.createRange();
+  before.setStart(document.getElementById("marks"), 0);
+  before.setEnd(range.startContainer, range.startOffset);
+  return before.toString().length;
+};
+const found = arguments[0].flatMap((name) => [...CSS.highlights.get(name)].map((range) => [cursor(range), live(range).toString(), name]));
+return found.sort(([one], [other]) => one - other);"""
+# A fixed piece of work, which takes longer on a machine that has other things to do.
+FIXED_WORK = """
+// Some computing, and a request: a look takes both, and each of them waits for a processor.
+const work = async () => {
+  const began = performance.now();
+  let made = 0;
+  for (let place = 0; place < 10_000_000; place += 1) made = (Math.imul(made, 31) + place) | 0;
+  await (await fetch("/healthz", { headers: { made: String(made) } })).text();
+  return performance.now() - began;
+};
+"""
+MATCHES = "match", "further"
+VARIABLES = tuple(f"v{number}" for number in range(8))
 cases = Cases()
 
 
@@ -65,24 +94,17 @@ class Page:
         """The texts of all elements that a selector finds."""
         return self.script("return [...document.querySelectorAll(arguments[0])].map((it) => it.textContent)", selector)
 
-    def marks(self, *classes):
-        """The marks of the text, or those of some classes."""
-        return self.joined("#marks mark" + "".join(f".{name}" for name in classes))
+    def painted(self, *names):
+        """The marks of the text with these names, as far as they are in sight or near it, in order: the cursor, the characters, the name."""
+        return self.script(PAINTED, names)
 
-    def joined(self, selector):
-        """The texts of the elements that a selector finds; pieces of one that goes over several lines are joined."""
-        found = self.script("return [...document.querySelectorAll(arguments[0])].map((it) => [it.classList.contains('continued'), it.textContent])", selector)
-        made = []
-        for is_continued, text in found:
-            if is_continued:
-                made[-1] += text
-            else:
-                made.append(text)
-        return made
+    def marks(self, *names):
+        """The characters of each mark with these names, or of each match."""
+        return [text for _, text, _ in self.painted(*(names or MATCHES))]
 
     def fresh(self):
         """What is shown as changed by the last entry."""
-        return "".join(self.texts("#marks .fresh"))
+        return "".join(self.marks("fresh"))
 
     def change(self):
         """What the preview shows as taken out, and as put in."""

@@ -2,10 +2,17 @@
 import json
 import time
 
-from browsers import begins, cases, eventually, sent
+from browsers import FIXED_WORK, begins, cases, eventually, sent
 
 FIRST = "one\ntwo\nthree\n"
 MANY = 1_000
+# How long a fixed piece of work takes, some times; code that is new is slow.
+SOME_WORK = FIXED_WORK + """
+const [done, made] = [arguments[0], []];
+(async () => {
+  for (let number = 0; number < 8; number += 1) made.push(await work());
+  done(made.slice(3));
+})();"""
 
 
 def edit_together(page, other, service):
@@ -13,7 +20,12 @@ def edit_together(page, other, service):
     for window in page, other:
         eventually("the text", lambda window=window: window.text("text"), FIRST)
     cases.expect("numbers of lines", page.script("return document.querySelectorAll('#marks .line-of-text').length"), 4)
-    begins("the number before the first line", lambda: page.script("return getComputedStyle(document.querySelector('#marks .line-of-text'), '::before').content"), "counter(line)")
+    numbers = "return [...document.querySelectorAll('#marks .line-of-text')].map((it) => getComputedStyle(it, '::before').content)"
+    eventually("the number before each line", lambda: page.script(numbers), ['"1"', '"2"', '"3"', '"4"'])
+    put(page, "one\n\ntwo\nthree\n")
+    eventually("the numbers after a line has come", lambda: page.script(numbers), ['"1"', '"2"', '"3"', '"4"', '"5"'])
+    page.at("discard").click()
+    eventually("the numbers after it is gone", lambda: page.script(numbers), ['"1"', '"2"', '"3"', '"4"'])
     saved(page, other, service)
     conflict(page, other, service)
     overlapping(page, service)
@@ -33,7 +45,7 @@ def saved(page, other, service):
     page.focused().send_keys(" and more")
     eventually("an edit", lambda: page.text("text-title"), "note, version 0, edited")
     page.fill("pattern", "'more'")
-    eventually("looks are of what was typed", lambda: page.marks("match"), ["more"])
+    eventually("looks are of what was typed", lambda: page.marks(), ["more"])
     page.driver.refresh()
     eventually("a reload loses no edit", lambda: page.text("text"), "one and more\ntwo\nthree\n")
     cases.expect("nobody else sees it", other.text("text"), FIRST)
@@ -104,7 +116,7 @@ def former(page, service):
     begins("that it is one", lambda: page.text("version-note"), "This is the text as it was at version 1; it has version 8 by now.")
     cases.expect("it can't be edited", page.at("text").get_property("readOnly"), True)
     page.fill("pattern", "'more'")
-    eventually("a pattern is sought in it", lambda: page.marks("match"), ["more"])
+    eventually("a pattern is sought in it", lambda: page.marks(), ["more"])
     page.driver.refresh()
     eventually("after a reload", lambda: page.text("text"), "one and more\ntwo\nthree\n")
     page.at("newest").click()
@@ -144,14 +156,16 @@ def many_texts(page, service):
           if (document.querySelectorAll("#texts li").length < 1000 || !document.getElementById("text")?.value) return;
           seen.disconnect();
           window.readyAt = performance.now();
-        }).observe(document, { childList: true, subtree: true });""")
-    times = []
+        }).observe(document, { childList: true, characterData: true, subtree: true });""")
+    times, fixed = [], []
     for _ in range(5):
         page.driver.get("about:blank")
         page.driver.get(service.url)
         eventually("a thousand texts", lambda: page.script("return window.readyAt > 0"), True)
         times.append(page.script("return window.readyAt"))
-    cases.check(sorted(times)[2] <= 1_000, "with 1,000 texts it is ready within a second", times)
+        fixed += page.driver.execute_async_script(SOME_WORK)
+    starved = max(1.0, sorted(fixed)[len(fixed) // 2] / min(fixed))
+    cases.check(sorted(times)[2] <= 1_000 * starved, "with 1,000 texts it is ready within a second", times, f"starved {starved:.1f} times")
     page.sized(390, 844)
     page.script("scrollTo(0, 0)")
     bottom = page.script("return document.getElementById('pattern').getBoundingClientRect().bottom")

@@ -53,7 +53,7 @@ def shown(driver, address):
     eventually("its name", lambda: page.text("text-title"), "own.txt, version 0")
     cases.check(token not in page.address(), "the token isn't in the address any more", page.address())
     page.fill("pattern", "BREAK('=') . K")
-    eventually("a match", lambda: page.marks("match"), ["host"])
+    eventually("a match", lambda: page.marks(), ["host"])
 
 
 def refused(sno, folder):

@@ -1,21 +1,19 @@
 """What tests/service_page looks at of the playground: marks, explanations, tests, links and copies."""
 import ast
 import json
-import os
 import re
 import subprocess
 import urllib.parse
 
 from selenium.webdriver.common.keys import Keys
 
-from browsers import begins, cases, eventually, sent
+from browsers import MATCHES, VARIABLES, begins, cases, eventually, sent
 from lib import TOP
 
 PAIRS = "k1=v1\nk2=v2\n"
 PAIR = "SPAN('k12') . K '=' SPAN('v12') . V"
 # Requests that the page of one's own text may send, beside those for its files.
 LOOKS = "/definitions", "/findings", "/preview", "/trials", "/trace", "/tries"
-LONGEST = 65_536
 
 
 def playground(page, service, sno, folder):
@@ -29,6 +27,8 @@ def playground(page, service, sno, folder):
     linked(page, service)
     copied(page, sno, folder)
     many(page)
+    small_and_dark(page)
+    refused(page)
 
 
 def own_text(page, text):
@@ -43,7 +43,7 @@ def own(page):
     page.fill("text", PAIRS)
     eventually("the text that was typed", lambda: page.text("text"), PAIRS)
     page.fill("pattern", PAIR)
-    eventually("its matches", lambda: page.marks("match"), ["k1=v1", "k2=v2"])
+    eventually("its matches", lambda: page.marks(), ["k1=v1", "k2=v2"])
     page.driver.refresh()
     eventually("the text after a reload", lambda: page.text("text"), PAIRS)
     eventually("the pattern after a reload", lambda: page.text("pattern"), PAIR)
@@ -55,10 +55,12 @@ def own(page):
 
 def marked(page):
     """All matches with their variables, and the way from one to the next."""
-    eventually("the matches", lambda: page.marks("match"), ["k1=v1", "k2=v2"])
-    eventually("the variables", lambda: page.texts("#marks .variable"), ["k1", "v1", "k2", "v2"])
-    colours = page.script("return [...document.querySelectorAll('#marks .variable')].map((it) => getComputedStyle(it).backgroundColor)")
-    cases.expect("a colour for each variable", (colours[0] == colours[2], colours[1] == colours[3], colours[0] != colours[1]), (True, True, True))
+    eventually("the matches", lambda: page.marks(), ["k1=v1", "k2=v2"])
+    eventually("the variables", lambda: page.marks(*VARIABLES), ["k1", "v1", "k2", "v2"])
+    cases.expect("a name for each colour", [name for _, _, name in page.painted(*VARIABLES)], ["v0", "v1", "v0", "v1"])
+    colours = page.script("return [0, 1, 2, 3, 4, 5, 6, 7].map((it) => getComputedStyle(document.getElementById('marks'), `::highlight(v${it})`).backgroundColor)")
+    cases.check(len({*colours}) == 8 and "rgba(0, 0, 0, 0)" not in colours, "a colour for each variable", colours)
+    cases.expect("the variables of the current match", page.texts("#variables li"), ["K = k1", "V = v1"])
     # SPAN, '=' and SPAN are met once each.
     begins("the first match", lambda: page.text("match-line"), "Match 1 of 2, from 0 to 5; the statement takes 3 trials, ")
     cases.check(re.search(r", [0-9]+\.[0-9] ms$", page.text("match-line")), "its time", page.text("match-line"))
@@ -69,14 +71,62 @@ def marked(page):
     begins("the first one again", lambda: page.text("match-line"), "Match 1 of 2")
     page.at("pattern").send_keys(Keys.SHIFT, Keys.F3)
     begins("and back", lambda: page.text("match-line"), "Match 2 of 2")
-    place = page.script("const it = document.querySelectorAll('#marks .variable')[1].getBoundingClientRect(); return [it.x + 3, it.y + 3]")
-    page.cdp("Input.dispatchMouseEvent", type="mouseMoved", x=place[0], y=place[1])
-    eventually("the name of a variable under the mouse", lambda: page.text("hover"), "V = v1")
+    for number, (variable, name) in enumerate((("v0", "K"), ("v1", "V"), ("v0", "K"), ("v1", "V"))):
+        under(page, variable, number // 2)
+        value = ("k1", "v1", "k2", "v2")[number]
+        eventually(f"{value} under the mouse", lambda: page.text("hover"), f"{name} = {value}")
+    page.cdp("Input.dispatchMouseEvent", type="mouseMoved", x=2, y=2)
     page.tick("all", True)
     page.fill("object", "V '=' K")
     eventually("each change", page.change, (["k1=v1", "k2=v2"], ["v1=k1", "v2=k2"]))
     page.tick("all", False)
     page.fill("object", "")
+
+
+def under(page, name, number):
+    """Moves the mouse to the last character of a mark."""
+    place = page.script("""
+        const { endContainer, endOffset } = [...CSS.highlights.get(arguments[0])][arguments[1]];
+        const last = document.createRange();
+        last.setStart(endContainer, endOffset - 1);
+        last.setEnd(endContainer, endOffset);
+        document.getElementById("pane").scrollIntoView();
+        const box = last.getBoundingClientRect();
+        return [box.x + 0.8 * box.width, box.y + box.height / 2];""", name, number)
+    page.cdp("Input.dispatchMouseEvent", type="mouseMoved", x=place[0], y=place[1])
+
+
+def current_variables(page):
+    """The marks of variables in the current match: the name, the characters, and the cursor."""
+    (start, whole, _), = page.painted("current")
+    names = dict(page.script("return [...document.querySelectorAll('#variables .variable')].map((it) => [it.classList[1], it.textContent])"))
+    found = page.painted(*VARIABLES)
+    return [f"{names[name]} = {text} {cursor}" for cursor, text, name in found if start <= cursor <= start + len(whole)]
+
+
+def small_and_dark(page):
+    """What is seen while one types, on a small screen in the dark, and a statement that is changed by keys alone."""
+    page.sized(390, 844)
+    page.dark(True)
+    own_text(page, PAIRS)
+    page.fill("pattern", PAIR)
+    marked(page)
+    explained(page)
+    page.script("document.activeElement.blur(); document.getElementById('skip').focus()")
+    page.focused().send_keys(Keys.ENTER)
+    page.focused().send_keys(Keys.CONTROL, "a")
+    page.focused().send_keys("LEN(1) . C '2'")
+    eventually("a match of what keys typed", lambda: page.marks("current"), ["k2"])
+    for _ in range(20):
+        page.focused().send_keys(Keys.TAB)
+        if page.focused().get_attribute("id") == "case-add":
+            break
+    page.focused().send_keys(Keys.ENTER)
+    eventually("a test that keys add", lambda: page.focused().get_attribute("aria-label"), "Text of test 1")
+    page.focused().send_keys("x2", Keys.TAB, Keys.ENTER)
+    eventually("and take away", lambda: page.texts("#cases li"), [])
+    page.dark(False)
+    page.cdp("Emulation.clearDeviceMetricsOverride")
 
 
 def placed(page):
@@ -94,16 +144,7 @@ def placed(page):
         own_text(page, text)
         page.tick("anchored", anchored)
         page.fill("pattern", pattern)
-        script = """
-            const places = [];
-            for (const it of document.querySelectorAll("#marks .current .variable")) {
-              const before = document.createRange();
-              before.setStart(document.getElementById("marks"), 0);
-              before.setEndBefore(it);
-              places.push(`${it.dataset.title} ${before.toString().length}`);
-            }
-            return places;"""
-        eventually(f"places of {pattern}", lambda script=script: page.script(script), wanted)
+        eventually(f"places of {pattern}", lambda: current_variables(page), wanted)
     page.tick("anchored", False)
 
 
@@ -129,7 +170,7 @@ def explained(page):
     eventually("a match", lambda: page.marks("current"), ["k1=v1"])
     for place, part in (3, "k1"), (17, "="), (23, "v1"):
         page.script("const field = document.getElementById('pattern'); field.focus(); field.setSelectionRange(arguments[0], arguments[0])", place)
-        eventually(f"the part at {place}", lambda: page.texts("#marks .part"), [part])
+        eventually(f"the part at {place}", lambda: page.marks("part"), [part])
     eventually("the part in the tree", lambda: page.texts("#explained [aria-current] code"), ["'v1'"])
     page.script("document.querySelectorAll('#explained button')[1].click()")
     selection = "const field = document.getElementById('pattern'); return field.value.slice(field.selectionStart, field.selectionEnd)"
@@ -163,6 +204,15 @@ def listed(page, service):
         found = sent(service, "/findings", {"own": "x", "pattern": example})
         cases.expect(f"findings of {example}", found["errors"], [])
     page.at("reference").click()
+    inserted = """
+        const [field, made] = [document.getElementById("pattern"), []];
+        for (const button of document.querySelectorAll("#reference-rows button")) {
+          field.value = "";
+          button.click();
+          made.push(`Insert ${field.value}`);
+        }
+        return made;"""
+    cases.expect("what each row inserts", page.script(inserted), [row[2] for row in shown])
     page.fill("pattern", "'a'")
     page.script("document.querySelectorAll('#reference-rows button')[9].click()")
     eventually("an example is inserted", lambda: page.text("pattern"), "'a' ANY('aeiou')")
@@ -243,6 +293,23 @@ def statement_in(source):
     return {"pattern": ast.literal_eval(call.args[1]), **{word.arg: ast.literal_eval(word.value) for word in call.keywords}}
 
 
+def refused(page):
+    """A text that is too long has no preview, and no marks of the text before."""
+    own_text(page, "x" * 65_537)
+    eventually("why there is no preview", lambda: page.text("preview"), "There is no preview: a text is ASCII, of at most 65536 characters.")
+    cases.expect("no marks", (page.marks(), page.text("match-line")), ([], ""))
+    own_text(page, PAIRS)
+    eventually("marks again", lambda: page.marks("current"), ["k2"])
+    # The browser reports the refusal, too.
+    page.driver.get_log("browser")
+
+
+def in_sight(page, what, number):
+    """Counts a case by the marks around a line, each of whose lines begins with a match."""
+    around = lambda: [(cursor, text) for cursor, text, _ in page.painted(*MATCHES) if abs(cursor // 66 - number) <= 5]
+    eventually(what, around, [(66 * line, "x") for line in range(max(0, number - 5), min(978, number + 6))])
+
+
 def many(page):
     """978 replacements in a long text are 978 changes; what is out of sight is scrolled to."""
     line = "x" + "-" * 64 + "\n"
@@ -252,66 +319,21 @@ def many(page):
     page.fill("object", "'yy'")
     page.tick("all", True)
     eventually("978 changes", lambda: (len(page.change()[0]), len(page.change()[1]), {*page.change()[1]}), (978, 978, {"yy"}))
-    eventually("978 marks", lambda: len(page.marks("match")), 978)
+    begins("978 matches", lambda: page.text("match-line"), "Match 1 of 978, from 0 to 1")
+    in_sight(page, "the first marks", 0)
     page.at("previous-match").click()
     begins("the last match", lambda: page.text("match-line"), f"Match 978 of 978, from {977 * 66} to {977 * 66 + 1}")
-    inside = "const [mark, pane] = [document.querySelector('#marks .current'), document.getElementById('pane')].map((it) => it.getBoundingClientRect()); return mark.top >= pane.top && mark.bottom <= pane.bottom"
+    inside = "const [mark, pane] = [document.querySelector('#boxes .current'), document.getElementById('pane')].map((it) => it.getBoundingClientRect()); return mark.top >= pane.top && mark.bottom <= pane.bottom"
     eventually("it is in sight", lambda: page.script(inside), True)
-    eventually("its change is in sight", lambda: page.script(inside.replace("#marks .current", "#preview .current").replace("getElementById('pane')", "querySelector('#preview pre')")), True)
+    in_sight(page, "the last marks", 977)
+    eventually("its change is in sight", lambda: page.script(inside.replace("#boxes .current", "#preview .current").replace("getElementById('pane')", "querySelector('#preview pre')")), True)
     page.fill("object", "'" + "y" * 30 + "'")
     eventually("a new text that would be too long", lambda: page.text("preview"), "It would be refused: text too long.")
-    eventually("its matches even so", lambda: len(page.marks("match")), 978)
+    begins("its matches even so", lambda: page.text("match-line"), "Match 978 of 978, from")
+    page.script("document.getElementById('pane').scrollTop = 22 * 500")
+    in_sight(page, "marks at a place that is scrolled to", 500)
     page.fill("object", "'yy'")
     own_text(page, "-" * 60_000 + "x")
     page.tick("all", False)
     begins("one far away", lambda: page.text("match-line"), "Match 1 of 1, from 60000 to 60001")
-    eventually("it is in sight in the preview", lambda: page.script(inside.replace("#marks .current", "#preview del").replace("getElementById('pane')", "querySelector('#preview pre')")), True)
-    quick(page)
-
-
-def quick(page):
-    """Marks come within half a second of a key, on the longest text: some 0.16 s on a machine that does nothing else."""
-    own_text(page, ("some words of a line, 12 of them = 345;\n" * 1_700)[:LONGEST])
-    page.fill("object", "")
-    page.fill("pattern", "SPAN('0123456789') . N")
-    eventually("marks of the longest text", lambda: len(page.marks("match")) > 3_000, True)
-    script = """
-        const [done, field, marks, line] = [arguments[0], ...["pattern", "marks", "match-line"].map((id) => document.getElementById(id))];
-        const times = [];
-        const press = (number) => {
-          if (number === 30) return done(times);
-          const began = performance.now();
-          const seen = new MutationObserver(() => {
-            seen.disconnect();
-            requestAnimationFrame(() => setTimeout(() => {
-              times.push(performance.now() - began);
-              setTimeout(press, 50, number + 1);
-            }));
-          });
-          seen.observe(marks, { childList: true });
-          field.value = `SPAN('012345678${"9".repeat(1 + number)}') . N ('' | 'k')`;
-          field.dispatchEvent(new Event("input"));
-        };
-        press(0);"""
-    page.front()
-    page.driver.set_script_timeout(300)
-    with Starved() as starved:
-        times = sorted(page.driver.execute_async_script(script))
-    # Of a machine that has other things to do, a process gets a part: what takes half a second then takes as many times longer.
-    most = 500 * max(1.0, starved.factor)
-    cases.check(times[int(0.95 * len(times))] <= most, f"marks within {most:.0f} ms at the 95th percentile", [round(time) for time in times])
-
-
-class Starved:
-    """How many times longer than its time of a processor a process takes meanwhile that is never idle."""
-
-    def __enter__(self):
-        words = "import os, time\nbegan = time.monotonic()\nwhile os.getppid() == %d: print(time.monotonic() - began, time.process_time(), flush=True); sum(range(1_000_000))"
-        self.process = subprocess.Popen(["/usr/bin/python3", "-c", words % os.getpid()], stdout=subprocess.PIPE, text=True)
-        return self
-
-    def __exit__(self, kind, error, trace):
-        self.process.kill()
-        lines = [line.split() for line in self.process.stdout.read().splitlines() if len(line.split()) == 2]
-        (first, used_first), (last, used_last) = [tuple(map(float, line)) for line in (lines[0], lines[-1])]
-        self.factor = (last - first) / max(used_last - used_first, 0.001)
+    eventually("it is in sight in the preview", lambda: page.script(inside.replace("#boxes .current", "#preview del").replace("getElementById('pane')", "querySelector('#preview pre')")), True)

@@ -51,6 +51,14 @@ for (const it of document.querySelectorAll("body *")) {
   const ratio = (Math.max(one, other) + 0.05) / (Math.min(one, other) + 0.05);
   if (ratio < 4.5) weak.push(`${it.tagName}.${it.className} ${ratio.toFixed(2)} ${it.textContent.slice(0, 30)}`);
 }
+const lines = document.getElementById("marks");
+for (const name of CSS.highlights.keys()) {
+  const found = parts(getComputedStyle(lines, `::highlight(${name})`).backgroundColor);
+  if (found.length === 4 && found[3] === 0) continue;
+  const [one, other] = [light(parts(getComputedStyle(lines).color)), light(found)];
+  const ratio = (Math.max(one, other) + 0.05) / (Math.min(one, other) + 0.05);
+  if (ratio < 4.5) weak.push(`${name} ${ratio.toFixed(2)}`);
+}
 return weak;"""
 
 # Whether the focus of the control that has it is seen.
@@ -104,7 +112,7 @@ def filled(page):
     page.fill("pattern", "SPAN('k12') . K '=' SPAN('vw12') . V")
     page.fill("object", "WHAT")
     begins("a warning", lambda: page.text("findings"), "warning: ")
-    eventually("marks", lambda: len(page.marks("match")), 2)
+    eventually("marks", lambda: len(page.marks()), 2)
     page.at("case-add").click()
     page.focused().send_keys("k1=")
     begins("a test that doesn't hold", lambda: page.text("cases-line"), "0 of 1")

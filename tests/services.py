@@ -41,6 +41,16 @@ def written(folder, texts, statements=(), patterns=()):
     return path
 
 
+def is_instrumented(sno):
+    """Whether a program was built to find faults: it takes many times longer, which says nothing of the proved one."""
+    return b"__asan_init" in Path(sno).read_bytes()
+
+
+def patient(sno):
+    """Options of the service with which looks by an instrumented program may take long."""
+    return ["--look-seconds", "60"] if is_instrumented(sno) else []
+
+
 class Service:
     """A run of the service, as `with Service(..) as service`. What it says is in `said`."""
 
@@ -76,14 +86,19 @@ class Service:
         self.process.wait()
 
     def desk(self):
-        """The process of `sno serve`, once there is one."""
+        """The process of the shared `sno serve`, once there is one; those of looks have no store."""
         for _ in range(SECONDS * 100):
             children = Path(f"/proc/{self.process.pid}/task/{self.process.pid}/children").read_text().split()
-            named = [int(child) for child in children if b"\0serve\0" in commands_of(child)]
+            named = [int(child) for child in children if b"\0serve\0--store\0" in commands_of(child)]
             if named:
                 return named[0]
             time.sleep(0.01)
         raise RuntimeError("there is no sno serve")
+
+    def kept_looks(self):
+        """The processes that are kept for further looks at their texts."""
+        children = Path(f"/proc/{self.process.pid}/task/{self.process.pid}/children").read_text().split()
+        return [int(child) for child in children if b"\0serve\0--trials=" in commands_of(child)]
 
     def pause_desk(self):
         """Stops `sno serve`, and returns its process when each of its threads has stopped: until then one may take a line."""

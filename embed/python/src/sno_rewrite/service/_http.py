@@ -20,7 +20,7 @@ from ._files import FILES, MODULES, content_of
 from ._guards import Guard, body_of, fault, protect
 from ._keys import KEY_USED
 from ._lines import MOST_ENTRIES
-from ._looks import MOST_TRIED, Busy, Looks
+from ._looks import MOST_TRIED, PROGRAM, Busy, Looks
 from ._metrics import Metrics
 from ._options import Options
 from ._reads import MOST_OF_LINES
@@ -140,6 +140,10 @@ class Routes:
             if method == "GET" and path != "/ws":
                 application.router.add_route("HEAD", matched, handler)
         return application
+
+    async def end(self) -> None:
+        """Ends what is kept for further looks."""
+        await self._looks.end()
 
     def _sent(self) -> Any:
         """Sends each response to its end: then its client has read what it had of the desk, or is gone."""
@@ -450,7 +454,8 @@ class Routes:
             found = await look
         except Busy:
             raise fault(web.HTTPServiceUnavailable, "too many looks at a time", Retry_After="1") from None
-        return web.Response(text=json.dumps({**found, **members}), content_type=_JSON)
+        headers = {"Server-Timing": f"program;dur={found.pop(PROGRAM) * 1e3:.1f}"} if PROGRAM in found else {}
+        return web.Response(text=json.dumps({**found, **members}), content_type=_JSON, headers=headers)
 
     async def tries(self, request: web.Request) -> web.Response:
         """Whether a pattern matches some texts that come with it."""

@@ -1,29 +1,27 @@
-"""What `sno check`, `sno serve`, `sno trace` and `sno run` say of one statement on one text, by short processes of their
-own: none of them touches the desk of all clients, takes longer than its limits, or runs beside too many others."""
+"""What `sno check`, `sno serve` and `sno trace` say of one statement on one text, by processes of their own: none of them touches the
+desk of all clients, takes longer than its limits, or runs beside too many others."""
 
 from __future__ import annotations
 
 import asyncio
 import json
-import os
 import re
-import time
-from asyncio.subprocess import PIPE, Process
-from collections.abc import AsyncIterator, Sequence
-from contextlib import asynccontextmanager, suppress
+from asyncio.subprocess import PIPE
+from collections.abc import Sequence
 from pathlib import Path
 from typing import Any
 
 from ._options import Options
+from ._text_desks import TextDesk, TextDesks, Texts, ended
 
 _MEMBERS = "text", "pattern", "object", "anchored", "repeat", "all"
 _TRACE_LINES = 1_000
+# The member of what is found that says how many seconds the program took. It goes into a header.
+PROGRAM = "program seconds"
 # The most matches that a preview lists beside its entry.
 _MOST_MATCHES = 5_000
 # The most texts on which one request may try a pattern.
 MOST_TRIED = 64
-# The most bytes of one reply: all matches of a text of 65,536 characters, each with variables.
-_LONGEST_REPLY = 134_217_728
 # How many may wait for each one that runs.
 _WAITING = 8
 
@@ -50,6 +48,7 @@ class Looks:
         self._patterns = definitions_of(options.document)
         self._running = asyncio.Semaphore(options.look_processes)
         self._count = 0
+        self._desks = TextDesks(options, lambda texts: self._document(texts, []))
         self._kinds = {"findings": self._findings, "preview": self._preview, "trace": self._trace, "trials": self._trials}
 
     def definitions(self) -> list[Any]:
@@ -65,6 +64,10 @@ class Looks:
 
     def under_way(self) -> int:
         return self._count
+
+    async def end(self) -> None:
+        """Ends the processes that are kept for further looks."""
+        await self._desks.end()
 
     async def look(self, which: str, text: str, given: dict[str, Any]) -> dict[str, Any]:
         """What is found of a statement on a text of these characters."""
@@ -91,10 +94,10 @@ class Looks:
         finally:
             self._count -= 1
 
-    def _document(self, texts: list[dict[str, str]], statements: list[dict[str, Any]]) -> bytes:
+    def _document(self, texts: Texts, statements: list[dict[str, Any]]) -> bytes:
         return json.dumps({"patterns": self._patterns, "texts": texts, "statements": statements}).encode()
 
-    async def _findings(self, texts: list[dict[str, str]], chosen: dict[str, Any], given: dict[str, Any]) -> dict[str, Any]:
+    async def _findings(self, texts: Texts, chosen: dict[str, Any], given: dict[str, Any]) -> dict[str, Any]:
         """The errors and warnings of the statement; those of the definitions aren't its own."""
         _, output, _ = await self._run(["check", "--json"], self._document(texts, [chosen]))
         if not output:
@@ -104,64 +107,67 @@ class Looks:
         warnings = [it for it in report["warnings"] if str(it["place"]).startswith("statement 1")]
         return {"errors": errors, "warnings": warnings}
 
-    async def _preview(self, texts: list[dict[str, str]], chosen: dict[str, Any], given: dict[str, Any]) -> dict[str, Any]:
-        """The entry that the statement would be, or why it would be refused; if it is asked for, all matches that there are."""
+    async def _preview(self, texts: Texts, chosen: dict[str, Any], given: dict[str, Any]) -> dict[str, Any]:
+        """The entry that the statement would be, or why it would be refused; if it is asked for, all matches that there are. If these
+        take too long, the entry is there without them."""
         line = {**chosen, "check": True, **({"bind": given["bind"]} if given.get("bind") is not None else {})}
+        found: dict[str, Any] = {}
         try:
-            async with self._desk(texts) as ask:
-                began = time.monotonic()
-                reply = await ask(line)
-                found = self._previewed(reply, time.monotonic() - began)
+            async with self._desks.desk(texts) as desk:
+                began = desk.seconds
+                reply = await desk.ask(line)
+                found.update(self._previewed(reply, desk.seconds - began))
                 if given.get("matches") is True and ("entry" in found or found.get("reason") == "text too long"):
-                    found.update(await self._matches(ask, line, found.get("entry", {"matched": True})))
-                return found
+                    found.update(await self._matches(desk, line, found.get("entry", {"matched": True})))
+                return {**found, PROGRAM: desk.seconds}
         except TimeoutError:
-            return {"reason": "too long", "seconds": self._options.look_seconds}
+            return {**(found or {"reason": "too long"}), "seconds": self._options.look_seconds}
 
     def _previewed(self, reply: dict[str, Any], seconds: float) -> dict[str, Any]:
         if "error" in reply:
             return {"error": reply["error"]}
+        findings = {"findings": reply["findings"]} if "findings" in reply else {}
         if "reason" in reply:
             given_up = {"trials": self._options.look_trials} if reply["reason"] == "too many trials" else {}
-            return {"reason": reply["reason"], **given_up}
+            return {"reason": reply["reason"], **given_up, **findings}
         entry = {name: value for name, value in reply.items() if name not in ("check", "findings", "id", "ignored")}
-        return {"entry": entry, "microseconds": round(seconds * 1e6)}
+        return {"entry": entry, "microseconds": round(seconds * 1e6), **findings}
 
-    async def _matches(self, ask: Any, line: dict[str, Any], entry: dict[str, Any]) -> dict[str, Any]:
-        """All matches in the text as it is, whether the statement is for all of them or not."""
+    async def _matches(self, desk: TextDesk, line: dict[str, Any], entry: dict[str, Any]) -> dict[str, Any]:
+        """All matches in the text as it is. An entry for all of them has them already."""
         if "all" in entry:
-            matches = entry["all"]
-        elif not entry["matched"]:
+            return {"total": len(entry["all"])}
+        if not entry["matched"]:
             matches = []
         else:
             kept = {name: value for name, value in line.items() if name not in ("object", "repeat")}
-            reply = await ask({**kept, "all": True})
+            reply = await desk.ask({**kept, "all": True})
             if "all" not in reply:
                 return {}
             matches = reply["all"]
         return {"matches": matches[:_MOST_MATCHES], "total": len(matches)}
 
-    async def _trials(self, texts: list[dict[str, str]], chosen: dict[str, Any], given: dict[str, Any]) -> dict[str, Any]:
+    async def _trials(self, texts: Texts, chosen: dict[str, Any], given: dict[str, Any]) -> dict[str, Any]:
         """How many trials the statement takes: the least limit within which it isn't refused."""
         # What is put in takes no trial, but further rounds are on the new text.
         line = {name: value for name, value in chosen.items() if name != "object" or chosen.get("repeat") is not None}
         most = self._options.look_trials
         try:
-            async with self._desk(texts) as ask:
+            async with self._desks.desk(texts) as desk:
                 low, high = 0, 1
-                while (reply := await ask({**line, "check": True, "trials": high})).get("reason") == "too many trials" and high < most:
+                while (reply := await desk.ask({**line, "check": True, "trials": high})).get("reason") == "too many trials" and high < most:
                     low, high = high, min(2 * high, most)
                 if "matched" not in reply:
                     return {"reason": reply["reason"], "trials": most} if "reason" in reply else {"error": reply["error"]}
                 while low + 1 < high:
                     middle = (low + high) // 2
-                    reply = await ask({**line, "check": True, "trials": middle})
+                    reply = await desk.ask({**line, "check": True, "trials": middle})
                     low, high = (middle, high) if "reason" in reply else (low, middle)
                 return {"trials": high}
         except TimeoutError:
             return {"reason": "too long", "seconds": self._options.look_seconds}
 
-    async def _trace(self, texts: list[dict[str, str]], chosen: dict[str, Any], given: dict[str, Any]) -> dict[str, Any]:
+    async def _trace(self, texts: Texts, chosen: dict[str, Any], given: dict[str, Any]) -> dict[str, Any]:
         """The lines of the trace."""
         words = [f"--{name}={given[name]}" for name in ("match", "from", "to") if type(given.get(name)) is int]
         status, output, said = await self._run(["trace", f"--lines={_TRACE_LINES}", *words], self._document(texts, [chosen]))
@@ -169,43 +175,22 @@ class Looks:
             return {"error": _fault_in(said)}
         return {"lines": output.decode(errors="replace").splitlines()}
 
-    async def _tries(self, texts: list[dict[str, str]], given: dict[str, Any]) -> dict[str, Any]:
+    async def _tries(self, texts: Texts, given: dict[str, Any]) -> dict[str, Any]:
         # A pattern within parentheses means the same; the ends around it are those of the text.
         whole = {"pattern": f"POS(0) ({given['pattern']}) RPOS(0)", "anchored": True}
         somewhere = {"pattern": given["pattern"], "anchored": given.get("anchored") is True}
         try:
-            async with self._desk(texts) as ask:
+            async with self._desks.desk(texts) as desk:
                 results = []
                 for text in texts:
-                    first = await ask({"text": text["name"], **somewhere, "check": True})
+                    first = await desk.ask({"text": text["name"], **somewhere, "check": True})
                     if "error" in first:
                         return {"error": first["error"]}
-                    second = await ask({"text": text["name"], **whole, "check": True})
+                    second = await desk.ask({"text": text["name"], **whole, "check": True})
                     results.append({"somewhere": first.get("matched"), "whole": second.get("matched")})
                 return {"results": results}
         except TimeoutError:
             return {"reason": "too long", "seconds": self._options.look_seconds}
-
-    @asynccontextmanager
-    async def _desk(self, texts: list[dict[str, str]]) -> AsyncIterator[Any]:
-        """A desk of these texts alone, which is asked line by line. What it takes in all has a limit: then TimeoutError is raised."""
-        file = os.memfd_create("document")
-        process = None
-        try:
-            os.write(file, self._document(texts, []))
-            words = ["serve", f"--trials={self._options.look_trials}", f"/proc/self/fd/{file}"]
-            async with asyncio.timeout(self._options.look_seconds):
-                process = await asyncio.create_subprocess_exec(
-                    self._options.program, *words, stdin=PIPE, stdout=PIPE, start_new_session=True, pass_fds=[file], limit=_LONGEST_REPLY
-                )
-                ask = _asker(process)
-                # It has read the document when it replies for the first time.
-                await ask({"texts": True})
-                yield ask
-        finally:
-            os.close(file)
-            if process is not None:
-                await _ended(process)
 
     async def _run(self, words: Sequence[str], document: bytes) -> tuple[int | None, bytes, bytes]:
         """The status, output and errors of the program; the status is None if it took too long."""
@@ -218,33 +203,8 @@ class Looks:
         except TimeoutError:
             return None, b"", b"took too long"
         finally:
-            await _ended(process)
+            await ended(process)
         return process.returncode, output, said
-
-
-def _asker(process: Process) -> Any:
-    """What gives a line to a process, and returns its reply."""
-    assert process.stdin is not None and process.stdout is not None
-    given, taken = process.stdin, process.stdout
-
-    async def ask(members: dict[str, Any]) -> dict[str, Any]:
-        given.write(json.dumps(members).encode() + b"\n")
-        await given.drain()
-        line = await taken.readline()
-        if not line:
-            return {"error": "sno serve ended"}
-        reply: dict[str, Any] = json.loads(line)
-        return reply
-
-    return ask
-
-
-async def _ended(process: Process) -> None:
-    """Ends a process that still runs."""
-    if process.returncode is None:
-        with suppress(ProcessLookupError):
-            process.kill()
-        await process.wait()
 
 
 def _fault_in(said: bytes) -> str:

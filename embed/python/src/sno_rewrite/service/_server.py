@@ -44,6 +44,7 @@ class Server:
         self._desk = SharedDesk(options, self._metrics)
         self._connections = Connections(options, self._metrics, self._desk.turns)
         self._listening: list[asyncio.Server] = []
+        self._routes: Routes | None = None
         self._runner: web.AppRunner | None = None
         self._watching: list[asyncio.Task[None]] = []
 
@@ -60,7 +61,7 @@ class Server:
             print(f"error: {what}", file=sys.stderr)
             return 4 if status in (None, 0) or status < 0 else int(status)
         guard = self._guard = Guard(self._options, self._metrics, self._tokens)
-        routes = Routes(self._options, self._desk, guard, self._metrics, self._connections, self._log)
+        routes = self._routes = Routes(self._options, self._desk, guard, self._metrics, self._connections, self._log)
         self._runner = web.AppRunner(routes.application(), access_log=None)
         await self._runner.setup()
         try:
@@ -131,6 +132,8 @@ class Server:
             if self._runner.server:
                 await self._runner.server.shutdown(2.0)
             await self._runner.cleanup()
+        if self._routes:
+            await self._routes.end()
         if self._options.unix:
             _remove_socket(self._options)
         return status

@@ -59,8 +59,9 @@ on("text", () => {
 on("chosen", closeTrace);
 on("edited", () => {
   closeTrace();
-  drawPane();
+  // The service works while the browser lays the text out.
   lookSoon();
+  drawPane();
 });
 on("connected", async () => {
   await loadDefinitions(request);

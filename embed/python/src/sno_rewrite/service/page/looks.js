@@ -12,10 +12,12 @@ import { emit, state } from "./state.js";
 import { formerText } from "./texts.js";
 
 const AGAIN = 300; // milliseconds until a look that found too many others is tried again
+const MOST_MARKED = 5_000; // matches, as of the service
 const QUIET = 250; // milliseconds without a key until trials are counted
 
 let isLooking = false;
 let isStale = false;
+let isCounting = false;
 let timer = null;
 let quiet = null;
 let last = null; // what has been shown: {key, version}
@@ -56,17 +58,34 @@ async function lookOnce() {
   if (isEmpty() || on === null) return showNothing();
   const given = { ...on, ...statement() };
   try {
-    const [findings, preview] = await Promise.all([post("/findings", given), post("/preview", { ...given, matches: true })]);
-    if (isStale && (findings.status === 503 || preview.status === 503)) return false;
-    if (findings.ok) drawFindings(await findings.json());
-    if (preview.ok) await show(given, await preview.json());
-    return findings.status !== 503 && preview.status !== 503;
+    const preview = await post("/preview", { ...given, matches: true });
+    if (preview.status === 503) return false;
+    const found = await preview.json();
+    if (!preview.ok) return showRefused(found.error ?? found.reason);
+    await show(given, found);
+    return await showFindings(given, found);
   } catch (fault) {
     if (!(fault instanceof TypeError)) throw fault;
     last = null;
     replaceText(at("preview"), "There is no preview at the moment: the service couldn't be asked.");
     return true;
   }
+}
+
+// A preview has the warnings. Where in a pattern a fault is takes a look of its own, which nothing else waits for.
+async function showFindings(given, found) {
+  if (found.findings) drawFindings({ errors: [], warnings: found.findings });
+  if (found.findings || isStale) return true;
+  const response = await post("/findings", given);
+  if (response.ok) drawFindings(await response.json());
+  return response.status !== 503;
+}
+
+// What can't be looked at at all, as a text that is too long.
+function showRefused(why) {
+  showNothing();
+  replaceText(at("preview"), `There is no preview: ${why}.`);
+  return true;
 }
 
 function showNothing() {
@@ -91,27 +110,40 @@ async function show(given, found) {
     entry,
     source: keyOf([given.pattern, given.anchored]),
     pattern: patternOf(given.pattern),
-    matches: found.matches ?? own,
+    matches: found.matches ?? entry.all?.slice(0, MOST_MARKED) ?? own,
     total: found.total,
     microseconds: found.microseconds,
+    seconds: found.entry ? found.seconds : undefined,
   });
   emit("looked");
   quiet = setTimeout(() => lookLonger(given, entry), QUIET);
 }
 
-// What takes longer, once nothing more is typed: how many trials there are, and where a match that failed came.
+// What takes longer, once nothing more is typed: how many trials there are, and where a match that failed came. One such look is under
+// way at a time: a few that nobody waits for any more would hold the next preview up.
 async function lookLonger(given, entry) {
-  const isStill = () => last?.key === keyOf(given);
+  if (isCounting) {
+    quiet = setTimeout(lookLonger, QUIET, given, entry);
+    return;
+  }
+  isCounting = true;
   try {
-    const counted = await post("/trials", given);
-    const found = counted.ok ? await counted.json() : {};
-    if (isStill() && !found.reason && found.trials) showTrials(found.trials);
-    if (entry.matched || !isStill()) return;
-    const traced = await post("/trace", given);
-    if (traced.ok && isStill()) drawFailure((await traced.json()).lines ?? []);
+    await countTrials(given, entry);
   } catch (fault) {
     if (!(fault instanceof TypeError)) throw fault;
+  } finally {
+    isCounting = false;
   }
+}
+
+async function countTrials(given, entry) {
+  const isStill = () => last?.key === keyOf(given);
+  const counted = await post("/trials", given);
+  const found = counted.ok ? await counted.json() : {};
+  if (isStill() && !found.reason && found.trials) showTrials(found.trials);
+  if (entry.matched || !isStill()) return;
+  const traced = await post("/trace", given);
+  if (traced.ok && isStill()) drawFailure((await traced.json()).lines ?? []);
 }
 
 export async function loadDefinitions(request) {

@@ -1,19 +1,17 @@
 // The pane of the text. A field of the browser has the characters, and what is below it shows them with their marks.
 
 import { at, replaceText } from "./dom.js";
-import { isOf, layers } from "./matches.js";
-import { lined, painted } from "./marks.js";
+import { boxOfCursor, characterAt, inSight, showLines } from "./lines.js";
+import { currentMatch, isOf, marksWithin } from "./matches.js";
+import { canPaint, drawBoxes, paint } from "./paint.js";
 import { changedRange } from "./ranges.js";
 import { isPlay, on, state } from "./state.js";
 
-const NEAR = 200; // pixels around what is in sight whose marks come at once
-const AT_ONCE = 100; // further lines that are drawn at a time
+const FROM_TOP = 1 / 3; // of the pane, where what is scrolled to is put
 
-const SOUGHT = ".current, .cursor";
-
-let drawn = null; // the text whose lines are drawn
-let later = null; // when further lines are drawn
 let step = null; // the range of the trace's step that is shown
+let titles = []; // what is said of characters under the mouse: {from, to, title}
+let isScrolled = false;
 
 // What the pane shows: a draft, a text as it was, or the text as it is.
 export function shown() {
@@ -37,52 +35,46 @@ export function drawPane() {
   const field = at("text");
   field.readOnly = it.text === undefined || it.isFormer === true;
   if (field.value !== text) field.value = text;
-  const { outer, inner } = marksOf(it, text);
-  replaceLines(text, lined(painted(text, outer, inner)));
-}
-
-// Lines that are in sight get their marks at once, and all others soon after: to lay out a long text takes longer than one types.
-function replaceLines(text, lines) {
-  clearTimeout(later);
-  const old = at("marks").children;
-  const isSame = drawn === text && old.length === lines.length;
-  drawn = text;
-  if (!isSame) return at("marks").replaceChildren(...lines);
-  const changed = [...old].map((line, number) => [line, lines[number]]).filter(([before, after]) => !before.isEqualNode(after));
-  const pane = at("pane");
-  const [top, bottom] = [pane.scrollTop - NEAR, pane.scrollTop + pane.clientHeight + NEAR];
-  const inSight = (line) => line.offsetTop < bottom && line.offsetTop + line.offsetHeight > top;
-  // Wherever it is, what is scrolled to is drawn at once.
-  const near = changed.filter((pair) => inSight(pair[0]) || pair.some((line) => line.querySelector(SOUGHT)));
-  const far = new Set(changed);
-  for (const pair of near) far.delete(pair);
-  for (const [before, after] of near) before.replaceWith(after);
-  replaceSome([...far]);
-}
-
-function replaceSome(pairs) {
-  if (!pairs.length) return;
-  later = setTimeout(() => {
-    for (const [before, after] of pairs.slice(0, AT_ONCE)) before.replaceWith(after);
-    replaceSome(pairs.slice(AT_ONCE));
-  }, 0);
+  showLines(text);
+  drawMarks();
 }
 
 function drawNothing() {
   replaceText(at("text-title"), "Text");
-  replaceText(at("changed"), "");
   at("text").value = "";
   at("text").readOnly = true;
-  replaceLines("", []);
+  showLines(null);
+  drawMarks();
 }
 
-function marksOf(it, text) {
-  const fresh = freshRange(it, text);
+// Paints the marks that are in sight: that takes as long for a long text as for a short one. What is scrolled to is painted then.
+function drawMarks() {
+  const it = shown();
+  const text = it?.text ?? "";
+  const fresh = it && freshRange(it, text);
   replaceText(at("changed"), fresh ? `Underlined is what ${it.entry === undefined ? "the last entry" : `entry ${it.entry.entry}`} changed.` : "");
-  if (step) return { outer: [], inner: [{ from: step[0], to: step[1], classes: ["step"] }, { from: step[1], to: step[1], classes: ["cursor"] }] };
-  const { outer, inner } = isOf(text) ? layers() : { outer: [], inner: [] };
-  if (fresh) inner.push({ from: fresh[0], to: fresh[1], classes: ["fresh"] });
-  return { outer, inner };
+  const hasMatches = !step && it && isOf(text);
+  // To ask what is in sight has the browser lay the text out at once, which takes long just after a key.
+  const [from, to] = hasMatches || fresh || step ? inSight() : [0, 0];
+  const { gaps = [], titles: said = [], ...marks } = hasMatches ? marksWithin(from, to) : {};
+  titles = said;
+  const clipped = ([start, end]) => [Math.max(start, from), Math.min(end, to)];
+  paint({ ...marks, fresh: fresh && !step ? [fresh] : [], step: step ? [step] : [] });
+  drawBoxes([
+    ...gaps.map(([start]) => ({ from: start, to: start, classes: ["gap"] })),
+    ...(marks.current ?? []).map(clipped).map(([start, end]) => ({ from: start, to: end, classes: ["current"] })),
+    ...cursors(fresh, from, to),
+  ]);
+  performance.clearMarks("marks");
+  performance.mark("marks");
+}
+
+// The cursor of a step, and the place of characters that were taken away.
+function cursors(fresh, from, to) {
+  const made = [];
+  if (step) made.push({ from: step[1], to: step[1], classes: ["cursor"] });
+  else if (fresh && fresh[0] === fresh[1]) made.push({ from: fresh[0], to: fresh[0], classes: ["gap", "fresh"] });
+  return made.filter((it) => it.from >= from && it.from <= to);
 }
 
 function freshRange(it, text) {
@@ -92,35 +84,51 @@ function freshRange(it, text) {
 
 export function showStep(range) {
   step = range;
-  drawPane();
-  scrollTo(".cursor");
+  if (range) scrollTo(range[1]);
+  drawMarks();
 }
 
 export function scrollToMatch() {
-  scrollTo(".current");
+  const match = currentMatch();
+  if (match) scrollTo(match.start);
+  drawMarks();
 }
 
-// Scrolls the pane, and not the page, to a mark.
-function scrollTo(which) {
+// Scrolls the pane, and not the page, to a cursor.
+function scrollTo(cursor) {
   const pane = at("pane");
-  const mark = at("marks").querySelector(which);
-  if (!mark) return;
-  const [place, height] = [mark.getBoundingClientRect().top - pane.getBoundingClientRect().top, pane.clientHeight];
-  if (place < 0 || place > height - 30) pane.scrollTop += place - height / 3;
+  const box = boxOfCursor(cursor);
+  if (!box) return;
+  const [place, height] = [box.top - pane.getBoundingClientRect().top, pane.clientHeight];
+  if (place < 0 || place > height - 30) pane.scrollTop += place - height * FROM_TOP;
 }
 
 // The names and values of the variables at a place of the screen.
 function titleAt(x, y) {
-  const under = document.elementsFromPoint(x, y).find((it) => it.dataset?.title !== undefined && at("marks").contains(it));
-  return under?.dataset.title ?? "";
+  const character = characterAt(x, y);
+  if (character === null) return "";
+  return titles.filter((it) => it.from <= character && it.to > character).map((it) => it.title).join(", ");
+}
+
+function scrolled() {
+  if (isScrolled) return;
+  isScrolled = true;
+  requestAnimationFrame(() => {
+    isScrolled = false;
+    drawPane();
+  });
 }
 
 export function beginPane() {
+  if (!canPaint) replaceText(at("hover"), "This browser is too old to show marks in the text.");
   at("text").addEventListener("mousemove", (event) => {
     const title = titleAt(event.clientX, event.clientY);
     at("text").title = title;
     replaceText(at("hover"), title);
   });
+  at("pane").addEventListener("scroll", scrolled);
+  // Another width breaks the lines at other places.
+  new ResizeObserver(scrolled).observe(at("marks"));
   on("marks", drawPane);
   on("scroll", scrollToMatch);
 }

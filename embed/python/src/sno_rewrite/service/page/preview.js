@@ -7,6 +7,12 @@ import { rangesOf, replacements, wordsOf } from "./ranges.js";
 import { on } from "./state.js";
 import { farthest } from "./steps.js";
 
+const AT_ONCE = 50; // changes that are drawn while one types
+const QUIET = 250; // milliseconds without another look until all are drawn
+
+let later = null; // draws all changes, if they aren't drawn yet
+let timer = null;
+
 export function drawFindings(found) {
   const list = at("findings");
   list.replaceChildren();
@@ -31,6 +37,7 @@ function refusal(found) {
 
 export function drawPreview(given, found, text) {
   const shown = at("preview");
+  drawNoMore();
   if (!given || found.error) return shown.replaceChildren();
   if (found.reason) return shown.replaceChildren(element("p", refusal(found)));
   const { entry } = found;
@@ -40,21 +47,40 @@ export function drawPreview(given, found, text) {
   pre.tabIndex = 0;
   pre.setAttribute("aria-label", "What would change");
   shown.replaceChildren(element("p", `${which}${wordsOf(entry)}.`), ...bindings(entry));
-  if (entry.after === undefined) {
-    if (!rangesOf(entry).length) return;
-    pre.append(excerpt(text, rangesOf(entry).slice(0, 1)));
-  } else {
-    const parts = objectOf(given.object);
-    pre.append(changes(text, replacements(entry, text, parts && ((values) => valueOf(parts, values)))));
-  }
+  if (entry.after !== undefined) drawChanges(pre, text, replacementsOf(given, entry, text));
+  else if (rangesOf(entry).length) pre.append(excerpt(text, rangesOf(entry).slice(0, 1)));
+  else return;
   shown.append(pre);
   scrollToChange(0);
 }
 
+function replacementsOf(given, entry, text) {
+  const parts = objectOf(given.object);
+  return replacements(entry, text, parts && ((values) => valueOf(parts, values)));
+}
+
+// The first changes at once, and all of them when nothing more is typed: to lay out thousands takes longer than one waits for a key.
+function drawChanges(pre, text, all) {
+  if (all.length <= AT_ONCE) return pre.append(changes(text, all));
+  const until = all[AT_ONCE - 1][1];
+  pre.append(changes(text.slice(0, until), all.slice(0, AT_ONCE)), "\u2026");
+  later = () => {
+    drawNoMore();
+    pre.replaceChildren(changes(text, all));
+  };
+  timer = setTimeout(() => later?.(), QUIET);
+}
+
+function drawNoMore() {
+  clearTimeout(timer);
+  later = null;
+}
+
 // Marks the change that is made of the current match, and scrolls to it.
 function scrollToChange(number) {
-  const changes = at("preview").querySelectorAll(".change, mark");
-  const change = changes[number] ?? changes[0];
+  if (number >= AT_ONCE) later?.();
+  const drawn = at("preview").querySelectorAll(".change, mark");
+  const change = drawn[number] ?? drawn[0];
   if (!change) return;
   at("preview").querySelector(".current")?.classList.remove("current");
   change.classList.add("current");

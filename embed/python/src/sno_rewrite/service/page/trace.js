@@ -2,7 +2,7 @@
 
 import { at, element, replaceText } from "./dom.js";
 import { isEmpty, statement } from "./form.js";
-import { currentMatch } from "./matches.js";
+import { currentMatch, currentNumber } from "./matches.js";
 import { showStep as showInPane, subject } from "./pane.js";
 import { post } from "./requests.js";
 import { stepsOf } from "./steps.js";
@@ -26,8 +26,7 @@ async function trace() {
 
 // The start of the current match, if it isn't the first one.
 function whichMatch() {
-  const isFirst = at("previous-match").disabled || at("match-line").textContent.startsWith("Match 1 ");
-  return isFirst ? {} : { from: currentMatch().start, to: currentMatch().start };
+  return currentNumber() === 0 ? {} : { from: currentMatch().start, to: currentMatch().start };
 }
 
 function goToStep(number) {
