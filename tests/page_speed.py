@@ -8,6 +8,8 @@ TEXT = ("some words of a line, 12 of them = 345;\n" * 1_700)[:LONGEST]
 PRESSES, PRESSES_OF_SLOW = 20, 5
 # Milliseconds from a key until its marks are painted, and those without the program's, on a machine that does nothing else.
 MOST, MOST_OF_PAGE = 100, 60
+# Beside other scripts as many times that are allowed: what a fixed piece of work says of these is rough.
+BESIDE_OTHERS = 5
 
 # Types key by key, and reports of each how long it took until the marks of its look were painted, how long the program had of that, and
 # how long a fixed piece of work took before it.
@@ -51,7 +53,7 @@ const begin = async () => {
 begin();"""
 
 
-def quick(page, sno):
+def quick(page, sno, is_alone):
     """Marks come within a tenth of a second of a key, in the pattern and in the text."""
     own_text(page, TEXT)
     page.fill("object", "")
@@ -64,7 +66,7 @@ def quick(page, sno):
     for which in "pattern", "text":
         found = page.driver.execute_async_script(TYPING, which, presses)
         cases.expect(f"keys in the {which} whose marks came", len(found), presses)
-        reported(which, found, is_slow)
+        reported(which, found, is_slow, 1 if is_alone else BESIDE_OTHERS)
 
 
 def last_of_20(times):
@@ -72,13 +74,14 @@ def last_of_20(times):
     return sorted(times)[int(0.95 * len(times))]
 
 
-def reported(which, found, is_slow):
+def reported(which, found, is_slow, leeway):
     whole, program, fixed = zip(*found)
     # On a machine that has other things to do, a fixed piece of work takes longer than at best, and so does a look.
     starved = max(1.0, last_of_20(fixed) / min(fixed))
     page = [one - other for one, other in zip(whole, program)]
     shown = f"in all {last_of_20(whole):.0f} ms; the program {last_of_20(program):.0f}, without it {last_of_20(page):.0f}; starved {starved:.1f} times"
     print(f"a key in the {which}, 95th percentile: {shown}")
-    cases.check(last_of_20(page) <= MOST_OF_PAGE * starved, f"all but the program takes {MOST_OF_PAGE} ms for a key in the {which}", shown)
+    most, most_of_page = MOST * leeway, MOST_OF_PAGE * leeway
+    cases.check(last_of_20(page) <= most_of_page * starved, f"all but the program takes {most_of_page} ms for a key in the {which}", shown)
     if not is_slow:
-        cases.check(last_of_20(whole) <= MOST * starved, f"marks within {MOST} ms of a key in the {which}", shown)
+        cases.check(last_of_20(whole) <= most * starved, f"marks within {most} ms of a key in the {which}", shown)
