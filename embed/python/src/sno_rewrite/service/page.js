@@ -1,6 +1,6 @@
 // The page of the service. What comes from texts is only ever put in as text (textContent, append), never as HTML.
 
-import { beginAddress, fillFromAddress, takeToken, writeAddress } from "./page/address.js";
+import { beginAddress, fillFromAddress, takeLeft, takeToken, writeAddress } from "./page/address.js";
 import { beginCases } from "./page/cases.js";
 import { beginCopies } from "./page/copies.js";
 import { at } from "./page/dom.js";
@@ -103,6 +103,7 @@ at("token-form").addEventListener("submit", (event) => {
 
 const begin = () => (isPlay ? beginPlay() : connect());
 
+takeLeft();
 takeToken();
 beginAddress();
 beginPane();

@@ -6,6 +6,7 @@ import { emit, isPlay, on, state } from "./state.js";
 
 const PAUSE = 100; // milliseconds without a key until the address has what was typed
 const BOXES = ["nothing", "anchored", "all"];
+const LEFT = "address"; // the address that a page had when it was left
 
 let timer = null;
 const more = []; // what else is in the address: {write(parameters), read(parameters)}
@@ -28,6 +29,13 @@ function decoded(name) {
   } catch {
     return name;
   }
+}
+
+// A reload goes to the address as it was when it began: what was typed just before comes from here.
+export function takeLeft() {
+  const left = sessionStorage.getItem(LEFT);
+  sessionStorage.removeItem(LEFT);
+  if (left !== null && performance.getEntriesByType("navigation")[0]?.type === "reload") history.replaceState(null, "", left);
 }
 
 export function fillFromAddress() {
@@ -80,6 +88,9 @@ export function beginAddress() {
     fillFromAddress();
     emit("address");
   });
-  window.addEventListener("pagehide", () => writeAddress(false));
+  window.addEventListener("pagehide", () => {
+    writeAddress(false);
+    sessionStorage.setItem(LEFT, addressNow());
+  });
   on("typed", writeAddressSoon);
 }
