@@ -9,10 +9,12 @@ import { emit, state } from "./state.js";
 
 let found = null; // {text, matches, total, entry, pattern, microseconds, trials}
 let current = 0;
+let last = null; // the text and the pattern of the last matches: while an object isn't whole there are none
 let caret = null; // the place of the caret in the pattern
 
 export function showMatches(given) {
-  const isOther = !given || !found || given.text !== found.text || given.source !== found.source;
+  const isOther = given && (given.text !== last?.text || given.source !== last?.source);
+  if (given) last = { text: given.text, source: given.source };
   found = given && { ...given, variables: given.pattern ? variablesOf(given.pattern) : [], places: [] };
   if (isOther) current = 0;
   if (found && current >= found.matches.length) current = 0;
