@@ -8,3 +8,4 @@ pub mod Storing
 pub mod Queueing
 pub mod Originating
 pub mod Replaying
+pub mod Seating
