@@ -8,4 +8,3 @@ pub mod Storing
 pub mod Queueing
 pub mod Originating
 pub mod Replaying
-pub mod Seating

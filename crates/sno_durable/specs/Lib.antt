@@ -9,5 +9,4 @@ pub mod Records
 pub mod Sought
 pub mod Relations
 pub mod Replayed
-pub mod Seated
 pub mod Stored

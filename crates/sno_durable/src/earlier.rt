@@ -15,19 +15,12 @@ use sno_document::{Mode, Rules};
 use sno_listing::Refusal;
 use sno_serve::{Asked, AtDesk, Content, line_in, refusal_in, submit};
 use sno_statement::Statement;
-use sno_store::{Lines, LinesIter};
+use sno_store::LinesIter;
 use std::alloc::Global;
 use std::sync::{Arc, Wait};
 
 /// A statement is tried once: no other seat can change its text.
 pub(crate) const ONE_TRY: u32 = 1;
-
-/// What is performed before the first line: the document's statements, and those of the records among the store's lines.
-#[derive(Drop)]
-pub(crate) struct Earlier<'a> {
-    pub(crate) statements: &'a [Arc<Statement>],
-    pub(crate) lines: Lines,
-}
 
 /// What lines mean: the definitions, how statements are performed, and what came before the desk's first entry.
 #[derive(Drop)]

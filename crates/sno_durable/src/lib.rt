@@ -19,10 +19,7 @@
 //! | `replies` | the lines that a client gets |
 //! | `earlier` | what lines mean, and what is performed before the first of them |
 //! | `keeper` | lines with their replies, at one seat |
-//! | `together`, `seats` | several seats, from the opening of their desk to its close; what each does with a line |
-//! | `queue`, `shared_queue` | what several seats leave for the disk; the same under a lock |
-//! | `shared_shelf`, `terms` | the store under a lock; what all that is under the locks of one store agrees on |
-//! | `first_fault` | the fault that ends several seats |
+//! | `seats`, `queue` | lines with their replies, at several seats; what these leave for the disk |
 //! | `shelf` | the store, and the writer of the replies that wait for it |
 //! | `outlet` | that writer: nothing comes to it before it is on the disk |
 //! | `service` | from a store and its document to the book that is left |
@@ -32,7 +29,6 @@
 mod compacted;
 mod earlier;
 mod faults;
-mod first_fault;
 mod first_lines;
 mod keeper;
 mod outlet;
@@ -43,12 +39,8 @@ mod relations;
 mod replies;
 mod seats;
 mod service;
-mod shared_queue;
-mod shared_shelf;
 mod shelf;
 mod sought;
-mod terms;
-mod together;
 
 pub use faults::DurableFault;
 pub use relations::{Relation, StoreFacts};

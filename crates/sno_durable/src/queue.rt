@@ -1,5 +1,5 @@
 //! What several seats leave for the disk, until one of them writes it.
-ghost use Rattle.std.specs.Prelude.{◌≡◌, ◌++◌, ◌∷◌, [], false, true, OnOk};
+ghost use Rattle.std.specs.Prelude.{◌≡◌, ◌++◌, ◌∷◌, [], false, true, OnOk, if◌then◌else◌};
 ghost use Rattle.sno_store.specs.Shown.{lines_in};
 ghost use Rattle.sno_durable.specs.Queued.{HasGiven, HasTaken, shown_at, waiting_at, with_left};
 
@@ -62,8 +62,6 @@ pub(crate) struct Held {
 #[derive(Drop)]
 pub(crate) struct Batch {
     pub(crate) records: Lines,
-    /// The index of the entry after those of the records.
-    pub(crate) next: u64,
     pub(crate) replies: Vec<u8>,
 }
 
@@ -74,7 +72,6 @@ impl Batch {
     {
         Batch {
             records: Lines::new(alloc),
-            next: 0,
             replies: Vec::new(alloc),
         }
     }
@@ -99,22 +96,32 @@ pub(crate) struct Queue {
 }
 
 impl Queue {
-    /// Nothing was left yet. There are as many entries as `next`, and the listing has this of statements before.
-    pub(crate) fn new(alloc: Global, next: u64, lists: bool, refused: Vec<Refusal>) -> Queue
-        ensures empty { (result.records.entries ≡ []) × (result.replies.items ≡ []) }
-        ensures first { (result.next ≡ next) × (result.bytes ≡ 0) }
+    /// Nothing was left yet.
+    pub(crate) fn new(alloc: Global, lists: bool) -> Queue
+        ensures empty { (result.records.entries ≡ []) × (result.replies.items ≡ []) × (result.refused.items ≡ []) }
+        ensures first { (result.next ≡ 0) × (result.bytes ≡ 0) }
         ensures open { (result.is_open ≡ true) × (result.is_writing ≡ false) }
-        ensures lists { (result.lists ≡ lists) × (result.refused ≡ refused) }
+        ensures lists { result.lists ≡ lists }
     {
         Queue {
             records: BTreeMap::new(alloc),
             replies: Vec::new(alloc),
             bytes: 0,
-            next,
+            next: 0,
             is_writing: false,
             is_open: true,
             lists,
-            refused,
+            refused: Vec::new(alloc),
+        }
+    }
+
+    /// Begins after the entries that there are, with what the listing has of statements before them.
+    pub(crate) fn begin(&mut self, entries: u64, refused: Vec<Refusal>)
+        ensures { self.new ≡ record self.old { next = entries; refused = (if self.old.lists then refused else self.old.refused) } }
+    {
+        self.next = entries;
+        if self.lists {
+            self.refused = refused;
         }
     }
 
@@ -129,18 +136,8 @@ impl Queue {
     }
 
     /// Something has failed.
-    pub(crate) fn close(&mut self)
-        ensures { self.new.records ≡ self.old.records }
-    {
+    pub(crate) fn close(&mut self) {
         self.is_open = false;
-    }
-
-    /// Something has failed, and no further record is written.
-    pub(crate) fn forget(&mut self)
-        ensures { self.new.records.entries ≡ [] }
-    {
-        self.is_open = false;
-        self.records.clear();
     }
 
     /// What the listing has of refused statements.
@@ -217,26 +214,18 @@ impl Queue {
         Ok(())
     }
 
-    /// Takes what can be written now: the records of the entries from the one with the index `next` on, and the replies that show no later
-    /// one. The seat that asks goes on writing if there is something. Returns whether there is.
+    /// Takes what can be written now: the records of the next entries, and the replies that show no later one. The seat that asks goes
+    /// on writing if there is something. Returns whether there is.
     ///
     /// The batch has nothing before.
-    pub(crate) fn take(
-        &mut self,
-        alloc: Global,
-        next: u64,
-        batch: &mut Batch,
-    ) -> Result<bool, QueueFault>
+    pub(crate) fn take(&mut self, alloc: Global, batch: &mut Batch) -> Result<bool, QueueFault>
         requires { (lines_in batch.old.records ≡ []) × (batch.old.replies.items ≡ []) }
-        ensures taken { OnOk result (HasTaken batch.old.records batch.new.records next self.new.next) }
-        ensures given { OnOk result (HasGiven self.old.records.entries self.new.records.entries next self.new.next [] (lines_in batch.new.records)) }
-        ensures next { OnOk result (batch.new.next ≡ self.new.next) }
+        ensures taken { OnOk result (HasTaken batch.old.records batch.new.records self.old.next self.new.next) }
+        ensures given { OnOk result (HasGiven self.old.records.entries self.new.records.entries self.old.next self.new.next [] (lines_in batch.new.records)) }
         ensures shown { OnOk result (batch.new.replies.items ≡ shown_at self.new.next self.old.replies.items) }
         ensures waiting { OnOk result (self.new.replies.items ≡ waiting_at self.new.next self.old.replies.items) }
     {
-        self.next = next;
         self.take_records(&mut batch.records)?;
-        batch.next = self.next;
         self.take_replies(alloc, &mut batch.replies)?;
         let is_any = !batch.records.is_empty() || !batch.replies.is_empty();
         self.is_writing = is_any;

@@ -11,7 +11,6 @@ ghost use Rattle.sno_document.specs.Json.{json_of};
 ghost use Rattle.sno_durable.specs.Origins.{before_said, before_seen, is_known, origin_in, origin_seen, past_said, past_seen, small, small_at};
 ghost use Rattle.sno_durable.specs.Past.{number_at, string_at};
 ghost use Rattle.sno_durable.specs.Records.{later_data, origin_data, past_data, record_data, record_text};
-ghost use Rattle.sno_durable.specs.Relations.{after_one, entry_said, next_said};
 ghost use Rattle.sno_durable.specs.Replayed.{record_in, record_seen};
 
 use crate::past::Past;
@@ -310,32 +309,13 @@ pub(crate) fn record_in(alloc: Global, line: &[u8]) -> Result<Option<Record>, Al
     Ok(Some(Record { line, number }))
 }
 
-/// The index that the reply of a record shows.
-fn entry_in(value: &Value) -> Option<u64>
-    ensures { result ≡ entry_said (view value.now) }
-{
-    match value.get("reply") {
-        Some(reply) => number_at(reply, "entry"),
-        None => None,
-    }
-}
-
-/// The number after this one, if it has at most 64 bits.
-fn after_one(number: Option<u64>) -> Option<u64>
-    ensures { result ≡ after_one number }
-{
-    match number {
-        Some(number) if number < u64::MAX => Some(number + 1),
-        _ => None,
-    }
-}
-
 /// The index that the entry after a record's has; nothing if the line isn't a record.
-pub(crate) fn next_after(alloc: Global, line: &[u8]) -> Result<Option<u64>, AllocError>
-    ensures { IfOk result (λ n. n ≡ next_said line.now) }
-{
+pub(crate) fn next_after(alloc: Global, line: &[u8]) -> Result<Option<u64>, AllocError> {
     let Some(value) = value_of(alloc, line)? else {
         return Ok(None);
     };
-    Ok(after_one(entry_in(&value)))
+    let entry = value
+        .get("reply")
+        .and_then(|reply| number_at(reply, "entry"));
+    Ok(entry.and_then(|entry| entry.checked_add(1)))
 }

@@ -1,11 +1,8 @@
 //! How a store is related to another one beside it, by the lines of both.
-ghost use Rattle.std.specs.Prelude.{◌≡◌, IfOk, None, option_and_then};
-ghost use Rattle.std.specs.Option.{option_map};
-ghost use Rattle.sno_store.specs.Shown.{lines_left};
-ghost use Rattle.sno_durable.specs.Compacted.{entries_before, made_of};
-ghost use Rattle.sno_durable.specs.Relations.{end_of, facts_in, facts_seen, last_line, next_said, relation_of};
+ghost use Rattle.std.specs.Prelude.{◌≡◌};
+ghost use Rattle.sno_durable.specs.Relations.{relation_of, end_of};
 
-use crate::records::{Origin, next_after, origin_in};
+use crate::records::{next_after, origin_in};
 use sno_store::LinesIter;
 use std::alloc::{AllocError, Global};
 
@@ -35,49 +32,9 @@ pub enum Relation {
     Apart,
 }
 
-/// The last of these lines.
-fn last_of<'a>(lines: LinesIter<'a>) -> Option<&'a [u8]>
-    ensures { option_map (λ l. l.now) result ≡ last_line None (lines_left lines.entry) }
-{
-    let mut last = None;
-    for line in lines {
-        last = Some(line);
-    }
-    last
-}
-
-/// The index after that of the record which is the last of these lines, if there is one.
-fn next_in(alloc: Global, lines: LinesIter<'_>) -> Result<Option<u64>, AllocError>
-    ensures { IfOk result (λ n. n ≡ option_and_then next_said (last_line None (lines_left lines.entry))) }
-{
-    match last_of(lines) {
-        None => Ok(None),
-        Some(line) => next_after(alloc, line),
-    }
-}
-
-/// What a store says of itself whose first line says this, and whose last record is followed by the entry with this index.
-fn facts_of(alloc: Global, origin: &Origin, next: Option<u64>) -> Result<StoreFacts, AllocError>
-    ensures made_of { IfOk result (λ f. f.made_of.items ≡ made_of origin.now.document.items origin.now.before) }
-    ensures past { IfOk result (λ f. f.past ≡ entries_before origin.now.before) }
-    ensures rest { IfOk result (λ f. (f.trials ≡ origin.now.trials) × (f.next ≡ next)) }
-{
-    let past = origin.past(alloc)?.entries;
-    let mut made_of = Vec::new(alloc);
-    made_of.extend_from_slice(origin.made_of())?;
-    Ok(StoreFacts {
-        made_of,
-        trials: origin.trials,
-        past,
-        next,
-    })
-}
-
 impl StoreFacts {
     /// What these lines of a store say of it; nothing if the first of them isn't that of a store. Refused only if memory runs out.
-    pub fn of(alloc: Global, lines: LinesIter<'_>) -> Result<Option<StoreFacts>, AllocError>
-        ensures { IfOk result (λ f. option_map facts_seen f ≡ facts_in (lines_left lines.entry)) }
-    {
+    pub fn of(alloc: Global, lines: LinesIter<'_>) -> Result<Option<StoreFacts>, AllocError> {
         let mut rest = lines;
         let Some(first) = rest.next() else {
             return Ok(None);
@@ -85,9 +42,23 @@ impl StoreFacts {
         let Some(origin) = origin_in(alloc, first)? else {
             return Ok(None);
         };
-        let next = next_in(alloc, rest)?;
-        let facts = facts_of(alloc, &origin, next)?;
-        Ok(Some(facts))
+        let mut last = None;
+        for line in rest {
+            last = Some(line);
+        }
+        let next = match last {
+            None => None,
+            Some(line) => next_after(alloc, line)?,
+        };
+        let past = origin.past(alloc)?.entries;
+        let mut made_of = Vec::new(alloc);
+        made_of.extend_from_slice(origin.made_of())?;
+        Ok(Some(StoreFacts {
+            made_of,
+            trials: origin.trials,
+            past,
+            next,
+        }))
     }
 
     /// The index that the next entry of the store has, if it is known from its lines: without a record it may follow entries of the document.

@@ -1,33 +1,34 @@
-//! Several seats over one store: what each does with the lines that it takes.
-ghost use Rattle.std.specs.Prelude.{◌≡◌, ◌≤◌, ◌+◌, IfErr, IfOk, MatchResult, None, Some, false, length, option_to_list, if◌then◌else◌};
+//! Several seats over one store.
+ghost use Rattle.std.specs.Prelude.{◌≡◌, ◌≤◌, ◌+◌, IfOk, MatchResult, None, Some, length, option_to_list, if◌then◌else◌};
 ghost use Rattle.sno_desk.specs.declared.desk.TheConstants.{MAX_TRIES};
-ghost use Rattle.sno_durable.specs.Faults.{is_of_record};
 ghost use Rattle.sno_durable.specs.Queued.{HasLeft, IsLeft, index_after, index_shown};
 ghost use Rattle.sno_durable.specs.Records.{record_text};
 ghost use Rattle.sno_durable.specs.declared.faults.DurableFault.TheVariants.{Desk as NoDesk};
 
 use crate::DurableFault;
-use crate::earlier::{Reading, number_after, record_of};
-use crate::first_fault::FirstFault;
-use crate::queue::{Batch, Held, Noted};
+use crate::earlier::{Reading, begin, number_after, record_of};
+use crate::queue::{Batch, Held, Noted, Queue};
 use crate::records::number_at;
 use crate::replies::{put_noted, put_reply, too_long};
-use crate::shared_queue::SharedQueue;
-use crate::shared_shelf::SharedShelf;
+use crate::shelf::Shelf;
 use crate::sought::{Shown, reply_here};
-use crate::terms::Storing;
-use crate::together::SeatWork;
-use sno_desk::{Naming, Seat};
-use sno_serve::{AtDesk, Content, Intake, Line, Next, line_in};
+use sno_desk::{DeskWork, Naming, Seat};
+use sno_serve::{AtDesk, Content, Desk, Intake, Line, Next, line_in};
+use sno_statement::Statement;
+use sno_store::Lines;
 use sqlite_disk::Disk;
 use std::alloc::Global;
 use std::io::{Read, Write};
-use std::sync::{Mutex, Wait};
+use std::sync::{Arc, Mutex, Wait};
 
 /// Where lines come in.
 #[derive(Drop)]
 pub(crate) struct Door<I: Read> {
     pub(crate) intake: Intake<I>,
+    /// The lines of the store, until their statements are performed again.
+    pub(crate) earlier: Option<Lines>,
+    /// How many entries are of the document's own statements.
+    pub(crate) first: u64,
     /// Whether the desk has as many entries as it may have.
     pub(crate) is_full: bool,
 }
@@ -35,18 +36,19 @@ pub(crate) struct Door<I: Read> {
 /// What several seats share. A seat that takes a line holds the door, and one that writes the shelf; the queue is held for moments
 /// alone.
 #[derive(Drop)]
-pub(crate) struct Shared<M: Storing, D: Disk, I: Read, W: Write> {
+pub(crate) struct Shared<D: Disk, I: Read, W: Write> {
     pub(crate) reading: Reading,
+    pub(crate) statements: Vec<Arc<Statement>>,
     pub(crate) tries: u32,
     /// With this many entries the desk is closed.
     pub(crate) most: u64,
     /// The number of the next statement.
     pub(crate) numbers: Mutex<u32>,
     pub(crate) door: Mutex<Door<I>>,
-    pub(crate) queue: Mutex<SharedQueue<M>>,
-    pub(crate) shelf: Mutex<SharedShelf<M, D, W>>,
+    pub(crate) queue: Mutex<Queue>,
+    pub(crate) shelf: Mutex<Shelf<D, W>>,
     /// The first fault.
-    pub(crate) fault: Mutex<FirstFault>,
+    pub(crate) fault: Mutex<Option<DurableFault>>,
     ghost valid: { (1 ≤ tries) × (tries ≤ MAX_TRIES) },
 }
 
@@ -84,8 +86,7 @@ fn record_at(
     text: &[u8],
     before: u64,
 ) -> Result<(u64, Vec<u8>), DurableFault>
-    ensures record { IfOk result (λ r. (index_shown before reply.now ≡ Some r.0) × (r.1.items ≡ record_text line.now text.now)) }
-    ensures fault { IfErr result (λ e. is_of_record e ≡ false) }
+    ensures { IfOk result (λ r. (index_shown before reply.now ≡ Some r.0) × (r.1.items ≡ record_text line.now text.now)) }
 {
     let index = index_in(reply, before)?;
     let record = record_of(alloc, line, text)?;
@@ -103,7 +104,6 @@ fn record_left(
 ) -> Result<Option<(u64, Vec<u8>)>, DurableFault>
     ensures counted { IfOk result (λ r. length (option_to_list r) ≡ (if is_accepted then 1 else 0)) }
     ensures left { IfOk result (λ r. IsLeft before line.now reply.now text.now r) }
-    ensures fault { IfErr result (λ e. is_of_record e ≡ false) }
 {
     if !is_accepted {
         return Ok(None);
@@ -112,32 +112,52 @@ fn record_left(
     Ok(Some(record))
 }
 
-impl<M: Storing, D: Disk + Drop, I: Read + Drop, W: Write + Drop> Shared<M, D, I, W> {
+impl<D: Disk + Drop, I: Read + Drop, W: Write + Drop> Shared<D, I, W> {
     ghost use Rattle.std.specs.Option.{option_map};
     ghost use Rattle.std.specs.Prelude.{ℕ};
     ghost use Rattle.serde_json.specs.View.{view};
     ghost use Rattle.sno_serve.specs.Asked.{id_in};
     ghost use Rattle.sno_durable.specs.Performed.{asked_now};
-    ghost use Rattle.sno_durable.specs.Seated.{AreMeant, IsNoted};
 
     /// Takes a fault, if it is the first one, and closes the service.
-    fn fail<R: Wait>(&self, rt: &R, fault: DurableFault)
-        requires { is_of_record fault ≡ false }
-    {
-        self.fault.lock(rt).note(fault);
+    fn fail<R: Wait>(&self, rt: &R, fault: DurableFault) {
+        let mut first = self.fault.lock(rt);
+        if first.is_none() {
+            *first = Some(fault);
+        }
         self.queue.lock(rt).close();
     }
 
-    /// The next line at the door.
+    /// Performs the statements of the document, and those of the store's records again.
+    fn begin<L: Naming, R: Wait>(
+        &self,
+        at: &AtDesk<'_, L, R>,
+        seat: &mut Seat<L>,
+        door: &mut Door<I>,
+        lines: &Lines,
+    ) -> Result<(), DurableFault> {
+        let mut refused = Vec::new(at.alloc);
+        begin(at, seat, &self.statements, &mut refused)?;
+        door.first = seat.accepted();
+        let mut records = lines.iter();
+        let _origin = records.next();
+        let mut number = self.numbers.lock(at.rt);
+        *number = self.reading.replay_all(at, seat, *number, records)?;
+        self.queue.lock(at.rt).begin(seat.accepted(), refused);
+        Ok(())
+    }
+
+    /// The next line at the door. The first seat that asks for one performs what comes before it.
     fn next_at<L: Naming, R: Wait>(
         &self,
         at: &AtDesk<'_, L, R>,
+        seat: &mut Seat<L>,
         door: &mut Door<I>,
-    ) -> Result<Next, DurableFault>
-        ensures fault { IfErr result (λ e. is_of_record e ≡ false) }
-    {
-        let shared = self.queue.lock(at.rt);
-        let queue = shared.queue();
+    ) -> Result<Next, DurableFault> {
+        if let Some(lines) = door.earlier.take() {
+            self.begin(at, seat, door, &lines)?;
+        }
+        let queue = self.queue.lock(at.rt);
         if !queue.is_open() {
             return Ok(Next::End);
         }
@@ -145,15 +165,15 @@ impl<M: Storing, D: Disk + Drop, I: Read + Drop, W: Write + Drop> Shared<M, D, I
             door.is_full = true;
             return Ok(Next::End);
         }
-        drop(shared);
+        drop(queue);
         let next = door.intake.next(at.alloc)?;
         Ok(next)
     }
 
-    /// The next line. A fault closes the service before another seat comes to the door, which may be within a line.
-    fn next<L: Naming, R: Wait>(&self, at: &AtDesk<'_, L, R>) -> Next {
+    /// The next line. A fault closes the service before another seat comes to the door, which may be half begun or within a line.
+    fn next<L: Naming, R: Wait>(&self, at: &AtDesk<'_, L, R>, seat: &mut Seat<L>) -> Next {
         let mut door = self.door.lock(at.rt);
-        match self.next_at(at, &mut door) {
+        match self.next_at(at, seat, &mut door) {
             Ok(next) => next,
             Err(fault) => {
                 self.fail(at.rt, fault);
@@ -169,7 +189,6 @@ impl<M: Storing, D: Disk + Drop, I: Read + Drop, W: Write + Drop> Shared<M, D, I
         line: &[u8],
     ) -> Result<Line, DurableFault>
         ensures asked { IfOk result (λ l. (number : ℕ) × (option_map view l.id ≡ id_in line.now) × (l.asked ≡ asked_now self.now.reading number line.now)) }
-        ensures fault { IfErr result (λ e. is_of_record e ≡ false) }
     {
         let mut number = self.numbers.lock(at.rt);
         let Reading { rules, mode, .. } = &self.reading;
@@ -186,12 +205,9 @@ impl<M: Storing, D: Disk + Drop, I: Read + Drop, W: Write + Drop> Shared<M, D, I
         seat: &mut Seat<L>,
         line: &[u8],
     ) -> Result<Noted, DurableFault>
-        requires meant { AreMeant M.terms self.now.reading self.now.tries L.opening }
         ensures counted { IfOk result (λ noted. length (option_to_list noted.record) + seat.old.accepted ≡ seat.new.accepted) }
         ensures seen { IfOk result (λ noted. noted.held.seen ≡ length seat.new.seen) }
         ensures left { IfOk result (λ noted. HasLeft self.now.reading self.now.tries L.opening seat.old.seen seat.new.seen line.now noted.record noted.held.reply.items) }
-        ensures noted { IfOk result (λ noted. IsNoted M.terms noted.record) }
-        ensures fault { IfErr result (λ e. is_of_record e ≡ false) }
     {
         let mut read = self.read(at, line)?;
         let ignored = read.take_ignored(at.alloc);
@@ -216,10 +232,7 @@ impl<M: Storing, D: Disk + Drop, I: Read + Drop, W: Write + Drop> Shared<M, D, I
     }
 
     /// The reply to a line that is too long, which shows no entry.
-    fn refuse_line(&self, alloc: Global) -> Result<Noted, DurableFault>
-        ensures none { IfOk result (λ noted. IsNoted M.terms noted.record) }
-        ensures fault { IfErr result (λ e. is_of_record e ≡ false) }
-    {
+    fn refuse_line(&self, alloc: Global) -> Result<Noted, DurableFault> {
         let reply = too_long(alloc)?;
         let mut bytes = Vec::new(alloc);
         put_reply(alloc, &mut bytes, &reply)?;
@@ -234,14 +247,11 @@ impl<M: Storing, D: Disk + Drop, I: Read + Drop, W: Write + Drop> Shared<M, D, I
     }
 
     /// Leaves what a seat has done for the disk. If no other seat is writing, this one does.
-    fn leave<R: Wait>(&self, rt: &R, alloc: Global, noted: Noted) -> Result<(), DurableFault>
-        requires { IsNoted M.terms noted.record }
-        ensures fault { IfErr result (λ e. is_of_record e ≡ false) }
-    {
-        let mut shared = self.queue.lock(rt);
-        let is_writer = shared.add(noted)?;
-        let is_much = shared.queue().is_much();
-        drop(shared);
+    fn leave<R: Wait>(&self, rt: &R, alloc: Global, noted: Noted) -> Result<(), DurableFault> {
+        let mut queue = self.queue.lock(rt);
+        let is_writer = queue.add(noted)?;
+        let is_much = queue.is_much();
+        drop(queue);
         if is_writer {
             return self.write(rt, alloc);
         }
@@ -253,17 +263,14 @@ impl<M: Storing, D: Disk + Drop, I: Read + Drop, W: Write + Drop> Shared<M, D, I
     }
 
     /// Writes what seats have left, until nothing more can be written.
-    fn write<R: Wait>(&self, rt: &R, alloc: Global) -> Result<(), DurableFault>
-        ensures fault { IfErr result (λ e. is_of_record e ≡ false) }
-    {
+    fn write<R: Wait>(&self, rt: &R, alloc: Global) -> Result<(), DurableFault> {
         for _ in 0..u64::MAX {
             let mut batch = Batch::nothing(alloc);
             let mut shelf = self.shelf.lock(rt);
-            let next = shelf.next();
-            if !self.queue.lock(rt).take(alloc, next, &mut batch)? {
+            if !self.queue.lock(rt).take(alloc, &mut batch)? {
                 return Ok(());
             }
-            shelf.put(&batch)?;
+            shelf.put(&batch.records, &batch.replies)?;
         }
         Ok(())
     }
@@ -273,11 +280,8 @@ impl<M: Storing, D: Disk + Drop, I: Read + Drop, W: Write + Drop> Shared<M, D, I
         &self,
         at: &AtDesk<'_, L, R>,
         seat: &mut Seat<L>,
-    ) -> Result<bool, DurableFault>
-        requires meant { AreMeant M.terms self.now.reading self.now.tries L.opening }
-        ensures fault { IfErr result (λ e. is_of_record e ≡ false) }
-    {
-        let noted = match self.next(at) {
+    ) -> Result<bool, DurableFault> {
+        let noted = match self.next(at, seat) {
             Next::End => return Ok(false),
             Next::TooLong => self.refuse_line(at.alloc)?,
             Next::Line(line) => self.perform(at, seat, &line)?,
@@ -287,18 +291,24 @@ impl<M: Storing, D: Disk + Drop, I: Read + Drop, W: Write + Drop> Shared<M, D, I
     }
 }
 
-impl<M: Storing, D: Disk + Drop, I: Read + Drop, W: Write + Drop> SeatWork for Shared<M, D, I, W> {
-    ghost use Rattle.sno_durable.specs.Seated.{AreMeant};
+impl<D: Disk + Drop, I: Read + Drop, W: Write + Drop> DeskWork for Shared<D, I, W> {
+    ghost takes = { λ shared before after. Unit {0} };
 
-    ghost ready = { λ shared opening. AreMeant M.terms shared.reading shared.tries opening };
-
-    fn work<L: Naming, R: Wait>(&self, at: &AtDesk<'_, L, R>, seat: &mut Seat<L>) {
+    fn work<L: Naming, R: Wait>(
+        &self,
+        rt: &R,
+        alloc: Global,
+        desk: &Desk<L>,
+        seat: &mut Seat<L>,
+        _number: usize,
+    ) {
+        let at = AtDesk { rt, alloc, desk };
         for _turn in 0..u64::MAX {
-            match self.step(at, seat) {
+            match self.step(&at, seat) {
                 Ok(true) => {}
                 Ok(false) => return,
                 Err(fault) => {
-                    self.fail(at.rt, fault);
+                    self.fail(rt, fault);
                     return;
                 }
             }

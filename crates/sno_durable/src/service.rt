@@ -1,5 +1,6 @@
 //! A service over a store, from its start to its end.
-ghost use Rattle.std.specs.Prelude.{◌≡◌, ◌≤◌, ◌<◌, ◌⊎◌, [], Ok, Err, Some, None, false, true, length, IfErr, IfOk, IsTrue, OnOk};
+ghost use Rattle.std.specs.Prelude.{◌≡◌, ◌≤◌, ◌⊎◌, [], Ok, Err, Some, None, false, true, length, IfErr, IfOk, IsTrue, OnOk};
+ghost use Rattle.std.specs.Thread.{IsSend, IsSync};
 ghost use Rattle.serde_json.specs.View.{view};
 ghost use Rattle.sno_book.specs.Books.{view_of};
 ghost use Rattle.sno_book.specs.Views.{IsValid};
@@ -13,22 +14,22 @@ ghost use Rattle.sno_store.specs.Shown.{lines_in};
 ghost use Rattle.sno_durable.specs.Compacted.{entries_before, made_of, versions_before};
 ghost use Rattle.sno_durable.specs.Origins.{Fits, IsGiven, IsMadeOf, IsMeant, IsOriginFault, IsStartFault, bytes_given, origin_in, origin_seen};
 ghost use Rattle.sno_durable.specs.Replayed.{HasCause, HasStopped};
-ghost use Rattle.sno_durable.specs.Seated.{IsKeptApart};
 ghost use Rattle.sno_durable.specs.Stored.{HasBegun, HasGoneOn, HasPut, IsKept, IsOnly, later_lines};
 ghost use Rattle.sno_durable.specs.declared.faults.DurableFault.TheVariants.{Document as Refused, Memory, NoDocument};
 
 use crate::DurableFault;
-use crate::earlier::{Earlier, Reading};
+use crate::earlier::Reading;
 use crate::first_lines::is_cut_first_line;
 use crate::keeper::Keeper;
 use crate::outlet::Outlet;
 use crate::past::Past;
+use crate::queue::Queue;
 use crate::records::{Origin, origin_in, origin_line};
+use crate::seats::{Door, Shared};
 use crate::shelf::Shelf;
-use crate::together::{Left, Stock, at_shared_desk};
 use sno_book::Book;
-use sno_desk::{Blank, Desk, Naming, Seat, close};
-use sno_document::{Document, DocumentFault, Mode, read_document};
+use sno_desk::{Blank, Desk, Naming, Seat, at_desk, close, may_cross};
+use sno_document::{Document, DocumentFault, Mode, Rules, read_document};
 use sno_listing::Refusal;
 use sno_sealed::Sealed;
 use sno_serve::{AtDesk, Intake};
@@ -38,7 +39,7 @@ use sqlite_disk::Disk;
 use std::alloc::{AllocError, Global};
 use std::io::{Read, Write};
 use std::marker::Brand;
-use std::sync::{Arc, Wait};
+use std::sync::{Arc, Mutex, Wait};
 use std::thread::Threads;
 
 /// What a service begins with. What is missing is taken from the store.
@@ -259,6 +260,13 @@ fn begin_store<D: Disk + Drop>(
     first.push(&line)?;
     store.put(&first)?;
     Ok(())
+}
+
+/// What is performed before the first line: the document's statements, and those of the records among the store's lines.
+#[derive(Drop)]
+struct Earlier<'a> {
+    statements: &'a [Arc<Statement>],
+    lines: Lines,
 }
 
 /// Works at the only seat: performs the statements of the document and of the records, then replies to lines until there are
@@ -548,9 +556,8 @@ pub fn serve_durably_at<
     requires tries { (1 ≤ seats.tries) × (seats.tries ≤ MAX_TRIES) }
     ensures valid { IfOk result (λ k. IsValid (view_of k.book)) }
     ensures kept { seats.count ≡ 1 → IfOk result (λ k. IfOk k.ended (λ e. IsTrue (is_clean k.store) → Holds opened.0 (lines_in opened.1) → IsKept k.origin k.book.opening k.book.journal e.first (lines_in opened.1) opened.0 k.store)) }
-    ensures apart { 1 < seats.count → IfOk result (λ k. IfOk k.ended (λ e. IsTrue (is_clean k.store) → Holds opened.0 (lines_in opened.1) → IsKeptApart k.origin k.book.opening k.book.journal seats.tries e.first (lines_in opened.1) opened.0 k.store)) }
     ensures given { IfOk result (λ k. Fits given k.origin) }
-    ensures cause { IfOk result (λ k. IfErr k.ended (HasCause k.origin k.book.opening (later_lines (lines_in opened.1)))) }
+    ensures cause { seats.count ≡ 1 → IfOk result (λ k. IfErr k.ended (HasCause k.origin k.book.opening (later_lines (lines_in opened.1)))) }
 {
     if seats.count == 1 {
         return serve_durably(rt, alloc, opened, given, client);
@@ -567,59 +574,88 @@ pub fn serve_durably_at<
         lists,
     } = beginning_of(alloc, opened, given)?;
     let Client { intake, writer } = client;
-    let stock = Stock {
+    let door = Door {
+        intake,
+        earlier: Some(lines),
+        first: 0,
+        is_full: false,
+    };
+    let shared = Shared {
         reading,
+        statements,
         tries: seats.tries,
         most,
-        lists,
-        shelf: Shelf {
+        numbers: Mutex::new(number),
+        door: Mutex::new(door),
+        queue: Mutex::new(Queue::new(alloc, lists)),
+        shelf: Mutex::new(Shelf {
             store,
             outlet: Outlet::new(writer),
-        },
-        intake,
+        }),
+        fault: Mutex::new(None),
     };
-    let blank = Blank::new(seats.count as u64);
-    let earlier = Earlier {
-        statements: &statements,
-        lines,
-    };
-    let (book, left) = at_shared_desk::<Brand, D, I, W, R>(
-        rt,
-        alloc,
-        blank,
-        book,
-        seats.count,
-        stock,
-        number,
-        earlier,
-    )?;
-    left_by_seats(left, origin, book)
+    // for the proof
+    may_cross::<Statement>();
+    may_cross::<Rules>();
+    may_move::<Door<I>>();
+    may_move::<Queue>();
+    may_move::<Shelf<D, W>>();
+    may_move::<Option<DurableFault>>();
+    may_share::<Reading>();
+    match at_desk(rt, alloc, book, seats.count, &shared) {
+        Ok(book) => left_by_seats(shared, origin, book),
+        Err(_) => Err(DurableFault::Desk),
+    }
 }
+
+/// Says to the prover that a value of this type may go to another thread.
+fn may_move<T: Send>()
+    ensures { IsSend T.row }
+{}
+
+/// Says to the prover that a value of this type may be shared by threads.
+fn may_share<T: Sync>()
+    ensures { IsSync T.row }
+{}
 
 /// What several seats leave.
 fn left_by_seats<D: Disk + Drop, I: Read + Drop, W: Write + Drop>(
-    left: Left<D, I, W>,
+    shared: Shared<D, I, W>,
     origin: Origin,
     book: Book,
 ) -> Result<Kept<D, I, W>, DurableFault>
-    ensures book { IfOk result (λ k. k.book ≡ book) }
-    ensures rest { IfOk result (λ k. (k.store ≡ left.shelf.store) × (k.origin ≡ origin) × (k.ended ≡ left.ended)) }
+    ensures { IfOk result (λ k. (k.book ≡ book) × (k.origin ≡ origin)) }
 {
-    let Left {
-        shelf: Shelf { store, outlet },
-        intake,
-        mut refused,
-        number,
-        ended,
+    let Shared {
+        numbers,
+        door,
+        queue,
+        shelf,
+        fault,
         ..
-    } = left;
+    } = shared;
+    let Door {
+        intake,
+        first,
+        is_full,
+        ..
+    } = door.into_inner();
+    let Shelf { store, outlet } = shelf.into_inner();
+    let mut refused = queue.into_inner().into_refused();
     refused.sort_by_key(|r| r.number)?;
+    let ended = match fault.into_inner() {
+        Some(fault) => Err(fault),
+        None => Ok(Ended {
+            first,
+            more: is_full,
+        }),
+    };
     Ok(Kept {
         book,
         refused,
         store,
         origin,
-        number,
+        number: numbers.into_inner(),
         client: Client {
             intake,
             writer: outlet.into_writer(),
