@@ -2,8 +2,8 @@
 
 use crate::vocabulary::{RESERVED, Vocabulary};
 use sno_findings::{
-    Collector, Form, WIDE_SET_ADVICE, Whose, around, habit_advice, nearest, own_name_advice,
-    place_of, reading_advice, set_advice, shown, text_of,
+    Collector, Form, WIDE_SET_ADVICE, Whose, around, habit_advice, nearest, place_of,
+    reading_advice, shown, text_of,
 };
 use sno_pattern::{Pattern, is_name_char};
 use sno_read::{
@@ -61,16 +61,6 @@ fn advice_of_strange(
     )
 }
 
-/// Whether the pattern is that of the definition with this name.
-fn is_own_name(vocabulary: &Vocabulary<'_>, whose: Whose, word: &str) -> bool {
-    match whose {
-        Whose::Definition(number) => {
-            vocabulary.words.get(number.saturating_sub(1)) == Some(&word)
-        }
-        Whose::Pattern(_) | Whose::Object(_) => false,
-    }
-}
-
 /// What to write instead of a name that no definition has.
 fn advice_of_unknown(
     findings: &Collector,
@@ -81,6 +71,9 @@ fn advice_of_unknown(
 ) -> Result<String, AllocError> {
     let word = word_at(written, place);
     let alloc = findings.alloc;
+    if is_written(&vocabulary.words, word) {
+        return format!(in alloc; "this definition comes later: *{word} refers to it");
+    }
     if findings.has_many() {
         return String::from_str(alloc, "no definition has this name");
     }
@@ -92,28 +85,6 @@ fn advice_of_unknown(
         return format!(in alloc; "no definition is called {seen}; did you mean {meant}?");
     }
     advice_of_strange(findings, whose, written, place, word)
-}
-
-/// What to write instead of a name that no definition before it has.
-fn advice_of_name(
-    findings: &Collector,
-    vocabulary: &Vocabulary<'_>,
-    whose: Whose,
-    written: &str,
-    place: usize,
-) -> Result<String, AllocError> {
-    let word = word_at(written, place);
-    let alloc = findings.alloc;
-    if is_own_name(vocabulary, whose, word) {
-        return own_name_advice(alloc, word, written, place);
-    }
-    if is_written(&vocabulary.words, word) {
-        return format!(in alloc; "this definition comes later: *{word} refers to it");
-    }
-    match set_advice(&ReadFault::UnknownName(place), written) {
-        Some(advice) if findings.form == Form::Lines => String::from_str(alloc, advice),
-        _ => advice_of_unknown(findings, vocabulary, whose, written, place),
-    }
 }
 
 /// What to write instead of what has this fault: first for what other languages write.
@@ -130,7 +101,7 @@ fn advice_in(
     }
     match fault {
         ReadFault::UnknownName(place) => {
-            advice_of_name(findings, vocabulary, whose, written, *place)
+            advice_of_unknown(findings, vocabulary, whose, written, *place)
         }
         ReadFault::NonAscii(_) if vocabulary.wide => {
             String::from_str(findings.alloc, WIDE_SET_ADVICE)

@@ -2,7 +2,7 @@
 
 use crate::rows::Pair;
 use sno_document::DocumentFault;
-use sno_findings::{Collector, Form, advice_of, around, name_advice, text_of};
+use sno_findings::{Collector, advice_of, around, text_of};
 use sno_pattern::{MAX_DEFINITIONS, Name, Names, NamesFault, is_letter, is_name_char};
 use std::alloc::{AllocError, Global};
 
@@ -53,11 +53,7 @@ fn refuse_name(
     place: usize,
 ) -> Result<(), AllocError> {
     let excerpt = around(findings.alloc, name, 0, place)?;
-    let advice = match findings.form {
-        Form::Json => advice_of(&fault),
-        Form::Lines => name_advice(&fault, name),
-    };
-    let advice = String::from_str(findings.alloc, advice)?;
+    let advice = String::from_str(findings.alloc, advice_of(&fault))?;
     findings.refuse(fault, Some(excerpt), advice)
 }
 

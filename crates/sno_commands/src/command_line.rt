@@ -2,10 +2,7 @@
 
 use crate::check_command::{CheckRequest, LINES_AND_DOCUMENT, check_command, check_request};
 use crate::command_options::with_subcommand;
-use crate::edit_options::{
-    DOCUMENT_AND_LINES, EditRequest, edit_command, edit_options, edit_request,
-    has_document_and_lines,
-};
+use crate::edit_options::{EditRequest, edit_command, edit_options, edit_request};
 use crate::find_options::{FindRequest, WITHOUT_RULES, find_command, find_request};
 use crate::rule_options::{TRIALS_OUT_OF_RANGE, WITHOUT_LINES, are_without_lines, trials};
 use crate::serve_command::{
@@ -114,9 +111,6 @@ fn serve_request_in<'a>(
 fn edit_request_in<'a>(alloc: Global, found: &ArgMatches<'a>) -> Result<Request<'a>, OptionsFault> {
     if are_without_lines(found) {
         return Err(refused_with(alloc, WITHOUT_LINES));
-    }
-    if has_document_and_lines(found) {
-        return Err(refused_with(alloc, DOCUMENT_AND_LINES));
     }
     let Some(options) = edit_options(found) else {
         return Err(refused_with(alloc, TRIALS_OUT_OF_RANGE));

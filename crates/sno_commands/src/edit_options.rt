@@ -40,10 +40,6 @@ const EXAMPLE: &str =
 const WITHOUT_RULES: &str =
     "error: RULES, '--rule' or '--file' is wanted\n\nFor more information, try '--help'.\n";
 
-/// What is written if a document comes before a rule in a line: it may be meant as the rules, or as a file.
-pub(crate) const DOCUMENT_AND_LINES: &str =
-    "error: RULES can't be given beside '--rule' or '--file'; a file that is edited comes after them\n\nFor more information, try '--help'.\n";
-
 const INPUT_AND_FILES: &str =
     "error: '-' can't be given beside other files\n\nFor more information, try '--help'.\n";
 
@@ -217,26 +213,6 @@ pub(crate) fn edit_request<'a>(
         lines,
         files: named_files(alloc, matches, paths)?,
     })
-}
-
-/// Whether the option comes first after more than this many values.
-fn comes_after(matches: &ArgMatches<'_>, name: &str, place: usize) -> bool {
-    match matches.index_of(name) {
-        Some(index) => index > place,
-        None => false,
-    }
-}
-
-/// Whether a document, by its name, comes before a rule in a line and beside a further file: then it is probably not a file to be edited.
-pub(crate) fn has_document_and_lines(matches: &ArgMatches<'_>) -> bool {
-    let Some(place) = matches.index_of("rules") else {
-        return false;
-    };
-    let is_document = matches
-        .get_str("rules")
-        .is_some_and(|path| path.ends_with(".json"));
-    let has_lines = comes_after(matches, "rule", place) || comes_after(matches, "file", place);
-    is_document && has_lines && matches.get_strs("files").is_some()
 }
 
 /// The options that were found; `None` if a number is not in its range.

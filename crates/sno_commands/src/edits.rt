@@ -38,22 +38,6 @@ use std::thread::Threads;
 /// The status after rules that are not rules.
 const BAD_RULES: u8 = 2;
 
-/// What is written below the path of rules that can't be read, if it may be a rule.
-const RULE_OPTION: &str = "    a rule in a line is given by -e, as -e \"'a' = 'b'\"\n";
-
-/// Whether the path of rules may be a rule.
-fn may_be_rule(path: &str) -> bool {
-    path.bytes()
-        .any(|c| matches!(c, b'\'' | b'"' | b'=' | b'('))
-}
-
-/// What is written about rules that can't be read.
-fn unread_rules(alloc: Global, rules: &str) -> Result<String, AllocError> {
-    let called = name_of(rules);
-    let below = if may_be_rule(rules) { RULE_OPTION } else { "" };
-    format!(in alloc; "{called}: read failed\n{below}")
-}
-
 /// The bytes of the rules; of rules that are too long only the first.
 fn rules_bytes<R: Files, I: Read>(
     rt: &R,
@@ -70,7 +54,10 @@ fn rules_bytes<R: Files, I: Read>(
         }
     };
     match read {
-        Err(ProgramFault::Read) => Err(NoRules::Unread(unread_rules(alloc, rules)?)),
+        Err(ProgramFault::Read) => {
+            let called = name_of(rules);
+            Err(NoRules::Unread(format!(in alloc; "{called}: read failed\n")?))
+        }
         Err(fault) => Err(NoRules::Fault(fault)),
         Ok(bytes) => Ok(bytes),
     }

@@ -5,11 +5,8 @@ use std::alloc::{AllocError, Global};
 use std::rt::Files;
 use std::{env, fs};
 
-/// Where they are from the program's folder if it is installed.
-const INSTALLED: &str = "../share/nomyake";
-
 /// Where they are from the program's folder: installed, and in the repository.
-const PLACES: [&str; 2] = [INSTALLED, "../../../share"];
+const PLACES: [&str; 2] = ["../share/nomyake", "../../../share"];
 
 /// What is written of a name that no file has.
 const NAMES: &str = "they are c, html, json, markdown, python and shell, or the path of a file";
@@ -29,17 +26,6 @@ fn program_folder<R: Files + AllocGlobal>(rt: &R, alloc: Global) -> Result<Strin
     String::from_str(alloc, path.get(..slash).unwrap_or(""))
 }
 
-/// The folder of definitions that are ready, of those that there are, or the first in which they may be.
-fn ready_folder<R: Files>(rt: &R, alloc: Global, program: &str) -> Result<String, AllocError> {
-    for place in PLACES {
-        let path = format!(in alloc; "{program}/{place}")?;
-        if fs::exists(rt, path.as_str()).unwrap_or(false) {
-            return Ok(path);
-        }
-    }
-    format!(in alloc; "{program}/{INSTALLED}")
-}
-
 /// The path of the file of definitions with this name, which may be a path itself.
 pub(crate) fn ready_path<R: Files + AllocGlobal>(
     rt: &R,
@@ -56,8 +42,5 @@ pub(crate) fn ready_path<R: Files + AllocGlobal>(
             return Ok(path);
         }
     }
-    let sought = ready_folder(rt, alloc, &folder)?;
-    Err(NoRules::Refused(format!(in alloc;
-        "--with {name}: no such definitions\n    {NAMES}; sought in {sought}\n"
-    )?))
+    Err(NoRules::Refused(format!(in alloc; "--with {name}: no such definitions\n    {NAMES}\n")?))
 }

@@ -1,6 +1,5 @@
 //! What to write instead, by the fault alone.
 
-use crate::reading::is_blank;
 use sno_document::DocumentFault;
 
 /// What to write instead of what has this fault.
@@ -18,7 +17,7 @@ pub fn advice_of(fault: &DocumentFault) -> &'static str {
         DocumentFault::PatternDuplicate(_) => "an earlier definition has this name",
         DocumentFault::PatternRead(_, _) => "this pattern can't be read",
         DocumentFault::Unguarded(_) => {
-            "the definition begins with itself; begin with a part that takes a character, and repeat the rest, as E = T ARBNO('+' T)"
+            "the definition comes back to itself; put a part that takes a character before the reference"
         }
         DocumentFault::TooManyTexts => "a document has at most 1024 texts",
         DocumentFault::TextName(_) | DocumentFault::StatementName(_) => {
@@ -37,16 +36,5 @@ pub fn advice_of(fault: &DocumentFault) -> &'static str {
             "a statement for all matches is performed in one pass; take 'repeat' away, or 'all'"
         }
         DocumentFault::Memory => "there is too little memory",
-    }
-}
-
-/// What to write instead of a name of a definition in rules in lines, which has this fault. A label would come where the name does.
-pub fn name_advice(fault: &DocumentFault, name: &str) -> &'static str {
-    let has_blank = name.as_bytes().iter().any(|c| is_blank(*c));
-    match fault {
-        DocumentFault::PatternName(_) if has_blank => {
-            "a name has no blank; there are no labels: a rule begins with a blank, and is performed after those before it"
-        }
-        _ => advice_of(fault),
     }
 }

@@ -1,17 +1,12 @@
 //! What other languages write, and what is written here instead.
 
 use crate::ascii::text_of;
-use crate::reading::{ends_part, is_blank};
+use crate::reading::is_blank;
 use sno_pattern::is_name_char;
 use sno_read::ReadFault;
-use std::alloc::{AllocError, Global};
 
 /// The words whose argument is a set.
 const SET_WORDS: [&str; 4] = ["ANY", "NOTANY", "SPAN", "BREAK"];
-
-/// What is written instead of a definition that begins with itself.
-pub const REPEAT_THE_REST: &str =
-    "begin with a part that takes a character, and repeat the rest, as E = T ARBNO('+' T)";
 
 fn is_quote(character: u8) -> bool {
     character == b'\'' || character == b'"'
@@ -138,28 +133,6 @@ fn instead_of_name(is_object: bool, written: &[u8], place: usize) -> Option<&'st
     None
 }
 
-/// Whether a sign after the characters `front` may be meant for how many times the part before it comes.
-fn may_repeat(front: &[u8]) -> bool {
-    front.last().is_some_and(|c| ends_part(*c)) && !has_set(front)
-}
-
-/// What is written instead of a sign that says elsewhere how many times the part before it comes.
-fn instead_of_repetition(next: u8, after: &[u8]) -> Option<&'static str> {
-    match next {
-        // (a reference without the blank before it)
-        b'*' if after.first().is_some_and(|c| is_name_char(*c)) => None,
-        b'*' => Some(
-            "P* is written ARBNO(P), as ARBNO('a'); for characters of a set (SPAN('ab') | '')",
-        ),
-        b'+' => Some(
-            "P+ is written P ARBNO(P), as 'a' ARBNO('a'); for characters of a set SPAN('ab')",
-        ),
-        b'?' => Some("P? is written (P | ''), as ('a' | '')"),
-        b'{' => Some("P{3} is written P P P, three times in a row, as 'aaa' or LEN(3)"),
-        _ => None,
-    }
-}
-
 /// What is written instead of what can't follow the characters `front`.
 fn instead_of_next(is_object: bool, front: &[u8], next: u8, after: &[u8]) -> Option<&'static str> {
     let sign = without_blanks(front).last().copied();
@@ -173,10 +146,6 @@ fn instead_of_next(is_object: bool, front: &[u8], next: u8, after: &[u8]) -> Opt
     }
     match next {
         b'=' => Some("the object is a member of its own, \"object\", and no part of the pattern"),
-        b'&' if after.starts_with(b"ANCHOR") => Some(
-            "there is no &ANCHOR: --anchor is for all rules, and :anchored or \"anchored\" for one",
-        ),
-        b'*' | b'+' | b'?' | b'{' if may_repeat(front) => instead_of_repetition(next, after),
         b'(' if last_word(front) == "FENCE" => Some(
             "FENCE takes no argument: after P FENCE the whole match fails if what follows does; a P with one way, as SPAN or BREAK, needs no FENCE",
         ),
@@ -207,60 +176,4 @@ pub fn habit_advice(is_object: bool, fault: &ReadFault, written: &str) -> Option
         },
         _ => None,
     }
-}
-
-/// What to write instead of the name of a set that is ready for rules in lines, if the fault is that a pattern has it alone.
-pub fn set_advice(fault: &ReadFault, written: &str) -> Option<&'static str> {
-    let ReadFault::UnknownName(place) = fault else {
-        return None;
-    };
-    match first_word(from(written.as_bytes(), *place)) {
-        "LETTER" => Some(
-            "a set isn't a pattern: ANY(LETTER) takes one, SPAN(LETTER) as many as there are",
-        ),
-        "UPPER" => Some(
-            "a set isn't a pattern: ANY(UPPER) takes one, SPAN(UPPER) as many as there are",
-        ),
-        "LOWER" => Some(
-            "a set isn't a pattern: ANY(LOWER) takes one, SPAN(LOWER) as many as there are",
-        ),
-        "DIGIT" => Some(
-            "a set isn't a pattern: ANY(DIGIT) takes one, SPAN(DIGIT) as many as there are",
-        ),
-        "HEX" => Some("a set isn't a pattern: ANY(HEX) takes one, SPAN(HEX) as many as there are"),
-        "BLANK" => Some(
-            "a set isn't a pattern: ANY(BLANK) takes one, SPAN(BLANK) as many as there are",
-        ),
-        "WORD" => Some(
-            "a set isn't a pattern: ANY(WORD) takes one, SPAN(WORD) as many as there are",
-        ),
-        _ => None,
-    }
-}
-
-/// A blank, or a parenthesis that opens a group.
-fn opens_group(character: u8) -> bool {
-    is_blank(character) || character == b'('
-}
-
-/// Whether what follows these characters of a pattern begins it, or one of its alternatives.
-fn begins_after(front: &[u8]) -> bool {
-    let opened = front.iter().rev().take_while(|c| opens_group(**c)).count();
-    let rest = before(front, front.len().saturating_sub(opened));
-    let begun = rest.iter().take_while(|c| opens_group(**c)).count();
-    let others = from(rest, begun);
-    others.is_empty() || (others.last() == Some(&b'|') && !others.contains(&b'('))
-}
-
-/// What to write instead of a definition's own name in its pattern `written`, at this place. Refused only if memory runs out.
-pub fn own_name_advice(
-    alloc: Global,
-    name: &str,
-    written: &str,
-    place: usize,
-) -> Result<String, AllocError> {
-    if begins_after(before(written.as_bytes(), place)) {
-        return format!(in alloc; "{name} begins with itself, {name} -> {name}; {REPEAT_THE_REST}");
-    }
-    format!(in alloc; "in its own definition a name has a * before it, as *{name}")
 }

@@ -42,7 +42,7 @@ mod spelling;
 mod warnings;
 mod whose;
 
-pub use advice::{advice_of, name_advice};
+pub use advice::advice_of;
 pub use ascii::text_of;
 pub use collector::Collector;
 pub use edges::Blocked;
@@ -50,7 +50,7 @@ pub use element_lines::{ElementLines, lines_of_elements};
 pub use excerpts::{Position, around, position_of, shown};
 pub use facts::{Facts, bit, facts_of};
 pub use findings::{Excerpt, Form, Mistake, Place, Report, Warning};
-pub use habits::{REPEAT_THE_REST, habit_advice, own_name_advice, set_advice};
+pub use habits::habit_advice;
 pub use json_lines::json_of;
 pub use json_places::json_mistake;
 pub use lines::{lines_of, put_mistake, put_pointed, put_source};

@@ -34,7 +34,7 @@ pub(crate) fn is_blank(character: u8) -> bool {
 }
 
 /// Whether a part ends with this character.
-pub(crate) fn ends_part(character: u8) -> bool {
+fn ends_part(character: u8) -> bool {
     is_name_char(character) || character == b'\'' || character == b'"' || character == b')'
 }
 

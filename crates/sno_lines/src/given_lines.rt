@@ -1,9 +1,11 @@
 //! Lines of rules that are given, by options and in files.
 
-use crate::file_advice::advice_for_line;
 use crate::line_faults::{LineMistake, whole_mistake};
 use sno_rules::{FileLine, LineKind, RuleFileFault, lines_of};
 use std::alloc::{AllocError, AllocFailed, Global};
+
+/// What is written below the fault of a line that is neither a rule nor a definition.
+const KINDS: &str = "a rule begins with a blank, a definition with its name, a comment with *";
 
 /// From where a line comes.
 #[derive(Clone, Copy, Debug, PartialEq, Eq)]
@@ -65,18 +67,13 @@ fn refused_file<'a>(alloc: Global, path: &'a str, why: &str, below: &str) -> NoL
     }
 }
 
-/// Why a file with these bytes has no lines of rules, if it has this fault.
-fn rule_file_fault<'a>(
-    alloc: Global,
-    path: &'a str,
-    bytes: &[u8],
-    fault: RuleFileFault,
-) -> NoLines<'a> {
+/// Why a file has no lines of rules, if it has this fault.
+fn rule_file_fault<'a>(alloc: Global, path: &'a str, fault: RuleFileFault) -> NoLines<'a> {
     match fault {
         RuleFileFault::Memory => NoLines::Memory,
-        RuleFileFault::UnknownLine(number) | RuleFileFault::NothingBefore(number) => {
+        RuleFileFault::UnknownLine(_) | RuleFileFault::NothingBefore(_) => {
             match format!(in alloc; "{fault}") {
-                Ok(why) => refused_file(alloc, path, &why, advice_for_line(bytes, number)),
+                Ok(why) => refused_file(alloc, path, &why, KINDS),
                 Err(_) => NoLines::Memory,
             }
         }
@@ -132,7 +129,7 @@ impl<'a> GivenLines<'a> {
         bytes: &[u8],
     ) -> Result<(), NoLines<'a>> {
         match lines_of(alloc, bytes) {
-            Err(fault) => Err(rule_file_fault(alloc, path, bytes, fault)),
+            Err(fault) => Err(rule_file_fault(alloc, path, fault)),
             Ok(lines) => {
                 for line in lines {
                     self.put_line(path, ready, line)?;

@@ -11,14 +11,11 @@
 //! | `line_rows` | the rows of the lines, for `sno_document` |
 //! | `used_sets` | the definitions that sets use |
 //! | `line_faults` | faults of lines and of their parts, with their places in the lines |
-//! | `line_advice`, `file_advice` | what to write instead, by the fault of a line or of a file |
 //! | `reports` | what a check finds in rules, by their lines |
 //! | `report_lines`, `report_json` | a report in lines and as JSON |
 #![tactic(auto)]
 
-mod file_advice;
 mod given_lines;
-mod line_advice;
 mod line_faults;
 mod line_rows;
 mod report_json;
@@ -28,8 +25,7 @@ mod spelled_lines;
 mod used_sets;
 
 pub use given_lines::{GivenLine, GivenLines, NoLines, Source};
-pub use line_advice::mistake_of_fault;
-pub use line_faults::LineMistake;
+pub use line_faults::{LineMistake, mistake_of_fault};
 pub use line_rows::{PatternRows, RuleRows, rows_of};
 pub use report_json::json_of_report;
 pub use report_lines::{lines_of_mistake, lines_of_report};

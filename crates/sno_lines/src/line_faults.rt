@@ -3,10 +3,12 @@
 use crate::given_lines::{GivenLine, Source};
 use crate::spelled_lines::{SpelledLines, SpelledPart};
 use sno_document::DocumentFault;
-use sno_findings::{Excerpt, Mistake, Place, WIDE_SET_ADVICE, around, place_of, set_advice};
-use sno_pattern::is_name_char;
+use sno_findings::{
+    Excerpt, Mistake, Place, WIDE_SET_ADVICE, advice_of, around, habit_advice, place_of,
+    reading_advice,
+};
 use sno_read::ReadFault;
-use sno_rules::{LineFault, SetName, SpellingFault};
+use sno_rules::{LineFault, SpellingFault};
 use std::alloc::{AllocError, Global};
 use std::fmt::Display;
 
@@ -15,24 +17,6 @@ const FIELDS: &str = ":first, :anchored, :repeat N or :in 'NAME' is wanted here"
 
 /// What is wanted in a definition without a sign.
 const DEFINITION: &str = "a definition is NAME = PATTERN";
-
-/// The same on a line of a file, which may be meant as something else.
-const DEFINITION_OF_FILE: &str =
-    "a definition is NAME = PATTERN, and a rule begins with a blank; there are no labels";
-
-/// How gotos begin after their colon.
-const GOTOS: [&str; 5] = ["S(", "F(", "s(", "f(", "("];
-
-/// What takes the place of gotos.
-const NO_GOTOS: &str =
-    "there are no gotos and no labels: rules are performed one after the other, and :repeat N repeats one";
-
-/// What is added for a rule of a file that may be meant as a definition.
-const IN_COLUMN_ONE: &str = "; a definition begins in column one";
-
-/// What is wanted in place of a definition that has a pattern, in a set.
-const NOT_A_SET: &str =
-    "this definition isn't a set: a set is ASCII characters in quotes and names of sets, as V = '_' DIGIT";
 
 /// Why lines are no rules, at one place.
 #[derive(Debug, Drop)]
@@ -49,13 +33,13 @@ pub struct LineMistake<'l> {
 
 /// A line with its number among the definitions or among the rules, from 1.
 #[derive(Clone, Copy)]
-pub(crate) struct NumberedLine<'l> {
+struct NumberedLine<'l> {
     /// Whether it is a rule.
-    pub(crate) is_rule: bool,
+    is_rule: bool,
     /// Its number.
-    pub(crate) number: usize,
+    number: usize,
     /// The line as it is given.
-    pub(crate) given: &'l GivenLine<'l>,
+    given: &'l GivenLine<'l>,
 }
 
 /// What a line is called in a fault.
@@ -96,34 +80,24 @@ pub(crate) fn whole_mistake<'l>(
     })
 }
 
-/// Whether a goto is where a field of a rule would be.
-fn is_goto(text: &str, place: usize) -> bool {
-    let rest = text.as_bytes().get(place..).unwrap_or(&[]);
-    GOTOS.iter().any(|goto| rest.starts_with(goto.as_bytes()))
-}
-
 /// The fault of a line.
 pub(crate) fn fault_of_line<'l>(
     alloc: Global,
-    line: NumberedLine<'l>,
+    is_rule: bool,
+    number: usize,
+    line: &'l GivenLine<'l>,
     fault: LineFault,
 ) -> Result<LineMistake<'l>, AllocError> {
-    let text = line.given.text.as_str();
     let (place, wanted) = match fault {
-        LineFault::UnknownField(place) if is_goto(text, place) => (place, NO_GOTOS),
         LineFault::UnknownField(place) => (place, FIELDS),
-        LineFault::NoEqualsSign if line.given.source == Source::Option => (text.len(), DEFINITION),
-        LineFault::NoEqualsSign => (text.len(), DEFINITION_OF_FILE),
+        LineFault::NoEqualsSign => (line.text.len(), DEFINITION),
+    };
+    let line = NumberedLine {
+        is_rule,
+        number,
+        given: line,
     };
     pointed(alloc, line, fault, place, wanted)
-}
-
-/// Whether the name at a place of a text is that of a definition.
-fn is_defined(names: &[SetName<'_>], text: &str, place: usize) -> bool {
-    let rest = text.as_bytes().get(place..).unwrap_or(&[]);
-    let count = rest.iter().take_while(|c| is_name_char(**c)).count();
-    let word = rest.get(..count).unwrap_or(&[]);
-    names.iter().any(|other| other.name == word)
 }
 
 /// How many characters come before the place of a fault of a set, and what is wanted there.
@@ -150,18 +124,21 @@ fn place_and_advice(fault: &SpellingFault) -> (usize, &'static str) {
 /// The fault of a set in a part of a line that begins after `begin` characters.
 pub(crate) fn fault_of_spelling<'l>(
     alloc: Global,
-    names: &[SetName<'_>],
-    line: NumberedLine<'l>,
+    is_rule: bool,
+    number: usize,
+    line: &'l GivenLine<'l>,
     begin: usize,
     fault: SpellingFault,
 ) -> Result<LineMistake<'l>, AllocError> {
     let (place, wanted) = place_and_advice(&fault);
     let place = begin.saturating_add(place);
+    let line = NumberedLine {
+        is_rule,
+        number,
+        given: line,
+    };
     match fault {
         SpellingFault::Memory => Err(AllocError),
-        SpellingFault::UnknownSet(_) if is_defined(names, &line.given.text, place) => {
-            pointed(alloc, line, fault, place, NOT_A_SET)
-        }
         _ => pointed(alloc, line, fault, place, wanted),
     }
 }
@@ -237,7 +214,7 @@ fn without_place<'l>(
 }
 
 /// The element with this number, from 1.
-pub(crate) fn numbered<T>(elements: &[T], number: usize) -> Option<&T> {
+fn numbered<T>(elements: &[T], number: usize) -> Option<&T> {
     elements.get(number.checked_sub(1)?)
 }
 
@@ -262,7 +239,7 @@ pub(crate) fn line_of<'l>(
 }
 
 /// The part of a line in which this fault is, with its fault of reading and whether it is an object.
-pub(crate) fn part_of<'s>(
+fn part_of<'s>(
     lines: &'s SpelledLines<'_>,
     fault: &DocumentFault,
 ) -> Option<(&'s SpelledPart, ReadFault, bool)> {
@@ -285,38 +262,12 @@ pub(crate) fn part_of<'s>(
     }
 }
 
-/// Whether the characters are one name, with blanks around it.
-fn is_one_name(characters: &[u8]) -> bool {
-    let written = str::from_utf8(characters).unwrap_or("");
-    let name = written.trim().as_bytes();
-    !name.is_empty() && name.iter().all(|c| is_name_char(*c))
-}
-
-/// Whether a rule of a file may be meant as a definition: its pattern is an unknown name, and nothing else.
-fn may_be_definition(lines: &SpelledLines<'_>, fault: &DocumentFault) -> bool {
-    let DocumentFault::StatementPattern(number, read) = fault else {
-        return false;
-    };
-    let Some(rule) = numbered(&lines.rules, *number) else {
-        return false;
-    };
-    let pattern = rule.pattern.spelling.characters();
-    let written = str::from_utf8(pattern).unwrap_or("");
-    let is_in_file = rule.line.source != Source::Option;
-    let is_unknown = matches!(read, ReadFault::UnknownName(_))
-        && set_advice(read, written).is_none();
-    is_in_file && is_unknown && rule.object.is_some() && is_one_name(pattern)
-}
-
 /// The mistake by its place in the lines.
 pub(crate) fn in_lines<'l>(
     alloc: Global,
     lines: &SpelledLines<'l>,
-    mut mistake: Mistake,
+    mistake: Mistake,
 ) -> Result<LineMistake<'l>, AllocError> {
-    if may_be_definition(lines, &mistake.fault) {
-        mistake.advice.push_str(IN_COLUMN_ONE)?;
-    }
     let line = match line_of(lines, mistake.place) {
         None => return without_place(alloc, mistake, Source::Option),
         Some((line, _)) => line,
@@ -325,4 +276,34 @@ pub(crate) fn in_lines<'l>(
         None => without_place(alloc, mistake, line.source),
         Some((part, read, _)) => in_part(alloc, mistake, read, line, part),
     }
+}
+
+/// What to write instead, by the fault alone.
+fn advice_in(lines: &SpelledLines<'_>, fault: &DocumentFault) -> &'static str {
+    match part_of(lines, fault) {
+        None => advice_of(fault),
+        Some((part, read, is_object)) => {
+            let written = str::from_utf8(part.spelling.characters()).unwrap_or("");
+            match habit_advice(is_object, &read, written) {
+                Some(advice) => advice,
+                None => reading_advice(is_object, &read, written),
+            }
+        }
+    }
+}
+
+/// Why lines are no rules since the rows of their rules have this fault. Refused only if memory runs out.
+pub fn mistake_of_fault<'l>(
+    alloc: Global,
+    lines: &SpelledLines<'l>,
+    fault: DocumentFault,
+) -> Result<LineMistake<'l>, AllocError> {
+    let mistake = Mistake {
+        fault,
+        place: Place::of_fault(&fault),
+        line: None,
+        excerpt: None,
+        advice: String::from_str(alloc, advice_in(lines, &fault))?,
+    };
+    in_lines(alloc, lines, mistake)
 }

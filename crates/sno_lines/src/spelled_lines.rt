@@ -1,9 +1,7 @@
 //! Rules and definitions as they are spelled.
 
 use crate::given_lines::{GivenLine, GivenLines, Source};
-use crate::line_faults::{
-    LineMistake, NumberedLine, fault_of_line, fault_of_spelling, whole_mistake,
-};
+use crate::line_faults::{LineMistake, fault_of_line, fault_of_spelling, whole_mistake};
 use sno_pattern::is_letter;
 use sno_rules::{
     LineFault, LineRule, SetName, Spelling, SpellingFault, first_piece, read_definition, read_rule,
@@ -142,12 +140,16 @@ impl From<AllocError> for NotSpelled<'_> {
 /// Why a line isn't spelled that has this fault of a set.
 fn not_spelled<'l>(
     alloc: Global,
-    names: &[SetName<'_>],
-    line: NumberedLine<'l>,
+    is_rule: bool,
+    number: usize,
+    line: &'l GivenLine<'l>,
     begin: usize,
     fault: SpellingFault,
 ) -> NotSpelled<'l> {
-    match (fault, fault_of_spelling(alloc, names, line, begin, fault)) {
+    match (
+        fault,
+        fault_of_spelling(alloc, is_rule, number, line, begin, fault),
+    ) {
         (_, Err(_)) => NotSpelled::Memory,
         (SpellingFault::UnknownSet(_), Ok(mistake)) => NotSpelled::UnknownSet(mistake),
         (_, Ok(mistake)) => NotSpelled::Mistake(mistake),
@@ -155,8 +157,14 @@ fn not_spelled<'l>(
 }
 
 /// Why a line isn't spelled that has this fault.
-fn no_line<'l>(alloc: Global, line: NumberedLine<'l>, fault: LineFault) -> NotSpelled<'l> {
-    match fault_of_line(alloc, line, fault) {
+fn no_line<'l>(
+    alloc: Global,
+    is_rule: bool,
+    number: usize,
+    line: &'l GivenLine<'l>,
+    fault: LineFault,
+) -> NotSpelled<'l> {
+    match fault_of_line(alloc, is_rule, number, line, fault) {
         Ok(mistake) => NotSpelled::Mistake(mistake),
         Err(_) => NotSpelled::Memory,
     }
@@ -199,19 +207,14 @@ fn spelled_definition<'l>(
     number: usize,
     line: &'l GivenLine<'l>,
 ) -> Result<SpelledDefinition<'l>, NotSpelled<'l>> {
-    let numbered = NumberedLine {
-        is_rule: false,
-        number,
-        given: line,
-    };
     let definition = match read_definition(line.text.as_bytes()) {
         Ok(definition) => definition,
-        Err(fault) => return Err(no_line(alloc, numbered, fault)),
+        Err(fault) => return Err(no_line(alloc, false, number, line, fault)),
     };
     let begin = line.text.len().saturating_sub(definition.pattern.len());
     let pattern = match spelled_part(alloc, names, begin, definition.pattern) {
         Ok(pattern) => pattern,
-        Err(fault) => return Err(not_spelled(alloc, names, numbered, begin, fault)),
+        Err(fault) => return Err(not_spelled(alloc, false, number, line, begin, fault)),
     };
     let members = set_of(alloc, names, definition.pattern)?;
     // A set that joins names may be no pattern.
@@ -274,18 +277,13 @@ fn spelled_rule<'l>(
     number: usize,
     line: &'l GivenLine<'l>,
 ) -> Result<SpelledRule<'l>, NotSpelled<'l>> {
-    let numbered = NumberedLine {
-        is_rule: true,
-        number,
-        given: line,
-    };
     let rule = match read_rule(line.text.as_bytes()) {
         Ok(rule) => rule,
-        Err(fault) => return Err(no_line(alloc, numbered, fault)),
+        Err(fault) => return Err(no_line(alloc, true, number, line, fault)),
     };
     let pattern = match spelled_part(alloc, names, 0, rule.pattern) {
         Ok(pattern) => pattern,
-        Err(fault) => return Err(not_spelled(alloc, names, numbered, 0, fault)),
+        Err(fault) => return Err(not_spelled(alloc, true, number, line, 0, fault)),
     };
     match spelled_object(alloc, names, &rule) {
         Ok(object) => Ok(SpelledRule {
@@ -297,7 +295,7 @@ fn spelled_rule<'l>(
         }),
         Err(fault) => {
             let begin = object_begins(&rule);
-            Err(not_spelled(alloc, names, numbered, begin, fault))
+            Err(not_spelled(alloc, true, number, line, begin, fault))
         }
     }
 }
